@@ -27,6 +27,8 @@ mod text_part1;
 mod text_part2;
 mod text_tagged;
 mod time;
+mod time_part1;
+mod time_part2;
 pub mod values;
 mod version;
 
@@ -43,5 +45,5 @@ pub use seal::{Seal, SealFields};
 pub use stop::{Stop, StopFields};
 pub use text::Text;
 pub use text_tagged::{TextTagged, TextTaggedFields};
-pub use time::{Time, TimeAlternatives};
+pub use time::Time;
 pub use version::Version;

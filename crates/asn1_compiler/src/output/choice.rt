@@ -118,7 +118,7 @@ returns-in-@V-clause-succeeds g c = rw c.in-@V.is c.@E.ensures.succeeds
 ";
 
 /// The most alternatives in one nested choice: more of them take the checker's bound too far.
-pub const PART: usize = 3;
+pub const PART: usize = 2;
 
 impl ChoiceText {
     /// The text of the enum and of its implementations.

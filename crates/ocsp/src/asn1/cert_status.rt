@@ -9,12 +9,13 @@ ghost use Rattle.der_asn1.specs.Meaning.{alternative, choice_is_item, choice_ite
 ghost use Rattle.der_asn1.specs.declared.either.Either.TheVariants.{First, Second};
 ghost use Rattle.ocsp.specs.declared.asn1.cert_status.CertStatus.TheVariants as variant;
 
+use crate::asn1::cert_status_part1::CertStatusPart1;
+use crate::asn1::cert_status_part2::CertStatusPart2;
 use crate::asn1::revoked_info::RevokedInfo;
 use crate::asn1::unknown_info::UnknownInfo;
 use der::{Decode, Encode, Error, FromFields, Length, Reader, SliceReader, Tag, Writer};
 use der_asn1::{
-    BorrowedItem, Choice, DecodeItem, Described, DescribedChoice, Either, Implicit, Item, Null,
-    decode_choice,
+    BorrowedItem, Choice, DecodeItem, DescribedChoice, Either, Implicit, Item, Null, decode_choice,
 };
 use std::alloc::Global;
 
@@ -29,33 +30,36 @@ pub enum CertStatus<'a> {
     Unknown(Implicit<UnknownInfo<'a>, 2>),
 }
 
-/// The alternatives, as nested choices of two.
-pub type CertStatusAlternatives<'a> = Either<
-    Implicit<Null<'a>, 0>,
-    Either<Implicit<RevokedInfo, 1>, Implicit<UnknownInfo<'a>, 2>>,
->;
+// The alternatives, as nested choices of two.
+pub(crate) type CertStatusAlternatives<'a> = Either<CertStatusPart1<'a>, CertStatusPart2<'a>>;
 
 impl<'a> FromFields<CertStatusAlternatives<'a>> for CertStatus<'a> {
     ghost fields = { elim [
-      | variant.Good v ↦ First (v)
-      | variant.Revoked v ↦ Second (First (v))
-      | variant.Unknown v ↦ Second (Second (v))
+      | variant.Good v ↦ First ((record { choice = First (v) }))
+      | variant.Revoked v ↦ First ((record { choice = Second (v) }))
+      | variant.Unknown v ↦ Second ((record { choice = v }))
     ] };
 
     fn from_fields(alternatives: CertStatusAlternatives<'a>) -> Self {
         match alternatives {
-            Either::First(value) => CertStatus::Good(value),
-            Either::Second(Either::First(value)) => CertStatus::Revoked(value),
-            Either::Second(Either::Second(value)) => CertStatus::Unknown(value),
+            Either::First(
+                CertStatusPart1 {
+                    choice: Either::First(value),
+                },
+            ) => CertStatus::Good(value),
+            Either::First(
+                CertStatusPart1 {
+                    choice: Either::Second(value),
+                },
+            ) => CertStatus::Revoked(value),
+            Either::Second(CertStatusPart2 { choice: value }) => CertStatus::Unknown(value),
         }
     }
 }
 
 impl<'a> DescribedChoice for CertStatus<'a> {
-    ghost alternative = { choice_of (either (alternative
-        ⟦<Implicit<Null<'a>, 0> as Described>⟧.element) (either (alternative
-        ⟦<Implicit<RevokedInfo, 1> as Described>⟧.element) (alternative
-        ⟦<Implicit<UnknownInfo<'a>, 2> as Described>⟧.element)))
+    ghost alternative = { choice_of (either ⟦<CertStatusPart1<'a> as DescribedChoice>⟧.alternative
+        ⟦<CertStatusPart2<'a> as DescribedChoice>⟧.alternative)
         ⟦<CertStatus<'a> as FromFields<CertStatusAlternatives<'a>>>⟧.fields };
 }
 

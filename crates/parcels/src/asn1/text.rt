@@ -37,9 +37,9 @@ pub(crate) type TextAlternatives<'a> = Either<TextPart1<'a>, TextPart2<'a>>;
 impl<'a> FromFields<TextAlternatives<'a>> for Text<'a> {
     ghost fields = { elim [
       | variant.Printable v ↦ First ((record { choice = First (v) }))
-      | variant.Utf8 v ↦ First ((record { choice = Second (First (v)) }))
-      | variant.Teletex v ↦ First ((record { choice = Second (Second (v)) }))
-      | variant.Visible v ↦ Second ((record { choice = v }))
+      | variant.Utf8 v ↦ First ((record { choice = Second (v) }))
+      | variant.Teletex v ↦ Second ((record { choice = First (v) }))
+      | variant.Visible v ↦ Second ((record { choice = Second (v) }))
     ] };
 
     fn from_fields(alternatives: TextAlternatives<'a>) -> Self {
@@ -51,15 +51,19 @@ impl<'a> FromFields<TextAlternatives<'a>> for Text<'a> {
             ) => Text::Printable(value),
             Either::First(
                 TextPart1 {
-                    choice: Either::Second(Either::First(value)),
+                    choice: Either::Second(value),
                 },
             ) => Text::Utf8(value),
-            Either::First(
-                TextPart1 {
-                    choice: Either::Second(Either::Second(value)),
+            Either::Second(
+                TextPart2 {
+                    choice: Either::First(value),
                 },
             ) => Text::Teletex(value),
-            Either::Second(TextPart2 { choice: value }) => Text::Visible(value),
+            Either::Second(
+                TextPart2 {
+                    choice: Either::Second(value),
+                },
+            ) => Text::Visible(value),
         }
     }
 }

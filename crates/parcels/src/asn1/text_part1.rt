@@ -7,8 +7,7 @@ ghost use Rattle.der_asn1.specs.Meaning.{alternative, choice_of, either};
 
 use der::{Decode, Encode, Error, FromFields, Length, Reader, SliceReader, Tag, Writer};
 use der_asn1::{
-    Choice, Described, DescribedChoice, Either, PrintableStringRef, TeletexStringRef,
-    Utf8StringRef, decode_choice,
+    Choice, Described, DescribedChoice, Either, PrintableStringRef, Utf8StringRef, decode_choice,
 };
 use std::alloc::Global;
 
@@ -19,10 +18,7 @@ pub(crate) struct TextPart1<'a> {
 }
 
 // The alternatives, as nested choices of two.
-pub(crate) type TextPart1Alternatives<'a> = Either<
-    PrintableStringRef<'a>,
-    Either<Utf8StringRef<'a>, TeletexStringRef<'a>>,
->;
+pub(crate) type TextPart1Alternatives<'a> = Either<PrintableStringRef<'a>, Utf8StringRef<'a>>;
 
 impl<'a> FromFields<TextPart1Alternatives<'a>> for TextPart1<'a> {
     ghost fields = { λ v. v.choice };
@@ -34,9 +30,8 @@ impl<'a> FromFields<TextPart1Alternatives<'a>> for TextPart1<'a> {
 
 impl<'a> DescribedChoice for TextPart1<'a> {
     ghost alternative = { choice_of (either (alternative
-        ⟦<PrintableStringRef<'a> as Described>⟧.element) (either (alternative
-        ⟦<Utf8StringRef<'a> as Described>⟧.element) (alternative
-        ⟦<TeletexStringRef<'a> as Described>⟧.element))) (λ v. v.choice) };
+        ⟦<PrintableStringRef<'a> as Described>⟧.element) (alternative
+        ⟦<Utf8StringRef<'a> as Described>⟧.element)) (λ v. v.choice) };
 }
 
 impl<'a, R: Reader<Borrowed = &'a [u8]>> Decode<R> for TextPart1<'a> {

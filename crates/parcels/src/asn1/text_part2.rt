@@ -3,10 +3,12 @@
 //! TextPart2.
 ghost use Rattle.std.specs.Prelude.{false};
 ghost use Rattle.der.specs.Prelude.{map_ok};
-ghost use Rattle.der_asn1.specs.Meaning.{alternative, choice_of};
+ghost use Rattle.der_asn1.specs.Meaning.{alternative, choice_of, either};
 
 use der::{Decode, Encode, Error, FromFields, Length, Reader, SliceReader, Tag, Writer};
-use der_asn1::{Choice, Described, DescribedChoice, VisibleStringRef, decode_choice};
+use der_asn1::{
+    Choice, Described, DescribedChoice, Either, TeletexStringRef, VisibleStringRef, decode_choice,
+};
 use std::alloc::Global;
 
 // Some alternatives of a Text.
@@ -16,7 +18,7 @@ pub(crate) struct TextPart2<'a> {
 }
 
 // The alternatives, as nested choices of two.
-pub(crate) type TextPart2Alternatives<'a> = VisibleStringRef<'a>;
+pub(crate) type TextPart2Alternatives<'a> = Either<TeletexStringRef<'a>, VisibleStringRef<'a>>;
 
 impl<'a> FromFields<TextPart2Alternatives<'a>> for TextPart2<'a> {
     ghost fields = { λ v. v.choice };
@@ -27,8 +29,9 @@ impl<'a> FromFields<TextPart2Alternatives<'a>> for TextPart2<'a> {
 }
 
 impl<'a> DescribedChoice for TextPart2<'a> {
-    ghost alternative = { choice_of (alternative ⟦<VisibleStringRef<'a> as Described>⟧.element)
-        (λ v. v.choice) };
+    ghost alternative = { choice_of (either (alternative
+        ⟦<TeletexStringRef<'a> as Described>⟧.element) (alternative
+        ⟦<VisibleStringRef<'a> as Described>⟧.element)) (λ v. v.choice) };
 }
 
 impl<'a, R: Reader<Borrowed = &'a [u8]>> Decode<R> for TextPart2<'a> {

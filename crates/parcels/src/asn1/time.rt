@@ -9,10 +9,12 @@ ghost use Rattle.der_asn1.specs.Meaning.{alternative, choice_is_item, choice_ite
 ghost use Rattle.der_asn1.specs.declared.either.Either.TheVariants.{First, Second};
 ghost use Rattle.parcels.specs.declared.asn1.time.Time.TheVariants as variant;
 
+use crate::asn1::time_part1::TimePart1;
+use crate::asn1::time_part2::TimePart2;
 use der::{Decode, Encode, Error, FromFields, Length, Reader, SliceReader, Tag, Writer};
 use der_asn1::{
-    BorrowedItem, Choice, DecodeItem, Described, DescribedChoice, Either, GeneralizedTime, Item,
-    Null, UtcTime, decode_choice,
+    BorrowedItem, Choice, DecodeItem, DescribedChoice, Either, GeneralizedTime, Item, Null,
+    UtcTime, decode_choice,
 };
 use std::alloc::Global;
 
@@ -27,29 +29,36 @@ pub enum Time<'a> {
     Unknown(Null<'a>),
 }
 
-/// The alternatives, as nested choices of two.
-pub type TimeAlternatives<'a> = Either<UtcTime, Either<GeneralizedTime, Null<'a>>>;
+// The alternatives, as nested choices of two.
+pub(crate) type TimeAlternatives<'a> = Either<TimePart1, TimePart2<'a>>;
 
 impl<'a> FromFields<TimeAlternatives<'a>> for Time<'a> {
     ghost fields = { elim [
-      | variant.Utc v ↦ First (v)
-      | variant.General v ↦ Second (First (v))
-      | variant.Unknown v ↦ Second (Second (v))
+      | variant.Utc v ↦ First ((record { choice = First (v) }))
+      | variant.General v ↦ First ((record { choice = Second (v) }))
+      | variant.Unknown v ↦ Second ((record { choice = v }))
     ] };
 
     fn from_fields(alternatives: TimeAlternatives<'a>) -> Self {
         match alternatives {
-            Either::First(value) => Time::Utc(value),
-            Either::Second(Either::First(value)) => Time::General(value),
-            Either::Second(Either::Second(value)) => Time::Unknown(value),
+            Either::First(
+                TimePart1 {
+                    choice: Either::First(value),
+                },
+            ) => Time::Utc(value),
+            Either::First(
+                TimePart1 {
+                    choice: Either::Second(value),
+                },
+            ) => Time::General(value),
+            Either::Second(TimePart2 { choice: value }) => Time::Unknown(value),
         }
     }
 }
 
 impl<'a> DescribedChoice for Time<'a> {
-    ghost alternative = { choice_of (either (alternative ⟦<UtcTime as Described>⟧.element) (either
-        (alternative ⟦<GeneralizedTime as Described>⟧.element) (alternative
-        ⟦<Null<'a> as Described>⟧.element)))
+    ghost alternative = { choice_of (either ⟦<TimePart1 as DescribedChoice>⟧.alternative
+        ⟦<TimePart2<'a> as DescribedChoice>⟧.alternative)
         ⟦<Time<'a> as FromFields<TimeAlternatives<'a>>>⟧.fields };
 }
 

@@ -9,11 +9,13 @@ ghost use Rattle.der_asn1.specs.Meaning.{alternative, choice_is_item, choice_ite
 ghost use Rattle.der_asn1.specs.declared.either.Either.TheVariants.{First, Second};
 ghost use Rattle.sec1.specs.declared.asn1.ec_parameters.EcParameters.TheVariants as variant;
 
+use crate::asn1::ec_parameters_part1::EcParametersPart1;
+use crate::asn1::ec_parameters_part2::EcParametersPart2;
 use crate::asn1::specified_ec_domain::SpecifiedEcDomain;
 use der::{Decode, Encode, Error, FromFields, Length, Reader, SliceReader, Tag, Writer};
 use der_asn1::{
-    BorrowedItem, Choice, DecodeItem, Described, DescribedChoice, Either, Item, Null,
-    ObjectIdentifierRef, decode_choice,
+    BorrowedItem, Choice, DecodeItem, DescribedChoice, Either, Item, Null, ObjectIdentifierRef,
+    decode_choice,
 };
 use std::alloc::Global;
 
@@ -29,33 +31,38 @@ pub enum EcParameters<'a> {
     SpecifiedCurve(SpecifiedEcDomain<'a>),
 }
 
-/// The alternatives, as nested choices of two.
-pub type EcParametersAlternatives<'a> = Either<
-    ObjectIdentifierRef<'a>,
-    Either<Null<'a>, SpecifiedEcDomain<'a>>,
->;
+// The alternatives, as nested choices of two.
+pub(crate) type EcParametersAlternatives<'a> = Either<EcParametersPart1<'a>, EcParametersPart2<'a>>;
 
 impl<'a> FromFields<EcParametersAlternatives<'a>> for EcParameters<'a> {
     ghost fields = { elim [
-      | variant.NamedCurve v ↦ First (v)
-      | variant.ImplicitCurve v ↦ Second (First (v))
-      | variant.SpecifiedCurve v ↦ Second (Second (v))
+      | variant.NamedCurve v ↦ First ((record { choice = First (v) }))
+      | variant.ImplicitCurve v ↦ First ((record { choice = Second (v) }))
+      | variant.SpecifiedCurve v ↦ Second ((record { choice = v }))
     ] };
 
     fn from_fields(alternatives: EcParametersAlternatives<'a>) -> Self {
         match alternatives {
-            Either::First(value) => EcParameters::NamedCurve(value),
-            Either::Second(Either::First(value)) => EcParameters::ImplicitCurve(value),
-            Either::Second(Either::Second(value)) => EcParameters::SpecifiedCurve(value),
+            Either::First(
+                EcParametersPart1 {
+                    choice: Either::First(value),
+                },
+            ) => EcParameters::NamedCurve(value),
+            Either::First(
+                EcParametersPart1 {
+                    choice: Either::Second(value),
+                },
+            ) => EcParameters::ImplicitCurve(value),
+            Either::Second(EcParametersPart2 { choice: value }) => EcParameters::SpecifiedCurve(
+                value,
+            ),
         }
     }
 }
 
 impl<'a> DescribedChoice for EcParameters<'a> {
-    ghost alternative = { choice_of (either (alternative
-        ⟦<ObjectIdentifierRef<'a> as Described>⟧.element) (either (alternative
-        ⟦<Null<'a> as Described>⟧.element) (alternative
-        ⟦<SpecifiedEcDomain<'a> as Described>⟧.element)))
+    ghost alternative = { choice_of (either ⟦<EcParametersPart1<'a> as DescribedChoice>⟧.alternative
+        ⟦<EcParametersPart2<'a> as DescribedChoice>⟧.alternative)
         ⟦<EcParameters<'a> as FromFields<EcParametersAlternatives<'a>>>⟧.fields };
 }
 

@@ -41,9 +41,9 @@ pub(crate) type DirectoryStringAlternatives<'a> = Either<
 impl<'a> FromFields<DirectoryStringAlternatives<'a>> for DirectoryString<'a> {
     ghost fields = { elim [
       | variant.TeletexString v ↦ First ((record { choice = First (v) }))
-      | variant.PrintableString v ↦ First ((record { choice = Second (First (v)) }))
-      | variant.Utf8String v ↦ First ((record { choice = Second (Second (v)) }))
-      | variant.BmpString v ↦ Second ((record { choice = v }))
+      | variant.PrintableString v ↦ First ((record { choice = Second (v) }))
+      | variant.Utf8String v ↦ Second ((record { choice = First (v) }))
+      | variant.BmpString v ↦ Second ((record { choice = Second (v) }))
     ] };
 
     fn from_fields(alternatives: DirectoryStringAlternatives<'a>) -> Self {
@@ -55,17 +55,19 @@ impl<'a> FromFields<DirectoryStringAlternatives<'a>> for DirectoryString<'a> {
             ) => DirectoryString::TeletexString(value),
             Either::First(
                 DirectoryStringPart1 {
-                    choice: Either::Second(Either::First(value)),
+                    choice: Either::Second(value),
                 },
             ) => DirectoryString::PrintableString(value),
-            Either::First(
-                DirectoryStringPart1 {
-                    choice: Either::Second(Either::Second(value)),
+            Either::Second(
+                DirectoryStringPart2 {
+                    choice: Either::First(value),
                 },
             ) => DirectoryString::Utf8String(value),
-            Either::Second(DirectoryStringPart2 { choice: value }) => DirectoryString::BmpString(
-                value,
-            ),
+            Either::Second(
+                DirectoryStringPart2 {
+                    choice: Either::Second(value),
+                },
+            ) => DirectoryString::BmpString(value),
         }
     }
 }

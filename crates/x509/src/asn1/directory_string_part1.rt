@@ -7,8 +7,7 @@ ghost use Rattle.der_asn1.specs.Meaning.{alternative, choice_of, either};
 
 use der::{Decode, Encode, Error, FromFields, Length, Reader, SliceReader, Tag, Writer};
 use der_asn1::{
-    Choice, Described, DescribedChoice, Either, PrintableStringRef, TeletexStringRef,
-    Utf8StringRef, decode_choice,
+    Choice, Described, DescribedChoice, Either, PrintableStringRef, TeletexStringRef, decode_choice,
 };
 use std::alloc::Global;
 
@@ -21,7 +20,7 @@ pub(crate) struct DirectoryStringPart1<'a> {
 // The alternatives, as nested choices of two.
 pub(crate) type DirectoryStringPart1Alternatives<'a> = Either<
     TeletexStringRef<'a>,
-    Either<PrintableStringRef<'a>, Utf8StringRef<'a>>,
+    PrintableStringRef<'a>,
 >;
 
 impl<'a> FromFields<DirectoryStringPart1Alternatives<'a>> for DirectoryStringPart1<'a> {
@@ -34,9 +33,8 @@ impl<'a> FromFields<DirectoryStringPart1Alternatives<'a>> for DirectoryStringPar
 
 impl<'a> DescribedChoice for DirectoryStringPart1<'a> {
     ghost alternative = { choice_of (either (alternative
-        ⟦<TeletexStringRef<'a> as Described>⟧.element) (either (alternative
-        ⟦<PrintableStringRef<'a> as Described>⟧.element) (alternative
-        ⟦<Utf8StringRef<'a> as Described>⟧.element))) (λ v. v.choice) };
+        ⟦<TeletexStringRef<'a> as Described>⟧.element) (alternative
+        ⟦<PrintableStringRef<'a> as Described>⟧.element)) (λ v. v.choice) };
 }
 
 impl<'a, R: Reader<Borrowed = &'a [u8]>> Decode<R> for DirectoryStringPart1<'a> {

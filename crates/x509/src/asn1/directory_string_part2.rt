@@ -3,10 +3,12 @@
 //! DirectoryStringPart2.
 ghost use Rattle.std.specs.Prelude.{false};
 ghost use Rattle.der.specs.Prelude.{map_ok};
-ghost use Rattle.der_asn1.specs.Meaning.{alternative, choice_of};
+ghost use Rattle.der_asn1.specs.Meaning.{alternative, choice_of, either};
 
 use der::{Decode, Encode, Error, FromFields, Length, Reader, SliceReader, Tag, Writer};
-use der_asn1::{BmpStringRef, Choice, Described, DescribedChoice, decode_choice};
+use der_asn1::{
+    BmpStringRef, Choice, Described, DescribedChoice, Either, Utf8StringRef, decode_choice,
+};
 use std::alloc::Global;
 
 // Some alternatives of a DirectoryString.
@@ -16,7 +18,7 @@ pub(crate) struct DirectoryStringPart2<'a> {
 }
 
 // The alternatives, as nested choices of two.
-pub(crate) type DirectoryStringPart2Alternatives<'a> = BmpStringRef<'a>;
+pub(crate) type DirectoryStringPart2Alternatives<'a> = Either<Utf8StringRef<'a>, BmpStringRef<'a>>;
 
 impl<'a> FromFields<DirectoryStringPart2Alternatives<'a>> for DirectoryStringPart2<'a> {
     ghost fields = { λ v. v.choice };
@@ -27,8 +29,8 @@ impl<'a> FromFields<DirectoryStringPart2Alternatives<'a>> for DirectoryStringPar
 }
 
 impl<'a> DescribedChoice for DirectoryStringPart2<'a> {
-    ghost alternative = { choice_of (alternative ⟦<BmpStringRef<'a> as Described>⟧.element)
-        (λ v. v.choice) };
+    ghost alternative = { choice_of (either (alternative ⟦<Utf8StringRef<'a> as Described>⟧.element)
+        (alternative ⟦<BmpStringRef<'a> as Described>⟧.element)) (λ v. v.choice) };
 }
 
 impl<'a, R: Reader<Borrowed = &'a [u8]>> Decode<R> for DirectoryStringPart2<'a> {

@@ -38,9 +38,9 @@ pub(crate) type DisplayTextAlternatives<'a> = Either<DisplayTextPart1<'a>, Displ
 impl<'a> FromFields<DisplayTextAlternatives<'a>> for DisplayText<'a> {
     ghost fields = { elim [
       | variant.Ia5String v ↦ First ((record { choice = First (v) }))
-      | variant.VisibleString v ↦ First ((record { choice = Second (First (v)) }))
-      | variant.BmpString v ↦ First ((record { choice = Second (Second (v)) }))
-      | variant.Utf8String v ↦ Second ((record { choice = v }))
+      | variant.VisibleString v ↦ First ((record { choice = Second (v) }))
+      | variant.BmpString v ↦ Second ((record { choice = First (v) }))
+      | variant.Utf8String v ↦ Second ((record { choice = Second (v) }))
     ] };
 
     fn from_fields(alternatives: DisplayTextAlternatives<'a>) -> Self {
@@ -52,15 +52,19 @@ impl<'a> FromFields<DisplayTextAlternatives<'a>> for DisplayText<'a> {
             ) => DisplayText::Ia5String(value),
             Either::First(
                 DisplayTextPart1 {
-                    choice: Either::Second(Either::First(value)),
+                    choice: Either::Second(value),
                 },
             ) => DisplayText::VisibleString(value),
-            Either::First(
-                DisplayTextPart1 {
-                    choice: Either::Second(Either::Second(value)),
+            Either::Second(
+                DisplayTextPart2 {
+                    choice: Either::First(value),
                 },
             ) => DisplayText::BmpString(value),
-            Either::Second(DisplayTextPart2 { choice: value }) => DisplayText::Utf8String(value),
+            Either::Second(
+                DisplayTextPart2 {
+                    choice: Either::Second(value),
+                },
+            ) => DisplayText::Utf8String(value),
         }
     }
 }

@@ -7,8 +7,7 @@ ghost use Rattle.der_asn1.specs.Meaning.{alternative, choice_of, either};
 
 use der::{Decode, Encode, Error, FromFields, Length, Reader, SliceReader, Tag, Writer};
 use der_asn1::{
-    BmpStringRef, Choice, Described, DescribedChoice, Either, Ia5StringRef, VisibleStringRef,
-    decode_choice,
+    Choice, Described, DescribedChoice, Either, Ia5StringRef, VisibleStringRef, decode_choice,
 };
 use std::alloc::Global;
 
@@ -19,10 +18,7 @@ pub(crate) struct DisplayTextPart1<'a> {
 }
 
 // The alternatives, as nested choices of two.
-pub(crate) type DisplayTextPart1Alternatives<'a> = Either<
-    Ia5StringRef<'a>,
-    Either<VisibleStringRef<'a>, BmpStringRef<'a>>,
->;
+pub(crate) type DisplayTextPart1Alternatives<'a> = Either<Ia5StringRef<'a>, VisibleStringRef<'a>>;
 
 impl<'a> FromFields<DisplayTextPart1Alternatives<'a>> for DisplayTextPart1<'a> {
     ghost fields = { λ v. v.choice };
@@ -34,8 +30,7 @@ impl<'a> FromFields<DisplayTextPart1Alternatives<'a>> for DisplayTextPart1<'a> {
 
 impl<'a> DescribedChoice for DisplayTextPart1<'a> {
     ghost alternative = { choice_of (either (alternative ⟦<Ia5StringRef<'a> as Described>⟧.element)
-        (either (alternative ⟦<VisibleStringRef<'a> as Described>⟧.element) (alternative
-        ⟦<BmpStringRef<'a> as Described>⟧.element))) (λ v. v.choice) };
+        (alternative ⟦<VisibleStringRef<'a> as Described>⟧.element)) (λ v. v.choice) };
 }
 
 impl<'a, R: Reader<Borrowed = &'a [u8]>> Decode<R> for DisplayTextPart1<'a> {

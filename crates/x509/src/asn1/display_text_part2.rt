@@ -3,10 +3,12 @@
 //! DisplayTextPart2.
 ghost use Rattle.std.specs.Prelude.{false};
 ghost use Rattle.der.specs.Prelude.{map_ok};
-ghost use Rattle.der_asn1.specs.Meaning.{alternative, choice_of};
+ghost use Rattle.der_asn1.specs.Meaning.{alternative, choice_of, either};
 
 use der::{Decode, Encode, Error, FromFields, Length, Reader, SliceReader, Tag, Writer};
-use der_asn1::{Choice, Described, DescribedChoice, Utf8StringRef, decode_choice};
+use der_asn1::{
+    BmpStringRef, Choice, Described, DescribedChoice, Either, Utf8StringRef, decode_choice,
+};
 use std::alloc::Global;
 
 // Some alternatives of a DisplayText.
@@ -16,7 +18,7 @@ pub(crate) struct DisplayTextPart2<'a> {
 }
 
 // The alternatives, as nested choices of two.
-pub(crate) type DisplayTextPart2Alternatives<'a> = Utf8StringRef<'a>;
+pub(crate) type DisplayTextPart2Alternatives<'a> = Either<BmpStringRef<'a>, Utf8StringRef<'a>>;
 
 impl<'a> FromFields<DisplayTextPart2Alternatives<'a>> for DisplayTextPart2<'a> {
     ghost fields = { λ v. v.choice };
@@ -27,8 +29,8 @@ impl<'a> FromFields<DisplayTextPart2Alternatives<'a>> for DisplayTextPart2<'a> {
 }
 
 impl<'a> DescribedChoice for DisplayTextPart2<'a> {
-    ghost alternative = { choice_of (alternative ⟦<Utf8StringRef<'a> as Described>⟧.element)
-        (λ v. v.choice) };
+    ghost alternative = { choice_of (either (alternative ⟦<BmpStringRef<'a> as Described>⟧.element)
+        (alternative ⟦<Utf8StringRef<'a> as Described>⟧.element)) (λ v. v.choice) };
 }
 
 impl<'a, R: Reader<Borrowed = &'a [u8]>> Decode<R> for DisplayTextPart2<'a> {

@@ -1,0 +1,90 @@
+//! Written by asn1_compile from the module X509: change the module instead.
+//!
+//! GeneralNamePart4.
+ghost use Rattle.std.specs.Prelude.{false};
+ghost use Rattle.der.specs.Prelude.{map_ok};
+ghost use Rattle.der_asn1.specs.Meaning.{alternative, choice_of, either};
+
+use der::{Decode, Encode, Error, FromFields, Length, Reader, SliceReader, Tag, Writer};
+use der_asn1::{
+    Choice, Described, DescribedChoice, Either, Ia5StringRef, Implicit, OctetStringRef,
+    decode_choice,
+};
+use std::alloc::Global;
+
+// Some alternatives of a GeneralName.
+#[derive(Drop)]
+pub(crate) struct GeneralNamePart4<'a> {
+    pub(crate) choice: GeneralNamePart4Alternatives<'a>,
+}
+
+// The alternatives, as nested choices of two.
+pub(crate) type GeneralNamePart4Alternatives<'a> = Either<
+    Implicit<Ia5StringRef<'a>, 6>,
+    Implicit<OctetStringRef<'a>, 7>,
+>;
+
+impl<'a> FromFields<GeneralNamePart4Alternatives<'a>> for GeneralNamePart4<'a> {
+    ghost fields = { λ v. v.choice };
+
+    fn from_fields(choice: GeneralNamePart4Alternatives<'a>) -> Self {
+        GeneralNamePart4 { choice }
+    }
+}
+
+impl<'a> DescribedChoice for GeneralNamePart4<'a> {
+    ghost alternative = { choice_of (either (alternative
+        ⟦<Implicit<Ia5StringRef<'a>, 6> as Described>⟧.element) (alternative
+        ⟦<Implicit<OctetStringRef<'a>, 7> as Described>⟧.element)) (λ v. v.choice) };
+}
+
+impl<'a, R: Reader<Borrowed = &'a [u8]>> Decode<R> for GeneralNamePart4<'a> {
+    type Error = Error;
+
+    ghost is_next = { ⟦<GeneralNamePart4<'a> as DescribedChoice>⟧.alternative.is_next };
+
+    ghost decode_levels = { ⟦<GeneralNamePart4<'a> as DescribedChoice>⟧.alternative.levels };
+
+    ghost allocates = { false };
+
+    ghost decode_answers = { λ s result t.
+        ⟦<GeneralNamePart4Alternatives<'a> as Decode<SliceReader<'a>>>⟧.decode_answers s
+        (map_ok (λ v. v.choice) result) t };
+
+    #[inline(always)]
+    fn decode(alloc: Global, reader: &mut R) -> Result<Self, Error> {
+        decode_choice::<R, GeneralNamePart4Alternatives<'a>, Self>(alloc, reader)
+    }
+}
+
+impl<'a, R: Reader<Borrowed = &'a [u8]>> Choice<R> for GeneralNamePart4<'a> {
+    ghost chooses = { ⟦<GeneralNamePart4<'a> as DescribedChoice>⟧.alternative.tags };
+
+    #[inline(always)]
+    fn can_decode(tag: Tag) -> bool {
+        <GeneralNamePart4Alternatives<'a> as Choice<R>>::can_decode(tag)
+    }
+
+    ghost begins = { ⟦<GeneralNamePart4<'a> as DescribedChoice>⟧.alternative.begins };
+}
+
+impl<'a> Encode for GeneralNamePart4<'a> {
+    ghost encoding = { λ v. ⟦<GeneralNamePart4Alternatives<'a> as Encode>⟧.encoding v.choice };
+
+    ghost encodable = { λ v. ⟦<GeneralNamePart4Alternatives<'a> as Encode>⟧.encodable v.choice };
+
+    ghost size = { λ v. ⟦<GeneralNamePart4Alternatives<'a> as Encode>⟧.size v.choice };
+
+    ghost encode_answers = { λ v.
+        ⟦<GeneralNamePart4Alternatives<'a> as Encode>⟧.encode_answers v.choice };
+
+    #[inline(always)]
+    fn encoded_len(&self) -> Result<Length, Error> {
+        self.choice.encoded_len()
+    }
+
+    #[inline(always)]
+    fn encode<W: Writer>(&self, writer: &mut W) -> Result<(), Error> {
+        self.choice.encode(writer)
+    }
+}

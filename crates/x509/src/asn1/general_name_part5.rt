@@ -1,0 +1,83 @@
+//! Written by asn1_compile from the module X509: change the module instead.
+//!
+//! GeneralNamePart5.
+ghost use Rattle.std.specs.Prelude.{false};
+ghost use Rattle.der.specs.Prelude.{map_ok};
+ghost use Rattle.der_asn1.specs.Meaning.{alternative, choice_of};
+
+use der::{Decode, Encode, Error, FromFields, Length, Reader, SliceReader, Tag, Writer};
+use der_asn1::{Choice, Described, DescribedChoice, Implicit, ObjectIdentifierRef, decode_choice};
+use std::alloc::Global;
+
+// Some alternatives of a GeneralName.
+#[derive(Drop)]
+pub(crate) struct GeneralNamePart5<'a> {
+    pub(crate) choice: GeneralNamePart5Alternatives<'a>,
+}
+
+// The alternatives, as nested choices of two.
+pub(crate) type GeneralNamePart5Alternatives<'a> = Implicit<ObjectIdentifierRef<'a>, 8>;
+
+impl<'a> FromFields<GeneralNamePart5Alternatives<'a>> for GeneralNamePart5<'a> {
+    ghost fields = { λ v. v.choice };
+
+    fn from_fields(choice: GeneralNamePart5Alternatives<'a>) -> Self {
+        GeneralNamePart5 { choice }
+    }
+}
+
+impl<'a> DescribedChoice for GeneralNamePart5<'a> {
+    ghost alternative = { choice_of (alternative
+        ⟦<Implicit<ObjectIdentifierRef<'a>, 8> as Described>⟧.element) (λ v. v.choice) };
+}
+
+impl<'a, R: Reader<Borrowed = &'a [u8]>> Decode<R> for GeneralNamePart5<'a> {
+    type Error = Error;
+
+    ghost is_next = { ⟦<GeneralNamePart5<'a> as DescribedChoice>⟧.alternative.is_next };
+
+    ghost decode_levels = { ⟦<GeneralNamePart5<'a> as DescribedChoice>⟧.alternative.levels };
+
+    ghost allocates = { false };
+
+    ghost decode_answers = { λ s result t.
+        ⟦<GeneralNamePart5Alternatives<'a> as Decode<SliceReader<'a>>>⟧.decode_answers s
+        (map_ok (λ v. v.choice) result) t };
+
+    #[inline(always)]
+    fn decode(alloc: Global, reader: &mut R) -> Result<Self, Error> {
+        decode_choice::<R, GeneralNamePart5Alternatives<'a>, Self>(alloc, reader)
+    }
+}
+
+impl<'a, R: Reader<Borrowed = &'a [u8]>> Choice<R> for GeneralNamePart5<'a> {
+    ghost chooses = { ⟦<GeneralNamePart5<'a> as DescribedChoice>⟧.alternative.tags };
+
+    #[inline(always)]
+    fn can_decode(tag: Tag) -> bool {
+        <GeneralNamePart5Alternatives<'a> as Choice<R>>::can_decode(tag)
+    }
+
+    ghost begins = { ⟦<GeneralNamePart5<'a> as DescribedChoice>⟧.alternative.begins };
+}
+
+impl<'a> Encode for GeneralNamePart5<'a> {
+    ghost encoding = { λ v. ⟦<GeneralNamePart5Alternatives<'a> as Encode>⟧.encoding v.choice };
+
+    ghost encodable = { λ v. ⟦<GeneralNamePart5Alternatives<'a> as Encode>⟧.encodable v.choice };
+
+    ghost size = { λ v. ⟦<GeneralNamePart5Alternatives<'a> as Encode>⟧.size v.choice };
+
+    ghost encode_answers = { λ v.
+        ⟦<GeneralNamePart5Alternatives<'a> as Encode>⟧.encode_answers v.choice };
+
+    #[inline(always)]
+    fn encoded_len(&self) -> Result<Length, Error> {
+        self.choice.encoded_len()
+    }
+
+    #[inline(always)]
+    fn encode<W: Writer>(&self, writer: &mut W) -> Result<(), Error> {
+        self.choice.encode(writer)
+    }
+}
