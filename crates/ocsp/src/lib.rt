@@ -9,9 +9,9 @@ mod checks;
 
 pub use asn1::{
     AcceptableResponses, ArchiveCutoff, BasicOcspResponse, BasicOcspResponseFields, CertId,
-    CertIdFields, CertStatus, CertStatusAlternatives, Certificates, CrlId, CrlIdFields,
-    GeneralNameTagged, GeneralNameTaggedFields, KeyHash, Nonce, OcspRequest, OcspRequestFields,
-    OcspResponse, OcspResponseFields, OcspResponseStatus, PreferredSignatureAlgorithm,
+    CertIdFields, CertStatus, Certificates, CrlId, CrlIdFields, GeneralNameTagged,
+    GeneralNameTaggedFields, KeyHash, Nonce, OcspRequest, OcspRequestFields, OcspResponse,
+    OcspResponseFields, OcspResponseStatus, PreferredSignatureAlgorithm,
     PreferredSignatureAlgorithmFields, PreferredSignatureAlgorithms, Request, RequestFields,
     ResponderId, ResponderIdAlternatives, ResponseBytes, ResponseBytesFields, ResponseData,
     ResponseDataFields, RevokedInfo, RevokedInfoFields, ServiceLocator, ServiceLocatorFields,

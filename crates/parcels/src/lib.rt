@@ -7,5 +7,5 @@ pub use asn1::{
     Address, AddressFields, Delivery, Handling, HandlingBit, Journey, JourneyFields, Label,
     LabelFields, Packing, Parcel, ParcelFields, ParcelPackingDefault, ParcelVersionDefault, Plan,
     Property, PropertyFields, Seal, SealFields, Stop, StopFields, Text, TextTagged,
-    TextTaggedFields, Time, TimeAlternatives, Version,
+    TextTaggedFields, Time, Version,
 };

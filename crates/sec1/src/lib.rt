@@ -8,8 +8,8 @@ pub mod asn1;
 
 pub use asn1::{
     CharacteristicTwo, CharacteristicTwoFields, Curve, CurveFields, DsaPublicKey, DssParms,
-    DssParmsFields, DssSigValue, EcParameters, EcParametersAlternatives, EcParametersTagged,
-    EcParametersTaggedFields, EcPoint, EcPrivateKey, EcPrivateKeyFields, EcdsaSigValue,
-    EcdsaSigValueFields, FieldElement, FieldId, FieldIdFields, Pentanomial, PentanomialFields,
-    PrimeP, SpecifiedEcDomain, SpecifiedEcDomainFields, Trinomial,
+    DssParmsFields, DssSigValue, EcParameters, EcParametersTagged, EcParametersTaggedFields,
+    EcPoint, EcPrivateKey, EcPrivateKeyFields, EcdsaSigValue, EcdsaSigValueFields, FieldElement,
+    FieldId, FieldIdFields, Pentanomial, PentanomialFields, PrimeP, SpecifiedEcDomain,
+    SpecifiedEcDomainFields, Trinomial,
 };

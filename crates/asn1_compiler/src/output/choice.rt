@@ -1,4 +1,5 @@
 //! The text of a CHOICE.
+ghost use Rattle.std.specs.Prelude.{◌<◌};
 
 use super::alternatives::Alternative;
 use super::template::{Place, fill};
@@ -117,8 +118,8 @@ pub returns-in-@V-clause-succeeds : goal.returns-in-@V-clause-succeeds
 returns-in-@V-clause-succeeds g c = rw c.in-@V.is c.@E.ensures.succeeds
 ";
 
-/// The most alternatives in one nested choice: more of them take the checker's bound too far.
-pub const PART: usize = 2;
+/// The most parts of a CHOICE: more of them take the checker's bound too far.
+const PARTS: usize = 3;
 
 impl ChoiceText {
     /// The text of the enum and of its implementations.
@@ -177,12 +178,24 @@ impl ChoiceText {
 
     /// Whether the alternatives are in parts.
     pub fn has_parts(&self) -> bool {
-        self.alternatives.len() > PART
+        self.alternatives.len() > self.part_len()
+    }
+
+    /// The number of alternatives of each part but the last one. The checker takes a third of the
+    /// time for a part of two, but not more than three parts.
+    pub fn part_len(&self) -> usize
+        ensures { 0 < result }
+    {
+        if self.alternatives.len() <= 2 * PARTS {
+            2
+        } else {
+            3
+        }
     }
 
     /// The number of parts.
     pub fn part_count(&self) -> usize {
-        self.alternatives.chunks(PART).count()
+        self.alternatives.chunks(self.part_len()).count()
     }
 
     fn variants(&self, alloc: Global) -> Result<String, AllocError> {
@@ -201,7 +214,7 @@ impl ChoiceText {
         }
         let name = self.name.as_str();
         let mut parts = Vec::new(alloc);
-        for (count, chunk) in self.alternatives.chunks(PART).enumerate() {
+        for (count, chunk) in self.alternatives.chunks(self.part_len()).enumerate() {
             let number = count + 1;
             let lifetime = lifetime_of(chunk);
             parts.push(format!(in alloc; "{name}Part{number}{lifetime}")?)?;
@@ -215,7 +228,7 @@ impl ChoiceText {
         }
         let name = self.name.as_str();
         let mut parts = Vec::new(alloc);
-        for (count, chunk) in self.alternatives.chunks(PART).enumerate() {
+        for (count, chunk) in self.alternatives.chunks(self.part_len()).enumerate() {
             let number = count + 1;
             let lifetime = lifetime_of(chunk);
             parts.push(format!(in alloc;
@@ -267,11 +280,11 @@ impl ChoiceText {
         if !self.has_parts() {
             return injected(alloc, total, index, "First (", "Second (", "v");
         }
-        let part = index / PART;
+        let part = index / self.part_len();
         let inside = injected(
             alloc,
             self.len_of(part),
-            index % PART,
+            index % self.part_len(),
             "First (",
             "Second (",
             "v",
@@ -295,12 +308,12 @@ impl ChoiceText {
             return injected(alloc, total, index, first, second, "value");
         }
         let name = self.name.as_str();
-        let part = index / PART;
-        let number = part + 1;
+        let part = index / self.part_len();
+        let number = part.saturating_add(1);
         let inside = injected(
             alloc,
             self.len_of(part),
-            index % PART,
+            index % self.part_len(),
             first,
             second,
             "value",
@@ -318,7 +331,7 @@ impl ChoiceText {
 
     // The number of alternatives in this part.
     fn len_of(&self, part: usize) -> usize {
-        match self.alternatives.chunks(PART).nth(part) {
+        match self.alternatives.chunks(self.part_len()).nth(part) {
             Some(chunk) => chunk.len(),
             None => 0,
         }

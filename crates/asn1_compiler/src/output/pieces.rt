@@ -1,7 +1,7 @@
 //! The pieces that a module is written in.
 
 use super::alternatives::alternatives;
-use super::choice::{ChoiceText, PART};
+use super::choice::ChoiceText;
 use super::choice_part::choice_part_body;
 use super::defaults::{DefaultType, default_type};
 use super::directive::{field_name, name_of_type, own_default, own_type, type_name};
@@ -361,7 +361,7 @@ fn add_choice(alloc: Global, pieces: &mut Vec<Piece>, text: &ChoiceText) -> Resu
     if !text.has_parts() {
         return Ok(());
     }
-    for (count, chunk) in text.alternatives.chunks(PART).enumerate() {
+    for (count, chunk) in text.alternatives.chunks(text.part_len()).enumerate() {
         let number = count + 1;
         let body = choice_part_body(alloc, name, number, chunk)?;
         let part = format!(in alloc; "{name}Part{number}")?;
