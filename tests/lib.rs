@@ -9,6 +9,8 @@ mod asn1_compiler;
 #[cfg(test)]
 mod checks;
 #[cfg(test)]
+mod cms;
+#[cfg(test)]
 mod decoding;
 #[cfg(test)]
 mod fixtures;
