@@ -21,6 +21,8 @@ mod ocsp;
 #[cfg(test)]
 mod parcels;
 #[cfg(test)]
+mod pkcs12;
+#[cfg(test)]
 mod readers;
 #[cfg(test)]
 mod scans;

@@ -74,8 +74,15 @@ fn values_of_attributes_are_read(rt: HostRuntime) {
 #[test]
 fn a_signing_certificate_has_a_hash_by_sha256(rt: HostRuntime) {
     let alloc = rt.alloc();
-    same_octets(&rt, id_aa_signing_certificate_v2().octets(), &CADES[209..220]);
-    holds(&rt, is_same::<SigningCertificateV2>(alloc, &CADES[222..285]));
+    same_octets(
+        &rt,
+        id_aa_signing_certificate_v2().octets(),
+        &CADES[209..220],
+    );
+    holds(
+        &rt,
+        is_same::<SigningCertificateV2>(alloc, &CADES[222..285]),
+    );
     let Ok(value) = SigningCertificateV2::from_der(alloc, &CADES[222..285]) else {
         holds(&rt, false);
         return;
@@ -118,8 +125,8 @@ fn the_issuer_of_a_signing_certificate_is_optional(rt: HostRuntime) {
     }
 }
 
-// `openssl asn1parse` lists the value of the timestamp's attribute at octet 276, and its hash, which
-// is that of `openssl x509 -fingerprint -sha1`, at 282.
+// `openssl asn1parse` lists the value of the timestamp's attribute at octet 276, and its hash,
+// which is that of `openssl x509 -fingerprint -sha1`, at 282.
 #[test]
 fn a_signing_certificate_has_a_hash_by_sha1(rt: HostRuntime) {
     let alloc = rt.alloc();
@@ -168,8 +175,14 @@ fn the_hash_algorithm_is_written_if_it_is_another_one(rt: HostRuntime) {
 #[test]
 fn other_octets_are_no_signing_certificate(rt: HostRuntime) {
     let alloc = rt.alloc();
-    holds(&rt, is_same::<SigningCertificate>(alloc, &[0x30, 2, 0x30, 0]));
-    holds(&rt, is_same::<SigningCertificate>(alloc, &[0x30, 4, 0x30, 0, 0x30, 0]));
+    holds(
+        &rt,
+        is_same::<SigningCertificate>(alloc, &[0x30, 2, 0x30, 0]),
+    );
+    holds(
+        &rt,
+        is_same::<SigningCertificate>(alloc, &[0x30, 4, 0x30, 0, 0x30, 0]),
+    );
     same(
         &rt,
         refusal::<SigningCertificate>(alloc, &[0x30, 4, 0x30, 0, 0x31, 0]),
@@ -182,7 +195,8 @@ fn other_octets_are_no_signing_certificate(rt: HostRuntime) {
     );
 }
 
-// `openssl asn1parse` lists the signer at octet 57. A countersignature has its form (RFC 5652, 11.4).
+// `openssl asn1parse` lists the signer at octet 57. A countersignature has its form (RFC 5652,
+// 11.4).
 #[test]
 fn a_countersignature_is_a_signature_of_a_signature(rt: HostRuntime) {
     holds(&rt, is_same::<Countersignature>(rt.alloc(), &TWO[57..178]));

@@ -2,9 +2,7 @@
 use super::encrypted_octets::AUTHENTICATED;
 use crate::checks::{holds, same, same_octets};
 use crate::fixtures::again::is_same;
-use cms::asn1::values::{
-    id_content_type, id_ct_auth_data, id_data, id_message_digest, id_sha256,
-};
+use cms::asn1::values::{id_content_type, id_ct_auth_data, id_data, id_message_digest, id_sha256};
 use cms::{AuthenticatedData, ContentInfo, RecipientInfo};
 use der::{DecodeBytes, Tag};
 
@@ -12,7 +10,10 @@ use der::{DecodeBytes, Tag};
 fn an_authenticated_message_is_written_as_it_was(rt: HostRuntime) {
     let alloc = rt.alloc();
     holds(&rt, is_same::<ContentInfo>(alloc, &AUTHENTICATED));
-    holds(&rt, is_same::<AuthenticatedData>(alloc, &AUTHENTICATED[19..]));
+    holds(
+        &rt,
+        is_same::<AuthenticatedData>(alloc, &AUTHENTICATED[19..]),
+    );
     match ContentInfo::from_der(alloc, &AUTHENTICATED) {
         Ok(message) => holds(&rt, message.content_type == id_ct_auth_data()),
         Err(_) => holds(&rt, false),

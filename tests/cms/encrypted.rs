@@ -41,7 +41,11 @@ fn an_encrypted_message_has_an_algorithm_and_octets(rt: HostRuntime) {
     same(&rt, data.version.to_number::<u8>(), Some(0));
     let info = data.encrypted_content_info;
     holds(&rt, info.content_type == id_data());
-    same_octets(&rt, info.content_encryption_algorithm.oid.octets(), &ENCRYPTED[37..46]);
+    same_octets(
+        &rt,
+        info.content_encryption_algorithm.oid.octets(),
+        &ENCRYPTED[37..46],
+    );
     match info.content_encryption_algorithm.parameters.0 {
         Some(vector) => {
             same(&rt, vector.tag, Tag::OctetString);
@@ -81,16 +85,19 @@ fn a_compressed_message_has_octets_of_zlib(rt: HostRuntime) {
         return;
     };
     same(&rt, data.version.to_number::<u8>(), Some(0));
-    holds(&rt, data.compression_algorithm.oid == id_alg_zlib_compress());
+    holds(
+        &rt,
+        data.compression_algorithm.oid == id_alg_zlib_compress(),
+    );
     match data.encap_content_info.e_content.0 {
         Some(content) => same_octets(&rt, content.0.octets(), &COMPRESSED[54..]),
         None => holds(&rt, false),
     }
 }
 
-// The encrypted octets begin at octet 49 of the EncryptedData, 18 octets from its end. DER allows no
-// segments (X.690, 10.2), so what begins with 0xA0 is not that field. The digest begins at octet 41
-// of the DigestedData.
+// The encrypted octets begin at octet 49 of the EncryptedData, 18 octets from its end. DER allows
+// no segments (X.690, 10.2), so what begins with 0xA0 is not that field. The digest begins at octet
+// 41 of the DigestedData.
 #[test]
 fn other_octets_are_no_encrypted_message(rt: HostRuntime) {
     let alloc = rt.alloc();

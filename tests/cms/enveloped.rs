@@ -17,7 +17,10 @@ fn enveloped_messages_are_written_as_they_were(rt: HostRuntime) {
     holds(&rt, is_same::<EnvelopedData>(alloc, &KEY_TRANSPORT[18..]));
     holds(&rt, is_same::<EnvelopedData>(alloc, &KEY_AGREEMENT[17..]));
     holds(&rt, is_same::<EnvelopedData>(alloc, &FOUR_RECIPIENTS[19..]));
-    holds(&rt, is_same::<AuthEnvelopedData>(alloc, &AUTH_ENVELOPED[19..]));
+    holds(
+        &rt,
+        is_same::<AuthEnvelopedData>(alloc, &AUTH_ENVELOPED[19..]),
+    );
 }
 
 // `openssl asn1parse` lists the encrypted key at octet 67, the algorithm of the content at 211 and
@@ -52,14 +55,18 @@ fn a_key_is_encrypted_for_an_rsa_key(rt: HostRuntime) {
             }
             RecipientIdentifier::SubjectKeyIdentifier(_) => holds(&rt, false),
         }
-        same_octets(&rt, recipient.encrypted_key.octets(), &KEY_TRANSPORT[70..198]);
+        same_octets(
+            &rt,
+            recipient.encrypted_key.octets(),
+            &KEY_TRANSPORT[70..198],
+        );
     }
 }
 
-// `openssl asn1parse` lists the point of the originator at octet 47, the parameters of the algorithm
-// at 128 and the encrypted key at 164.
+// `openssl asn1parse` lists the point of the originator at octet 47 and the parameters of the
+// algorithm at 128.
 #[test]
-fn a_key_is_encrypted_with_an_agreed_key(rt: HostRuntime) {
+fn a_key_is_agreed_with_the_key_of_the_originator(rt: HostRuntime) {
     let alloc = rt.alloc();
     let Ok(data) = EnvelopedData::from_der(alloc, &KEY_AGREEMENT[17..]) else {
         holds(&rt, false);
@@ -71,32 +78,47 @@ fn a_key_is_encrypted_with_an_agreed_key(rt: HostRuntime) {
             holds(&rt, false);
             return;
         };
-        let info = recipient.0;
-        same(&rt, info.version.to_number::<u8>(), Some(3));
-        match info.originator.0.value {
+        same(&rt, recipient.0.version.to_number::<u8>(), Some(3));
+        match recipient.0.originator.0.value {
             OriginatorIdentifierOrKey::OriginatorKey(key) => {
                 same_octets(&rt, key.0.algorithm.oid.octets(), &KEY_AGREEMENT[40..47]);
                 holds(&rt, key.0.algorithm.parameters.0.is_none());
-                same_octets(&rt, key.0.subject_public_key.octets(), &KEY_AGREEMENT[49..115]);
+                let point = key.0.subject_public_key.octets();
+                same_octets(&rt, point, &KEY_AGREEMENT[49..115]);
             }
             _ => holds(&rt, false),
         }
-        holds(&rt, info.ukm.0.is_none());
-        match info.key_encryption_algorithm.parameters.0 {
+        holds(&rt, recipient.0.ukm.0.is_none());
+        match recipient.0.key_encryption_algorithm.parameters.0 {
             Some(wrap) => same_octets(&rt, wrap.contents, &KEY_AGREEMENT[130..141]),
             None => holds(&rt, false),
         }
-        same(&rt, info.recipient_encrypted_keys.iter(alloc).count(), 1);
-        for key in info.recipient_encrypted_keys.iter(alloc) {
-            match key.rid {
-                KeyAgreeRecipientIdentifier::IssuerAndSerialNumber(name) => {
-                    same_octets(&rt, name.issuer.levels.octets(), &KEY_AGREEMENT[149..161]);
-                    same(&rt, name.serial_number.to_number::<u8>(), Some(2));
-                }
-                KeyAgreeRecipientIdentifier::RKeyId(_) => holds(&rt, false),
+    }
+}
+
+// `openssl asn1parse` lists the issuer at octet 147 and the encrypted key at 164.
+#[test]
+fn a_key_is_encrypted_with_an_agreed_key(rt: HostRuntime) {
+    let alloc = rt.alloc();
+    let Ok(data) = EnvelopedData::from_der(alloc, &KEY_AGREEMENT[17..]) else {
+        holds(&rt, false);
+        return;
+    };
+    let Some(RecipientInfo::Kari(recipient)) = data.recipient_infos.items.iter(alloc).next() else {
+        holds(&rt, false);
+        return;
+    };
+    let keys = recipient.0.recipient_encrypted_keys;
+    same(&rt, keys.iter(alloc).count(), 1);
+    for key in keys.iter(alloc) {
+        match key.rid {
+            KeyAgreeRecipientIdentifier::IssuerAndSerialNumber(name) => {
+                same_octets(&rt, name.issuer.levels.octets(), &KEY_AGREEMENT[149..161]);
+                same(&rt, name.serial_number.to_number::<u8>(), Some(2));
             }
-            same_octets(&rt, key.encrypted_key.octets(), &KEY_AGREEMENT[166..190]);
+            KeyAgreeRecipientIdentifier::RKeyId(_) => holds(&rt, false),
         }
+        same_octets(&rt, key.encrypted_key.octets(), &KEY_AGREEMENT[166..190]);
     }
 }
 
@@ -136,9 +158,10 @@ fn recipients_are_named_by_their_keys(rt: HostRuntime) {
         return;
     };
     let mut recipients = data.recipient_infos.items.iter(alloc);
-    let (Some(RecipientInfo::Ktri(first)), Some(RecipientInfo::Kari(second))) =
-        (recipients.next(), recipients.next())
-    else {
+    let (Some(RecipientInfo::Ktri(first)), Some(RecipientInfo::Kari(second))) = (
+        recipients.next(),
+        recipients.next(),
+    ) else {
         holds(&rt, false);
         return;
     };
@@ -151,7 +174,11 @@ fn recipients_are_named_by_their_keys(rt: HostRuntime) {
     for key in second.0.recipient_encrypted_keys.iter(alloc) {
         match key.rid {
             KeyAgreeRecipientIdentifier::RKeyId(key) => {
-                same_octets(&rt, key.0.key_identifier.octets(), &FOUR_RECIPIENTS[327..347]);
+                same_octets(
+                    &rt,
+                    key.0.key_identifier.octets(),
+                    &FOUR_RECIPIENTS[327..347],
+                );
                 holds(&rt, key.0.date.0.is_none());
                 holds(&rt, key.0.other.0.is_none());
             }
@@ -171,22 +198,34 @@ fn keys_are_encrypted_with_a_shared_key_and_a_password(rt: HostRuntime) {
     };
     let mut recipients = data.recipient_infos.items.iter(alloc);
     let (_, _) = (recipients.next(), recipients.next());
-    let (Some(RecipientInfo::Kekri(shared)), Some(RecipientInfo::Pwri(password))) =
-        (recipients.next(), recipients.next())
-    else {
+    let (Some(RecipientInfo::Kekri(shared)), Some(RecipientInfo::Pwri(password))) = (
+        recipients.next(),
+        recipients.next(),
+    ) else {
         holds(&rt, false);
         return;
     };
     same(&rt, shared.0.version.to_number::<u8>(), Some(4));
     same_octets(&rt, shared.0.kekid.key_identifier.octets(), &[1, 2, 3, 4]);
-    same_octets(&rt, shared.0.encrypted_key.octets(), &FOUR_RECIPIENTS[401..425]);
+    same_octets(
+        &rt,
+        shared.0.encrypted_key.octets(),
+        &FOUR_RECIPIENTS[401..425],
+    );
     same(&rt, password.0.version.to_number::<u8>(), Some(0));
     match password.0.key_derivation_algorithm.0 {
         Some(derived) => same_octets(&rt, derived.0.oid.octets(), &FOUR_RECIPIENTS[434..443]),
         None => holds(&rt, false),
     }
-    holds(&rt, password.0.key_encryption_algorithm.oid == id_alg_pwri_kek());
-    same_octets(&rt, password.0.encrypted_key.octets(), &FOUR_RECIPIENTS[507..539]);
+    holds(
+        &rt,
+        password.0.key_encryption_algorithm.oid == id_alg_pwri_kek(),
+    );
+    same_octets(
+        &rt,
+        password.0.encrypted_key.octets(),
+        &FOUR_RECIPIENTS[507..539],
+    );
 }
 
 // `openssl asn1parse` lists the encrypted content at octet 124, and the code at 132.

@@ -1,7 +1,7 @@
-//! Messages that are cut, and messages of which one octet is changed: these are refused, or read and
-//! written as they are.
+//! Messages that are cut, and messages of which one octet is changed: these are refused, or read
+//! and written as they are.
 use super::encrypted_octets::{
-    AUTHENTICATED, AUTH_ENVELOPED, COMPRESSED, DIGESTED, ENCRYPTED, FOUR_RECIPIENTS, KEY_AGREEMENT,
+    AUTH_ENVELOPED, AUTHENTICATED, COMPRESSED, DIGESTED, ENCRYPTED, FOUR_RECIPIENTS, KEY_AGREEMENT,
     KEY_TRANSPORT, ORIGINATOR,
 };
 use super::signed_octets::{ATTACHED, BY_KEY, CADES, DEGENERATE, TWO};
@@ -97,8 +97,8 @@ impl Form for TstInfo<'_> {
     }
 }
 
-// Aborts the test if what begins at a place of the file is read after a cut, or written as something
-// else after a change of one octet, or if no change is read.
+// Aborts the test if what begins at a place of the file is read after a cut, or written as
+// something else after a change of one octet, or if no change is read.
 fn check<F: Form, const N: usize>(
     rt: &(impl Abort + AllocGlobal),
     row: &str,

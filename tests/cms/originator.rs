@@ -80,7 +80,11 @@ fn information_of_another_kind_has_a_type(rt: HostRuntime) {
     for list in lists.0.items.iter(alloc) {
         match list {
             RevocationInfoChoice::Other(other) => {
-                same_octets(&rt, other.0.oid.octets(), b"\x2B\x06\x01\x05\x05\x07\x10\x02");
+                same_octets(
+                    &rt,
+                    other.0.oid.octets(),
+                    b"\x2B\x06\x01\x05\x05\x07\x10\x02",
+                );
                 holds(&rt, other.0.value == response);
             }
             RevocationInfoChoice::Crl(_) => holds(&rt, false),
@@ -88,18 +92,20 @@ fn information_of_another_kind_has_a_type(rt: HostRuntime) {
     }
 }
 
-// `openssl cms -cmsout -print` prints the identifiers, the octets of the originator, and no keyAttr.
+// `openssl cms -cmsout -print` prints the identifier of the originator's key, its octets, and the
+// type of the other recipient.
 #[test]
-fn an_agreement_names_keys_by_their_identifiers(rt: HostRuntime) {
+fn an_agreement_names_the_key_of_the_originator(rt: HostRuntime) {
     let alloc = rt.alloc();
     let Ok(data) = EnvelopedData::from_der(alloc, &ORIGINATOR[17..]) else {
         holds(&rt, false);
         return;
     };
     let mut recipients = data.recipient_infos.items.iter(alloc);
-    let (Some(RecipientInfo::Kari(agreed)), Some(RecipientInfo::Ori(other))) =
-        (recipients.next(), recipients.next())
-    else {
+    let (Some(RecipientInfo::Kari(agreed)), Some(RecipientInfo::Ori(other))) = (
+        recipients.next(),
+        recipients.next(),
+    ) else {
         holds(&rt, false);
         return;
     };
@@ -115,6 +121,20 @@ fn an_agreement_names_keys_by_their_identifiers(rt: HostRuntime) {
         Some(octets) => same_octets(&rt, octets.0.octets(), &[0x0C, 0x0D, 0x0E]),
         None => holds(&rt, false),
     }
+}
+
+// `openssl cms -cmsout -print` prints the identifier, the time, the type 1.2.3.4 and no keyAttr.
+#[test]
+fn an_agreement_names_the_key_of_the_recipient(rt: HostRuntime) {
+    let alloc = rt.alloc();
+    let Ok(data) = EnvelopedData::from_der(alloc, &ORIGINATOR[17..]) else {
+        holds(&rt, false);
+        return;
+    };
+    let Some(RecipientInfo::Kari(agreed)) = data.recipient_infos.items.iter(alloc).next() else {
+        holds(&rt, false);
+        return;
+    };
     for key in agreed.0.recipient_encrypted_keys.iter(alloc) {
         same_octets(&rt, key.encrypted_key.octets(), &[0x0F, 0x10]);
         let KeyAgreeRecipientIdentifier::RKeyId(identifier) = key.rid else {
@@ -139,7 +159,10 @@ fn a_message_may_lack_its_octets_and_have_attributes(rt: HostRuntime) {
         holds(&rt, false);
         return;
     };
-    holds(&rt, data.encrypted_content_info.encrypted_content.0.is_none());
+    holds(
+        &rt,
+        data.encrypted_content_info.encrypted_content.0.is_none(),
+    );
     let Some(attributes) = data.unprotected_attrs.0 else {
         holds(&rt, false);
         return;

@@ -33,19 +33,58 @@ fn with_octet(alloc: Global, place: usize, octet: u8) -> Option<Error> {
     refusal::<SignedData>(alloc, &octets[19..])
 }
 
-// The set of algorithms begins at octet 26, the content at 56, the certificates at 64 and the signers
-// at 384, 232 octets from the end; the message at 19.
+// The set of algorithms begins at octet 26, the content at 56, the certificates at 64 and the
+// signers at 384, 232 octets from the end; the message at 19.
 #[test]
 fn other_octets_are_no_signed_message(rt: HostRuntime) {
     let alloc = rt.alloc();
     for (row, place, octet, expected) in [
-        ("algorithms in a SEQUENCE", 26, 0x30, unexpected(Tag::Set, Tag::Sequence)),
-        ("an INTEGER as algorithm", 28, 0x02, unexpected(Tag::Sequence, Tag::Integer)),
-        ("a content that is a BIT STRING", 56, 0x03, unexpected(Tag::OctetString, Tag::BitString)),
+        (
+            "algorithms in a SEQUENCE",
+            26,
+            0x30,
+            unexpected(Tag::Set, Tag::Sequence),
+        ),
+        (
+            "an INTEGER as algorithm",
+            28,
+            0x02,
+            unexpected(Tag::Sequence, Tag::Integer),
+        ),
+        (
+            "a content that is a BIT STRING",
+            56,
+            0x03,
+            unexpected(Tag::OctetString, Tag::BitString),
+        ),
         ("a content in segments", 56, 0x24, unknown(0x24, 38)),
-        ("certificates with tag 2", 64, 0xA2, unexpected(Tag::Set, context(2))),
-        ("signers in a SEQUENCE", 384, 0x30, unexpected(Tag::Set, Tag::Sequence)),
-        ("a certificate of a kind that there is not", 68, 0xA4, no_alternative(context(4), 49)),
+    ] {
+        same_at(&rt, row, with_octet(alloc, place, octet), Some(expected));
+    }
+}
+
+#[test]
+fn other_octets_are_no_certificates_and_signers(rt: HostRuntime) {
+    let alloc = rt.alloc();
+    for (row, place, octet, expected) in [
+        (
+            "certificates with tag 2",
+            64,
+            0xA2,
+            unexpected(Tag::Set, context(2)),
+        ),
+        (
+            "signers in a SEQUENCE",
+            384,
+            0x30,
+            unexpected(Tag::Set, Tag::Sequence),
+        ),
+        (
+            "a certificate of a kind that there is not",
+            68,
+            0xA4,
+            no_alternative(context(4), 49),
+        ),
     ] {
         same_at(&rt, row, with_octet(alloc, place, octet), Some(expected));
     }
@@ -82,8 +121,9 @@ fn other_octets_are_no_signer(rt: HostRuntime) {
     );
 }
 
-// `openssl asn1parse` lists the first signer at octet 57 and the second one at 178, which is longer:
-// it goes to octet 57, and the first one to 180. A ContentInfo does not look into its content.
+// `openssl asn1parse` lists the first signer at octet 57 and the second one at 178, which is
+// longer: it goes to octet 57, and the first one to 180. A ContentInfo does not look into its
+// content.
 #[test]
 fn signers_that_descend_are_refused(rt: HostRuntime) {
     let mut octets = TWO;
@@ -157,8 +197,8 @@ fn an_authenticated_encryption_without_code_is_refused(rt: HostRuntime) {
     );
 }
 
-// The certificates begin at octet 41 and the first one at 44. Read as a list, its serial number is a
-// version, and its validity at octet 73 is a time.
+// The certificates begin at octet 41 and the first one at 44. Read as a list, its serial number is
+// a version, and its validity at octet 73 is a time.
 #[test]
 fn a_certificate_is_no_list(rt: HostRuntime) {
     let mut octets = DEGENERATE;
@@ -191,7 +231,10 @@ fn a_message_has_two_fields(rt: HostRuntime) {
     same_at(
         &rt,
         "two contents",
-        refusal::<ContentInfo>(alloc, b"\x30\x0B\x06\x01\x2A\xA0\x02\x05\x00\xA0\x02\x05\x00"),
+        refusal::<ContentInfo>(
+            alloc,
+            b"\x30\x0B\x06\x01\x2A\xA0\x02\x05\x00\xA0\x02\x05\x00",
+        ),
         Some(trailing(9, 4)),
     );
     same_at(

@@ -14,17 +14,27 @@ fn request_with(alloc: Global, place: usize, octet: u8) -> Option<Error> {
     refusal::<TimeStampReq>(alloc, &octets)
 }
 
-// `openssl asn1parse` lists the digest at octet 5, the policy at 56, the number at 62 and the BOOLEAN
-// at 73, which is the last field.
+// `openssl asn1parse` lists the digest at octet 5, the policy at 56, the number at 62 and the
+// BOOLEAN at 73, which is the last field.
 #[test]
 fn other_octets_are_no_request(rt: HostRuntime) {
     let alloc = rt.alloc();
     let boolean = Tag::Boolean;
     for (row, place, octet, expected) in [
-        ("a digest in a SET", 5, 0x31, unexpected(Tag::Sequence, Tag::Set)),
+        (
+            "a digest in a SET",
+            5,
+            0x31,
+            unexpected(Tag::Sequence, Tag::Set),
+        ),
         ("a policy that is a UTF8String", 56, 0x0C, trailing(56, 20)),
         ("a number that is an ENUMERATED", 62, 0x0A, trailing(62, 14)),
-        ("a BOOLEAN of BER", 75, 0x01, ErrorKind::Value { tag: boolean }.at(Length::new(76))),
+        (
+            "a BOOLEAN of BER",
+            75,
+            0x01,
+            ErrorKind::Value { tag: boolean }.at(Length::new(76)),
+        ),
         (
             "a default that is written",
             75,
@@ -54,7 +64,11 @@ fn a_request_has_extensions_with_tag_0(rt: HostRuntime) {
         Err(_) => holds(&rt, false),
     }
     octets[56] = 0xA1;
-    same(&rt, refusal::<TimeStampReq>(alloc, &octets), Some(trailing(56, 11)));
+    same(
+        &rt,
+        refusal::<TimeStampReq>(alloc, &octets),
+        Some(trailing(56, 11)),
+    );
 }
 
 // The error of what a timestamp says with another octet at a place. It begins at octet 73 of the
@@ -73,21 +87,42 @@ fn other_octets_are_no_timestamp(rt: HostRuntime) {
     let alloc = rt.alloc();
     let time = Tag::GeneralizedTime;
     for (row, place, octet, expected) in [
-        ("a UTCTime", 65, 0x17, unexpected(Tag::GeneralizedTime, Tag::UtcTime)),
-        ("month 21", 71, 0x32, ErrorKind::Value { tag: time }.at(Length::new(82))),
+        (
+            "a UTCTime",
+            65,
+            0x17,
+            unexpected(Tag::GeneralizedTime, Tag::UtcTime),
+        ),
+        (
+            "month 21",
+            71,
+            0x32,
+            ErrorKind::Value { tag: time }.at(Length::new(82)),
+        ),
         ("an accuracy in a SET", 82, 0x31, trailing(82, 44)),
         ("a part with tag 2", 91, 0x82, trailing(91, 3)),
-        ("an order that is not 255", 96, 1, ErrorKind::Value { tag: Tag::Boolean }.at(Length::new(97))),
+        (
+            "an order that is not 255",
+            96,
+            1,
+            ErrorKind::Value { tag: Tag::Boolean }.at(Length::new(97)),
+        ),
         ("a name with tag 2", 108, 0xA2, trailing(108, 18)),
     ] {
-        same_at(&rt, row, timestamp_with(alloc, place, octet), Some(expected));
+        same_at(
+            &rt,
+            row,
+            timestamp_with(alloc, place, octet),
+            Some(expected),
+        );
     }
 }
 
 // The time of a timestamp that has no more fields but the number 1 and this time.
 fn with_time(alloc: Global, time: &[u8]) -> Option<Error> {
     let mut octets = [0; 96];
-    let front = b"\x30\x00\x02\x01\x01\x06\x01\x2A\x30\x07\x30\x03\x06\x01\x2A\x04\x00\x02\x01\x01\x18";
+    let front =
+        b"\x30\x00\x02\x01\x01\x06\x01\x2A\x30\x07\x30\x03\x06\x01\x2A\x04\x00\x02\x01\x01\x18";
     let end = 22 + time.len();
     octets[..21].copy_from_slice(front);
     octets[1] = (20 + time.len()) as u8;
@@ -128,7 +163,12 @@ fn parts_of_an_accuracy_have_bounds(rt: HostRuntime) {
         [0x30, 4, 0x81, 2, 0x83, 0xE7],
     ] {
         let expected = Some(integer.at(Length::new(6)));
-        same_at(&rt, octets[5], refusal::<Accuracy>(alloc, &octets), expected);
+        same_at(
+            &rt,
+            octets[5],
+            refusal::<Accuracy>(alloc, &octets),
+            expected,
+        );
     }
     same(
         &rt,
@@ -149,12 +189,20 @@ fn a_status_has_a_known_number(rt: HostRuntime) {
     let alloc = rt.alloc();
     let integer = ErrorKind::Value { tag: Tag::Integer };
     for number in [0, 1, 2, 3, 4, 5] {
-        holds(&rt, is_same::<PkiStatusInfo>(alloc, &[0x30, 3, 2, 1, number]));
+        holds(
+            &rt,
+            is_same::<PkiStatusInfo>(alloc, &[0x30, 3, 2, 1, number]),
+        );
     }
     for number in [6, 0x7F, 0xFF] {
         let octets = [0x30, 3, 2, 1, number];
         let expected = Some(integer.at(Length::new(5)));
-        same_at(&rt, number, refusal::<PkiStatusInfo>(alloc, &octets), expected);
+        same_at(
+            &rt,
+            number,
+            refusal::<PkiStatusInfo>(alloc, &octets),
+            expected,
+        );
     }
 }
 

@@ -89,7 +89,11 @@ fn a_signer_is_named_by_issuer_and_serial_number(rt: HostRuntime) {
             SignerIdentifier::SubjectKeyIdentifier(_) => holds(&rt, false),
         }
         holds(&rt, signer.digest_algorithm.oid == id_sha256());
-        same_octets(&rt, signer.signature_algorithm.oid.octets(), &ATTACHED[536..544]);
+        same_octets(
+            &rt,
+            signer.signature_algorithm.oid.octets(),
+            &ATTACHED[536..544],
+        );
         same_octets(&rt, signer.signature.octets(), &ATTACHED[546..]);
         holds(&rt, signer.unsigned_attrs.0.is_none());
     }
@@ -200,5 +204,8 @@ fn a_content_has_any_tag(rt: HostRuntime) {
         tag: Tag::Null,
         contents: &[],
     };
-    holds(&rt, has_content(rt.alloc(), b"\x30\x07\x06\x01\x2A\xA0\x02\x05\x00", null));
+    holds(
+        &rt,
+        has_content(rt.alloc(), b"\x30\x07\x06\x01\x2A\xA0\x02\x05\x00", null),
+    );
 }

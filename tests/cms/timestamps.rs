@@ -6,8 +6,8 @@ use crate::checks::{holds, same, same_octets};
 use crate::fixtures::again::is_same;
 use cms::asn1::values::{id_ct_tst_info, id_sha256, id_signed_data};
 use cms::{
-    Accuracy, PkiFailureInfoBit, PkiStatus, SignedData, TimeStampReq, TimeStampResp, TimeStampToken,
-    TstInfo,
+    Accuracy, PkiFailureInfoBit, PkiStatus, SignedData, TimeStampReq, TimeStampResp,
+    TimeStampToken, TstInfo,
 };
 use der::DecodeBytes;
 use der_asn1::DateTime;
@@ -45,8 +45,15 @@ fn a_request_has_a_digest_alone(rt: HostRuntime) {
         return;
     };
     same(&rt, request.version.to_number::<u8>(), Some(1));
-    holds(&rt, request.message_imprint.hash_algorithm.oid == id_sha256());
-    same_octets(&rt, request.message_imprint.hashed_message.octets(), &REQUEST[24..56]);
+    holds(
+        &rt,
+        request.message_imprint.hash_algorithm.oid == id_sha256(),
+    );
+    same_octets(
+        &rt,
+        request.message_imprint.hashed_message.octets(),
+        &REQUEST[24..56],
+    );
     holds(&rt, request.req_policy.0.is_none());
     holds(&rt, request.nonce.0.is_none());
     holds(&rt, !request.cert_req.0.is_true());
@@ -68,7 +75,8 @@ fn a_request_has_a_policy_and_a_number(rt: HostRuntime) {
     holds(&rt, request.cert_req.0.is_true());
 }
 
-// `openssl asn1parse` lists the content type of the timestamp at octet 13, and the SignedData at 28.
+// `openssl asn1parse` lists the content type of the timestamp at octet 13, and the SignedData at
+// 28.
 #[test]
 fn a_response_has_a_timestamp(rt: HostRuntime) {
     let alloc = rt.alloc();
@@ -89,7 +97,10 @@ fn a_response_has_a_timestamp(rt: HostRuntime) {
         return;
     };
     same(&rt, data.version.to_number::<u8>(), Some(3));
-    holds(&rt, data.encap_content_info.e_content_type == id_ct_tst_info());
+    holds(
+        &rt,
+        data.encap_content_info.e_content_type == id_ct_tst_info(),
+    );
     match data.encap_content_info.e_content.0 {
         Some(content) => same_octets(&rt, content.0.octets(), &RESPONSE[73..199]),
         None => holds(&rt, false),
@@ -120,7 +131,11 @@ fn a_timestamp_has_all_fields(rt: HostRuntime) {
     };
     same(&rt, info.version.to_number::<u8>(), Some(1));
     same_octets(&rt, info.policy.octets(), &[42, 3, 4, 5]);
-    same_octets(&rt, info.message_imprint.hashed_message.octets(), &REQUEST[24..56]);
+    same_octets(
+        &rt,
+        info.message_imprint.hashed_message.octets(),
+        &REQUEST[24..56],
+    );
     same(&rt, info.serial_number.to_number::<u8>(), Some(2));
     same(&rt, info.gen_time.date_time(), made());
     holds(&rt, info.ordering.0.is_true());
@@ -192,7 +207,10 @@ fn each_part_of_an_accuracy_is_optional(rt: HostRuntime) {
     let alloc = rt.alloc();
     holds(&rt, has_parts(alloc, &[0x30, 0], None, None));
     holds(&rt, has_parts(alloc, &[0x30, 3, 0x80, 1, 1], Some(1), None));
-    holds(&rt, has_parts(alloc, &[0x30, 4, 0x81, 2, 3, 0xE7], None, Some(999)));
+    holds(
+        &rt,
+        has_parts(alloc, &[0x30, 4, 0x81, 2, 3, 0xE7], None, Some(999)),
+    );
 }
 
 // `openssl ts -reply -text` prints both texts, and the reasons unacceptedPolicy and badAlg.
@@ -200,7 +218,11 @@ fn each_part_of_an_accuracy_is_optional(rt: HostRuntime) {
 fn a_rejection_has_a_reason(rt: HostRuntime) {
     let alloc = rt.alloc();
     for (octets, bit, text) in [
-        (&REJECTED[..], PkiFailureInfoBit::UnacceptedPolicy, "Requested policy is not supported."),
+        (
+            &REJECTED[..],
+            PkiFailureInfoBit::UnacceptedPolicy,
+            "Requested policy is not supported.",
+        ),
         (
             &REJECTED_ALGORITHM[..],
             PkiFailureInfoBit::BadAlg,
@@ -213,9 +235,10 @@ fn a_rejection_has_a_reason(rt: HostRuntime) {
         };
         same(&rt, response.status.status.item(), PkiStatus::Rejection);
         holds(&rt, response.time_stamp_token.0.is_none());
-        let (Some(texts), Some(reason)) =
-            (response.status.status_string.0, response.status.fail_info.0)
-        else {
+        let (Some(texts), Some(reason)) = (
+            response.status.status_string.0,
+            response.status.fail_info.0,
+        ) else {
             holds(&rt, false);
             return;
         };
