@@ -13,6 +13,7 @@ mod authenticated_data_part3;
 mod certificate_choices;
 mod certificate_choices_part1;
 mod certificate_choices_part2;
+mod certificate_choices_part3;
 mod certificate_set;
 mod cms_version;
 mod compressed_data;
@@ -41,6 +42,8 @@ mod key_trans_recipient_info;
 mod message_digest;
 mod message_imprint;
 mod originator_identifier_or_key;
+mod originator_identifier_or_key_part1;
+mod originator_identifier_or_key_part2;
 mod originator_identifier_or_key_tagged;
 mod originator_info;
 mod originator_public_key;
@@ -57,6 +60,7 @@ mod recipient_identifier;
 mod recipient_info;
 mod recipient_info_part1;
 mod recipient_info_part2;
+mod recipient_info_part3;
 mod recipient_infos;
 mod recipient_key_identifier;
 mod revocation_info_choice;
@@ -115,9 +119,7 @@ pub use key_agree_recipient_info::{KeyAgreeRecipientInfo, KeyAgreeRecipientInfoF
 pub use key_trans_recipient_info::{KeyTransRecipientInfo, KeyTransRecipientInfoFields};
 pub use message_digest::MessageDigest;
 pub use message_imprint::{MessageImprint, MessageImprintFields};
-pub use originator_identifier_or_key::{
-    OriginatorIdentifierOrKey, OriginatorIdentifierOrKeyAlternatives,
-};
+pub use originator_identifier_or_key::OriginatorIdentifierOrKey;
 pub use originator_identifier_or_key_tagged::{
     OriginatorIdentifierOrKeyTagged, OriginatorIdentifierOrKeyTaggedFields,
 };

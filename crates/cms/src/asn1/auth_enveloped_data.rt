@@ -39,8 +39,8 @@ pub struct AuthEnvelopedData<'a> {
     pub recipient_infos: RecipientInfos<'a>,
     /// The encrypted content.
     pub auth_encrypted_content_info: EncryptedContentInfo<'a>,
-    /// The attributes that the code covers, if present. Here they have the tag 1, and the code covers
-    /// them with the tag of a SET OF.
+    /// The attributes that the code covers, if present. Here they have the tag 1, and the code
+    /// covers them with the tag of a SET OF.
     pub auth_attrs: Optional<Implicit<Attributes<'a>, 1>>,
     /// The octets of the message authentication code.
     pub mac: OctetStringRef<'a>,

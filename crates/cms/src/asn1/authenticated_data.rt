@@ -29,7 +29,7 @@ use x509::Attributes;
 /// input.
 #[derive(Clone, Copy, Drop)]
 pub struct AuthenticatedData<'a> {
-    /// The version: 0, 1 or 3.
+    /// The version: 0, 1 or 3. Decoding does not check this.
     pub version: CmsVersion<'a>,
     /// What recipients may need to know of the originator, if present.
     pub originator_info: Optional<Implicit<OriginatorInfo<'a>, 0>>,
@@ -42,8 +42,8 @@ pub struct AuthenticatedData<'a> {
     pub digest_algorithm: Optional<Implicit<AlgorithmIdentifierRef<'a>, 1>>,
     /// The content.
     pub encap_content_info: EncapsulatedContentInfo<'a>,
-    /// The attributes that the code covers, if present. Here they have the tag 2, and the code covers
-    /// them with the tag of a SET OF.
+    /// The attributes that the code covers, if present. Here they have the tag 2, and the code
+    /// covers them with the tag of a SET OF.
     pub auth_attrs: Optional<Implicit<Attributes<'a>, 2>>,
     /// The octets of the code.
     pub mac: OctetStringRef<'a>,

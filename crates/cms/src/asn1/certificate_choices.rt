@@ -11,6 +11,7 @@ ghost use Rattle.cms.specs.declared.asn1.certificate_choices.CertificateChoices.
 
 use crate::asn1::certificate_choices_part1::CertificateChoicesPart1;
 use crate::asn1::certificate_choices_part2::CertificateChoicesPart2;
+use crate::asn1::certificate_choices_part3::CertificateChoicesPart3;
 use crate::asn1::other_certificate_format::OtherCertificateFormat;
 use der::{Decode, Encode, Error, FromFields, Length, Reader, SliceReader, Tag, Writer};
 use der_asn1::{
@@ -39,16 +40,16 @@ pub enum CertificateChoices<'a> {
 // The alternatives, as nested choices of two.
 pub(crate) type CertificateChoicesAlternatives<'a> = Either<
     CertificateChoicesPart1<'a>,
-    CertificateChoicesPart2<'a>,
+    Either<CertificateChoicesPart2<'a>, CertificateChoicesPart3<'a>>,
 >;
 
 impl<'a> FromFields<CertificateChoicesAlternatives<'a>> for CertificateChoices<'a> {
     ghost fields = { elim [
       | variant.Certificate v ↦ First ((record { choice = First (v) }))
-      | variant.ExtendedCertificate v ↦ First ((record { choice = Second (First (v)) }))
-      | variant.V1AttrCert v ↦ First ((record { choice = Second (Second (v)) }))
-      | variant.V2AttrCert v ↦ Second ((record { choice = First (v) }))
-      | variant.Other v ↦ Second ((record { choice = Second (v) }))
+      | variant.ExtendedCertificate v ↦ First ((record { choice = Second (v) }))
+      | variant.V1AttrCert v ↦ Second (First ((record { choice = First (v) })))
+      | variant.V2AttrCert v ↦ Second (First ((record { choice = Second (v) })))
+      | variant.Other v ↦ Second (Second ((record { choice = v })))
     ] };
 
     fn from_fields(alternatives: CertificateChoicesAlternatives<'a>) -> Self {
@@ -60,32 +61,34 @@ impl<'a> FromFields<CertificateChoicesAlternatives<'a>> for CertificateChoices<'
             ) => CertificateChoices::Certificate(value),
             Either::First(
                 CertificateChoicesPart1 {
-                    choice: Either::Second(Either::First(value)),
-                },
-            ) => CertificateChoices::ExtendedCertificate(value),
-            Either::First(
-                CertificateChoicesPart1 {
-                    choice: Either::Second(Either::Second(value)),
-                },
-            ) => CertificateChoices::V1AttrCert(value),
-            Either::Second(
-                CertificateChoicesPart2 {
-                    choice: Either::First(value),
-                },
-            ) => CertificateChoices::V2AttrCert(value),
-            Either::Second(
-                CertificateChoicesPart2 {
                     choice: Either::Second(value),
                 },
-            ) => CertificateChoices::Other(value),
+            ) => CertificateChoices::ExtendedCertificate(value),
+            Either::Second(
+                Either::First(
+                    CertificateChoicesPart2 {
+                        choice: Either::First(value),
+                    },
+                ),
+            ) => CertificateChoices::V1AttrCert(value),
+            Either::Second(
+                Either::First(
+                    CertificateChoicesPart2 {
+                        choice: Either::Second(value),
+                    },
+                ),
+            ) => CertificateChoices::V2AttrCert(value),
+            Either::Second(Either::Second(CertificateChoicesPart3 { choice: value })) =>
+                CertificateChoices::Other(value),
         }
     }
 }
 
 impl<'a> DescribedChoice for CertificateChoices<'a> {
     ghost alternative = { choice_of (either
-        ⟦<CertificateChoicesPart1<'a> as DescribedChoice>⟧.alternative
-        ⟦<CertificateChoicesPart2<'a> as DescribedChoice>⟧.alternative)
+        ⟦<CertificateChoicesPart1<'a> as DescribedChoice>⟧.alternative (either
+        ⟦<CertificateChoicesPart2<'a> as DescribedChoice>⟧.alternative
+        ⟦<CertificateChoicesPart3<'a> as DescribedChoice>⟧.alternative))
         ⟦<CertificateChoices<'a> as FromFields<CertificateChoicesAlternatives<'a>>>⟧.fields };
 }
 

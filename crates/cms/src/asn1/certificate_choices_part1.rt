@@ -19,7 +19,7 @@ pub(crate) struct CertificateChoicesPart1<'a> {
 // The alternatives, as nested choices of two.
 pub(crate) type CertificateChoicesPart1Alternatives<'a> = Either<
     Certificate<'a>,
-    Either<Implicit<SequenceRef<'a>, 0>, Implicit<SequenceRef<'a>, 1>>,
+    Implicit<SequenceRef<'a>, 0>,
 >;
 
 impl<'a> FromFields<CertificateChoicesPart1Alternatives<'a>> for CertificateChoicesPart1<'a> {
@@ -32,8 +32,7 @@ impl<'a> FromFields<CertificateChoicesPart1Alternatives<'a>> for CertificateChoi
 
 impl<'a> DescribedChoice for CertificateChoicesPart1<'a> {
     ghost alternative = { choice_of (either (alternative ⟦<Certificate<'a> as Described>⟧.element)
-        (either (alternative ⟦<Implicit<SequenceRef<'a>, 0> as Described>⟧.element) (alternative
-        ⟦<Implicit<SequenceRef<'a>, 1> as Described>⟧.element))) (λ v. v.choice) };
+        (alternative ⟦<Implicit<SequenceRef<'a>, 0> as Described>⟧.element)) (λ v. v.choice) };
 }
 
 impl<'a, R: Reader<Borrowed = &'a [u8]>> Decode<R> for CertificateChoicesPart1<'a> {

@@ -5,7 +5,6 @@ ghost use Rattle.std.specs.Prelude.{false};
 ghost use Rattle.der.specs.Prelude.{map_ok};
 ghost use Rattle.der_asn1.specs.Meaning.{alternative, choice_of, either};
 
-use crate::asn1::other_certificate_format::OtherCertificateFormat;
 use der::{Decode, Encode, Error, FromFields, Length, Reader, SliceReader, Tag, Writer};
 use der_asn1::{Choice, Described, DescribedChoice, Either, Implicit, SequenceRef, decode_choice};
 use std::alloc::Global;
@@ -18,8 +17,8 @@ pub(crate) struct CertificateChoicesPart2<'a> {
 
 // The alternatives, as nested choices of two.
 pub(crate) type CertificateChoicesPart2Alternatives<'a> = Either<
+    Implicit<SequenceRef<'a>, 1>,
     Implicit<SequenceRef<'a>, 2>,
-    Implicit<OtherCertificateFormat<'a>, 3>,
 >;
 
 impl<'a> FromFields<CertificateChoicesPart2Alternatives<'a>> for CertificateChoicesPart2<'a> {
@@ -32,8 +31,8 @@ impl<'a> FromFields<CertificateChoicesPart2Alternatives<'a>> for CertificateChoi
 
 impl<'a> DescribedChoice for CertificateChoicesPart2<'a> {
     ghost alternative = { choice_of (either (alternative
-        ⟦<Implicit<SequenceRef<'a>, 2> as Described>⟧.element) (alternative
-        ⟦<Implicit<OtherCertificateFormat<'a>, 3> as Described>⟧.element)) (λ v. v.choice) };
+        ⟦<Implicit<SequenceRef<'a>, 1> as Described>⟧.element) (alternative
+        ⟦<Implicit<SequenceRef<'a>, 2> as Described>⟧.element)) (λ v. v.choice) };
 }
 
 impl<'a, R: Reader<Borrowed = &'a [u8]>> Decode<R> for CertificateChoicesPart2<'a> {

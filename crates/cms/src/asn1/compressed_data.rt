@@ -17,7 +17,7 @@ use der_asn1::{BorrowedItem, DecodeItem, Described, Item, Nestable};
 use spki::AlgorithmIdentifierRef;
 use std::alloc::Global;
 
-/// A compressed content (RFC 3274, 1.1), borrowed from the input. Nothing is decompressed.
+/// A compressed content (RFC 3274), borrowed from the input. Nothing is decompressed.
 #[derive(Clone, Copy, Drop)]
 pub struct CompressedData<'a> {
     /// The version, which is 0. Decoding does not check this.

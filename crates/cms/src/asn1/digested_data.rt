@@ -20,7 +20,8 @@ use std::alloc::Global;
 /// A content with its digest (RFC 5652, 7), borrowed from the input.
 #[derive(Clone, Copy, Drop)]
 pub struct DigestedData<'a> {
-    /// The version: 0 if the content is of the type id-data, or else 2. Decoding does not check this.
+    /// The version: 0 if the content is of the type id-data, or else 2. Decoding does not check
+    /// this.
     pub version: CmsVersion<'a>,
     /// The algorithm of the digest.
     pub digest_algorithm: AlgorithmIdentifierRef<'a>,

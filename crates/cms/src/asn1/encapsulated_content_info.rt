@@ -17,14 +17,14 @@ use der_asn1::{
 };
 use std::alloc::Global;
 
-/// A content inside a message (RFC 5652, 5.2), borrowed from the input. In PKCS #7 the content may be
-/// an element with another tag than OCTET STRING (RFC 5652, 5.2.1), which decoding refuses.
+/// A content inside a message (RFC 5652, 5.2), borrowed from the input. In PKCS #7 the content may
+/// be an element with another tag than OCTET STRING (RFC 5652, 5.2.1), which decoding refuses.
 #[derive(Clone, Copy, Drop)]
 pub struct EncapsulatedContentInfo<'a> {
     /// The type of the content.
     pub e_content_type: ContentType<'a>,
-    /// The octets of the content, which are not checked. They are absent if the content is elsewhere,
-    /// as for a detached signature.
+    /// The octets of the content, which are not checked. They are absent if the content is
+    /// elsewhere, as for a detached signature.
     pub e_content: Optional<Explicit<OctetStringRef<'a>, 0>>,
 }
 

@@ -25,7 +25,7 @@ use x509::Attributes;
 /// decrypted.
 #[derive(Clone, Copy, Drop)]
 pub struct EnvelopedData<'a> {
-    /// The version: 0, 2, 3 or 4.
+    /// The version: 0, 2, 3 or 4. Decoding does not check this.
     pub version: CmsVersion<'a>,
     /// What recipients may need to know of the originator, if present.
     pub originator_info: Optional<Implicit<OriginatorInfo<'a>, 0>>,

@@ -26,8 +26,8 @@ use x509::SubjectKeyIdentifier;
 /// input.
 #[derive(Clone, Copy, Drop)]
 pub struct KeyTransRecipientInfo<'a> {
-    /// The version: 0 if the recipient is named by issuer and serial number, or else 2. Decoding does
-    /// not check this.
+    /// The version: 0 if the recipient is named by issuer and serial number, or else 2. Decoding
+    /// does not check this.
     pub version: CmsVersion<'a>,
     /// The certificate of the recipient.
     pub rid: RecipientIdentifier<'a>,

@@ -10,11 +10,12 @@ ghost use Rattle.der_asn1.specs.declared.either.Either.TheVariants.{First, Secon
 ghost use Rattle.cms.specs.declared.asn1.originator_identifier_or_key.OriginatorIdentifierOrKey.TheVariants as variant;
 
 use crate::asn1::issuer_and_serial_number::IssuerAndSerialNumber;
+use crate::asn1::originator_identifier_or_key_part1::OriginatorIdentifierOrKeyPart1;
+use crate::asn1::originator_identifier_or_key_part2::OriginatorIdentifierOrKeyPart2;
 use crate::asn1::originator_public_key::OriginatorPublicKey;
 use der::{Decode, Encode, Error, FromFields, Length, Reader, SliceReader, Tag, Writer};
 use der_asn1::{
-    BorrowedItem, Choice, DecodeItem, Described, DescribedChoice, Either, Implicit, Item,
-    decode_choice,
+    BorrowedItem, Choice, DecodeItem, DescribedChoice, Either, Implicit, Item, decode_choice,
 };
 use std::alloc::Global;
 use x509::SubjectKeyIdentifier;
@@ -30,37 +31,41 @@ pub enum OriginatorIdentifierOrKey<'a> {
     OriginatorKey(Implicit<OriginatorPublicKey<'a>, 1>),
 }
 
-/// The alternatives, as nested choices of two.
-pub type OriginatorIdentifierOrKeyAlternatives<'a> = Either<
-    IssuerAndSerialNumber<'a>,
-    Either<Implicit<SubjectKeyIdentifier<'a>, 0>, Implicit<OriginatorPublicKey<'a>, 1>>,
+// The alternatives, as nested choices of two.
+pub(crate) type OriginatorIdentifierOrKeyAlternatives<'a> = Either<
+    OriginatorIdentifierOrKeyPart1<'a>,
+    OriginatorIdentifierOrKeyPart2<'a>,
 >;
 
 impl<'a> FromFields<OriginatorIdentifierOrKeyAlternatives<'a>> for OriginatorIdentifierOrKey<'a> {
     ghost fields = { elim [
-      | variant.IssuerAndSerialNumber v ↦ First (v)
-      | variant.SubjectKeyIdentifier v ↦ Second (First (v))
-      | variant.OriginatorKey v ↦ Second (Second (v))
+      | variant.IssuerAndSerialNumber v ↦ First ((record { choice = First (v) }))
+      | variant.SubjectKeyIdentifier v ↦ First ((record { choice = Second (v) }))
+      | variant.OriginatorKey v ↦ Second ((record { choice = v }))
     ] };
 
     fn from_fields(alternatives: OriginatorIdentifierOrKeyAlternatives<'a>) -> Self {
         match alternatives {
-            Either::First(value) => OriginatorIdentifierOrKey::IssuerAndSerialNumber(value),
-            Either::Second(Either::First(value)) => OriginatorIdentifierOrKey::SubjectKeyIdentifier(
-                value,
-            ),
-            Either::Second(Either::Second(value)) => OriginatorIdentifierOrKey::OriginatorKey(
-                value,
-            ),
+            Either::First(
+                OriginatorIdentifierOrKeyPart1 {
+                    choice: Either::First(value),
+                },
+            ) => OriginatorIdentifierOrKey::IssuerAndSerialNumber(value),
+            Either::First(
+                OriginatorIdentifierOrKeyPart1 {
+                    choice: Either::Second(value),
+                },
+            ) => OriginatorIdentifierOrKey::SubjectKeyIdentifier(value),
+            Either::Second(OriginatorIdentifierOrKeyPart2 { choice: value }) =>
+                OriginatorIdentifierOrKey::OriginatorKey(value),
         }
     }
 }
 
 impl<'a> DescribedChoice for OriginatorIdentifierOrKey<'a> {
-    ghost alternative = { choice_of (either (alternative
-        ⟦<IssuerAndSerialNumber<'a> as Described>⟧.element) (either (alternative
-        ⟦<Implicit<SubjectKeyIdentifier<'a>, 0> as Described>⟧.element) (alternative
-        ⟦<Implicit<OriginatorPublicKey<'a>, 1> as Described>⟧.element)))
+    ghost alternative = { choice_of (either
+        ⟦<OriginatorIdentifierOrKeyPart1<'a> as DescribedChoice>⟧.alternative
+        ⟦<OriginatorIdentifierOrKeyPart2<'a> as DescribedChoice>⟧.alternative)
         ⟦<OriginatorIdentifierOrKey<'a> as FromFields<OriginatorIdentifierOrKeyAlternatives<'a>>>⟧.fields };
 }
 

@@ -16,14 +16,15 @@ use crate::asn1::other_recipient_info::OtherRecipientInfo;
 use crate::asn1::password_recipient_info::PasswordRecipientInfo;
 use crate::asn1::recipient_info_part1::RecipientInfoPart1;
 use crate::asn1::recipient_info_part2::RecipientInfoPart2;
+use crate::asn1::recipient_info_part3::RecipientInfoPart3;
 use der::{Decode, Encode, Error, FromFields, Length, Reader, SliceReader, Tag, Writer};
 use der_asn1::{
     BorrowedItem, Choice, DecodeItem, DescribedChoice, Either, Implicit, Item, decode_choice,
 };
 use std::alloc::Global;
 
-/// The key of a content, encrypted for a recipient in one of five ways (RFC 5652, 6.2), borrowed from
-/// the input.
+/// The key of a content, encrypted for a recipient in one of five ways (RFC 5652, 6.2), borrowed
+/// from the input.
 #[derive(Clone, Copy, Drop)]
 pub enum RecipientInfo<'a> {
     /// With the public key of the recipient.
@@ -41,16 +42,16 @@ pub enum RecipientInfo<'a> {
 // The alternatives, as nested choices of two.
 pub(crate) type RecipientInfoAlternatives<'a> = Either<
     RecipientInfoPart1<'a>,
-    RecipientInfoPart2<'a>,
+    Either<RecipientInfoPart2<'a>, RecipientInfoPart3<'a>>,
 >;
 
 impl<'a> FromFields<RecipientInfoAlternatives<'a>> for RecipientInfo<'a> {
     ghost fields = { elim [
       | variant.Ktri v ↦ First ((record { choice = First (v) }))
-      | variant.Kari v ↦ First ((record { choice = Second (First (v)) }))
-      | variant.Kekri v ↦ First ((record { choice = Second (Second (v)) }))
-      | variant.Pwri v ↦ Second ((record { choice = First (v) }))
-      | variant.Ori v ↦ Second ((record { choice = Second (v) }))
+      | variant.Kari v ↦ First ((record { choice = Second (v) }))
+      | variant.Kekri v ↦ Second (First ((record { choice = First (v) })))
+      | variant.Pwri v ↦ Second (First ((record { choice = Second (v) })))
+      | variant.Ori v ↦ Second (Second ((record { choice = v })))
     ] };
 
     fn from_fields(alternatives: RecipientInfoAlternatives<'a>) -> Self {
@@ -62,32 +63,34 @@ impl<'a> FromFields<RecipientInfoAlternatives<'a>> for RecipientInfo<'a> {
             ) => RecipientInfo::Ktri(value),
             Either::First(
                 RecipientInfoPart1 {
-                    choice: Either::Second(Either::First(value)),
-                },
-            ) => RecipientInfo::Kari(value),
-            Either::First(
-                RecipientInfoPart1 {
-                    choice: Either::Second(Either::Second(value)),
-                },
-            ) => RecipientInfo::Kekri(value),
-            Either::Second(
-                RecipientInfoPart2 {
-                    choice: Either::First(value),
-                },
-            ) => RecipientInfo::Pwri(value),
-            Either::Second(
-                RecipientInfoPart2 {
                     choice: Either::Second(value),
                 },
-            ) => RecipientInfo::Ori(value),
+            ) => RecipientInfo::Kari(value),
+            Either::Second(
+                Either::First(
+                    RecipientInfoPart2 {
+                        choice: Either::First(value),
+                    },
+                ),
+            ) => RecipientInfo::Kekri(value),
+            Either::Second(
+                Either::First(
+                    RecipientInfoPart2 {
+                        choice: Either::Second(value),
+                    },
+                ),
+            ) => RecipientInfo::Pwri(value),
+            Either::Second(Either::Second(RecipientInfoPart3 { choice: value })) =>
+                RecipientInfo::Ori(value),
         }
     }
 }
 
 impl<'a> DescribedChoice for RecipientInfo<'a> {
     ghost alternative = { choice_of (either
-        ⟦<RecipientInfoPart1<'a> as DescribedChoice>⟧.alternative
-        ⟦<RecipientInfoPart2<'a> as DescribedChoice>⟧.alternative)
+        ⟦<RecipientInfoPart1<'a> as DescribedChoice>⟧.alternative (either
+        ⟦<RecipientInfoPart2<'a> as DescribedChoice>⟧.alternative
+        ⟦<RecipientInfoPart3<'a> as DescribedChoice>⟧.alternative))
         ⟦<RecipientInfo<'a> as FromFields<RecipientInfoAlternatives<'a>>>⟧.fields };
 }
 

@@ -5,7 +5,6 @@ ghost use Rattle.std.specs.Prelude.{false};
 ghost use Rattle.der.specs.Prelude.{map_ok};
 ghost use Rattle.der_asn1.specs.Meaning.{alternative, choice_of, either};
 
-use crate::asn1::kek_recipient_info::KekRecipientInfo;
 use crate::asn1::key_agree_recipient_info::KeyAgreeRecipientInfo;
 use crate::asn1::key_trans_recipient_info::KeyTransRecipientInfo;
 use der::{Decode, Encode, Error, FromFields, Length, Reader, SliceReader, Tag, Writer};
@@ -21,7 +20,7 @@ pub(crate) struct RecipientInfoPart1<'a> {
 // The alternatives, as nested choices of two.
 pub(crate) type RecipientInfoPart1Alternatives<'a> = Either<
     KeyTransRecipientInfo<'a>,
-    Either<Implicit<KeyAgreeRecipientInfo<'a>, 1>, Implicit<KekRecipientInfo<'a>, 2>>,
+    Implicit<KeyAgreeRecipientInfo<'a>, 1>,
 >;
 
 impl<'a> FromFields<RecipientInfoPart1Alternatives<'a>> for RecipientInfoPart1<'a> {
@@ -34,9 +33,8 @@ impl<'a> FromFields<RecipientInfoPart1Alternatives<'a>> for RecipientInfoPart1<'
 
 impl<'a> DescribedChoice for RecipientInfoPart1<'a> {
     ghost alternative = { choice_of (either (alternative
-        ⟦<KeyTransRecipientInfo<'a> as Described>⟧.element) (either (alternative
-        ⟦<Implicit<KeyAgreeRecipientInfo<'a>, 1> as Described>⟧.element) (alternative
-        ⟦<Implicit<KekRecipientInfo<'a>, 2> as Described>⟧.element))) (λ v. v.choice) };
+        ⟦<KeyTransRecipientInfo<'a> as Described>⟧.element) (alternative
+        ⟦<Implicit<KeyAgreeRecipientInfo<'a>, 1> as Described>⟧.element)) (λ v. v.choice) };
 }
 
 impl<'a, R: Reader<Borrowed = &'a [u8]>> Decode<R> for RecipientInfoPart1<'a> {

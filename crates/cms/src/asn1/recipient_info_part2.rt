@@ -5,7 +5,7 @@ ghost use Rattle.std.specs.Prelude.{false};
 ghost use Rattle.der.specs.Prelude.{map_ok};
 ghost use Rattle.der_asn1.specs.Meaning.{alternative, choice_of, either};
 
-use crate::asn1::other_recipient_info::OtherRecipientInfo;
+use crate::asn1::kek_recipient_info::KekRecipientInfo;
 use crate::asn1::password_recipient_info::PasswordRecipientInfo;
 use der::{Decode, Encode, Error, FromFields, Length, Reader, SliceReader, Tag, Writer};
 use der_asn1::{Choice, Described, DescribedChoice, Either, Implicit, decode_choice};
@@ -19,8 +19,8 @@ pub(crate) struct RecipientInfoPart2<'a> {
 
 // The alternatives, as nested choices of two.
 pub(crate) type RecipientInfoPart2Alternatives<'a> = Either<
+    Implicit<KekRecipientInfo<'a>, 2>,
     Implicit<PasswordRecipientInfo<'a>, 3>,
-    Implicit<OtherRecipientInfo<'a>, 4>,
 >;
 
 impl<'a> FromFields<RecipientInfoPart2Alternatives<'a>> for RecipientInfoPart2<'a> {
@@ -33,8 +33,8 @@ impl<'a> FromFields<RecipientInfoPart2Alternatives<'a>> for RecipientInfoPart2<'
 
 impl<'a> DescribedChoice for RecipientInfoPart2<'a> {
     ghost alternative = { choice_of (either (alternative
-        ⟦<Implicit<PasswordRecipientInfo<'a>, 3> as Described>⟧.element) (alternative
-        ⟦<Implicit<OtherRecipientInfo<'a>, 4> as Described>⟧.element)) (λ v. v.choice) };
+        ⟦<Implicit<KekRecipientInfo<'a>, 2> as Described>⟧.element) (alternative
+        ⟦<Implicit<PasswordRecipientInfo<'a>, 3> as Described>⟧.element)) (λ v. v.choice) };
 }
 
 impl<'a, R: Reader<Borrowed = &'a [u8]>> Decode<R> for RecipientInfoPart2<'a> {

@@ -25,7 +25,7 @@ use std::alloc::Global;
 /// A content with signatures (RFC 5652, 5.1), borrowed from the input.
 #[derive(Clone, Copy, Drop)]
 pub struct SignedData<'a> {
-    /// The version, from 1 to 5.
+    /// The version: 1, 3, 4 or 5. Decoding does not check this.
     pub version: CmsVersion<'a>,
     /// The digest algorithms of the signatures, in ascending order of their encodings.
     pub digest_algorithms: SetOf<'a, AlgorithmIdentifierRef<'a>>,

@@ -16,8 +16,8 @@ use der_asn1::{BorrowedItem, DecodeItem, Described, Item, Nestable, Optional, Se
 use std::alloc::Global;
 use x509::PolicyInformation;
 
-/// With which certificate a signature is to be verified, by SHA-1 hashes (RFC 5035, 5), borrowed from
-/// the input: the value of an attribute.
+/// With which certificate a signature is to be verified, by SHA-1 hashes (RFC 5035, 5), borrowed
+/// from the input: the value of an attribute.
 #[derive(Clone, Copy, Drop)]
 pub struct SigningCertificate<'a> {
     /// The certificate of the signer, and others that limit which ones may be used with it. That

@@ -16,7 +16,7 @@ pub fn pkcs() -> ObjectIdentifierRef<'static>
     value
 }
 
-/// Content that is octets of any kind (RFC 5652, 4), or in PKCS #7 an OCTET STRING.
+/// Content that is octets of any kind, in an OCTET STRING (RFC 5652, 4).
 pub fn id_data() -> ObjectIdentifierRef<'static>
     ensures { result.octets.now ≡ oid_octets (1 ∷ 2 ∷ 840 ∷ 113549 ∷ 1 ∷ 7 ∷ 1 ∷ []) }
 {
@@ -172,7 +172,7 @@ pub fn id_ct_content_info() -> ObjectIdentifierRef<'static>
     value
 }
 
-/// Content that is a CompressedData (RFC 3274, 1.1).
+/// Content that is a CompressedData (RFC 3274).
 pub fn id_ct_compressed_data() -> ObjectIdentifierRef<'static>
     ensures { result.octets.now ≡ oid_octets (1 ∷ 2 ∷ 840 ∷ 113549 ∷ 1 ∷ 9 ∷ 16 ∷ 1 ∷ 9 ∷ []) }
 {
@@ -232,7 +232,7 @@ pub fn id_aa_signing_certificate_v2() -> ObjectIdentifierRef<'static>
     value
 }
 
-/// Compression with ZLIB (RFC 3274, 2). The parameters are absent.
+/// Compression with ZLIB (RFC 3274). The parameters are absent.
 pub fn id_alg_zlib_compress() -> ObjectIdentifierRef<'static>
     ensures { result.octets.now ≡ oid_octets (1 ∷ 2 ∷ 840 ∷ 113549 ∷ 1 ∷ 9 ∷ 16 ∷ 3 ∷ 8 ∷ []) }
 {

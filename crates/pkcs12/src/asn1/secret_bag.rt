@@ -4,6 +4,6 @@
 
 use crate::asn1::cert_bag::CertBag;
 
-/// A secret (RFC 7292, 4.2.5) of the type that its `oid` names. It has the form of a certificate, and
-/// its type.
+/// A secret (RFC 7292, 4.2.5) of the type that its `oid` names. It has the form of a certificate,
+/// and its type.
 pub type SecretBag<'a> = CertBag<'a>;
