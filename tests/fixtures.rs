@@ -4,6 +4,7 @@
 pub mod again;
 pub mod bodies;
 pub mod calls;
+pub mod changes;
 pub mod constants;
 pub mod encodings;
 pub mod errors;

@@ -11,6 +11,8 @@ mod asn1_compiler;
 #[cfg(test)]
 mod checks;
 #[cfg(test)]
+mod cms;
+#[cfg(test)]
 mod decoding;
 #[cfg(test)]
 mod fixtures;
@@ -20,6 +22,8 @@ mod keys;
 mod ocsp;
 #[cfg(test)]
 mod parcels;
+#[cfg(test)]
+mod pkcs12;
 #[cfg(test)]
 mod readers;
 #[cfg(test)]

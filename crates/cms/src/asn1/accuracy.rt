@@ -1,0 +1,120 @@
+//! Written by asn1_compile from the module CMS: change the module instead.
+//!
+//! Accuracy.
+ghost use Rattle.std.specs.Prelude.{◌≡◌};
+ghost use Rattle.std.proofs.Common.{arith, refl};
+ghost use Rattle.der.specs.Prelude.{map_ok};
+ghost use Rattle.der_asn1.specs.Item.{decodes_same};
+ghost use Rattle.der_asn1.specs.Meaning.{alternative, optional, sequence, sequence_is_item, sequence_item, two_fields};
+
+use der::{
+    Decode, DecodeValue, Encode, EncodeValue, Error, FromFields, Header, Length, Reader, Sequence,
+    SliceReader, Writer, decode_sequence, field_refs,
+};
+use der_asn1::{
+    BorrowedItem, DecodeItem, Described, Implicit, IntRef, IntegerIn, Item, Nestable, Optional,
+};
+use std::alloc::Global;
+
+/// How exact a time is (RFC 3161, 2.4.2), borrowed from the input. A part that is absent is 0.
+#[derive(Clone, Copy, Drop)]
+pub struct Accuracy<'a> {
+    /// Seconds, if present.
+    pub seconds: Optional<IntRef<'a>>,
+    /// Thousandths of a second, from 1 to 999, if present.
+    pub millis: Optional<Implicit<IntegerIn<1, 999>, 0>>,
+    /// Millionths of a second, from 1 to 999, if present.
+    pub micros: Optional<Implicit<IntegerIn<1, 999>, 1>>,
+}
+
+/// The fields of a [`Accuracy`] in pairs, in the order in which they are encoded.
+pub type AccuracyFields<'a> = (
+    Optional<IntRef<'a>>,
+    (
+        Optional<Implicit<IntegerIn<1, 999>, 0>>,
+        Optional<Implicit<IntegerIn<1, 999>, 1>>,
+    ),
+);
+
+impl<'a> FromFields<AccuracyFields<'a>> for Accuracy<'a> {
+    ghost fields = { λ v. (v.seconds, (v.millis, v.micros)) };
+
+    fn from_fields(members: AccuracyFields<'a>) -> Self {
+        let (seconds, (millis, micros)) = members;
+        Accuracy {
+            seconds,
+            millis,
+            micros,
+        }
+    }
+}
+
+impl<'a> Sequence for Accuracy<'a> {
+    ghost meaning = { sequence (two_fields (optional (alternative
+        ⟦<IntRef<'a> as Described>⟧.element)) (two_fields (optional (alternative
+        ⟦<Implicit<IntegerIn<1, 999>, 0> as Described>⟧.element)) (optional (alternative
+        ⟦<Implicit<IntegerIn<1, 999>, 1> as Described>⟧.element))))
+        ⟦<Accuracy<'a> as FromFields<AccuracyFields<'a>>>⟧.fields };
+
+    ghost fits = { (refl, refl) };
+}
+
+/// Decodes the fields one after the other, with the errors of every [`Sequence`].
+impl<'a, R: Reader<Borrowed = &'a [u8]>> DecodeValue<R> for Accuracy<'a> {
+    type Error = Error;
+
+    ghost decode_value_answers = { λ h s result t.
+        ⟦<AccuracyFields<'a> as Decode<SliceReader<'a>>>⟧.decode_answers s (map_ok
+        ⟦<Accuracy<'a> as FromFields<AccuracyFields<'a>>>⟧.fields result) t };
+
+    fn decode_value(alloc: Global, reader: &mut R, header: Header) -> Result<Self, Error> {
+        decode_sequence::<R, AccuracyFields<'a>, Self>(alloc, reader, header)
+    }
+
+    fn is_value(&self) {
+        if let Some(value) = &self.seconds.0 {
+            <IntRef<'a> as DecodeValue<R>>::is_value(value);
+        }
+        if let Some(value) = &self.millis.0 {
+            <Implicit<IntegerIn<1, 999>, 0> as DecodeValue<R>>::is_value(value);
+        }
+        if let Some(value) = &self.micros.0 {
+            <Implicit<IntegerIn<1, 999>, 1> as DecodeValue<R>>::is_value(value);
+        }
+    }
+}
+
+/// Writes the fields one after the other, with the errors of every [`Sequence`].
+impl<'a> EncodeValue for Accuracy<'a> {
+    ghost value_size = { λ v. ⟦<AccuracyFields<'a> as Encode>⟧.size
+        (⟦<Accuracy<'a> as FromFields<AccuracyFields<'a>>>⟧.fields v) };
+
+    ghost encode_value_answers = { λ v. ⟦<AccuracyFields<'a> as Encode>⟧.encode_answers
+        (⟦<Accuracy<'a> as FromFields<AccuracyFields<'a>>>⟧.fields v) };
+
+    fn value_len(&self) -> Result<Length, Error> {
+        field_refs!(self, (seconds, (millis, micros))).encoded_len()
+    }
+
+    fn encode_value<W: Writer>(&self, writer: &mut W) -> Result<(), Error> {
+        field_refs!(self, (seconds, (millis, micros))).encode(writer)
+    }
+}
+
+impl<'a> Item for Accuracy<'a> {
+    ghost item = { sequence_item ⟦<Accuracy<'a> as Described>⟧.element };
+}
+
+impl<'a, R: Reader<Borrowed = &'a [u8]>> DecodeItem<R> for Accuracy<'a> {
+    ghost is_item = { sequence_is_item ⟦<Accuracy<'a> as Described>⟧.element refl };
+
+    ghost decodes_items = { decodes_same (sequence_item ⟦<Accuracy<'a> as Described>⟧.element) };
+}
+
+impl<'a> BorrowedItem for Accuracy<'a> {
+    ghost borrowed = { refl };
+}
+
+impl<'a> Nestable for Accuracy<'a> {
+    ghost nestable = { Prim.omega arith };
+}

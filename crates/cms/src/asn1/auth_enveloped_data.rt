@@ -1,0 +1,193 @@
+//! Written by asn1_compile from the module CMS: change the module instead.
+//!
+//! AuthEnvelopedData.
+ghost use Rattle.std.specs.Prelude.{◌≡◌};
+ghost use Rattle.std.proofs.Common.{arith, refl};
+ghost use Rattle.der.specs.Prelude.{map_ok};
+ghost use Rattle.der_asn1.specs.Item.{decodes_same};
+ghost use Rattle.der_asn1.specs.Meaning.{alternative, field, optional, seen, sequence, sequence_is_item, sequence_item, two_fields};
+
+use crate::asn1::auth_enveloped_data_part1::{
+    AuthEnvelopedDataPart1, AuthEnvelopedDataPart1Fields,
+};
+use crate::asn1::auth_enveloped_data_part2::{
+    AuthEnvelopedDataPart2, AuthEnvelopedDataPart2Fields,
+};
+use crate::asn1::cms_version::CmsVersion;
+use crate::asn1::encrypted_content_info::EncryptedContentInfo;
+use crate::asn1::originator_info::OriginatorInfo;
+use crate::asn1::recipient_infos::RecipientInfos;
+use der::{
+    Decode, DecodeValue, Encode, EncodeValue, Error, FromFields, Header, Length, Reader, Sequence,
+    SliceReader, Writer, decode_sequence, field_refs,
+};
+use der_asn1::{
+    BorrowedItem, DecodeItem, Described, Implicit, Item, Nestable, OctetStringRef, Optional,
+};
+use std::alloc::Global;
+use x509::Attributes;
+
+/// A content that is encrypted and authenticated for recipients (RFC 5083, 2.1), borrowed from the
+/// input. Nothing is decrypted.
+#[derive(Clone, Copy, Drop)]
+pub struct AuthEnvelopedData<'a> {
+    /// The version, which is 0. Decoding does not check this.
+    pub version: CmsVersion<'a>,
+    /// What recipients may need to know of the originator, if present.
+    pub originator_info: Optional<Implicit<OriginatorInfo<'a>, 0>>,
+    /// The key for each recipient. That there is at least one is not checked.
+    pub recipient_infos: RecipientInfos<'a>,
+    /// The encrypted content.
+    pub auth_encrypted_content_info: EncryptedContentInfo<'a>,
+    /// The attributes that the code covers, if present. Here they have the tag 1, and the code
+    /// covers them with the tag of a SET OF.
+    pub auth_attrs: Optional<Implicit<Attributes<'a>, 1>>,
+    /// The octets of the message authentication code.
+    pub mac: OctetStringRef<'a>,
+    /// The attributes that the code does not cover, if present.
+    pub unauth_attrs: Optional<Implicit<Attributes<'a>, 2>>,
+}
+
+/// The fields of a [`AuthEnvelopedData`] in pairs, in the order in which they are encoded.
+pub type AuthEnvelopedDataFields<'a> = (
+    AuthEnvelopedDataPart1Fields<'a>,
+    AuthEnvelopedDataPart2Fields<'a>,
+);
+
+impl<'a> FromFields<(AuthEnvelopedDataPart1<'a>, AuthEnvelopedDataPart2<'a>)>
+    for AuthEnvelopedData<'a> {
+    ghost fields = { λ v. (
+      record {
+        version = v.version;
+        originator_info = v.originator_info;
+        recipient_infos = v.recipient_infos;
+        auth_encrypted_content_info = v.auth_encrypted_content_info;
+      },
+      record { auth_attrs = v.auth_attrs; mac = v.mac; unauth_attrs = v.unauth_attrs },
+    ) };
+
+    fn from_fields(members: (AuthEnvelopedDataPart1<'a>, AuthEnvelopedDataPart2<'a>)) -> Self {
+        let (part1, part2) = members;
+        AuthEnvelopedData {
+            version: part1.version,
+            originator_info: part1.originator_info,
+            recipient_infos: part1.recipient_infos,
+            auth_encrypted_content_info: part1.auth_encrypted_content_info,
+            auth_attrs: part2.auth_attrs,
+            mac: part2.mac,
+            unauth_attrs: part2.unauth_attrs,
+        }
+    }
+}
+
+impl<'a> Sequence for AuthEnvelopedData<'a> {
+    ghost meaning = { sequence (two_fields (seen
+        ⟦<AuthEnvelopedDataPart1<'a> as FromFields<AuthEnvelopedDataPart1Fields<'a>>>⟧.fields
+        (two_fields (two_fields (field (alternative ⟦<CmsVersion<'a> as Described>⟧.element))
+        (optional (alternative ⟦<Implicit<OriginatorInfo<'a>, 0> as Described>⟧.element)))
+        (two_fields (field (alternative ⟦<RecipientInfos<'a> as Described>⟧.element)) (field
+        (alternative ⟦<EncryptedContentInfo<'a> as Described>⟧.element))))) (seen
+        ⟦<AuthEnvelopedDataPart2<'a> as FromFields<AuthEnvelopedDataPart2Fields<'a>>>⟧.fields
+        (two_fields (optional (alternative ⟦<Implicit<Attributes<'a>, 1> as Described>⟧.element))
+        (two_fields (field (alternative ⟦<OctetStringRef<'a> as Described>⟧.element)) (optional
+        (alternative ⟦<Implicit<Attributes<'a>, 2> as Described>⟧.element))))))
+        ⟦<AuthEnvelopedData<'a> as FromFields<(AuthEnvelopedDataPart1<'a>, AuthEnvelopedDataPart2<'a>)>>⟧.fields };
+
+    ghost fits = { (refl, refl) };
+}
+
+/// Decodes the fields one after the other, with the errors of every [`Sequence`].
+impl<'a, R: Reader<Borrowed = &'a [u8]>> DecodeValue<R> for AuthEnvelopedData<'a> {
+    type Error = Error;
+
+    ghost decode_value_answers = { λ h s result t.
+        ⟦<(AuthEnvelopedDataPart1<'a>, AuthEnvelopedDataPart2<'a>) as Decode<SliceReader<'a>>>⟧.decode_answers s
+        (map_ok
+        ⟦<AuthEnvelopedData<'a> as FromFields<(AuthEnvelopedDataPart1<'a>, AuthEnvelopedDataPart2<'a>)>>⟧.fields result) t };
+
+    fn decode_value(alloc: Global, reader: &mut R, header: Header) -> Result<Self, Error> {
+        decode_sequence::<R, (AuthEnvelopedDataPart1<'a>, AuthEnvelopedDataPart2<'a>), Self>(
+            alloc, reader, header,
+        )
+    }
+
+    fn is_value(&self) {
+        <CmsVersion<'a> as DecodeValue<R>>::is_value(&self.version);
+        if let Some(value) = &self.originator_info.0 {
+            <Implicit<OriginatorInfo<'a>, 0> as DecodeValue<R>>::is_value(value);
+        }
+        <RecipientInfos<'a> as DecodeValue<R>>::is_value(&self.recipient_infos);
+        <EncryptedContentInfo<'a> as DecodeValue<R>>::is_value(&self.auth_encrypted_content_info);
+        if let Some(value) = &self.auth_attrs.0 {
+            <Implicit<Attributes<'a>, 1> as DecodeValue<R>>::is_value(value);
+        }
+        <OctetStringRef<'a> as DecodeValue<R>>::is_value(&self.mac);
+        if let Some(value) = &self.unauth_attrs.0 {
+            <Implicit<Attributes<'a>, 2> as DecodeValue<R>>::is_value(value);
+        }
+    }
+}
+
+/// Writes the fields one after the other, with the errors of every [`Sequence`].
+impl<'a> EncodeValue for AuthEnvelopedData<'a> {
+    ghost value_size = { λ v. ⟦<AuthEnvelopedDataFields<'a> as Encode>⟧.size (
+      ⟦<AuthEnvelopedDataPart1<'a> as FromFields<AuthEnvelopedDataPart1Fields<'a>>>⟧.fields
+          (⟦<AuthEnvelopedData<'a> as FromFields<(AuthEnvelopedDataPart1<'a>, AuthEnvelopedDataPart2<'a>)>>⟧.fields v).0,
+      ⟦<AuthEnvelopedDataPart2<'a> as FromFields<AuthEnvelopedDataPart2Fields<'a>>>⟧.fields
+          (⟦<AuthEnvelopedData<'a> as FromFields<(AuthEnvelopedDataPart1<'a>, AuthEnvelopedDataPart2<'a>)>>⟧.fields v).1,
+    ) };
+
+    ghost encode_value_answers = { λ v. ⟦<AuthEnvelopedDataFields<'a> as Encode>⟧.encode_answers (
+      ⟦<AuthEnvelopedDataPart1<'a> as FromFields<AuthEnvelopedDataPart1Fields<'a>>>⟧.fields
+          (⟦<AuthEnvelopedData<'a> as FromFields<(AuthEnvelopedDataPart1<'a>, AuthEnvelopedDataPart2<'a>)>>⟧.fields v).0,
+      ⟦<AuthEnvelopedDataPart2<'a> as FromFields<AuthEnvelopedDataPart2Fields<'a>>>⟧.fields
+          (⟦<AuthEnvelopedData<'a> as FromFields<(AuthEnvelopedDataPart1<'a>, AuthEnvelopedDataPart2<'a>)>>⟧.fields v).1,
+    ) };
+
+    fn value_len(&self) -> Result<Length, Error> {
+        field_refs!(
+            self,
+            (
+                (
+                    (version, originator_info),
+                    (recipient_infos, auth_encrypted_content_info)
+                ),
+                (auth_attrs, (mac, unauth_attrs))
+            )
+        )
+        .encoded_len()
+    }
+
+    fn encode_value<W: Writer>(&self, writer: &mut W) -> Result<(), Error> {
+        field_refs!(
+            self,
+            (
+                (
+                    (version, originator_info),
+                    (recipient_infos, auth_encrypted_content_info)
+                ),
+                (auth_attrs, (mac, unauth_attrs))
+            )
+        )
+        .encode(writer)
+    }
+}
+
+impl<'a> Item for AuthEnvelopedData<'a> {
+    ghost item = { sequence_item ⟦<AuthEnvelopedData<'a> as Described>⟧.element };
+}
+
+impl<'a, R: Reader<Borrowed = &'a [u8]>> DecodeItem<R> for AuthEnvelopedData<'a> {
+    ghost is_item = { sequence_is_item ⟦<AuthEnvelopedData<'a> as Described>⟧.element refl };
+
+    ghost decodes_items = { decodes_same (sequence_item
+        ⟦<AuthEnvelopedData<'a> as Described>⟧.element) };
+}
+
+impl<'a> BorrowedItem for AuthEnvelopedData<'a> {
+    ghost borrowed = { refl };
+}
+
+impl<'a> Nestable for AuthEnvelopedData<'a> {
+    ghost nestable = { Prim.omega arith };
+}

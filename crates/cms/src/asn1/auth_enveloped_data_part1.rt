@@ -1,0 +1,62 @@
+//! Written by asn1_compile from the module CMS: change the module instead.
+//!
+//! AuthEnvelopedDataPart1.
+ghost use Rattle.std.specs.Prelude.{false};
+ghost use Rattle.der.specs.Prelude.{map_ok};
+
+use crate::asn1::cms_version::CmsVersion;
+use crate::asn1::encrypted_content_info::EncryptedContentInfo;
+use crate::asn1::originator_info::OriginatorInfo;
+use crate::asn1::recipient_infos::RecipientInfos;
+use der::{Decode, Error, FromFields, Reader, SliceReader, decode_fields};
+use der_asn1::{Implicit, Optional};
+use std::alloc::Global;
+
+// Some fields of a AuthEnvelopedData.
+#[derive(Drop)]
+pub(crate) struct AuthEnvelopedDataPart1<'a> {
+    pub(crate) version: CmsVersion<'a>,
+    pub(crate) originator_info: Optional<Implicit<OriginatorInfo<'a>, 0>>,
+    pub(crate) recipient_infos: RecipientInfos<'a>,
+    pub(crate) auth_encrypted_content_info: EncryptedContentInfo<'a>,
+}
+
+// The fields in pairs, in the order in which they are encoded.
+pub(crate) type AuthEnvelopedDataPart1Fields<'a> = (
+    (CmsVersion<'a>, Optional<Implicit<OriginatorInfo<'a>, 0>>),
+    (RecipientInfos<'a>, EncryptedContentInfo<'a>),
+);
+
+impl<'a> FromFields<AuthEnvelopedDataPart1Fields<'a>> for AuthEnvelopedDataPart1<'a> {
+    ghost fields = { λ v. ((v.version, v.originator_info), (v.recipient_infos, v.auth_encrypted_content_info)) };
+
+    fn from_fields(members: AuthEnvelopedDataPart1Fields<'a>) -> Self {
+        let ((version, originator_info), (recipient_infos, auth_encrypted_content_info)) = members;
+        AuthEnvelopedDataPart1 {
+            version,
+            originator_info,
+            recipient_infos,
+            auth_encrypted_content_info,
+        }
+    }
+}
+
+impl<'a, R: Reader<Borrowed = &'a [u8]>> Decode<R> for AuthEnvelopedDataPart1<'a> {
+    type Error = Error;
+
+    ghost is_next = { λ v. ⟦<AuthEnvelopedDataPart1Fields<'a> as Decode<SliceReader<'a>>>⟧.is_next
+        (⟦<AuthEnvelopedDataPart1<'a> as FromFields<AuthEnvelopedDataPart1Fields<'a>>>⟧.fields v) };
+
+    ghost decode_levels = { ⟦<AuthEnvelopedDataPart1Fields<'a> as Decode<SliceReader<'a>>>⟧.decode_levels };
+
+    ghost allocates = { false };
+
+    ghost decode_answers = { λ s result t.
+        ⟦<AuthEnvelopedDataPart1Fields<'a> as Decode<SliceReader<'a>>>⟧.decode_answers s
+        (map_ok
+        ⟦<AuthEnvelopedDataPart1<'a> as FromFields<AuthEnvelopedDataPart1Fields<'a>>>⟧.fields result) t };
+
+    fn decode(alloc: Global, reader: &mut R) -> Result<Self, Error> {
+        decode_fields::<R, AuthEnvelopedDataPart1Fields<'a>, Self>(alloc, reader)
+    }
+}

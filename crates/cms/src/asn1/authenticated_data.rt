@@ -1,0 +1,245 @@
+//! Written by asn1_compile from the module CMS: change the module instead.
+//!
+//! AuthenticatedData.
+ghost use Rattle.std.specs.Prelude.{◌≡◌};
+ghost use Rattle.std.proofs.Common.{arith, refl};
+ghost use Rattle.der.specs.Prelude.{map_ok};
+ghost use Rattle.der_asn1.specs.Item.{decodes_same};
+ghost use Rattle.der_asn1.specs.Meaning.{alternative, field, optional, seen, sequence, sequence_is_item, sequence_item, two_fields};
+
+use crate::asn1::authenticated_data_part1::{AuthenticatedDataPart1, AuthenticatedDataPart1Fields};
+use crate::asn1::authenticated_data_part2::{AuthenticatedDataPart2, AuthenticatedDataPart2Fields};
+use crate::asn1::authenticated_data_part3::{AuthenticatedDataPart3, AuthenticatedDataPart3Fields};
+use crate::asn1::cms_version::CmsVersion;
+use crate::asn1::encapsulated_content_info::EncapsulatedContentInfo;
+use crate::asn1::originator_info::OriginatorInfo;
+use crate::asn1::recipient_infos::RecipientInfos;
+use der::{
+    Decode, DecodeValue, Encode, EncodeValue, Error, FromFields, Header, Length, Reader, Sequence,
+    SliceReader, Writer, decode_sequence, field_refs,
+};
+use der_asn1::{
+    BorrowedItem, DecodeItem, Described, Implicit, Item, Nestable, OctetStringRef, Optional,
+};
+use spki::AlgorithmIdentifierRef;
+use std::alloc::Global;
+use x509::Attributes;
+
+/// A content with a message authentication code for recipients (RFC 5652, 9.1), borrowed from the
+/// input.
+#[derive(Clone, Copy, Drop)]
+pub struct AuthenticatedData<'a> {
+    /// The version: 0, 1 or 3. Decoding does not check this.
+    pub version: CmsVersion<'a>,
+    /// What recipients may need to know of the originator, if present.
+    pub originator_info: Optional<Implicit<OriginatorInfo<'a>, 0>>,
+    /// The key for each recipient. That there is at least one is not checked.
+    pub recipient_infos: RecipientInfos<'a>,
+    /// The algorithm of the code.
+    pub mac_algorithm: AlgorithmIdentifierRef<'a>,
+    /// The algorithm of the digest of the content, if present. The RFC requires it exactly if there
+    /// are attributes that the code covers, but decoding does not check this.
+    pub digest_algorithm: Optional<Implicit<AlgorithmIdentifierRef<'a>, 1>>,
+    /// The content.
+    pub encap_content_info: EncapsulatedContentInfo<'a>,
+    /// The attributes that the code covers, if present. Here they have the tag 2, and the code
+    /// covers them with the tag of a SET OF.
+    pub auth_attrs: Optional<Implicit<Attributes<'a>, 2>>,
+    /// The octets of the code.
+    pub mac: OctetStringRef<'a>,
+    /// The attributes that the code does not cover, if present.
+    pub unauth_attrs: Optional<Implicit<Attributes<'a>, 3>>,
+}
+
+/// The fields of a [`AuthenticatedData`] in pairs, in the order in which they are encoded.
+pub type AuthenticatedDataFields<'a> = (
+    AuthenticatedDataPart1Fields<'a>,
+    (
+        AuthenticatedDataPart2Fields<'a>,
+        AuthenticatedDataPart3Fields<'a>,
+    ),
+);
+
+impl<'a> FromFields<
+    (
+        AuthenticatedDataPart1<'a>,
+        (AuthenticatedDataPart2<'a>, AuthenticatedDataPart3<'a>),
+    ),
+> for AuthenticatedData<'a> {
+    ghost fields = { λ v. (
+      record {
+        version = v.version;
+        originator_info = v.originator_info;
+        recipient_infos = v.recipient_infos;
+      },
+      (
+        record {
+          mac_algorithm = v.mac_algorithm;
+          digest_algorithm = v.digest_algorithm;
+          encap_content_info = v.encap_content_info;
+        },
+        record { auth_attrs = v.auth_attrs; mac = v.mac; unauth_attrs = v.unauth_attrs },
+      ),
+    ) };
+
+    fn from_fields(
+        members: (
+            AuthenticatedDataPart1<'a>,
+            (AuthenticatedDataPart2<'a>, AuthenticatedDataPart3<'a>),
+        ),
+    ) -> Self {
+        let (part1, (part2, part3)) = members;
+        AuthenticatedData {
+            version: part1.version,
+            originator_info: part1.originator_info,
+            recipient_infos: part1.recipient_infos,
+            mac_algorithm: part2.mac_algorithm,
+            digest_algorithm: part2.digest_algorithm,
+            encap_content_info: part2.encap_content_info,
+            auth_attrs: part3.auth_attrs,
+            mac: part3.mac,
+            unauth_attrs: part3.unauth_attrs,
+        }
+    }
+}
+
+impl<'a> Sequence for AuthenticatedData<'a> {
+    ghost meaning = { sequence (two_fields (seen
+        ⟦<AuthenticatedDataPart1<'a> as FromFields<AuthenticatedDataPart1Fields<'a>>>⟧.fields
+        (two_fields (field (alternative ⟦<CmsVersion<'a> as Described>⟧.element)) (two_fields
+        (optional (alternative ⟦<Implicit<OriginatorInfo<'a>, 0> as Described>⟧.element)) (field
+        (alternative ⟦<RecipientInfos<'a> as Described>⟧.element))))) (two_fields (seen
+        ⟦<AuthenticatedDataPart2<'a> as FromFields<AuthenticatedDataPart2Fields<'a>>>⟧.fields
+        (two_fields (field (alternative ⟦<AlgorithmIdentifierRef<'a> as Described>⟧.element))
+        (two_fields (optional (alternative
+        ⟦<Implicit<AlgorithmIdentifierRef<'a>, 1> as Described>⟧.element)) (field (alternative
+        ⟦<EncapsulatedContentInfo<'a> as Described>⟧.element))))) (seen
+        ⟦<AuthenticatedDataPart3<'a> as FromFields<AuthenticatedDataPart3Fields<'a>>>⟧.fields
+        (two_fields (optional (alternative ⟦<Implicit<Attributes<'a>, 2> as Described>⟧.element))
+        (two_fields (field (alternative ⟦<OctetStringRef<'a> as Described>⟧.element)) (optional
+        (alternative ⟦<Implicit<Attributes<'a>, 3> as Described>⟧.element)))))))
+        ⟦<AuthenticatedData<'a> as FromFields<(AuthenticatedDataPart1<'a>,
+        (AuthenticatedDataPart2<'a>, AuthenticatedDataPart3<'a>))>>⟧.fields };
+
+    ghost fits = { (refl, refl) };
+}
+
+/// Decodes the fields one after the other, with the errors of every [`Sequence`].
+impl<'a, R: Reader<Borrowed = &'a [u8]>> DecodeValue<R> for AuthenticatedData<'a> {
+    type Error = Error;
+
+    ghost decode_value_answers = { λ h s result t.
+        ⟦<(AuthenticatedDataPart1<'a>,
+        (AuthenticatedDataPart2<'a>, AuthenticatedDataPart3<'a>)) as Decode<SliceReader<'a>>>⟧.decode_answers s
+        (map_ok ⟦<AuthenticatedData<'a> as FromFields<(AuthenticatedDataPart1<'a>,
+        (AuthenticatedDataPart2<'a>, AuthenticatedDataPart3<'a>))>>⟧.fields result) t };
+
+    fn decode_value(alloc: Global, reader: &mut R, header: Header) -> Result<Self, Error> {
+        decode_sequence::<
+            R,
+            (
+                AuthenticatedDataPart1<'a>,
+                (AuthenticatedDataPart2<'a>, AuthenticatedDataPart3<'a>),
+            ),
+            Self,
+        >(alloc, reader, header)
+    }
+
+    fn is_value(&self) {
+        <CmsVersion<'a> as DecodeValue<R>>::is_value(&self.version);
+        if let Some(value) = &self.originator_info.0 {
+            <Implicit<OriginatorInfo<'a>, 0> as DecodeValue<R>>::is_value(value);
+        }
+        <RecipientInfos<'a> as DecodeValue<R>>::is_value(&self.recipient_infos);
+        <AlgorithmIdentifierRef<'a> as DecodeValue<R>>::is_value(&self.mac_algorithm);
+        if let Some(value) = &self.digest_algorithm.0 {
+            <Implicit<AlgorithmIdentifierRef<'a>, 1> as DecodeValue<R>>::is_value(value);
+        }
+        <EncapsulatedContentInfo<'a> as DecodeValue<R>>::is_value(&self.encap_content_info);
+        if let Some(value) = &self.auth_attrs.0 {
+            <Implicit<Attributes<'a>, 2> as DecodeValue<R>>::is_value(value);
+        }
+        <OctetStringRef<'a> as DecodeValue<R>>::is_value(&self.mac);
+        if let Some(value) = &self.unauth_attrs.0 {
+            <Implicit<Attributes<'a>, 3> as DecodeValue<R>>::is_value(value);
+        }
+    }
+}
+
+/// Writes the fields one after the other, with the errors of every [`Sequence`].
+impl<'a> EncodeValue for AuthenticatedData<'a> {
+    ghost value_size = { λ v. ⟦<AuthenticatedDataFields<'a> as Encode>⟧.size (
+      ⟦<AuthenticatedDataPart1<'a> as FromFields<AuthenticatedDataPart1Fields<'a>>>⟧.fields
+          (⟦<AuthenticatedData<'a> as FromFields<(AuthenticatedDataPart1<'a>,
+        (AuthenticatedDataPart2<'a>, AuthenticatedDataPart3<'a>))>>⟧.fields v).0,
+      (
+        ⟦<AuthenticatedDataPart2<'a> as FromFields<AuthenticatedDataPart2Fields<'a>>>⟧.fields
+            (⟦<AuthenticatedData<'a> as FromFields<(AuthenticatedDataPart1<'a>,
+        (AuthenticatedDataPart2<'a>, AuthenticatedDataPart3<'a>))>>⟧.fields v).1.0,
+        ⟦<AuthenticatedDataPart3<'a> as FromFields<AuthenticatedDataPart3Fields<'a>>>⟧.fields
+            (⟦<AuthenticatedData<'a> as FromFields<(AuthenticatedDataPart1<'a>,
+        (AuthenticatedDataPart2<'a>, AuthenticatedDataPart3<'a>))>>⟧.fields v).1.1,
+      ),
+    ) };
+
+    ghost encode_value_answers = { λ v. ⟦<AuthenticatedDataFields<'a> as Encode>⟧.encode_answers (
+      ⟦<AuthenticatedDataPart1<'a> as FromFields<AuthenticatedDataPart1Fields<'a>>>⟧.fields
+          (⟦<AuthenticatedData<'a> as FromFields<(AuthenticatedDataPart1<'a>,
+        (AuthenticatedDataPart2<'a>, AuthenticatedDataPart3<'a>))>>⟧.fields v).0,
+      (
+        ⟦<AuthenticatedDataPart2<'a> as FromFields<AuthenticatedDataPart2Fields<'a>>>⟧.fields
+            (⟦<AuthenticatedData<'a> as FromFields<(AuthenticatedDataPart1<'a>,
+        (AuthenticatedDataPart2<'a>, AuthenticatedDataPart3<'a>))>>⟧.fields v).1.0,
+        ⟦<AuthenticatedDataPart3<'a> as FromFields<AuthenticatedDataPart3Fields<'a>>>⟧.fields
+            (⟦<AuthenticatedData<'a> as FromFields<(AuthenticatedDataPart1<'a>,
+        (AuthenticatedDataPart2<'a>, AuthenticatedDataPart3<'a>))>>⟧.fields v).1.1,
+      ),
+    ) };
+
+    fn value_len(&self) -> Result<Length, Error> {
+        field_refs!(
+            self,
+            (
+                (version, (originator_info, recipient_infos)),
+                (
+                    (mac_algorithm, (digest_algorithm, encap_content_info)),
+                    (auth_attrs, (mac, unauth_attrs))
+                )
+            )
+        )
+        .encoded_len()
+    }
+
+    fn encode_value<W: Writer>(&self, writer: &mut W) -> Result<(), Error> {
+        field_refs!(
+            self,
+            (
+                (version, (originator_info, recipient_infos)),
+                (
+                    (mac_algorithm, (digest_algorithm, encap_content_info)),
+                    (auth_attrs, (mac, unauth_attrs))
+                )
+            )
+        )
+        .encode(writer)
+    }
+}
+
+impl<'a> Item for AuthenticatedData<'a> {
+    ghost item = { sequence_item ⟦<AuthenticatedData<'a> as Described>⟧.element };
+}
+
+impl<'a, R: Reader<Borrowed = &'a [u8]>> DecodeItem<R> for AuthenticatedData<'a> {
+    ghost is_item = { sequence_is_item ⟦<AuthenticatedData<'a> as Described>⟧.element refl };
+
+    ghost decodes_items = { decodes_same (sequence_item
+        ⟦<AuthenticatedData<'a> as Described>⟧.element) };
+}
+
+impl<'a> BorrowedItem for AuthenticatedData<'a> {
+    ghost borrowed = { refl };
+}
+
+impl<'a> Nestable for AuthenticatedData<'a> {
+    ghost nestable = { Prim.omega arith };
+}

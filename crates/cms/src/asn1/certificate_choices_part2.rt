@@ -1,0 +1,89 @@
+//! Written by asn1_compile from the module CMS: change the module instead.
+//!
+//! CertificateChoicesPart2.
+ghost use Rattle.std.specs.Prelude.{false};
+ghost use Rattle.der.specs.Prelude.{map_ok};
+ghost use Rattle.der_asn1.specs.Meaning.{alternative, choice_of, either};
+
+use der::{Decode, Encode, Error, FromFields, Length, Reader, SliceReader, Tag, Writer};
+use der_asn1::{Choice, Described, DescribedChoice, Either, Implicit, SequenceRef, decode_choice};
+use std::alloc::Global;
+
+// Some alternatives of a CertificateChoices.
+#[derive(Drop)]
+pub(crate) struct CertificateChoicesPart2<'a> {
+    pub(crate) choice: CertificateChoicesPart2Alternatives<'a>,
+}
+
+// The alternatives, as nested choices of two.
+pub(crate) type CertificateChoicesPart2Alternatives<'a> = Either<
+    Implicit<SequenceRef<'a>, 1>,
+    Implicit<SequenceRef<'a>, 2>,
+>;
+
+impl<'a> FromFields<CertificateChoicesPart2Alternatives<'a>> for CertificateChoicesPart2<'a> {
+    ghost fields = { λ v. v.choice };
+
+    fn from_fields(choice: CertificateChoicesPart2Alternatives<'a>) -> Self {
+        CertificateChoicesPart2 { choice }
+    }
+}
+
+impl<'a> DescribedChoice for CertificateChoicesPart2<'a> {
+    ghost alternative = { choice_of (either (alternative
+        ⟦<Implicit<SequenceRef<'a>, 1> as Described>⟧.element) (alternative
+        ⟦<Implicit<SequenceRef<'a>, 2> as Described>⟧.element)) (λ v. v.choice) };
+}
+
+impl<'a, R: Reader<Borrowed = &'a [u8]>> Decode<R> for CertificateChoicesPart2<'a> {
+    type Error = Error;
+
+    ghost is_next = { ⟦<CertificateChoicesPart2<'a> as DescribedChoice>⟧.alternative.is_next };
+
+    ghost decode_levels = { ⟦<CertificateChoicesPart2<'a> as DescribedChoice>⟧.alternative.levels };
+
+    ghost allocates = { false };
+
+    ghost decode_answers = { λ s result t.
+        ⟦<CertificateChoicesPart2Alternatives<'a> as Decode<SliceReader<'a>>>⟧.decode_answers s
+        (map_ok (λ v. v.choice) result) t };
+
+    #[inline(always)]
+    fn decode(alloc: Global, reader: &mut R) -> Result<Self, Error> {
+        decode_choice::<R, CertificateChoicesPart2Alternatives<'a>, Self>(alloc, reader)
+    }
+}
+
+impl<'a, R: Reader<Borrowed = &'a [u8]>> Choice<R> for CertificateChoicesPart2<'a> {
+    ghost chooses = { ⟦<CertificateChoicesPart2<'a> as DescribedChoice>⟧.alternative.tags };
+
+    #[inline(always)]
+    fn can_decode(tag: Tag) -> bool {
+        <CertificateChoicesPart2Alternatives<'a> as Choice<R>>::can_decode(tag)
+    }
+
+    ghost begins = { ⟦<CertificateChoicesPart2<'a> as DescribedChoice>⟧.alternative.begins };
+}
+
+impl<'a> Encode for CertificateChoicesPart2<'a> {
+    ghost encoding = { λ v.
+        ⟦<CertificateChoicesPart2Alternatives<'a> as Encode>⟧.encoding v.choice };
+
+    ghost encodable = { λ v.
+        ⟦<CertificateChoicesPart2Alternatives<'a> as Encode>⟧.encodable v.choice };
+
+    ghost size = { λ v. ⟦<CertificateChoicesPart2Alternatives<'a> as Encode>⟧.size v.choice };
+
+    ghost encode_answers = { λ v.
+        ⟦<CertificateChoicesPart2Alternatives<'a> as Encode>⟧.encode_answers v.choice };
+
+    #[inline(always)]
+    fn encoded_len(&self) -> Result<Length, Error> {
+        self.choice.encoded_len()
+    }
+
+    #[inline(always)]
+    fn encode<W: Writer>(&self, writer: &mut W) -> Result<(), Error> {
+        self.choice.encode(writer)
+    }
+}

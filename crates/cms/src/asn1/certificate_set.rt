@@ -1,0 +1,123 @@
+//! Written by asn1_compile from the module CMS: change the module instead.
+//!
+//! CertificateSet.
+ghost use Rattle.std.specs.Prelude.{◌≡◌, false};
+ghost use Rattle.std.proofs.Common.{arith, refl};
+ghost use Rattle.der.specs.Prelude.{Set, map_ok};
+ghost use Rattle.der_asn1.specs.Item.{decodes_same};
+ghost use Rattle.der_asn1.specs.Meaning.{renamed, sequence_is_item, sequence_item};
+
+use crate::asn1::certificate_choices::CertificateChoices;
+use der::{
+    DecodeValue, EncodeValue, Error, FixedTag, FromFields, Header, Lawful, Length, ReadValue,
+    Reader, SliceReader, Tag, Writer, WrittenValue, decode_wrapped,
+};
+use der_asn1::{BorrowedItem, DecodeItem, Described, Item, Nestable, SetOf};
+use std::alloc::Global;
+
+/// Certificates (RFC 5652, 10.2.3), in ascending order of their encodings.
+#[derive(Clone, Copy, Drop)]
+pub struct CertificateSet<'a> {
+    /// The list: a SET OF its items.
+    pub items: SetOf<'a, CertificateChoices<'a>>,
+}
+
+// The list of which the value consists.
+type Items<'a> = SetOf<'a, CertificateChoices<'a>>;
+
+impl<'a> FromFields<Items<'a>> for CertificateSet<'a> {
+    ghost fields = { λ v. v.items };
+
+    fn from_fields(items: Items<'a>) -> Self {
+        CertificateSet { items }
+    }
+}
+
+impl<'a> Described for CertificateSet<'a> {
+    ghost element = { renamed ⟦<Items<'a> as Described>⟧.element (λ v. v.items) };
+}
+
+impl<'a> FixedTag for CertificateSet<'a> {
+    ghost tag_is = { Set };
+
+    const TAG: Tag = Tag::Set;
+
+    fn fixed_tag() -> Tag
+        ensures { result ≡ Set }
+    {
+        Tag::Set
+    }
+}
+
+impl<'a> ReadValue for CertificateSet<'a> {
+    ghost valid = { ⟦<CertificateSet<'a> as Described>⟧.element.valid };
+
+    ghost takes = { ⟦<CertificateSet<'a> as Described>⟧.element.takes };
+
+    ghost value_levels = { ⟦<CertificateSet<'a> as Described>⟧.element.levels };
+
+    ghost allocates = { false };
+
+    ghost takes_valid = { ⟦<CertificateSet<'a> as Described>⟧.element.holds refl };
+}
+
+impl<'a> WrittenValue for CertificateSet<'a> {
+    ghost contents = { ⟦<CertificateSet<'a> as Described>⟧.element.contents };
+
+    ghost writable = { ⟦<CertificateSet<'a> as Described>⟧.element.valid };
+}
+
+impl<'a> Lawful for CertificateSet<'a> {
+    ghost lawful = { ⟦<CertificateSet<'a> as Described>⟧.element.lawful refl };
+}
+
+/// Decodes the list, with the errors of [`SetOf`].
+impl<'a, R: Reader<Borrowed = &'a [u8]>> DecodeValue<R> for CertificateSet<'a> {
+    type Error = Error;
+
+    ghost decode_value_answers = { λ h s result t.
+        ⟦<Items<'a> as DecodeValue<SliceReader<'a>>>⟧.decode_value_answers h s
+        (map_ok (λ v. v.items) result) t };
+
+    fn decode_value(alloc: Global, reader: &mut R, header: Header) -> Result<Self, Error> {
+        decode_wrapped::<R, Items<'a>, Self>(alloc, reader, header)
+    }
+
+    fn is_value(&self) {
+        <Items<'a> as DecodeValue<R>>::is_value(&self.items);
+    }
+}
+
+/// Writes the list, with the errors of [`SetOf`].
+impl<'a> EncodeValue for CertificateSet<'a> {
+    ghost value_size = { λ v. ⟦<Items<'a> as EncodeValue>⟧.value_size v.items };
+
+    ghost encode_value_answers = { λ v. ⟦<Items<'a> as EncodeValue>⟧.encode_value_answers v.items };
+
+    fn value_len(&self) -> Result<Length, Error> {
+        self.items.value_len()
+    }
+
+    fn encode_value<W: Writer>(&self, writer: &mut W) -> Result<(), Error> {
+        self.items.encode_value(writer)
+    }
+}
+
+impl<'a> Item for CertificateSet<'a> {
+    ghost item = { sequence_item ⟦<CertificateSet<'a> as Described>⟧.element };
+}
+
+impl<'a, R: Reader<Borrowed = &'a [u8]>> DecodeItem<R> for CertificateSet<'a> {
+    ghost is_item = { sequence_is_item ⟦<CertificateSet<'a> as Described>⟧.element refl };
+
+    ghost decodes_items = { decodes_same (sequence_item
+        ⟦<CertificateSet<'a> as Described>⟧.element) };
+}
+
+impl<'a> BorrowedItem for CertificateSet<'a> {
+    ghost borrowed = { refl };
+}
+
+impl<'a> Nestable for CertificateSet<'a> {
+    ghost nestable = { Prim.omega arith };
+}

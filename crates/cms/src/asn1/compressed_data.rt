@@ -1,0 +1,113 @@
+//! Written by asn1_compile from the module CMS: change the module instead.
+//!
+//! CompressedData.
+ghost use Rattle.std.specs.Prelude.{◌≡◌};
+ghost use Rattle.std.proofs.Common.{arith, refl};
+ghost use Rattle.der.specs.Prelude.{map_ok};
+ghost use Rattle.der_asn1.specs.Item.{decodes_same};
+ghost use Rattle.der_asn1.specs.Meaning.{alternative, field, sequence, sequence_is_item, sequence_item, two_fields};
+
+use crate::asn1::cms_version::CmsVersion;
+use crate::asn1::encapsulated_content_info::EncapsulatedContentInfo;
+use der::{
+    Decode, DecodeValue, Encode, EncodeValue, Error, FromFields, Header, Length, Reader, Sequence,
+    SliceReader, Writer, decode_sequence, field_refs,
+};
+use der_asn1::{BorrowedItem, DecodeItem, Described, Item, Nestable};
+use spki::AlgorithmIdentifierRef;
+use std::alloc::Global;
+
+/// A compressed content (RFC 3274), borrowed from the input. Nothing is decompressed.
+#[derive(Clone, Copy, Drop)]
+pub struct CompressedData<'a> {
+    /// The version, which is 0. Decoding does not check this.
+    pub version: CmsVersion<'a>,
+    /// The algorithm of the compression.
+    pub compression_algorithm: AlgorithmIdentifierRef<'a>,
+    /// The compressed content.
+    pub encap_content_info: EncapsulatedContentInfo<'a>,
+}
+
+/// The fields of a [`CompressedData`] in pairs, in the order in which they are encoded.
+pub type CompressedDataFields<'a> = (
+    CmsVersion<'a>,
+    (AlgorithmIdentifierRef<'a>, EncapsulatedContentInfo<'a>),
+);
+
+impl<'a> FromFields<CompressedDataFields<'a>> for CompressedData<'a> {
+    ghost fields = { λ v. (v.version, (v.compression_algorithm, v.encap_content_info)) };
+
+    fn from_fields(members: CompressedDataFields<'a>) -> Self {
+        let (version, (compression_algorithm, encap_content_info)) = members;
+        CompressedData {
+            version,
+            compression_algorithm,
+            encap_content_info,
+        }
+    }
+}
+
+impl<'a> Sequence for CompressedData<'a> {
+    ghost meaning = { sequence (two_fields (field (alternative
+        ⟦<CmsVersion<'a> as Described>⟧.element)) (two_fields (field (alternative
+        ⟦<AlgorithmIdentifierRef<'a> as Described>⟧.element)) (field (alternative
+        ⟦<EncapsulatedContentInfo<'a> as Described>⟧.element))))
+        ⟦<CompressedData<'a> as FromFields<CompressedDataFields<'a>>>⟧.fields };
+
+    ghost fits = { (refl, refl) };
+}
+
+/// Decodes the fields one after the other, with the errors of every [`Sequence`].
+impl<'a, R: Reader<Borrowed = &'a [u8]>> DecodeValue<R> for CompressedData<'a> {
+    type Error = Error;
+
+    ghost decode_value_answers = { λ h s result t.
+        ⟦<CompressedDataFields<'a> as Decode<SliceReader<'a>>>⟧.decode_answers s (map_ok
+        ⟦<CompressedData<'a> as FromFields<CompressedDataFields<'a>>>⟧.fields result) t };
+
+    fn decode_value(alloc: Global, reader: &mut R, header: Header) -> Result<Self, Error> {
+        decode_sequence::<R, CompressedDataFields<'a>, Self>(alloc, reader, header)
+    }
+
+    fn is_value(&self) {
+        <CmsVersion<'a> as DecodeValue<R>>::is_value(&self.version);
+        <AlgorithmIdentifierRef<'a> as DecodeValue<R>>::is_value(&self.compression_algorithm);
+        <EncapsulatedContentInfo<'a> as DecodeValue<R>>::is_value(&self.encap_content_info);
+    }
+}
+
+/// Writes the fields one after the other, with the errors of every [`Sequence`].
+impl<'a> EncodeValue for CompressedData<'a> {
+    ghost value_size = { λ v. ⟦<CompressedDataFields<'a> as Encode>⟧.size
+        (⟦<CompressedData<'a> as FromFields<CompressedDataFields<'a>>>⟧.fields v) };
+
+    ghost encode_value_answers = { λ v. ⟦<CompressedDataFields<'a> as Encode>⟧.encode_answers
+        (⟦<CompressedData<'a> as FromFields<CompressedDataFields<'a>>>⟧.fields v) };
+
+    fn value_len(&self) -> Result<Length, Error> {
+        field_refs!(self, (version, (compression_algorithm, encap_content_info))).encoded_len()
+    }
+
+    fn encode_value<W: Writer>(&self, writer: &mut W) -> Result<(), Error> {
+        field_refs!(self, (version, (compression_algorithm, encap_content_info))).encode(writer)
+    }
+}
+
+impl<'a> Item for CompressedData<'a> {
+    ghost item = { sequence_item ⟦<CompressedData<'a> as Described>⟧.element };
+}
+
+impl<'a, R: Reader<Borrowed = &'a [u8]>> DecodeItem<R> for CompressedData<'a> {
+    ghost is_item = { sequence_is_item ⟦<CompressedData<'a> as Described>⟧.element refl };
+
+    ghost decodes_items = { decodes_same (sequence_item
+        ⟦<CompressedData<'a> as Described>⟧.element) };
+}
+
+impl<'a> BorrowedItem for CompressedData<'a> {
+    ghost borrowed = { refl };
+}
+
+impl<'a> Nestable for CompressedData<'a> {
+    ghost nestable = { Prim.omega arith };
+}

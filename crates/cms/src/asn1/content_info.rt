@@ -1,0 +1,102 @@
+//! Written by asn1_compile from the module CMS: change the module instead.
+//!
+//! ContentInfo.
+ghost use Rattle.std.specs.Prelude.{◌≡◌};
+ghost use Rattle.std.proofs.Common.{arith, refl};
+ghost use Rattle.der.specs.Prelude.{map_ok};
+ghost use Rattle.der_asn1.specs.Item.{decodes_same};
+ghost use Rattle.der_asn1.specs.Meaning.{alternative, field, sequence, sequence_is_item, sequence_item, two_fields};
+
+use crate::asn1::content_type::ContentType;
+use der::{
+    Decode, DecodeValue, Encode, EncodeValue, Error, FromFields, Header, Length, Reader, Sequence,
+    SliceReader, Writer, decode_sequence, field_refs,
+};
+use der_asn1::{BorrowedItem, DecodeItem, Described, ExplicitAny, Item, Nestable};
+use std::alloc::Global;
+
+/// A message of some type (RFC 5652, 3), borrowed from the input.
+#[derive(Clone, Copy, Drop)]
+pub struct ContentInfo<'a> {
+    /// The type of the content.
+    pub content_type: ContentType<'a>,
+    /// The content: an element of any tag. Its contents are not checked.
+    pub content: ExplicitAny<'a, 0>,
+}
+
+/// The fields of a [`ContentInfo`] in pairs, in the order in which they are encoded.
+pub type ContentInfoFields<'a> = (ContentType<'a>, ExplicitAny<'a, 0>);
+
+impl<'a> FromFields<ContentInfoFields<'a>> for ContentInfo<'a> {
+    ghost fields = { λ v. (v.content_type, v.content) };
+
+    fn from_fields(members: ContentInfoFields<'a>) -> Self {
+        let (content_type, content) = members;
+        ContentInfo {
+            content_type,
+            content,
+        }
+    }
+}
+
+impl<'a> Sequence for ContentInfo<'a> {
+    ghost meaning = { sequence (two_fields (field (alternative
+        ⟦<ContentType<'a> as Described>⟧.element)) (field (alternative
+        ⟦<ExplicitAny<'a, 0> as Described>⟧.element)))
+        ⟦<ContentInfo<'a> as FromFields<ContentInfoFields<'a>>>⟧.fields };
+
+    ghost fits = { (refl, refl) };
+}
+
+/// Decodes the fields one after the other, with the errors of every [`Sequence`].
+impl<'a, R: Reader<Borrowed = &'a [u8]>> DecodeValue<R> for ContentInfo<'a> {
+    type Error = Error;
+
+    ghost decode_value_answers = { λ h s result t.
+        ⟦<ContentInfoFields<'a> as Decode<SliceReader<'a>>>⟧.decode_answers s (map_ok
+        ⟦<ContentInfo<'a> as FromFields<ContentInfoFields<'a>>>⟧.fields result) t };
+
+    fn decode_value(alloc: Global, reader: &mut R, header: Header) -> Result<Self, Error> {
+        decode_sequence::<R, ContentInfoFields<'a>, Self>(alloc, reader, header)
+    }
+
+    fn is_value(&self) {
+        <ContentType<'a> as DecodeValue<R>>::is_value(&self.content_type);
+        <ExplicitAny<'a, 0> as DecodeValue<R>>::is_value(&self.content);
+    }
+}
+
+/// Writes the fields one after the other, with the errors of every [`Sequence`].
+impl<'a> EncodeValue for ContentInfo<'a> {
+    ghost value_size = { λ v. ⟦<ContentInfoFields<'a> as Encode>⟧.size
+        (⟦<ContentInfo<'a> as FromFields<ContentInfoFields<'a>>>⟧.fields v) };
+
+    ghost encode_value_answers = { λ v. ⟦<ContentInfoFields<'a> as Encode>⟧.encode_answers
+        (⟦<ContentInfo<'a> as FromFields<ContentInfoFields<'a>>>⟧.fields v) };
+
+    fn value_len(&self) -> Result<Length, Error> {
+        field_refs!(self, (content_type, content)).encoded_len()
+    }
+
+    fn encode_value<W: Writer>(&self, writer: &mut W) -> Result<(), Error> {
+        field_refs!(self, (content_type, content)).encode(writer)
+    }
+}
+
+impl<'a> Item for ContentInfo<'a> {
+    ghost item = { sequence_item ⟦<ContentInfo<'a> as Described>⟧.element };
+}
+
+impl<'a, R: Reader<Borrowed = &'a [u8]>> DecodeItem<R> for ContentInfo<'a> {
+    ghost is_item = { sequence_is_item ⟦<ContentInfo<'a> as Described>⟧.element refl };
+
+    ghost decodes_items = { decodes_same (sequence_item ⟦<ContentInfo<'a> as Described>⟧.element) };
+}
+
+impl<'a> BorrowedItem for ContentInfo<'a> {
+    ghost borrowed = { refl };
+}
+
+impl<'a> Nestable for ContentInfo<'a> {
+    ghost nestable = { Prim.omega arith };
+}

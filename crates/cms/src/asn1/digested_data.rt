@@ -1,0 +1,127 @@
+//! Written by asn1_compile from the module CMS: change the module instead.
+//!
+//! DigestedData.
+ghost use Rattle.std.specs.Prelude.{◌≡◌};
+ghost use Rattle.std.proofs.Common.{arith, refl};
+ghost use Rattle.der.specs.Prelude.{map_ok};
+ghost use Rattle.der_asn1.specs.Item.{decodes_same};
+ghost use Rattle.der_asn1.specs.Meaning.{alternative, field, sequence, sequence_is_item, sequence_item, two_fields};
+
+use crate::asn1::cms_version::CmsVersion;
+use crate::asn1::encapsulated_content_info::EncapsulatedContentInfo;
+use der::{
+    Decode, DecodeValue, Encode, EncodeValue, Error, FromFields, Header, Length, Reader, Sequence,
+    SliceReader, Writer, decode_sequence, field_refs,
+};
+use der_asn1::{BorrowedItem, DecodeItem, Described, Item, Nestable, OctetStringRef};
+use spki::AlgorithmIdentifierRef;
+use std::alloc::Global;
+
+/// A content with its digest (RFC 5652, 7), borrowed from the input.
+#[derive(Clone, Copy, Drop)]
+pub struct DigestedData<'a> {
+    /// The version: 0 if the content is of the type id-data, or else 2. Decoding does not check
+    /// this.
+    pub version: CmsVersion<'a>,
+    /// The algorithm of the digest.
+    pub digest_algorithm: AlgorithmIdentifierRef<'a>,
+    /// The content.
+    pub encap_content_info: EncapsulatedContentInfo<'a>,
+    /// The octets of the digest.
+    pub digest: OctetStringRef<'a>,
+}
+
+/// The fields of a [`DigestedData`] in pairs, in the order in which they are encoded.
+pub type DigestedDataFields<'a> = (
+    (CmsVersion<'a>, AlgorithmIdentifierRef<'a>),
+    (EncapsulatedContentInfo<'a>, OctetStringRef<'a>),
+);
+
+impl<'a> FromFields<DigestedDataFields<'a>> for DigestedData<'a> {
+    ghost fields = { λ v. ((v.version, v.digest_algorithm), (v.encap_content_info, v.digest)) };
+
+    fn from_fields(members: DigestedDataFields<'a>) -> Self {
+        let ((version, digest_algorithm), (encap_content_info, digest)) = members;
+        DigestedData {
+            version,
+            digest_algorithm,
+            encap_content_info,
+            digest,
+        }
+    }
+}
+
+impl<'a> Sequence for DigestedData<'a> {
+    ghost meaning = { sequence (two_fields (two_fields (field (alternative
+        ⟦<CmsVersion<'a> as Described>⟧.element)) (field (alternative
+        ⟦<AlgorithmIdentifierRef<'a> as Described>⟧.element))) (two_fields (field (alternative
+        ⟦<EncapsulatedContentInfo<'a> as Described>⟧.element)) (field (alternative
+        ⟦<OctetStringRef<'a> as Described>⟧.element))))
+        ⟦<DigestedData<'a> as FromFields<DigestedDataFields<'a>>>⟧.fields };
+
+    ghost fits = { (refl, refl) };
+}
+
+/// Decodes the fields one after the other, with the errors of every [`Sequence`].
+impl<'a, R: Reader<Borrowed = &'a [u8]>> DecodeValue<R> for DigestedData<'a> {
+    type Error = Error;
+
+    ghost decode_value_answers = { λ h s result t.
+        ⟦<DigestedDataFields<'a> as Decode<SliceReader<'a>>>⟧.decode_answers s (map_ok
+        ⟦<DigestedData<'a> as FromFields<DigestedDataFields<'a>>>⟧.fields result) t };
+
+    fn decode_value(alloc: Global, reader: &mut R, header: Header) -> Result<Self, Error> {
+        decode_sequence::<R, DigestedDataFields<'a>, Self>(alloc, reader, header)
+    }
+
+    fn is_value(&self) {
+        <CmsVersion<'a> as DecodeValue<R>>::is_value(&self.version);
+        <AlgorithmIdentifierRef<'a> as DecodeValue<R>>::is_value(&self.digest_algorithm);
+        <EncapsulatedContentInfo<'a> as DecodeValue<R>>::is_value(&self.encap_content_info);
+        <OctetStringRef<'a> as DecodeValue<R>>::is_value(&self.digest);
+    }
+}
+
+/// Writes the fields one after the other, with the errors of every [`Sequence`].
+impl<'a> EncodeValue for DigestedData<'a> {
+    ghost value_size = { λ v. ⟦<DigestedDataFields<'a> as Encode>⟧.size
+        (⟦<DigestedData<'a> as FromFields<DigestedDataFields<'a>>>⟧.fields v) };
+
+    ghost encode_value_answers = { λ v. ⟦<DigestedDataFields<'a> as Encode>⟧.encode_answers
+        (⟦<DigestedData<'a> as FromFields<DigestedDataFields<'a>>>⟧.fields v) };
+
+    fn value_len(&self) -> Result<Length, Error> {
+        field_refs!(
+            self,
+            ((version, digest_algorithm), (encap_content_info, digest))
+        )
+        .encoded_len()
+    }
+
+    fn encode_value<W: Writer>(&self, writer: &mut W) -> Result<(), Error> {
+        field_refs!(
+            self,
+            ((version, digest_algorithm), (encap_content_info, digest))
+        )
+        .encode(writer)
+    }
+}
+
+impl<'a> Item for DigestedData<'a> {
+    ghost item = { sequence_item ⟦<DigestedData<'a> as Described>⟧.element };
+}
+
+impl<'a, R: Reader<Borrowed = &'a [u8]>> DecodeItem<R> for DigestedData<'a> {
+    ghost is_item = { sequence_is_item ⟦<DigestedData<'a> as Described>⟧.element refl };
+
+    ghost decodes_items = { decodes_same (sequence_item
+        ⟦<DigestedData<'a> as Described>⟧.element) };
+}
+
+impl<'a> BorrowedItem for DigestedData<'a> {
+    ghost borrowed = { refl };
+}
+
+impl<'a> Nestable for DigestedData<'a> {
+    ghost nestable = { Prim.omega arith };
+}

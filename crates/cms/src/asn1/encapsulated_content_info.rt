@@ -1,0 +1,113 @@
+//! Written by asn1_compile from the module CMS: change the module instead.
+//!
+//! EncapsulatedContentInfo.
+ghost use Rattle.std.specs.Prelude.{◌≡◌};
+ghost use Rattle.std.proofs.Common.{arith, refl};
+ghost use Rattle.der.specs.Prelude.{map_ok};
+ghost use Rattle.der_asn1.specs.Item.{decodes_same};
+ghost use Rattle.der_asn1.specs.Meaning.{alternative, field, optional, sequence, sequence_is_item, sequence_item, two_fields};
+
+use crate::asn1::content_type::ContentType;
+use der::{
+    Decode, DecodeValue, Encode, EncodeValue, Error, FromFields, Header, Length, Reader, Sequence,
+    SliceReader, Writer, decode_sequence, field_refs,
+};
+use der_asn1::{
+    BorrowedItem, DecodeItem, Described, Explicit, Item, Nestable, OctetStringRef, Optional,
+};
+use std::alloc::Global;
+
+/// A content inside a message (RFC 5652, 5.2), borrowed from the input. In PKCS #7 the content may
+/// be an element with another tag than OCTET STRING (RFC 5652, 5.2.1), which decoding refuses.
+#[derive(Clone, Copy, Drop)]
+pub struct EncapsulatedContentInfo<'a> {
+    /// The type of the content.
+    pub e_content_type: ContentType<'a>,
+    /// The octets of the content, which are not checked. They are absent if the content is
+    /// elsewhere, as for a detached signature.
+    pub e_content: Optional<Explicit<OctetStringRef<'a>, 0>>,
+}
+
+/// The fields of a [`EncapsulatedContentInfo`] in pairs, in the order in which they are encoded.
+pub type EncapsulatedContentInfoFields<'a> = (
+    ContentType<'a>,
+    Optional<Explicit<OctetStringRef<'a>, 0>>,
+);
+
+impl<'a> FromFields<EncapsulatedContentInfoFields<'a>> for EncapsulatedContentInfo<'a> {
+    ghost fields = { λ v. (v.e_content_type, v.e_content) };
+
+    fn from_fields(members: EncapsulatedContentInfoFields<'a>) -> Self {
+        let (e_content_type, e_content) = members;
+        EncapsulatedContentInfo {
+            e_content_type,
+            e_content,
+        }
+    }
+}
+
+impl<'a> Sequence for EncapsulatedContentInfo<'a> {
+    ghost meaning = { sequence (two_fields (field (alternative
+        ⟦<ContentType<'a> as Described>⟧.element)) (optional (alternative
+        ⟦<Explicit<OctetStringRef<'a>, 0> as Described>⟧.element)))
+        ⟦<EncapsulatedContentInfo<'a> as FromFields<EncapsulatedContentInfoFields<'a>>>⟧.fields };
+
+    ghost fits = { (refl, refl) };
+}
+
+/// Decodes the fields one after the other, with the errors of every [`Sequence`].
+impl<'a, R: Reader<Borrowed = &'a [u8]>> DecodeValue<R> for EncapsulatedContentInfo<'a> {
+    type Error = Error;
+
+    ghost decode_value_answers = { λ h s result t.
+        ⟦<EncapsulatedContentInfoFields<'a> as Decode<SliceReader<'a>>>⟧.decode_answers s (map_ok
+        ⟦<EncapsulatedContentInfo<'a> as FromFields<EncapsulatedContentInfoFields<'a>>>⟧.fields result) t };
+
+    fn decode_value(alloc: Global, reader: &mut R, header: Header) -> Result<Self, Error> {
+        decode_sequence::<R, EncapsulatedContentInfoFields<'a>, Self>(alloc, reader, header)
+    }
+
+    fn is_value(&self) {
+        <ContentType<'a> as DecodeValue<R>>::is_value(&self.e_content_type);
+        if let Some(value) = &self.e_content.0 {
+            <Explicit<OctetStringRef<'a>, 0> as DecodeValue<R>>::is_value(value);
+        }
+    }
+}
+
+/// Writes the fields one after the other, with the errors of every [`Sequence`].
+impl<'a> EncodeValue for EncapsulatedContentInfo<'a> {
+    ghost value_size = { λ v. ⟦<EncapsulatedContentInfoFields<'a> as Encode>⟧.size
+        (⟦<EncapsulatedContentInfo<'a> as FromFields<EncapsulatedContentInfoFields<'a>>>⟧.fields v) };
+
+    ghost encode_value_answers = { λ v.
+        ⟦<EncapsulatedContentInfoFields<'a> as Encode>⟧.encode_answers
+        (⟦<EncapsulatedContentInfo<'a> as FromFields<EncapsulatedContentInfoFields<'a>>>⟧.fields v) };
+
+    fn value_len(&self) -> Result<Length, Error> {
+        field_refs!(self, (e_content_type, e_content)).encoded_len()
+    }
+
+    fn encode_value<W: Writer>(&self, writer: &mut W) -> Result<(), Error> {
+        field_refs!(self, (e_content_type, e_content)).encode(writer)
+    }
+}
+
+impl<'a> Item for EncapsulatedContentInfo<'a> {
+    ghost item = { sequence_item ⟦<EncapsulatedContentInfo<'a> as Described>⟧.element };
+}
+
+impl<'a, R: Reader<Borrowed = &'a [u8]>> DecodeItem<R> for EncapsulatedContentInfo<'a> {
+    ghost is_item = { sequence_is_item ⟦<EncapsulatedContentInfo<'a> as Described>⟧.element refl };
+
+    ghost decodes_items = { decodes_same (sequence_item
+        ⟦<EncapsulatedContentInfo<'a> as Described>⟧.element) };
+}
+
+impl<'a> BorrowedItem for EncapsulatedContentInfo<'a> {
+    ghost borrowed = { refl };
+}
+
+impl<'a> Nestable for EncapsulatedContentInfo<'a> {
+    ghost nestable = { Prim.omega arith };
+}

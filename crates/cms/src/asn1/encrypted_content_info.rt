@@ -1,0 +1,135 @@
+//! Written by asn1_compile from the module CMS: change the module instead.
+//!
+//! EncryptedContentInfo.
+ghost use Rattle.std.specs.Prelude.{◌≡◌};
+ghost use Rattle.std.proofs.Common.{arith, refl};
+ghost use Rattle.der.specs.Prelude.{map_ok};
+ghost use Rattle.der_asn1.specs.Item.{decodes_same};
+ghost use Rattle.der_asn1.specs.Meaning.{alternative, field, optional, sequence, sequence_is_item, sequence_item, two_fields};
+
+use crate::asn1::content_type::ContentType;
+use der::{
+    Decode, DecodeValue, Encode, EncodeValue, Error, FromFields, Header, Length, Reader, Sequence,
+    SliceReader, Writer, decode_sequence, field_refs,
+};
+use der_asn1::{
+    BorrowedItem, DecodeItem, Described, Implicit, Item, Nestable, OctetStringRef, Optional,
+};
+use spki::AlgorithmIdentifierRef;
+use std::alloc::Global;
+
+/// An encrypted content (RFC 5652, 6.1), borrowed from the input.
+#[derive(Clone, Copy, Drop)]
+pub struct EncryptedContentInfo<'a> {
+    /// The type of the content.
+    pub content_type: ContentType<'a>,
+    /// The algorithm of the encryption.
+    pub content_encryption_algorithm: AlgorithmIdentifierRef<'a>,
+    /// The octets of the encryption. They are absent if they are elsewhere.
+    pub encrypted_content: Optional<Implicit<OctetStringRef<'a>, 0>>,
+}
+
+/// The fields of a [`EncryptedContentInfo`] in pairs, in the order in which they are encoded.
+pub type EncryptedContentInfoFields<'a> = (
+    ContentType<'a>,
+    (
+        AlgorithmIdentifierRef<'a>,
+        Optional<Implicit<OctetStringRef<'a>, 0>>,
+    ),
+);
+
+impl<'a> FromFields<EncryptedContentInfoFields<'a>> for EncryptedContentInfo<'a> {
+    ghost fields = { λ v. (v.content_type, (v.content_encryption_algorithm, v.encrypted_content)) };
+
+    fn from_fields(members: EncryptedContentInfoFields<'a>) -> Self {
+        let (content_type, (content_encryption_algorithm, encrypted_content)) = members;
+        EncryptedContentInfo {
+            content_type,
+            content_encryption_algorithm,
+            encrypted_content,
+        }
+    }
+}
+
+impl<'a> Sequence for EncryptedContentInfo<'a> {
+    ghost meaning = { sequence (two_fields (field (alternative
+        ⟦<ContentType<'a> as Described>⟧.element)) (two_fields (field (alternative
+        ⟦<AlgorithmIdentifierRef<'a> as Described>⟧.element)) (optional (alternative
+        ⟦<Implicit<OctetStringRef<'a>, 0> as Described>⟧.element))))
+        ⟦<EncryptedContentInfo<'a> as FromFields<EncryptedContentInfoFields<'a>>>⟧.fields };
+
+    ghost fits = { (refl, refl) };
+}
+
+/// Decodes the fields one after the other, with the errors of every [`Sequence`].
+impl<'a, R: Reader<Borrowed = &'a [u8]>> DecodeValue<R> for EncryptedContentInfo<'a> {
+    type Error = Error;
+
+    ghost decode_value_answers = { λ h s result t.
+        ⟦<EncryptedContentInfoFields<'a> as Decode<SliceReader<'a>>>⟧.decode_answers s (map_ok
+        ⟦<EncryptedContentInfo<'a> as FromFields<EncryptedContentInfoFields<'a>>>⟧.fields result) t };
+
+    fn decode_value(alloc: Global, reader: &mut R, header: Header) -> Result<Self, Error> {
+        decode_sequence::<R, EncryptedContentInfoFields<'a>, Self>(alloc, reader, header)
+    }
+
+    fn is_value(&self) {
+        <ContentType<'a> as DecodeValue<R>>::is_value(&self.content_type);
+        <AlgorithmIdentifierRef<'a> as DecodeValue<R>>::is_value(
+            &self.content_encryption_algorithm,
+        );
+        if let Some(value) = &self.encrypted_content.0 {
+            <Implicit<OctetStringRef<'a>, 0> as DecodeValue<R>>::is_value(value);
+        }
+    }
+}
+
+/// Writes the fields one after the other, with the errors of every [`Sequence`].
+impl<'a> EncodeValue for EncryptedContentInfo<'a> {
+    ghost value_size = { λ v. ⟦<EncryptedContentInfoFields<'a> as Encode>⟧.size
+        (⟦<EncryptedContentInfo<'a> as FromFields<EncryptedContentInfoFields<'a>>>⟧.fields v) };
+
+    ghost encode_value_answers = { λ v. ⟦<EncryptedContentInfoFields<'a> as Encode>⟧.encode_answers
+        (⟦<EncryptedContentInfo<'a> as FromFields<EncryptedContentInfoFields<'a>>>⟧.fields v) };
+
+    fn value_len(&self) -> Result<Length, Error> {
+        field_refs!(
+            self,
+            (
+                content_type,
+                (content_encryption_algorithm, encrypted_content)
+            )
+        )
+        .encoded_len()
+    }
+
+    fn encode_value<W: Writer>(&self, writer: &mut W) -> Result<(), Error> {
+        field_refs!(
+            self,
+            (
+                content_type,
+                (content_encryption_algorithm, encrypted_content)
+            )
+        )
+        .encode(writer)
+    }
+}
+
+impl<'a> Item for EncryptedContentInfo<'a> {
+    ghost item = { sequence_item ⟦<EncryptedContentInfo<'a> as Described>⟧.element };
+}
+
+impl<'a, R: Reader<Borrowed = &'a [u8]>> DecodeItem<R> for EncryptedContentInfo<'a> {
+    ghost is_item = { sequence_is_item ⟦<EncryptedContentInfo<'a> as Described>⟧.element refl };
+
+    ghost decodes_items = { decodes_same (sequence_item
+        ⟦<EncryptedContentInfo<'a> as Described>⟧.element) };
+}
+
+impl<'a> BorrowedItem for EncryptedContentInfo<'a> {
+    ghost borrowed = { refl };
+}
+
+impl<'a> Nestable for EncryptedContentInfo<'a> {
+    ghost nestable = { Prim.omega arith };
+}

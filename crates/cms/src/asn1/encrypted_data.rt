@@ -1,0 +1,119 @@
+//! Written by asn1_compile from the module CMS: change the module instead.
+//!
+//! EncryptedData.
+ghost use Rattle.std.specs.Prelude.{◌≡◌};
+ghost use Rattle.std.proofs.Common.{arith, refl};
+ghost use Rattle.der.specs.Prelude.{map_ok};
+ghost use Rattle.der_asn1.specs.Item.{decodes_same};
+ghost use Rattle.der_asn1.specs.Meaning.{alternative, field, optional, sequence, sequence_is_item, sequence_item, two_fields};
+
+use crate::asn1::cms_version::CmsVersion;
+use crate::asn1::encrypted_content_info::EncryptedContentInfo;
+use der::{
+    Decode, DecodeValue, Encode, EncodeValue, Error, FromFields, Header, Length, Reader, Sequence,
+    SliceReader, Writer, decode_sequence, field_refs,
+};
+use der_asn1::{BorrowedItem, DecodeItem, Described, Implicit, Item, Nestable, Optional};
+use std::alloc::Global;
+use x509::Attributes;
+
+/// A content that is encrypted with a key that is not part of the message (RFC 5652, 8), borrowed
+/// from the input.
+#[derive(Clone, Copy, Drop)]
+pub struct EncryptedData<'a> {
+    /// The version: 2 if there are attributes, or else 0. Decoding does not check this.
+    pub version: CmsVersion<'a>,
+    /// The encrypted content.
+    pub encrypted_content_info: EncryptedContentInfo<'a>,
+    /// Attributes that are not encrypted, if present.
+    pub unprotected_attrs: Optional<Implicit<Attributes<'a>, 1>>,
+}
+
+/// The fields of a [`EncryptedData`] in pairs, in the order in which they are encoded.
+pub type EncryptedDataFields<'a> = (
+    CmsVersion<'a>,
+    (
+        EncryptedContentInfo<'a>,
+        Optional<Implicit<Attributes<'a>, 1>>,
+    ),
+);
+
+impl<'a> FromFields<EncryptedDataFields<'a>> for EncryptedData<'a> {
+    ghost fields = { λ v. (v.version, (v.encrypted_content_info, v.unprotected_attrs)) };
+
+    fn from_fields(members: EncryptedDataFields<'a>) -> Self {
+        let (version, (encrypted_content_info, unprotected_attrs)) = members;
+        EncryptedData {
+            version,
+            encrypted_content_info,
+            unprotected_attrs,
+        }
+    }
+}
+
+impl<'a> Sequence for EncryptedData<'a> {
+    ghost meaning = { sequence (two_fields (field (alternative
+        ⟦<CmsVersion<'a> as Described>⟧.element)) (two_fields (field (alternative
+        ⟦<EncryptedContentInfo<'a> as Described>⟧.element)) (optional (alternative
+        ⟦<Implicit<Attributes<'a>, 1> as Described>⟧.element))))
+        ⟦<EncryptedData<'a> as FromFields<EncryptedDataFields<'a>>>⟧.fields };
+
+    ghost fits = { (refl, refl) };
+}
+
+/// Decodes the fields one after the other, with the errors of every [`Sequence`].
+impl<'a, R: Reader<Borrowed = &'a [u8]>> DecodeValue<R> for EncryptedData<'a> {
+    type Error = Error;
+
+    ghost decode_value_answers = { λ h s result t.
+        ⟦<EncryptedDataFields<'a> as Decode<SliceReader<'a>>>⟧.decode_answers s (map_ok
+        ⟦<EncryptedData<'a> as FromFields<EncryptedDataFields<'a>>>⟧.fields result) t };
+
+    fn decode_value(alloc: Global, reader: &mut R, header: Header) -> Result<Self, Error> {
+        decode_sequence::<R, EncryptedDataFields<'a>, Self>(alloc, reader, header)
+    }
+
+    fn is_value(&self) {
+        <CmsVersion<'a> as DecodeValue<R>>::is_value(&self.version);
+        <EncryptedContentInfo<'a> as DecodeValue<R>>::is_value(&self.encrypted_content_info);
+        if let Some(value) = &self.unprotected_attrs.0 {
+            <Implicit<Attributes<'a>, 1> as DecodeValue<R>>::is_value(value);
+        }
+    }
+}
+
+/// Writes the fields one after the other, with the errors of every [`Sequence`].
+impl<'a> EncodeValue for EncryptedData<'a> {
+    ghost value_size = { λ v. ⟦<EncryptedDataFields<'a> as Encode>⟧.size
+        (⟦<EncryptedData<'a> as FromFields<EncryptedDataFields<'a>>>⟧.fields v) };
+
+    ghost encode_value_answers = { λ v. ⟦<EncryptedDataFields<'a> as Encode>⟧.encode_answers
+        (⟦<EncryptedData<'a> as FromFields<EncryptedDataFields<'a>>>⟧.fields v) };
+
+    fn value_len(&self) -> Result<Length, Error> {
+        field_refs!(self, (version, (encrypted_content_info, unprotected_attrs))).encoded_len()
+    }
+
+    fn encode_value<W: Writer>(&self, writer: &mut W) -> Result<(), Error> {
+        field_refs!(self, (version, (encrypted_content_info, unprotected_attrs))).encode(writer)
+    }
+}
+
+impl<'a> Item for EncryptedData<'a> {
+    ghost item = { sequence_item ⟦<EncryptedData<'a> as Described>⟧.element };
+}
+
+impl<'a, R: Reader<Borrowed = &'a [u8]>> DecodeItem<R> for EncryptedData<'a> {
+    ghost is_item = { sequence_is_item ⟦<EncryptedData<'a> as Described>⟧.element refl };
+
+    ghost decodes_items = { decodes_same (sequence_item
+        ⟦<EncryptedData<'a> as Described>⟧.element) };
+}
+
+impl<'a> BorrowedItem for EncryptedData<'a> {
+    ghost borrowed = { refl };
+}
+
+impl<'a> Nestable for EncryptedData<'a> {
+    ghost nestable = { Prim.omega arith };
+}

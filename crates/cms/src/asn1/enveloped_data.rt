@@ -1,0 +1,166 @@
+//! Written by asn1_compile from the module CMS: change the module instead.
+//!
+//! EnvelopedData.
+ghost use Rattle.std.specs.Prelude.{◌≡◌};
+ghost use Rattle.std.proofs.Common.{arith, refl};
+ghost use Rattle.der.specs.Prelude.{map_ok};
+ghost use Rattle.der_asn1.specs.Item.{decodes_same};
+ghost use Rattle.der_asn1.specs.Meaning.{alternative, field, optional, seen, sequence, sequence_is_item, sequence_item, two_fields};
+
+use crate::asn1::cms_version::CmsVersion;
+use crate::asn1::encrypted_content_info::EncryptedContentInfo;
+use crate::asn1::enveloped_data_part1::{EnvelopedDataPart1, EnvelopedDataPart1Fields};
+use crate::asn1::enveloped_data_part2::{EnvelopedDataPart2, EnvelopedDataPart2Fields};
+use crate::asn1::originator_info::OriginatorInfo;
+use crate::asn1::recipient_infos::RecipientInfos;
+use der::{
+    Decode, DecodeValue, Encode, EncodeValue, Error, FromFields, Header, Length, Reader, Sequence,
+    SliceReader, Writer, decode_sequence, field_refs,
+};
+use der_asn1::{BorrowedItem, DecodeItem, Described, Implicit, Item, Nestable, Optional};
+use std::alloc::Global;
+use x509::Attributes;
+
+/// A content that is encrypted for recipients (RFC 5652, 6.1), borrowed from the input. Nothing is
+/// decrypted.
+#[derive(Clone, Copy, Drop)]
+pub struct EnvelopedData<'a> {
+    /// The version: 0, 2, 3 or 4. Decoding does not check this.
+    pub version: CmsVersion<'a>,
+    /// What recipients may need to know of the originator, if present.
+    pub originator_info: Optional<Implicit<OriginatorInfo<'a>, 0>>,
+    /// The key for each recipient. That there is at least one is not checked.
+    pub recipient_infos: RecipientInfos<'a>,
+    /// The encrypted content.
+    pub encrypted_content_info: EncryptedContentInfo<'a>,
+    /// Attributes that are not encrypted, if present.
+    pub unprotected_attrs: Optional<Implicit<Attributes<'a>, 1>>,
+}
+
+/// The fields of a [`EnvelopedData`] in pairs, in the order in which they are encoded.
+pub type EnvelopedDataFields<'a> = (EnvelopedDataPart1Fields<'a>, EnvelopedDataPart2Fields<'a>);
+
+impl<'a> FromFields<(EnvelopedDataPart1<'a>, EnvelopedDataPart2<'a>)> for EnvelopedData<'a> {
+    ghost fields = { λ v. (
+      record {
+        version = v.version;
+        originator_info = v.originator_info;
+        recipient_infos = v.recipient_infos;
+      },
+      record {
+        encrypted_content_info = v.encrypted_content_info;
+        unprotected_attrs = v.unprotected_attrs;
+      },
+    ) };
+
+    fn from_fields(members: (EnvelopedDataPart1<'a>, EnvelopedDataPart2<'a>)) -> Self {
+        let (part1, part2) = members;
+        EnvelopedData {
+            version: part1.version,
+            originator_info: part1.originator_info,
+            recipient_infos: part1.recipient_infos,
+            encrypted_content_info: part2.encrypted_content_info,
+            unprotected_attrs: part2.unprotected_attrs,
+        }
+    }
+}
+
+impl<'a> Sequence for EnvelopedData<'a> {
+    ghost meaning = { sequence (two_fields (seen
+        ⟦<EnvelopedDataPart1<'a> as FromFields<EnvelopedDataPart1Fields<'a>>>⟧.fields (two_fields
+        (field (alternative ⟦<CmsVersion<'a> as Described>⟧.element)) (two_fields (optional
+        (alternative ⟦<Implicit<OriginatorInfo<'a>, 0> as Described>⟧.element)) (field (alternative
+        ⟦<RecipientInfos<'a> as Described>⟧.element))))) (seen
+        ⟦<EnvelopedDataPart2<'a> as FromFields<EnvelopedDataPart2Fields<'a>>>⟧.fields (two_fields
+        (field (alternative ⟦<EncryptedContentInfo<'a> as Described>⟧.element)) (optional
+        (alternative ⟦<Implicit<Attributes<'a>, 1> as Described>⟧.element)))))
+        ⟦<EnvelopedData<'a> as FromFields<(EnvelopedDataPart1<'a>, EnvelopedDataPart2<'a>)>>⟧.fields };
+
+    ghost fits = { (refl, refl) };
+}
+
+/// Decodes the fields one after the other, with the errors of every [`Sequence`].
+impl<'a, R: Reader<Borrowed = &'a [u8]>> DecodeValue<R> for EnvelopedData<'a> {
+    type Error = Error;
+
+    ghost decode_value_answers = { λ h s result t.
+        ⟦<(EnvelopedDataPart1<'a>, EnvelopedDataPart2<'a>) as Decode<SliceReader<'a>>>⟧.decode_answers s
+        (map_ok
+        ⟦<EnvelopedData<'a> as FromFields<(EnvelopedDataPart1<'a>, EnvelopedDataPart2<'a>)>>⟧.fields result) t };
+
+    fn decode_value(alloc: Global, reader: &mut R, header: Header) -> Result<Self, Error> {
+        decode_sequence::<R, (EnvelopedDataPart1<'a>, EnvelopedDataPart2<'a>), Self>(
+            alloc, reader, header,
+        )
+    }
+
+    fn is_value(&self) {
+        <CmsVersion<'a> as DecodeValue<R>>::is_value(&self.version);
+        if let Some(value) = &self.originator_info.0 {
+            <Implicit<OriginatorInfo<'a>, 0> as DecodeValue<R>>::is_value(value);
+        }
+        <RecipientInfos<'a> as DecodeValue<R>>::is_value(&self.recipient_infos);
+        <EncryptedContentInfo<'a> as DecodeValue<R>>::is_value(&self.encrypted_content_info);
+        if let Some(value) = &self.unprotected_attrs.0 {
+            <Implicit<Attributes<'a>, 1> as DecodeValue<R>>::is_value(value);
+        }
+    }
+}
+
+/// Writes the fields one after the other, with the errors of every [`Sequence`].
+impl<'a> EncodeValue for EnvelopedData<'a> {
+    ghost value_size = { λ v. ⟦<EnvelopedDataFields<'a> as Encode>⟧.size (
+      ⟦<EnvelopedDataPart1<'a> as FromFields<EnvelopedDataPart1Fields<'a>>>⟧.fields
+          (⟦<EnvelopedData<'a> as FromFields<(EnvelopedDataPart1<'a>, EnvelopedDataPart2<'a>)>>⟧.fields v).0,
+      ⟦<EnvelopedDataPart2<'a> as FromFields<EnvelopedDataPart2Fields<'a>>>⟧.fields
+          (⟦<EnvelopedData<'a> as FromFields<(EnvelopedDataPart1<'a>, EnvelopedDataPart2<'a>)>>⟧.fields v).1,
+    ) };
+
+    ghost encode_value_answers = { λ v. ⟦<EnvelopedDataFields<'a> as Encode>⟧.encode_answers (
+      ⟦<EnvelopedDataPart1<'a> as FromFields<EnvelopedDataPart1Fields<'a>>>⟧.fields
+          (⟦<EnvelopedData<'a> as FromFields<(EnvelopedDataPart1<'a>, EnvelopedDataPart2<'a>)>>⟧.fields v).0,
+      ⟦<EnvelopedDataPart2<'a> as FromFields<EnvelopedDataPart2Fields<'a>>>⟧.fields
+          (⟦<EnvelopedData<'a> as FromFields<(EnvelopedDataPart1<'a>, EnvelopedDataPart2<'a>)>>⟧.fields v).1,
+    ) };
+
+    fn value_len(&self) -> Result<Length, Error> {
+        field_refs!(
+            self,
+            (
+                (version, (originator_info, recipient_infos)),
+                (encrypted_content_info, unprotected_attrs)
+            )
+        )
+        .encoded_len()
+    }
+
+    fn encode_value<W: Writer>(&self, writer: &mut W) -> Result<(), Error> {
+        field_refs!(
+            self,
+            (
+                (version, (originator_info, recipient_infos)),
+                (encrypted_content_info, unprotected_attrs)
+            )
+        )
+        .encode(writer)
+    }
+}
+
+impl<'a> Item for EnvelopedData<'a> {
+    ghost item = { sequence_item ⟦<EnvelopedData<'a> as Described>⟧.element };
+}
+
+impl<'a, R: Reader<Borrowed = &'a [u8]>> DecodeItem<R> for EnvelopedData<'a> {
+    ghost is_item = { sequence_is_item ⟦<EnvelopedData<'a> as Described>⟧.element refl };
+
+    ghost decodes_items = { decodes_same (sequence_item
+        ⟦<EnvelopedData<'a> as Described>⟧.element) };
+}
+
+impl<'a> BorrowedItem for EnvelopedData<'a> {
+    ghost borrowed = { refl };
+}
+
+impl<'a> Nestable for EnvelopedData<'a> {
+    ghost nestable = { Prim.omega arith };
+}

@@ -1,0 +1,104 @@
+//! Written by asn1_compile from the module CMS: change the module instead.
+//!
+//! EssCertId.
+ghost use Rattle.std.specs.Prelude.{◌≡◌};
+ghost use Rattle.std.proofs.Common.{arith, refl};
+ghost use Rattle.der.specs.Prelude.{map_ok};
+ghost use Rattle.der_asn1.specs.Item.{decodes_same};
+ghost use Rattle.der_asn1.specs.Meaning.{alternative, field, optional, sequence, sequence_is_item, sequence_item, two_fields};
+
+use crate::asn1::issuer_serial::IssuerSerial;
+use der::{
+    Decode, DecodeValue, Encode, EncodeValue, Error, FromFields, Header, Length, Reader, Sequence,
+    SliceReader, Writer, decode_sequence, field_refs,
+};
+use der_asn1::{BorrowedItem, DecodeItem, Described, Item, Nestable, OctetStringRef, Optional};
+use std::alloc::Global;
+
+/// What identifies a certificate (RFC 5035, 6), borrowed from the input.
+#[derive(Clone, Copy, Drop)]
+pub struct EssCertId<'a> {
+    /// The SHA-1 hash of the certificate. The number of its octets is not checked.
+    pub cert_hash: OctetStringRef<'a>,
+    /// The issuer and the serial number of the certificate, if present.
+    pub issuer_serial: Optional<IssuerSerial<'a>>,
+}
+
+/// The fields of a [`EssCertId`] in pairs, in the order in which they are encoded.
+pub type EssCertIdFields<'a> = (OctetStringRef<'a>, Optional<IssuerSerial<'a>>);
+
+impl<'a> FromFields<EssCertIdFields<'a>> for EssCertId<'a> {
+    ghost fields = { λ v. (v.cert_hash, v.issuer_serial) };
+
+    fn from_fields(members: EssCertIdFields<'a>) -> Self {
+        let (cert_hash, issuer_serial) = members;
+        EssCertId {
+            cert_hash,
+            issuer_serial,
+        }
+    }
+}
+
+impl<'a> Sequence for EssCertId<'a> {
+    ghost meaning = { sequence (two_fields (field (alternative
+        ⟦<OctetStringRef<'a> as Described>⟧.element)) (optional (alternative
+        ⟦<IssuerSerial<'a> as Described>⟧.element)))
+        ⟦<EssCertId<'a> as FromFields<EssCertIdFields<'a>>>⟧.fields };
+
+    ghost fits = { (refl, refl) };
+}
+
+/// Decodes the fields one after the other, with the errors of every [`Sequence`].
+impl<'a, R: Reader<Borrowed = &'a [u8]>> DecodeValue<R> for EssCertId<'a> {
+    type Error = Error;
+
+    ghost decode_value_answers = { λ h s result t.
+        ⟦<EssCertIdFields<'a> as Decode<SliceReader<'a>>>⟧.decode_answers s (map_ok
+        ⟦<EssCertId<'a> as FromFields<EssCertIdFields<'a>>>⟧.fields result) t };
+
+    fn decode_value(alloc: Global, reader: &mut R, header: Header) -> Result<Self, Error> {
+        decode_sequence::<R, EssCertIdFields<'a>, Self>(alloc, reader, header)
+    }
+
+    fn is_value(&self) {
+        <OctetStringRef<'a> as DecodeValue<R>>::is_value(&self.cert_hash);
+        if let Some(value) = &self.issuer_serial.0 {
+            <IssuerSerial<'a> as DecodeValue<R>>::is_value(value);
+        }
+    }
+}
+
+/// Writes the fields one after the other, with the errors of every [`Sequence`].
+impl<'a> EncodeValue for EssCertId<'a> {
+    ghost value_size = { λ v. ⟦<EssCertIdFields<'a> as Encode>⟧.size
+        (⟦<EssCertId<'a> as FromFields<EssCertIdFields<'a>>>⟧.fields v) };
+
+    ghost encode_value_answers = { λ v. ⟦<EssCertIdFields<'a> as Encode>⟧.encode_answers
+        (⟦<EssCertId<'a> as FromFields<EssCertIdFields<'a>>>⟧.fields v) };
+
+    fn value_len(&self) -> Result<Length, Error> {
+        field_refs!(self, (cert_hash, issuer_serial)).encoded_len()
+    }
+
+    fn encode_value<W: Writer>(&self, writer: &mut W) -> Result<(), Error> {
+        field_refs!(self, (cert_hash, issuer_serial)).encode(writer)
+    }
+}
+
+impl<'a> Item for EssCertId<'a> {
+    ghost item = { sequence_item ⟦<EssCertId<'a> as Described>⟧.element };
+}
+
+impl<'a, R: Reader<Borrowed = &'a [u8]>> DecodeItem<R> for EssCertId<'a> {
+    ghost is_item = { sequence_is_item ⟦<EssCertId<'a> as Described>⟧.element refl };
+
+    ghost decodes_items = { decodes_same (sequence_item ⟦<EssCertId<'a> as Described>⟧.element) };
+}
+
+impl<'a> BorrowedItem for EssCertId<'a> {
+    ghost borrowed = { refl };
+}
+
+impl<'a> Nestable for EssCertId<'a> {
+    ghost nestable = { Prim.omega arith };
+}

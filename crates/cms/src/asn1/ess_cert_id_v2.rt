@@ -1,0 +1,119 @@
+//! Written by asn1_compile from the module CMS: change the module instead.
+//!
+//! EssCertIdV2.
+ghost use Rattle.std.specs.Prelude.{◌≡◌};
+ghost use Rattle.std.proofs.Common.{arith, refl};
+ghost use Rattle.der.specs.Prelude.{map_ok};
+ghost use Rattle.der_asn1.specs.Item.{decodes_same};
+ghost use Rattle.der_asn1.specs.DefaultedTo.{defaulted_to};
+ghost use Rattle.der_asn1.specs.Meaning.{alternative, field, optional, sequence, sequence_is_item, sequence_item, two_fields};
+
+use crate::Sha256Default;
+use crate::asn1::issuer_serial::IssuerSerial;
+use der::{
+    Decode, DecodeValue, Encode, EncodeValue, Error, FromFields, Header, Length, Reader, Sequence,
+    SliceReader, Writer, decode_sequence, field_refs,
+};
+use der_asn1::{
+    BorrowedItem, DecodeItem, DefaultOf, DefaultedTo, Described, Item, Nestable, OctetStringRef,
+    Optional,
+};
+use spki::AlgorithmIdentifierRef;
+use std::alloc::Global;
+
+/// What identifies a certificate (RFC 5035, 4), borrowed from the input.
+#[derive(Drop)]
+pub struct EssCertIdV2<'a> {
+    /// The algorithm of the hash. The default is SHA-256 without parameters.
+    pub hash_algorithm: DefaultedTo<AlgorithmIdentifierRef<'a>, Sha256Default>,
+    /// The hash of the certificate. The number of its octets is not checked.
+    pub cert_hash: OctetStringRef<'a>,
+    /// The issuer and the serial number of the certificate, if present.
+    pub issuer_serial: Optional<IssuerSerial<'a>>,
+}
+
+/// The fields of a [`EssCertIdV2`] in pairs, in the order in which they are encoded.
+pub type EssCertIdV2Fields<'a> = (
+    DefaultedTo<AlgorithmIdentifierRef<'a>, Sha256Default>,
+    (OctetStringRef<'a>, Optional<IssuerSerial<'a>>),
+);
+
+impl<'a> FromFields<EssCertIdV2Fields<'a>> for EssCertIdV2<'a> {
+    ghost fields = { λ v. (v.hash_algorithm, (v.cert_hash, v.issuer_serial)) };
+
+    fn from_fields(members: EssCertIdV2Fields<'a>) -> Self {
+        let (hash_algorithm, (cert_hash, issuer_serial)) = members;
+        EssCertIdV2 {
+            hash_algorithm,
+            cert_hash,
+            issuer_serial,
+        }
+    }
+}
+
+impl<'a> Sequence for EssCertIdV2<'a> {
+    ghost meaning = { sequence (two_fields (defaulted_to
+        ⟦<Sha256Default as DefaultOf<AlgorithmIdentifierRef<'a>>>⟧.default_contents
+        ⟦<AlgorithmIdentifierRef<'a> as Described>⟧.element (λ v. v.0)) (two_fields (field
+        (alternative ⟦<OctetStringRef<'a> as Described>⟧.element)) (optional (alternative
+        ⟦<IssuerSerial<'a> as Described>⟧.element))))
+        ⟦<EssCertIdV2<'a> as FromFields<EssCertIdV2Fields<'a>>>⟧.fields };
+
+    ghost fits = { (refl, refl) };
+}
+
+/// Decodes the fields one after the other, with the errors of every [`Sequence`].
+impl<'a, R: Reader<Borrowed = &'a [u8]>> DecodeValue<R> for EssCertIdV2<'a> {
+    type Error = Error;
+
+    ghost decode_value_answers = { λ h s result t.
+        ⟦<EssCertIdV2Fields<'a> as Decode<SliceReader<'a>>>⟧.decode_answers s (map_ok
+        ⟦<EssCertIdV2<'a> as FromFields<EssCertIdV2Fields<'a>>>⟧.fields result) t };
+
+    fn decode_value(alloc: Global, reader: &mut R, header: Header) -> Result<Self, Error> {
+        decode_sequence::<R, EssCertIdV2Fields<'a>, Self>(alloc, reader, header)
+    }
+
+    fn is_value(&self) {
+        <AlgorithmIdentifierRef<'a> as DecodeValue<R>>::is_value(&self.hash_algorithm.0);
+        <OctetStringRef<'a> as DecodeValue<R>>::is_value(&self.cert_hash);
+        if let Some(value) = &self.issuer_serial.0 {
+            <IssuerSerial<'a> as DecodeValue<R>>::is_value(value);
+        }
+    }
+}
+
+/// Writes the fields one after the other, with the errors of every [`Sequence`].
+impl<'a> EncodeValue for EssCertIdV2<'a> {
+    ghost value_size = { λ v. ⟦<EssCertIdV2Fields<'a> as Encode>⟧.size
+        (⟦<EssCertIdV2<'a> as FromFields<EssCertIdV2Fields<'a>>>⟧.fields v) };
+
+    ghost encode_value_answers = { λ v. ⟦<EssCertIdV2Fields<'a> as Encode>⟧.encode_answers
+        (⟦<EssCertIdV2<'a> as FromFields<EssCertIdV2Fields<'a>>>⟧.fields v) };
+
+    fn value_len(&self) -> Result<Length, Error> {
+        field_refs!(self, (hash_algorithm, (cert_hash, issuer_serial))).encoded_len()
+    }
+
+    fn encode_value<W: Writer>(&self, writer: &mut W) -> Result<(), Error> {
+        field_refs!(self, (hash_algorithm, (cert_hash, issuer_serial))).encode(writer)
+    }
+}
+
+impl<'a> Item for EssCertIdV2<'a> {
+    ghost item = { sequence_item ⟦<EssCertIdV2<'a> as Described>⟧.element };
+}
+
+impl<'a, R: Reader<Borrowed = &'a [u8]>> DecodeItem<R> for EssCertIdV2<'a> {
+    ghost is_item = { sequence_is_item ⟦<EssCertIdV2<'a> as Described>⟧.element refl };
+
+    ghost decodes_items = { decodes_same (sequence_item ⟦<EssCertIdV2<'a> as Described>⟧.element) };
+}
+
+impl<'a> BorrowedItem for EssCertIdV2<'a> {
+    ghost borrowed = { refl };
+}
+
+impl<'a> Nestable for EssCertIdV2<'a> {
+    ghost nestable = { Prim.omega arith };
+}

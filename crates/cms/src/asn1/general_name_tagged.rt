@@ -1,0 +1,129 @@
+//! Written by asn1_compile from the module CMS: change the module instead.
+//!
+//! GeneralNameTagged.
+ghost use Rattle.std.specs.Prelude.{◌≡◌};
+ghost use Rattle.std.proofs.Common.{arith, refl};
+ghost use Rattle.der.specs.Prelude.{map_ok};
+ghost use Rattle.der_asn1.specs.Item.{decodes_same};
+ghost use Rattle.der_asn1.specs.Meaning.{alternative, field, sequence, sequence_is_item, sequence_item};
+
+use der::{
+    Decode, DecodeValue, Encode, EncodeValue, Error, FromFields, Header, Length, Reader, Sequence,
+    SliceReader, Writer, decode_sequence, field_refs,
+};
+use der_asn1::{
+    BorrowedItem, DecodeItem, Described, DescribedChoice, Explicit, Ia5StringRef, Implicit, Item,
+    Nestable, ObjectIdentifierRef, OctetStringRef, SequenceRef,
+};
+use std::alloc::Global;
+use x509::GeneralName;
+
+/// What an explicit tag has in it: a [`GeneralName`].
+#[derive(Clone, Copy, Drop)]
+pub struct GeneralNameTagged<'a> {
+    /// The value behind the tag.
+    pub value: GeneralName<'a>,
+}
+
+/// The fields of a [`GeneralNameTagged`] in pairs, in the order in which they are encoded.
+pub type GeneralNameTaggedFields<'a> = GeneralName<'a>;
+
+impl<'a> FromFields<GeneralNameTaggedFields<'a>> for GeneralNameTagged<'a> {
+    ghost fields = { λ v. v.value };
+
+    fn from_fields(members: GeneralNameTaggedFields<'a>) -> Self {
+        let value = members;
+        GeneralNameTagged { value }
+    }
+}
+
+impl<'a> Sequence for GeneralNameTagged<'a> {
+    ghost meaning = { sequence (field ⟦<GeneralName<'a> as DescribedChoice>⟧.alternative)
+        ⟦<GeneralNameTagged<'a> as FromFields<GeneralNameTaggedFields<'a>>>⟧.fields };
+
+    ghost fits = { (refl, refl) };
+}
+
+/// Decodes the fields one after the other, with the errors of every [`Sequence`].
+impl<'a, R: Reader<Borrowed = &'a [u8]>> DecodeValue<R> for GeneralNameTagged<'a> {
+    type Error = Error;
+
+    ghost decode_value_answers = { λ h s result t.
+        ⟦<GeneralNameTaggedFields<'a> as Decode<SliceReader<'a>>>⟧.decode_answers s (map_ok
+        ⟦<GeneralNameTagged<'a> as FromFields<GeneralNameTaggedFields<'a>>>⟧.fields result) t };
+
+    fn decode_value(alloc: Global, reader: &mut R, header: Header) -> Result<Self, Error> {
+        decode_sequence::<R, GeneralNameTaggedFields<'a>, Self>(alloc, reader, header)
+    }
+
+    fn is_value(&self) {
+        match &self.value {
+            x509::GeneralName::OtherName(value) => <Implicit<x509::OtherName<'a>, 0> as DecodeValue<
+                R,
+            >>::is_value(value),
+            x509::GeneralName::Rfc822Name(value) => <Implicit<Ia5StringRef<'a>, 1> as DecodeValue<
+                R,
+            >>::is_value(value),
+            x509::GeneralName::DnsName(value) => <Implicit<Ia5StringRef<'a>, 2> as DecodeValue<
+                R,
+            >>::is_value(value),
+            x509::GeneralName::X400Address(value) => <Implicit<SequenceRef<'a>, 3> as DecodeValue<
+                R,
+            >>::is_value(value),
+            x509::GeneralName::DirectoryName(value) => <Explicit<x509::Name<'a>, 4> as DecodeValue<
+                R,
+            >>::is_value(value),
+            x509::GeneralName::EdiPartyName(value) => <Implicit<
+                x509::EdiPartyName<'a>,
+                5,
+            > as DecodeValue<R>>::is_value(value),
+            x509::GeneralName::UniformResourceIdentifier(value) => <Implicit<
+                Ia5StringRef<'a>,
+                6,
+            > as DecodeValue<R>>::is_value(value),
+            x509::GeneralName::IpAddress(value) => <Implicit<OctetStringRef<'a>, 7> as DecodeValue<
+                R,
+            >>::is_value(value),
+            x509::GeneralName::RegisteredId(value) => <Implicit<
+                ObjectIdentifierRef<'a>,
+                8,
+            > as DecodeValue<R>>::is_value(value),
+        }
+    }
+}
+
+/// Writes the fields one after the other, with the errors of every [`Sequence`].
+impl<'a> EncodeValue for GeneralNameTagged<'a> {
+    ghost value_size = { λ v. ⟦<GeneralNameTaggedFields<'a> as Encode>⟧.size
+        (⟦<GeneralNameTagged<'a> as FromFields<GeneralNameTaggedFields<'a>>>⟧.fields v) };
+
+    ghost encode_value_answers = { λ v. ⟦<GeneralNameTaggedFields<'a> as Encode>⟧.encode_answers
+        (⟦<GeneralNameTagged<'a> as FromFields<GeneralNameTaggedFields<'a>>>⟧.fields v) };
+
+    fn value_len(&self) -> Result<Length, Error> {
+        field_refs!(self, value).encoded_len()
+    }
+
+    fn encode_value<W: Writer>(&self, writer: &mut W) -> Result<(), Error> {
+        field_refs!(self, value).encode(writer)
+    }
+}
+
+impl<'a> Item for GeneralNameTagged<'a> {
+    ghost item = { sequence_item ⟦<GeneralNameTagged<'a> as Described>⟧.element };
+}
+
+impl<'a, R: Reader<Borrowed = &'a [u8]>> DecodeItem<R> for GeneralNameTagged<'a> {
+    ghost is_item = { sequence_is_item ⟦<GeneralNameTagged<'a> as Described>⟧.element refl };
+
+    ghost decodes_items = { decodes_same (sequence_item
+        ⟦<GeneralNameTagged<'a> as Described>⟧.element) };
+}
+
+impl<'a> BorrowedItem for GeneralNameTagged<'a> {
+    ghost borrowed = { refl };
+}
+
+impl<'a> Nestable for GeneralNameTagged<'a> {
+    ghost nestable = { Prim.omega arith };
+}

@@ -1,0 +1,102 @@
+//! Written by asn1_compile from the module CMS: change the module instead.
+//!
+//! IssuerAndSerialNumber.
+ghost use Rattle.std.specs.Prelude.{◌≡◌};
+ghost use Rattle.std.proofs.Common.{arith, refl};
+ghost use Rattle.der.specs.Prelude.{map_ok};
+ghost use Rattle.der_asn1.specs.Item.{decodes_same};
+ghost use Rattle.der_asn1.specs.Meaning.{alternative, field, sequence, sequence_is_item, sequence_item, two_fields};
+
+use der::{
+    Decode, DecodeValue, Encode, EncodeValue, Error, FromFields, Header, Length, Reader, Sequence,
+    SliceReader, Writer, decode_sequence, field_refs,
+};
+use der_asn1::{BorrowedItem, DecodeItem, Described, Item, Nestable};
+use std::alloc::Global;
+use x509::{CertificateSerialNumber, Name};
+
+/// The issuer and the serial number of a certificate (RFC 5652, 10.2.4), borrowed from the input.
+#[derive(Clone, Copy, Drop)]
+pub struct IssuerAndSerialNumber<'a> {
+    /// The issuer.
+    pub issuer: Name<'a>,
+    /// The serial number.
+    pub serial_number: CertificateSerialNumber<'a>,
+}
+
+/// The fields of a [`IssuerAndSerialNumber`] in pairs, in the order in which they are encoded.
+pub type IssuerAndSerialNumberFields<'a> = (Name<'a>, CertificateSerialNumber<'a>);
+
+impl<'a> FromFields<IssuerAndSerialNumberFields<'a>> for IssuerAndSerialNumber<'a> {
+    ghost fields = { λ v. (v.issuer, v.serial_number) };
+
+    fn from_fields(members: IssuerAndSerialNumberFields<'a>) -> Self {
+        let (issuer, serial_number) = members;
+        IssuerAndSerialNumber {
+            issuer,
+            serial_number,
+        }
+    }
+}
+
+impl<'a> Sequence for IssuerAndSerialNumber<'a> {
+    ghost meaning = { sequence (two_fields (field (alternative ⟦<Name<'a> as Described>⟧.element))
+        (field (alternative ⟦<CertificateSerialNumber<'a> as Described>⟧.element)))
+        ⟦<IssuerAndSerialNumber<'a> as FromFields<IssuerAndSerialNumberFields<'a>>>⟧.fields };
+
+    ghost fits = { (refl, refl) };
+}
+
+/// Decodes the fields one after the other, with the errors of every [`Sequence`].
+impl<'a, R: Reader<Borrowed = &'a [u8]>> DecodeValue<R> for IssuerAndSerialNumber<'a> {
+    type Error = Error;
+
+    ghost decode_value_answers = { λ h s result t.
+        ⟦<IssuerAndSerialNumberFields<'a> as Decode<SliceReader<'a>>>⟧.decode_answers s (map_ok
+        ⟦<IssuerAndSerialNumber<'a> as FromFields<IssuerAndSerialNumberFields<'a>>>⟧.fields result) t };
+
+    fn decode_value(alloc: Global, reader: &mut R, header: Header) -> Result<Self, Error> {
+        decode_sequence::<R, IssuerAndSerialNumberFields<'a>, Self>(alloc, reader, header)
+    }
+
+    fn is_value(&self) {
+        <Name<'a> as DecodeValue<R>>::is_value(&self.issuer);
+        <CertificateSerialNumber<'a> as DecodeValue<R>>::is_value(&self.serial_number);
+    }
+}
+
+/// Writes the fields one after the other, with the errors of every [`Sequence`].
+impl<'a> EncodeValue for IssuerAndSerialNumber<'a> {
+    ghost value_size = { λ v. ⟦<IssuerAndSerialNumberFields<'a> as Encode>⟧.size
+        (⟦<IssuerAndSerialNumber<'a> as FromFields<IssuerAndSerialNumberFields<'a>>>⟧.fields v) };
+
+    ghost encode_value_answers = { λ v. ⟦<IssuerAndSerialNumberFields<'a> as Encode>⟧.encode_answers
+        (⟦<IssuerAndSerialNumber<'a> as FromFields<IssuerAndSerialNumberFields<'a>>>⟧.fields v) };
+
+    fn value_len(&self) -> Result<Length, Error> {
+        field_refs!(self, (issuer, serial_number)).encoded_len()
+    }
+
+    fn encode_value<W: Writer>(&self, writer: &mut W) -> Result<(), Error> {
+        field_refs!(self, (issuer, serial_number)).encode(writer)
+    }
+}
+
+impl<'a> Item for IssuerAndSerialNumber<'a> {
+    ghost item = { sequence_item ⟦<IssuerAndSerialNumber<'a> as Described>⟧.element };
+}
+
+impl<'a, R: Reader<Borrowed = &'a [u8]>> DecodeItem<R> for IssuerAndSerialNumber<'a> {
+    ghost is_item = { sequence_is_item ⟦<IssuerAndSerialNumber<'a> as Described>⟧.element refl };
+
+    ghost decodes_items = { decodes_same (sequence_item
+        ⟦<IssuerAndSerialNumber<'a> as Described>⟧.element) };
+}
+
+impl<'a> BorrowedItem for IssuerAndSerialNumber<'a> {
+    ghost borrowed = { refl };
+}
+
+impl<'a> Nestable for IssuerAndSerialNumber<'a> {
+    ghost nestable = { Prim.omega arith };
+}

@@ -1,0 +1,104 @@
+//! Written by asn1_compile from the module CMS: change the module instead.
+//!
+//! IssuerSerial.
+ghost use Rattle.std.specs.Prelude.{◌≡◌};
+ghost use Rattle.std.proofs.Common.{arith, refl};
+ghost use Rattle.der.specs.Prelude.{map_ok};
+ghost use Rattle.der_asn1.specs.Item.{decodes_same};
+ghost use Rattle.der_asn1.specs.Meaning.{alternative, field, sequence, sequence_is_item, sequence_item, two_fields};
+
+use der::{
+    Decode, DecodeValue, Encode, EncodeValue, Error, FromFields, Header, Length, Reader, Sequence,
+    SliceReader, Writer, decode_sequence, field_refs,
+};
+use der_asn1::{BorrowedItem, DecodeItem, Described, Item, Nestable};
+use std::alloc::Global;
+use x509::{CertificateSerialNumber, GeneralNames};
+
+/// The issuer and the serial number of a certificate (RFC 5035, 6), borrowed from the input.
+#[derive(Clone, Copy, Drop)]
+pub struct IssuerSerial<'a> {
+    /// The names of the issuer. The RFC requires that there is one, a directoryName, for a
+    /// certificate of a public key, but decoding does not check this.
+    pub issuer: GeneralNames<'a>,
+    /// The serial number.
+    pub serial_number: CertificateSerialNumber<'a>,
+}
+
+/// The fields of a [`IssuerSerial`] in pairs, in the order in which they are encoded.
+pub type IssuerSerialFields<'a> = (GeneralNames<'a>, CertificateSerialNumber<'a>);
+
+impl<'a> FromFields<IssuerSerialFields<'a>> for IssuerSerial<'a> {
+    ghost fields = { λ v. (v.issuer, v.serial_number) };
+
+    fn from_fields(members: IssuerSerialFields<'a>) -> Self {
+        let (issuer, serial_number) = members;
+        IssuerSerial {
+            issuer,
+            serial_number,
+        }
+    }
+}
+
+impl<'a> Sequence for IssuerSerial<'a> {
+    ghost meaning = { sequence (two_fields (field (alternative
+        ⟦<GeneralNames<'a> as Described>⟧.element)) (field (alternative
+        ⟦<CertificateSerialNumber<'a> as Described>⟧.element)))
+        ⟦<IssuerSerial<'a> as FromFields<IssuerSerialFields<'a>>>⟧.fields };
+
+    ghost fits = { (refl, refl) };
+}
+
+/// Decodes the fields one after the other, with the errors of every [`Sequence`].
+impl<'a, R: Reader<Borrowed = &'a [u8]>> DecodeValue<R> for IssuerSerial<'a> {
+    type Error = Error;
+
+    ghost decode_value_answers = { λ h s result t.
+        ⟦<IssuerSerialFields<'a> as Decode<SliceReader<'a>>>⟧.decode_answers s (map_ok
+        ⟦<IssuerSerial<'a> as FromFields<IssuerSerialFields<'a>>>⟧.fields result) t };
+
+    fn decode_value(alloc: Global, reader: &mut R, header: Header) -> Result<Self, Error> {
+        decode_sequence::<R, IssuerSerialFields<'a>, Self>(alloc, reader, header)
+    }
+
+    fn is_value(&self) {
+        <GeneralNames<'a> as DecodeValue<R>>::is_value(&self.issuer);
+        <CertificateSerialNumber<'a> as DecodeValue<R>>::is_value(&self.serial_number);
+    }
+}
+
+/// Writes the fields one after the other, with the errors of every [`Sequence`].
+impl<'a> EncodeValue for IssuerSerial<'a> {
+    ghost value_size = { λ v. ⟦<IssuerSerialFields<'a> as Encode>⟧.size
+        (⟦<IssuerSerial<'a> as FromFields<IssuerSerialFields<'a>>>⟧.fields v) };
+
+    ghost encode_value_answers = { λ v. ⟦<IssuerSerialFields<'a> as Encode>⟧.encode_answers
+        (⟦<IssuerSerial<'a> as FromFields<IssuerSerialFields<'a>>>⟧.fields v) };
+
+    fn value_len(&self) -> Result<Length, Error> {
+        field_refs!(self, (issuer, serial_number)).encoded_len()
+    }
+
+    fn encode_value<W: Writer>(&self, writer: &mut W) -> Result<(), Error> {
+        field_refs!(self, (issuer, serial_number)).encode(writer)
+    }
+}
+
+impl<'a> Item for IssuerSerial<'a> {
+    ghost item = { sequence_item ⟦<IssuerSerial<'a> as Described>⟧.element };
+}
+
+impl<'a, R: Reader<Borrowed = &'a [u8]>> DecodeItem<R> for IssuerSerial<'a> {
+    ghost is_item = { sequence_is_item ⟦<IssuerSerial<'a> as Described>⟧.element refl };
+
+    ghost decodes_items = { decodes_same (sequence_item
+        ⟦<IssuerSerial<'a> as Described>⟧.element) };
+}
+
+impl<'a> BorrowedItem for IssuerSerial<'a> {
+    ghost borrowed = { refl };
+}
+
+impl<'a> Nestable for IssuerSerial<'a> {
+    ghost nestable = { Prim.omega arith };
+}

@@ -1,0 +1,117 @@
+//! Written by asn1_compile from the module CMS: change the module instead.
+//!
+//! KekIdentifier.
+ghost use Rattle.std.specs.Prelude.{◌≡◌};
+ghost use Rattle.std.proofs.Common.{arith, refl};
+ghost use Rattle.der.specs.Prelude.{map_ok};
+ghost use Rattle.der_asn1.specs.Item.{decodes_same};
+ghost use Rattle.der_asn1.specs.Meaning.{alternative, field, optional, sequence, sequence_is_item, sequence_item, two_fields};
+
+use crate::asn1::other_key_attribute::OtherKeyAttribute;
+use der::{
+    Decode, DecodeValue, Encode, EncodeValue, Error, FromFields, Header, Length, Reader, Sequence,
+    SliceReader, Writer, decode_sequence, field_refs,
+};
+use der_asn1::{
+    BorrowedItem, DecodeItem, Described, GeneralizedTime, Item, Nestable, OctetStringRef, Optional,
+};
+use std::alloc::Global;
+
+/// What identifies a key (RFC 5652, 6.2.3), borrowed from the input.
+#[derive(Clone, Copy, Drop)]
+pub struct KekIdentifier<'a> {
+    /// The octets that identify the key.
+    pub key_identifier: OctetStringRef<'a>,
+    /// From which of several keys of that identifier it is, if present.
+    pub date: Optional<GeneralizedTime>,
+    /// Further information that identifies the key, if present.
+    pub other: Optional<OtherKeyAttribute<'a>>,
+}
+
+/// The fields of a [`KekIdentifier`] in pairs, in the order in which they are encoded.
+pub type KekIdentifierFields<'a> = (
+    OctetStringRef<'a>,
+    (Optional<GeneralizedTime>, Optional<OtherKeyAttribute<'a>>),
+);
+
+impl<'a> FromFields<KekIdentifierFields<'a>> for KekIdentifier<'a> {
+    ghost fields = { λ v. (v.key_identifier, (v.date, v.other)) };
+
+    fn from_fields(members: KekIdentifierFields<'a>) -> Self {
+        let (key_identifier, (date, other)) = members;
+        KekIdentifier {
+            key_identifier,
+            date,
+            other,
+        }
+    }
+}
+
+impl<'a> Sequence for KekIdentifier<'a> {
+    ghost meaning = { sequence (two_fields (field (alternative
+        ⟦<OctetStringRef<'a> as Described>⟧.element)) (two_fields (optional (alternative
+        ⟦<GeneralizedTime as Described>⟧.element)) (optional (alternative
+        ⟦<OtherKeyAttribute<'a> as Described>⟧.element))))
+        ⟦<KekIdentifier<'a> as FromFields<KekIdentifierFields<'a>>>⟧.fields };
+
+    ghost fits = { (refl, refl) };
+}
+
+/// Decodes the fields one after the other, with the errors of every [`Sequence`].
+impl<'a, R: Reader<Borrowed = &'a [u8]>> DecodeValue<R> for KekIdentifier<'a> {
+    type Error = Error;
+
+    ghost decode_value_answers = { λ h s result t.
+        ⟦<KekIdentifierFields<'a> as Decode<SliceReader<'a>>>⟧.decode_answers s (map_ok
+        ⟦<KekIdentifier<'a> as FromFields<KekIdentifierFields<'a>>>⟧.fields result) t };
+
+    fn decode_value(alloc: Global, reader: &mut R, header: Header) -> Result<Self, Error> {
+        decode_sequence::<R, KekIdentifierFields<'a>, Self>(alloc, reader, header)
+    }
+
+    fn is_value(&self) {
+        <OctetStringRef<'a> as DecodeValue<R>>::is_value(&self.key_identifier);
+        if let Some(value) = &self.date.0 {
+            <GeneralizedTime as DecodeValue<R>>::is_value(value);
+        }
+        if let Some(value) = &self.other.0 {
+            <OtherKeyAttribute<'a> as DecodeValue<R>>::is_value(value);
+        }
+    }
+}
+
+/// Writes the fields one after the other, with the errors of every [`Sequence`].
+impl<'a> EncodeValue for KekIdentifier<'a> {
+    ghost value_size = { λ v. ⟦<KekIdentifierFields<'a> as Encode>⟧.size
+        (⟦<KekIdentifier<'a> as FromFields<KekIdentifierFields<'a>>>⟧.fields v) };
+
+    ghost encode_value_answers = { λ v. ⟦<KekIdentifierFields<'a> as Encode>⟧.encode_answers
+        (⟦<KekIdentifier<'a> as FromFields<KekIdentifierFields<'a>>>⟧.fields v) };
+
+    fn value_len(&self) -> Result<Length, Error> {
+        field_refs!(self, (key_identifier, (date, other))).encoded_len()
+    }
+
+    fn encode_value<W: Writer>(&self, writer: &mut W) -> Result<(), Error> {
+        field_refs!(self, (key_identifier, (date, other))).encode(writer)
+    }
+}
+
+impl<'a> Item for KekIdentifier<'a> {
+    ghost item = { sequence_item ⟦<KekIdentifier<'a> as Described>⟧.element };
+}
+
+impl<'a, R: Reader<Borrowed = &'a [u8]>> DecodeItem<R> for KekIdentifier<'a> {
+    ghost is_item = { sequence_is_item ⟦<KekIdentifier<'a> as Described>⟧.element refl };
+
+    ghost decodes_items = { decodes_same (sequence_item
+        ⟦<KekIdentifier<'a> as Described>⟧.element) };
+}
+
+impl<'a> BorrowedItem for KekIdentifier<'a> {
+    ghost borrowed = { refl };
+}
+
+impl<'a> Nestable for KekIdentifier<'a> {
+    ghost nestable = { Prim.omega arith };
+}

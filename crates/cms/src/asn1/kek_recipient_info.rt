@@ -1,0 +1,126 @@
+//! Written by asn1_compile from the module CMS: change the module instead.
+//!
+//! KekRecipientInfo.
+ghost use Rattle.std.specs.Prelude.{◌≡◌};
+ghost use Rattle.std.proofs.Common.{arith, refl};
+ghost use Rattle.der.specs.Prelude.{map_ok};
+ghost use Rattle.der_asn1.specs.Item.{decodes_same};
+ghost use Rattle.der_asn1.specs.Meaning.{alternative, field, sequence, sequence_is_item, sequence_item, two_fields};
+
+use crate::asn1::cms_version::CmsVersion;
+use crate::asn1::kek_identifier::KekIdentifier;
+use der::{
+    Decode, DecodeValue, Encode, EncodeValue, Error, FromFields, Header, Length, Reader, Sequence,
+    SliceReader, Writer, decode_sequence, field_refs,
+};
+use der_asn1::{BorrowedItem, DecodeItem, Described, Item, Nestable, OctetStringRef};
+use spki::AlgorithmIdentifierRef;
+use std::alloc::Global;
+
+/// A key that is encrypted with a key that both have (RFC 5652, 6.2.3), borrowed from the input.
+#[derive(Clone, Copy, Drop)]
+pub struct KekRecipientInfo<'a> {
+    /// The version, which is 4. Decoding does not check this.
+    pub version: CmsVersion<'a>,
+    /// The key that both have.
+    pub kekid: KekIdentifier<'a>,
+    /// The algorithm of the encryption.
+    pub key_encryption_algorithm: AlgorithmIdentifierRef<'a>,
+    /// The octets of the encryption.
+    pub encrypted_key: OctetStringRef<'a>,
+}
+
+/// The fields of a [`KekRecipientInfo`] in pairs, in the order in which they are encoded.
+pub type KekRecipientInfoFields<'a> = (
+    (CmsVersion<'a>, KekIdentifier<'a>),
+    (AlgorithmIdentifierRef<'a>, OctetStringRef<'a>),
+);
+
+impl<'a> FromFields<KekRecipientInfoFields<'a>> for KekRecipientInfo<'a> {
+    ghost fields = { λ v. ((v.version, v.kekid), (v.key_encryption_algorithm, v.encrypted_key)) };
+
+    fn from_fields(members: KekRecipientInfoFields<'a>) -> Self {
+        let ((version, kekid), (key_encryption_algorithm, encrypted_key)) = members;
+        KekRecipientInfo {
+            version,
+            kekid,
+            key_encryption_algorithm,
+            encrypted_key,
+        }
+    }
+}
+
+impl<'a> Sequence for KekRecipientInfo<'a> {
+    ghost meaning = { sequence (two_fields (two_fields (field (alternative
+        ⟦<CmsVersion<'a> as Described>⟧.element)) (field (alternative
+        ⟦<KekIdentifier<'a> as Described>⟧.element))) (two_fields (field (alternative
+        ⟦<AlgorithmIdentifierRef<'a> as Described>⟧.element)) (field (alternative
+        ⟦<OctetStringRef<'a> as Described>⟧.element))))
+        ⟦<KekRecipientInfo<'a> as FromFields<KekRecipientInfoFields<'a>>>⟧.fields };
+
+    ghost fits = { (refl, refl) };
+}
+
+/// Decodes the fields one after the other, with the errors of every [`Sequence`].
+impl<'a, R: Reader<Borrowed = &'a [u8]>> DecodeValue<R> for KekRecipientInfo<'a> {
+    type Error = Error;
+
+    ghost decode_value_answers = { λ h s result t.
+        ⟦<KekRecipientInfoFields<'a> as Decode<SliceReader<'a>>>⟧.decode_answers s (map_ok
+        ⟦<KekRecipientInfo<'a> as FromFields<KekRecipientInfoFields<'a>>>⟧.fields result) t };
+
+    fn decode_value(alloc: Global, reader: &mut R, header: Header) -> Result<Self, Error> {
+        decode_sequence::<R, KekRecipientInfoFields<'a>, Self>(alloc, reader, header)
+    }
+
+    fn is_value(&self) {
+        <CmsVersion<'a> as DecodeValue<R>>::is_value(&self.version);
+        <KekIdentifier<'a> as DecodeValue<R>>::is_value(&self.kekid);
+        <AlgorithmIdentifierRef<'a> as DecodeValue<R>>::is_value(&self.key_encryption_algorithm);
+        <OctetStringRef<'a> as DecodeValue<R>>::is_value(&self.encrypted_key);
+    }
+}
+
+/// Writes the fields one after the other, with the errors of every [`Sequence`].
+impl<'a> EncodeValue for KekRecipientInfo<'a> {
+    ghost value_size = { λ v. ⟦<KekRecipientInfoFields<'a> as Encode>⟧.size
+        (⟦<KekRecipientInfo<'a> as FromFields<KekRecipientInfoFields<'a>>>⟧.fields v) };
+
+    ghost encode_value_answers = { λ v. ⟦<KekRecipientInfoFields<'a> as Encode>⟧.encode_answers
+        (⟦<KekRecipientInfo<'a> as FromFields<KekRecipientInfoFields<'a>>>⟧.fields v) };
+
+    fn value_len(&self) -> Result<Length, Error> {
+        field_refs!(
+            self,
+            ((version, kekid), (key_encryption_algorithm, encrypted_key))
+        )
+        .encoded_len()
+    }
+
+    fn encode_value<W: Writer>(&self, writer: &mut W) -> Result<(), Error> {
+        field_refs!(
+            self,
+            ((version, kekid), (key_encryption_algorithm, encrypted_key))
+        )
+        .encode(writer)
+    }
+}
+
+impl<'a> Item for KekRecipientInfo<'a> {
+    ghost item = { sequence_item ⟦<KekRecipientInfo<'a> as Described>⟧.element };
+}
+
+impl<'a, R: Reader<Borrowed = &'a [u8]>> DecodeItem<R> for KekRecipientInfo<'a> {
+    ghost is_item = { sequence_is_item ⟦<KekRecipientInfo<'a> as Described>⟧.element refl };
+
+    ghost decodes_items = { decodes_same (sequence_item
+        ⟦<KekRecipientInfo<'a> as Described>⟧.element) };
+}
+
+impl<'a> BorrowedItem for KekRecipientInfo<'a> {
+    ghost borrowed = { refl };
+}
+
+impl<'a> Nestable for KekRecipientInfo<'a> {
+    ghost nestable = { Prim.omega arith };
+}

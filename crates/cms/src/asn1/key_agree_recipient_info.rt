@@ -1,0 +1,192 @@
+//! Written by asn1_compile from the module CMS: change the module instead.
+//!
+//! KeyAgreeRecipientInfo.
+ghost use Rattle.std.specs.Prelude.{◌≡◌};
+ghost use Rattle.std.proofs.Common.{arith, refl};
+ghost use Rattle.der.specs.Prelude.{map_ok};
+ghost use Rattle.der_asn1.specs.Item.{decodes_same};
+ghost use Rattle.der_asn1.specs.Meaning.{alternative, field, optional, seen, sequence, sequence_is_item, sequence_item, two_fields};
+
+use crate::asn1::cms_version::CmsVersion;
+use crate::asn1::key_agree_recipient_info_part1::{
+    KeyAgreeRecipientInfoPart1, KeyAgreeRecipientInfoPart1Fields,
+};
+use crate::asn1::key_agree_recipient_info_part2::{
+    KeyAgreeRecipientInfoPart2, KeyAgreeRecipientInfoPart2Fields,
+};
+use crate::asn1::originator_identifier_or_key_tagged::OriginatorIdentifierOrKeyTagged;
+use crate::asn1::recipient_encrypted_key::RecipientEncryptedKey;
+use der::{
+    Decode, DecodeValue, Encode, EncodeValue, Error, FromFields, Header, Length, Reader, Sequence,
+    SliceReader, Writer, decode_sequence, field_refs,
+};
+use der_asn1::{
+    BorrowedItem, DecodeItem, Described, Explicit, Implicit, Item, Nestable, OctetStringRef,
+    Optional, SequenceOf,
+};
+use spki::AlgorithmIdentifierRef;
+use std::alloc::Global;
+
+/// A key that is encrypted for recipients with keys from a key agreement (RFC 5652, 6.2.2), borrowed
+/// from the input.
+#[derive(Clone, Copy, Drop)]
+pub struct KeyAgreeRecipientInfo<'a> {
+    /// The version, which is 3. Decoding does not check this.
+    pub version: CmsVersion<'a>,
+    /// The public key of the originator.
+    pub originator: Implicit<OriginatorIdentifierOrKeyTagged<'a>, 0>,
+    /// Octets of the originator that make the key another one each time, if present.
+    pub ukm: Optional<Explicit<OctetStringRef<'a>, 1>>,
+    /// The algorithm of the agreement. Its parameters are that of the encryption.
+    pub key_encryption_algorithm: AlgorithmIdentifierRef<'a>,
+    /// The encrypted key for each recipient.
+    pub recipient_encrypted_keys: SequenceOf<'a, RecipientEncryptedKey<'a>>,
+}
+
+/// The fields of a [`KeyAgreeRecipientInfo`] in pairs, in the order in which they are encoded.
+pub type KeyAgreeRecipientInfoFields<'a> = (
+    KeyAgreeRecipientInfoPart1Fields<'a>,
+    KeyAgreeRecipientInfoPart2Fields<'a>,
+);
+
+impl<'a> FromFields<
+    (
+        KeyAgreeRecipientInfoPart1<'a>,
+        KeyAgreeRecipientInfoPart2<'a>,
+    ),
+> for KeyAgreeRecipientInfo<'a> {
+    ghost fields = { λ v. (
+      record {
+        version = v.version;
+        originator = v.originator;
+        ukm = v.ukm;
+      },
+      record {
+        key_encryption_algorithm = v.key_encryption_algorithm;
+        recipient_encrypted_keys = v.recipient_encrypted_keys;
+      },
+    ) };
+
+    fn from_fields(
+        members: (
+            KeyAgreeRecipientInfoPart1<'a>,
+            KeyAgreeRecipientInfoPart2<'a>,
+        ),
+    ) -> Self {
+        let (part1, part2) = members;
+        KeyAgreeRecipientInfo {
+            version: part1.version,
+            originator: part1.originator,
+            ukm: part1.ukm,
+            key_encryption_algorithm: part2.key_encryption_algorithm,
+            recipient_encrypted_keys: part2.recipient_encrypted_keys,
+        }
+    }
+}
+
+impl<'a> Sequence for KeyAgreeRecipientInfo<'a> {
+    ghost meaning = { sequence (two_fields (seen
+        ⟦<KeyAgreeRecipientInfoPart1<'a> as FromFields<KeyAgreeRecipientInfoPart1Fields<'a>>>⟧.fields
+        (two_fields (field (alternative ⟦<CmsVersion<'a> as Described>⟧.element)) (two_fields (field
+        (alternative ⟦<Implicit<OriginatorIdentifierOrKeyTagged<'a>, 0> as Described>⟧.element))
+        (optional (alternative ⟦<Explicit<OctetStringRef<'a>, 1> as Described>⟧.element))))) (seen
+        ⟦<KeyAgreeRecipientInfoPart2<'a> as FromFields<KeyAgreeRecipientInfoPart2Fields<'a>>>⟧.fields
+        (two_fields (field (alternative ⟦<AlgorithmIdentifierRef<'a> as Described>⟧.element)) (field
+        (alternative ⟦<SequenceOf<'a, RecipientEncryptedKey<'a>> as Described>⟧.element)))))
+        ⟦<KeyAgreeRecipientInfo<'a> as FromFields<(KeyAgreeRecipientInfoPart1<'a>, KeyAgreeRecipientInfoPart2<'a>)>>⟧.fields };
+
+    ghost fits = { (refl, refl) };
+}
+
+/// Decodes the fields one after the other, with the errors of every [`Sequence`].
+impl<'a, R: Reader<Borrowed = &'a [u8]>> DecodeValue<R> for KeyAgreeRecipientInfo<'a> {
+    type Error = Error;
+
+    ghost decode_value_answers = { λ h s result t.
+        ⟦<(KeyAgreeRecipientInfoPart1<'a>, KeyAgreeRecipientInfoPart2<'a>) as Decode<SliceReader<'a>>>⟧.decode_answers s
+        (map_ok
+        ⟦<KeyAgreeRecipientInfo<'a> as FromFields<(KeyAgreeRecipientInfoPart1<'a>, KeyAgreeRecipientInfoPart2<'a>)>>⟧.fields result) t };
+
+    fn decode_value(alloc: Global, reader: &mut R, header: Header) -> Result<Self, Error> {
+        decode_sequence::<
+            R,
+            (
+                KeyAgreeRecipientInfoPart1<'a>,
+                KeyAgreeRecipientInfoPart2<'a>,
+            ),
+            Self,
+        >(alloc, reader, header)
+    }
+
+    fn is_value(&self) {
+        <CmsVersion<'a> as DecodeValue<R>>::is_value(&self.version);
+        <Implicit<OriginatorIdentifierOrKeyTagged<'a>, 0> as DecodeValue<R>>::is_value(
+            &self.originator,
+        );
+        if let Some(value) = &self.ukm.0 {
+            <Explicit<OctetStringRef<'a>, 1> as DecodeValue<R>>::is_value(value);
+        }
+        <AlgorithmIdentifierRef<'a> as DecodeValue<R>>::is_value(&self.key_encryption_algorithm);
+        <SequenceOf<'a, RecipientEncryptedKey<'a>> as DecodeValue<R>>::is_value(
+            &self.recipient_encrypted_keys,
+        );
+    }
+}
+
+/// Writes the fields one after the other, with the errors of every [`Sequence`].
+impl<'a> EncodeValue for KeyAgreeRecipientInfo<'a> {
+    ghost value_size = { λ v. ⟦<KeyAgreeRecipientInfoFields<'a> as Encode>⟧.size (
+      ⟦<KeyAgreeRecipientInfoPart1<'a> as FromFields<KeyAgreeRecipientInfoPart1Fields<'a>>>⟧.fields
+          (⟦<KeyAgreeRecipientInfo<'a> as FromFields<(KeyAgreeRecipientInfoPart1<'a>, KeyAgreeRecipientInfoPart2<'a>)>>⟧.fields v).0,
+      ⟦<KeyAgreeRecipientInfoPart2<'a> as FromFields<KeyAgreeRecipientInfoPart2Fields<'a>>>⟧.fields
+          (⟦<KeyAgreeRecipientInfo<'a> as FromFields<(KeyAgreeRecipientInfoPart1<'a>, KeyAgreeRecipientInfoPart2<'a>)>>⟧.fields v).1,
+    ) };
+
+    ghost encode_value_answers = { λ v. ⟦<KeyAgreeRecipientInfoFields<'a> as Encode>⟧.encode_answers (
+      ⟦<KeyAgreeRecipientInfoPart1<'a> as FromFields<KeyAgreeRecipientInfoPart1Fields<'a>>>⟧.fields
+          (⟦<KeyAgreeRecipientInfo<'a> as FromFields<(KeyAgreeRecipientInfoPart1<'a>, KeyAgreeRecipientInfoPart2<'a>)>>⟧.fields v).0,
+      ⟦<KeyAgreeRecipientInfoPart2<'a> as FromFields<KeyAgreeRecipientInfoPart2Fields<'a>>>⟧.fields
+          (⟦<KeyAgreeRecipientInfo<'a> as FromFields<(KeyAgreeRecipientInfoPart1<'a>, KeyAgreeRecipientInfoPart2<'a>)>>⟧.fields v).1,
+    ) };
+
+    fn value_len(&self) -> Result<Length, Error> {
+        field_refs!(
+            self,
+            (
+                (version, (originator, ukm)),
+                (key_encryption_algorithm, recipient_encrypted_keys)
+            )
+        )
+        .encoded_len()
+    }
+
+    fn encode_value<W: Writer>(&self, writer: &mut W) -> Result<(), Error> {
+        field_refs!(
+            self,
+            (
+                (version, (originator, ukm)),
+                (key_encryption_algorithm, recipient_encrypted_keys)
+            )
+        )
+        .encode(writer)
+    }
+}
+
+impl<'a> Item for KeyAgreeRecipientInfo<'a> {
+    ghost item = { sequence_item ⟦<KeyAgreeRecipientInfo<'a> as Described>⟧.element };
+}
+
+impl<'a, R: Reader<Borrowed = &'a [u8]>> DecodeItem<R> for KeyAgreeRecipientInfo<'a> {
+    ghost is_item = { sequence_is_item ⟦<KeyAgreeRecipientInfo<'a> as Described>⟧.element refl };
+
+    ghost decodes_items = { decodes_same (sequence_item
+        ⟦<KeyAgreeRecipientInfo<'a> as Described>⟧.element) };
+}
+
+impl<'a> BorrowedItem for KeyAgreeRecipientInfo<'a> {
+    ghost borrowed = { refl };
+}
+
+impl<'a> Nestable for KeyAgreeRecipientInfo<'a> {
+    ghost nestable = { Prim.omega arith };
+}

@@ -1,0 +1,141 @@
+//! Written by asn1_compile from the module CMS: change the module instead.
+//!
+//! KeyTransRecipientInfo.
+ghost use Rattle.std.specs.Prelude.{◌≡◌};
+ghost use Rattle.std.proofs.Common.{arith, refl};
+ghost use Rattle.der.specs.Prelude.{map_ok};
+ghost use Rattle.der_asn1.specs.Item.{decodes_same};
+ghost use Rattle.der_asn1.specs.Meaning.{alternative, field, sequence, sequence_is_item, sequence_item, two_fields};
+
+use crate::asn1::cms_version::CmsVersion;
+use crate::asn1::issuer_and_serial_number::IssuerAndSerialNumber;
+use crate::asn1::recipient_identifier::RecipientIdentifier;
+use crate::asn1::signer_identifier::SignerIdentifier;
+use der::{
+    Decode, DecodeValue, Encode, EncodeValue, Error, FromFields, Header, Length, Reader, Sequence,
+    SliceReader, Writer, decode_sequence, field_refs,
+};
+use der_asn1::{
+    BorrowedItem, DecodeItem, Described, DescribedChoice, Implicit, Item, Nestable, OctetStringRef,
+};
+use spki::AlgorithmIdentifierRef;
+use std::alloc::Global;
+use x509::SubjectKeyIdentifier;
+
+/// A key that is encrypted with the public key of a recipient (RFC 5652, 6.2.1), borrowed from the
+/// input.
+#[derive(Clone, Copy, Drop)]
+pub struct KeyTransRecipientInfo<'a> {
+    /// The version: 0 if the recipient is named by issuer and serial number, or else 2. Decoding
+    /// does not check this.
+    pub version: CmsVersion<'a>,
+    /// The certificate of the recipient.
+    pub rid: RecipientIdentifier<'a>,
+    /// The algorithm of the encryption.
+    pub key_encryption_algorithm: AlgorithmIdentifierRef<'a>,
+    /// The octets of the encryption.
+    pub encrypted_key: OctetStringRef<'a>,
+}
+
+/// The fields of a [`KeyTransRecipientInfo`] in pairs, in the order in which they are encoded.
+pub type KeyTransRecipientInfoFields<'a> = (
+    (CmsVersion<'a>, RecipientIdentifier<'a>),
+    (AlgorithmIdentifierRef<'a>, OctetStringRef<'a>),
+);
+
+impl<'a> FromFields<KeyTransRecipientInfoFields<'a>> for KeyTransRecipientInfo<'a> {
+    ghost fields = { λ v. ((v.version, v.rid), (v.key_encryption_algorithm, v.encrypted_key)) };
+
+    fn from_fields(members: KeyTransRecipientInfoFields<'a>) -> Self {
+        let ((version, rid), (key_encryption_algorithm, encrypted_key)) = members;
+        KeyTransRecipientInfo {
+            version,
+            rid,
+            key_encryption_algorithm,
+            encrypted_key,
+        }
+    }
+}
+
+impl<'a> Sequence for KeyTransRecipientInfo<'a> {
+    ghost meaning = { sequence (two_fields (two_fields (field (alternative
+        ⟦<CmsVersion<'a> as Described>⟧.element)) (field
+        ⟦<RecipientIdentifier<'a> as DescribedChoice>⟧.alternative)) (two_fields (field (alternative
+        ⟦<AlgorithmIdentifierRef<'a> as Described>⟧.element)) (field (alternative
+        ⟦<OctetStringRef<'a> as Described>⟧.element))))
+        ⟦<KeyTransRecipientInfo<'a> as FromFields<KeyTransRecipientInfoFields<'a>>>⟧.fields };
+
+    ghost fits = { (refl, refl) };
+}
+
+/// Decodes the fields one after the other, with the errors of every [`Sequence`].
+impl<'a, R: Reader<Borrowed = &'a [u8]>> DecodeValue<R> for KeyTransRecipientInfo<'a> {
+    type Error = Error;
+
+    ghost decode_value_answers = { λ h s result t.
+        ⟦<KeyTransRecipientInfoFields<'a> as Decode<SliceReader<'a>>>⟧.decode_answers s (map_ok
+        ⟦<KeyTransRecipientInfo<'a> as FromFields<KeyTransRecipientInfoFields<'a>>>⟧.fields result) t };
+
+    fn decode_value(alloc: Global, reader: &mut R, header: Header) -> Result<Self, Error> {
+        decode_sequence::<R, KeyTransRecipientInfoFields<'a>, Self>(alloc, reader, header)
+    }
+
+    fn is_value(&self) {
+        <CmsVersion<'a> as DecodeValue<R>>::is_value(&self.version);
+        match &self.rid {
+            SignerIdentifier::IssuerAndSerialNumber(value) => <IssuerAndSerialNumber<
+                'a,
+            > as DecodeValue<R>>::is_value(value),
+            SignerIdentifier::SubjectKeyIdentifier(value) => <Implicit<
+                SubjectKeyIdentifier<'a>,
+                0,
+            > as DecodeValue<R>>::is_value(value),
+        }
+        <AlgorithmIdentifierRef<'a> as DecodeValue<R>>::is_value(&self.key_encryption_algorithm);
+        <OctetStringRef<'a> as DecodeValue<R>>::is_value(&self.encrypted_key);
+    }
+}
+
+/// Writes the fields one after the other, with the errors of every [`Sequence`].
+impl<'a> EncodeValue for KeyTransRecipientInfo<'a> {
+    ghost value_size = { λ v. ⟦<KeyTransRecipientInfoFields<'a> as Encode>⟧.size
+        (⟦<KeyTransRecipientInfo<'a> as FromFields<KeyTransRecipientInfoFields<'a>>>⟧.fields v) };
+
+    ghost encode_value_answers = { λ v. ⟦<KeyTransRecipientInfoFields<'a> as Encode>⟧.encode_answers
+        (⟦<KeyTransRecipientInfo<'a> as FromFields<KeyTransRecipientInfoFields<'a>>>⟧.fields v) };
+
+    fn value_len(&self) -> Result<Length, Error> {
+        field_refs!(
+            self,
+            ((version, rid), (key_encryption_algorithm, encrypted_key))
+        )
+        .encoded_len()
+    }
+
+    fn encode_value<W: Writer>(&self, writer: &mut W) -> Result<(), Error> {
+        field_refs!(
+            self,
+            ((version, rid), (key_encryption_algorithm, encrypted_key))
+        )
+        .encode(writer)
+    }
+}
+
+impl<'a> Item for KeyTransRecipientInfo<'a> {
+    ghost item = { sequence_item ⟦<KeyTransRecipientInfo<'a> as Described>⟧.element };
+}
+
+impl<'a, R: Reader<Borrowed = &'a [u8]>> DecodeItem<R> for KeyTransRecipientInfo<'a> {
+    ghost is_item = { sequence_is_item ⟦<KeyTransRecipientInfo<'a> as Described>⟧.element refl };
+
+    ghost decodes_items = { decodes_same (sequence_item
+        ⟦<KeyTransRecipientInfo<'a> as Described>⟧.element) };
+}
+
+impl<'a> BorrowedItem for KeyTransRecipientInfo<'a> {
+    ghost borrowed = { refl };
+}
+
+impl<'a> Nestable for KeyTransRecipientInfo<'a> {
+    ghost nestable = { Prim.omega arith };
+}

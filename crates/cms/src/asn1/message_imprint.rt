@@ -1,0 +1,103 @@
+//! Written by asn1_compile from the module CMS: change the module instead.
+//!
+//! MessageImprint.
+ghost use Rattle.std.specs.Prelude.{◌≡◌};
+ghost use Rattle.std.proofs.Common.{arith, refl};
+ghost use Rattle.der.specs.Prelude.{map_ok};
+ghost use Rattle.der_asn1.specs.Item.{decodes_same};
+ghost use Rattle.der_asn1.specs.Meaning.{alternative, field, sequence, sequence_is_item, sequence_item, two_fields};
+
+use der::{
+    Decode, DecodeValue, Encode, EncodeValue, Error, FromFields, Header, Length, Reader, Sequence,
+    SliceReader, Writer, decode_sequence, field_refs,
+};
+use der_asn1::{BorrowedItem, DecodeItem, Described, Item, Nestable, OctetStringRef};
+use spki::AlgorithmIdentifierRef;
+use std::alloc::Global;
+
+/// A digest with its algorithm (RFC 3161, 2.4.1), borrowed from the input.
+#[derive(Clone, Copy, Drop)]
+pub struct MessageImprint<'a> {
+    /// The algorithm of the digest.
+    pub hash_algorithm: AlgorithmIdentifierRef<'a>,
+    /// The octets of the digest. Their number is not checked.
+    pub hashed_message: OctetStringRef<'a>,
+}
+
+/// The fields of a [`MessageImprint`] in pairs, in the order in which they are encoded.
+pub type MessageImprintFields<'a> = (AlgorithmIdentifierRef<'a>, OctetStringRef<'a>);
+
+impl<'a> FromFields<MessageImprintFields<'a>> for MessageImprint<'a> {
+    ghost fields = { λ v. (v.hash_algorithm, v.hashed_message) };
+
+    fn from_fields(members: MessageImprintFields<'a>) -> Self {
+        let (hash_algorithm, hashed_message) = members;
+        MessageImprint {
+            hash_algorithm,
+            hashed_message,
+        }
+    }
+}
+
+impl<'a> Sequence for MessageImprint<'a> {
+    ghost meaning = { sequence (two_fields (field (alternative
+        ⟦<AlgorithmIdentifierRef<'a> as Described>⟧.element)) (field (alternative
+        ⟦<OctetStringRef<'a> as Described>⟧.element)))
+        ⟦<MessageImprint<'a> as FromFields<MessageImprintFields<'a>>>⟧.fields };
+
+    ghost fits = { (refl, refl) };
+}
+
+/// Decodes the fields one after the other, with the errors of every [`Sequence`].
+impl<'a, R: Reader<Borrowed = &'a [u8]>> DecodeValue<R> for MessageImprint<'a> {
+    type Error = Error;
+
+    ghost decode_value_answers = { λ h s result t.
+        ⟦<MessageImprintFields<'a> as Decode<SliceReader<'a>>>⟧.decode_answers s (map_ok
+        ⟦<MessageImprint<'a> as FromFields<MessageImprintFields<'a>>>⟧.fields result) t };
+
+    fn decode_value(alloc: Global, reader: &mut R, header: Header) -> Result<Self, Error> {
+        decode_sequence::<R, MessageImprintFields<'a>, Self>(alloc, reader, header)
+    }
+
+    fn is_value(&self) {
+        <AlgorithmIdentifierRef<'a> as DecodeValue<R>>::is_value(&self.hash_algorithm);
+        <OctetStringRef<'a> as DecodeValue<R>>::is_value(&self.hashed_message);
+    }
+}
+
+/// Writes the fields one after the other, with the errors of every [`Sequence`].
+impl<'a> EncodeValue for MessageImprint<'a> {
+    ghost value_size = { λ v. ⟦<MessageImprintFields<'a> as Encode>⟧.size
+        (⟦<MessageImprint<'a> as FromFields<MessageImprintFields<'a>>>⟧.fields v) };
+
+    ghost encode_value_answers = { λ v. ⟦<MessageImprintFields<'a> as Encode>⟧.encode_answers
+        (⟦<MessageImprint<'a> as FromFields<MessageImprintFields<'a>>>⟧.fields v) };
+
+    fn value_len(&self) -> Result<Length, Error> {
+        field_refs!(self, (hash_algorithm, hashed_message)).encoded_len()
+    }
+
+    fn encode_value<W: Writer>(&self, writer: &mut W) -> Result<(), Error> {
+        field_refs!(self, (hash_algorithm, hashed_message)).encode(writer)
+    }
+}
+
+impl<'a> Item for MessageImprint<'a> {
+    ghost item = { sequence_item ⟦<MessageImprint<'a> as Described>⟧.element };
+}
+
+impl<'a, R: Reader<Borrowed = &'a [u8]>> DecodeItem<R> for MessageImprint<'a> {
+    ghost is_item = { sequence_is_item ⟦<MessageImprint<'a> as Described>⟧.element refl };
+
+    ghost decodes_items = { decodes_same (sequence_item
+        ⟦<MessageImprint<'a> as Described>⟧.element) };
+}
+
+impl<'a> BorrowedItem for MessageImprint<'a> {
+    ghost borrowed = { refl };
+}
+
+impl<'a> Nestable for MessageImprint<'a> {
+    ghost nestable = { Prim.omega arith };
+}

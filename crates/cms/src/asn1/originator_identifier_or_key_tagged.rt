@@ -1,0 +1,114 @@
+//! Written by asn1_compile from the module CMS: change the module instead.
+//!
+//! OriginatorIdentifierOrKeyTagged.
+ghost use Rattle.std.specs.Prelude.{◌≡◌};
+ghost use Rattle.std.proofs.Common.{arith, refl};
+ghost use Rattle.der.specs.Prelude.{map_ok};
+ghost use Rattle.der_asn1.specs.Item.{decodes_same};
+ghost use Rattle.der_asn1.specs.Meaning.{alternative, field, sequence, sequence_is_item, sequence_item};
+
+use crate::asn1::issuer_and_serial_number::IssuerAndSerialNumber;
+use crate::asn1::originator_identifier_or_key::OriginatorIdentifierOrKey;
+use crate::asn1::originator_public_key::OriginatorPublicKey;
+use der::{
+    Decode, DecodeValue, Encode, EncodeValue, Error, FromFields, Header, Length, Reader, Sequence,
+    SliceReader, Writer, decode_sequence, field_refs,
+};
+use der_asn1::{BorrowedItem, DecodeItem, Described, DescribedChoice, Implicit, Item, Nestable};
+use std::alloc::Global;
+use x509::SubjectKeyIdentifier;
+
+/// What an explicit tag has in it: a [`OriginatorIdentifierOrKey`].
+#[derive(Clone, Copy, Drop)]
+pub struct OriginatorIdentifierOrKeyTagged<'a> {
+    /// The value behind the tag.
+    pub value: OriginatorIdentifierOrKey<'a>,
+}
+
+/// The fields of a [`OriginatorIdentifierOrKeyTagged`] in pairs, in the order in which they are encoded.
+pub type OriginatorIdentifierOrKeyTaggedFields<'a> = OriginatorIdentifierOrKey<'a>;
+
+impl<'a> FromFields<OriginatorIdentifierOrKeyTaggedFields<'a>>
+    for OriginatorIdentifierOrKeyTagged<'a> {
+    ghost fields = { λ v. v.value };
+
+    fn from_fields(members: OriginatorIdentifierOrKeyTaggedFields<'a>) -> Self {
+        let value = members;
+        OriginatorIdentifierOrKeyTagged { value }
+    }
+}
+
+impl<'a> Sequence for OriginatorIdentifierOrKeyTagged<'a> {
+    ghost meaning = { sequence (field
+        ⟦<OriginatorIdentifierOrKey<'a> as DescribedChoice>⟧.alternative)
+        ⟦<OriginatorIdentifierOrKeyTagged<'a> as FromFields<OriginatorIdentifierOrKeyTaggedFields<'a>>>⟧.fields };
+
+    ghost fits = { (refl, refl) };
+}
+
+/// Decodes the fields one after the other, with the errors of every [`Sequence`].
+impl<'a, R: Reader<Borrowed = &'a [u8]>> DecodeValue<R> for OriginatorIdentifierOrKeyTagged<'a> {
+    type Error = Error;
+
+    ghost decode_value_answers = { λ h s result t.
+        ⟦<OriginatorIdentifierOrKeyTaggedFields<'a> as Decode<SliceReader<'a>>>⟧.decode_answers s (map_ok
+        ⟦<OriginatorIdentifierOrKeyTagged<'a> as FromFields<OriginatorIdentifierOrKeyTaggedFields<'a>>>⟧.fields result) t };
+
+    fn decode_value(alloc: Global, reader: &mut R, header: Header) -> Result<Self, Error> {
+        decode_sequence::<R, OriginatorIdentifierOrKeyTaggedFields<'a>, Self>(alloc, reader, header)
+    }
+
+    fn is_value(&self) {
+        match &self.value {
+            OriginatorIdentifierOrKey::IssuerAndSerialNumber(value) => <IssuerAndSerialNumber<
+                'a,
+            > as DecodeValue<R>>::is_value(value),
+            OriginatorIdentifierOrKey::SubjectKeyIdentifier(value) => <Implicit<
+                SubjectKeyIdentifier<'a>,
+                0,
+            > as DecodeValue<R>>::is_value(value),
+            OriginatorIdentifierOrKey::OriginatorKey(value) => <Implicit<
+                OriginatorPublicKey<'a>,
+                1,
+            > as DecodeValue<R>>::is_value(value),
+        }
+    }
+}
+
+/// Writes the fields one after the other, with the errors of every [`Sequence`].
+impl<'a> EncodeValue for OriginatorIdentifierOrKeyTagged<'a> {
+    ghost value_size = { λ v. ⟦<OriginatorIdentifierOrKeyTaggedFields<'a> as Encode>⟧.size
+        (⟦<OriginatorIdentifierOrKeyTagged<'a> as FromFields<OriginatorIdentifierOrKeyTaggedFields<'a>>>⟧.fields v) };
+
+    ghost encode_value_answers = { λ v.
+        ⟦<OriginatorIdentifierOrKeyTaggedFields<'a> as Encode>⟧.encode_answers
+        (⟦<OriginatorIdentifierOrKeyTagged<'a> as FromFields<OriginatorIdentifierOrKeyTaggedFields<'a>>>⟧.fields v) };
+
+    fn value_len(&self) -> Result<Length, Error> {
+        field_refs!(self, value).encoded_len()
+    }
+
+    fn encode_value<W: Writer>(&self, writer: &mut W) -> Result<(), Error> {
+        field_refs!(self, value).encode(writer)
+    }
+}
+
+impl<'a> Item for OriginatorIdentifierOrKeyTagged<'a> {
+    ghost item = { sequence_item ⟦<OriginatorIdentifierOrKeyTagged<'a> as Described>⟧.element };
+}
+
+impl<'a, R: Reader<Borrowed = &'a [u8]>> DecodeItem<R> for OriginatorIdentifierOrKeyTagged<'a> {
+    ghost is_item = { sequence_is_item
+        ⟦<OriginatorIdentifierOrKeyTagged<'a> as Described>⟧.element refl };
+
+    ghost decodes_items = { decodes_same (sequence_item
+        ⟦<OriginatorIdentifierOrKeyTagged<'a> as Described>⟧.element) };
+}
+
+impl<'a> BorrowedItem for OriginatorIdentifierOrKeyTagged<'a> {
+    ghost borrowed = { refl };
+}
+
+impl<'a> Nestable for OriginatorIdentifierOrKeyTagged<'a> {
+    ghost nestable = { Prim.omega arith };
+}

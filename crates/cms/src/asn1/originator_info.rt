@@ -1,0 +1,109 @@
+//! Written by asn1_compile from the module CMS: change the module instead.
+//!
+//! OriginatorInfo.
+ghost use Rattle.std.specs.Prelude.{◌≡◌};
+ghost use Rattle.std.proofs.Common.{arith, refl};
+ghost use Rattle.der.specs.Prelude.{map_ok};
+ghost use Rattle.der_asn1.specs.Item.{decodes_same};
+ghost use Rattle.der_asn1.specs.Meaning.{alternative, optional, sequence, sequence_is_item, sequence_item, two_fields};
+
+use crate::asn1::certificate_set::CertificateSet;
+use crate::asn1::revocation_info_choices::RevocationInfoChoices;
+use der::{
+    Decode, DecodeValue, Encode, EncodeValue, Error, FromFields, Header, Length, Reader, Sequence,
+    SliceReader, Writer, decode_sequence, field_refs,
+};
+use der_asn1::{BorrowedItem, DecodeItem, Described, Implicit, Item, Nestable, Optional};
+use std::alloc::Global;
+
+/// Certificates of the originator and information on revoked ones (RFC 5652, 6.1), borrowed from the
+/// input.
+#[derive(Clone, Copy, Drop)]
+pub struct OriginatorInfo<'a> {
+    /// The certificates, if present.
+    pub certs: Optional<Implicit<CertificateSet<'a>, 0>>,
+    /// The information on revoked certificates, if present.
+    pub crls: Optional<Implicit<RevocationInfoChoices<'a>, 1>>,
+}
+
+/// The fields of a [`OriginatorInfo`] in pairs, in the order in which they are encoded.
+pub type OriginatorInfoFields<'a> = (
+    Optional<Implicit<CertificateSet<'a>, 0>>,
+    Optional<Implicit<RevocationInfoChoices<'a>, 1>>,
+);
+
+impl<'a> FromFields<OriginatorInfoFields<'a>> for OriginatorInfo<'a> {
+    ghost fields = { λ v. (v.certs, v.crls) };
+
+    fn from_fields(members: OriginatorInfoFields<'a>) -> Self {
+        let (certs, crls) = members;
+        OriginatorInfo { certs, crls }
+    }
+}
+
+impl<'a> Sequence for OriginatorInfo<'a> {
+    ghost meaning = { sequence (two_fields (optional (alternative
+        ⟦<Implicit<CertificateSet<'a>, 0> as Described>⟧.element)) (optional (alternative
+        ⟦<Implicit<RevocationInfoChoices<'a>, 1> as Described>⟧.element)))
+        ⟦<OriginatorInfo<'a> as FromFields<OriginatorInfoFields<'a>>>⟧.fields };
+
+    ghost fits = { (refl, refl) };
+}
+
+/// Decodes the fields one after the other, with the errors of every [`Sequence`].
+impl<'a, R: Reader<Borrowed = &'a [u8]>> DecodeValue<R> for OriginatorInfo<'a> {
+    type Error = Error;
+
+    ghost decode_value_answers = { λ h s result t.
+        ⟦<OriginatorInfoFields<'a> as Decode<SliceReader<'a>>>⟧.decode_answers s (map_ok
+        ⟦<OriginatorInfo<'a> as FromFields<OriginatorInfoFields<'a>>>⟧.fields result) t };
+
+    fn decode_value(alloc: Global, reader: &mut R, header: Header) -> Result<Self, Error> {
+        decode_sequence::<R, OriginatorInfoFields<'a>, Self>(alloc, reader, header)
+    }
+
+    fn is_value(&self) {
+        if let Some(value) = &self.certs.0 {
+            <Implicit<CertificateSet<'a>, 0> as DecodeValue<R>>::is_value(value);
+        }
+        if let Some(value) = &self.crls.0 {
+            <Implicit<RevocationInfoChoices<'a>, 1> as DecodeValue<R>>::is_value(value);
+        }
+    }
+}
+
+/// Writes the fields one after the other, with the errors of every [`Sequence`].
+impl<'a> EncodeValue for OriginatorInfo<'a> {
+    ghost value_size = { λ v. ⟦<OriginatorInfoFields<'a> as Encode>⟧.size
+        (⟦<OriginatorInfo<'a> as FromFields<OriginatorInfoFields<'a>>>⟧.fields v) };
+
+    ghost encode_value_answers = { λ v. ⟦<OriginatorInfoFields<'a> as Encode>⟧.encode_answers
+        (⟦<OriginatorInfo<'a> as FromFields<OriginatorInfoFields<'a>>>⟧.fields v) };
+
+    fn value_len(&self) -> Result<Length, Error> {
+        field_refs!(self, (certs, crls)).encoded_len()
+    }
+
+    fn encode_value<W: Writer>(&self, writer: &mut W) -> Result<(), Error> {
+        field_refs!(self, (certs, crls)).encode(writer)
+    }
+}
+
+impl<'a> Item for OriginatorInfo<'a> {
+    ghost item = { sequence_item ⟦<OriginatorInfo<'a> as Described>⟧.element };
+}
+
+impl<'a, R: Reader<Borrowed = &'a [u8]>> DecodeItem<R> for OriginatorInfo<'a> {
+    ghost is_item = { sequence_is_item ⟦<OriginatorInfo<'a> as Described>⟧.element refl };
+
+    ghost decodes_items = { decodes_same (sequence_item
+        ⟦<OriginatorInfo<'a> as Described>⟧.element) };
+}
+
+impl<'a> BorrowedItem for OriginatorInfo<'a> {
+    ghost borrowed = { refl };
+}
+
+impl<'a> Nestable for OriginatorInfo<'a> {
+    ghost nestable = { Prim.omega arith };
+}

@@ -1,0 +1,9 @@
+//! Written by asn1_compile from the module CMS: change the module instead.
+//!
+//! OriginatorPublicKey.
+
+use spki::SubjectPublicKeyInfoRef;
+
+/// The public key of the originator (RFC 5652, 6.2.2). It has the form of that of a certificate, and
+/// its type.
+pub type OriginatorPublicKey<'a> = SubjectPublicKeyInfoRef<'a>;

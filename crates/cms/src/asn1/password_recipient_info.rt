@@ -1,0 +1,139 @@
+//! Written by asn1_compile from the module CMS: change the module instead.
+//!
+//! PasswordRecipientInfo.
+ghost use Rattle.std.specs.Prelude.{◌≡◌};
+ghost use Rattle.std.proofs.Common.{arith, refl};
+ghost use Rattle.der.specs.Prelude.{map_ok};
+ghost use Rattle.der_asn1.specs.Item.{decodes_same};
+ghost use Rattle.der_asn1.specs.Meaning.{alternative, field, optional, sequence, sequence_is_item, sequence_item, two_fields};
+
+use crate::asn1::cms_version::CmsVersion;
+use der::{
+    Decode, DecodeValue, Encode, EncodeValue, Error, FromFields, Header, Length, Reader, Sequence,
+    SliceReader, Writer, decode_sequence, field_refs,
+};
+use der_asn1::{
+    BorrowedItem, DecodeItem, Described, Implicit, Item, Nestable, OctetStringRef, Optional,
+};
+use spki::AlgorithmIdentifierRef;
+use std::alloc::Global;
+
+/// A key that is encrypted with a key from a password (RFC 5652, 6.2.4), borrowed from the input.
+#[derive(Clone, Copy, Drop)]
+pub struct PasswordRecipientInfo<'a> {
+    /// The version, which is 0. Decoding does not check this.
+    pub version: CmsVersion<'a>,
+    /// The algorithm that derives the key from the password, if present.
+    pub key_derivation_algorithm: Optional<Implicit<AlgorithmIdentifierRef<'a>, 0>>,
+    /// The algorithm of the encryption.
+    pub key_encryption_algorithm: AlgorithmIdentifierRef<'a>,
+    /// The octets of the encryption.
+    pub encrypted_key: OctetStringRef<'a>,
+}
+
+/// The fields of a [`PasswordRecipientInfo`] in pairs, in the order in which they are encoded.
+pub type PasswordRecipientInfoFields<'a> = (
+    (
+        CmsVersion<'a>,
+        Optional<Implicit<AlgorithmIdentifierRef<'a>, 0>>,
+    ),
+    (AlgorithmIdentifierRef<'a>, OctetStringRef<'a>),
+);
+
+impl<'a> FromFields<PasswordRecipientInfoFields<'a>> for PasswordRecipientInfo<'a> {
+    ghost fields = { λ v. ((v.version, v.key_derivation_algorithm), (v.key_encryption_algorithm, v.encrypted_key)) };
+
+    fn from_fields(members: PasswordRecipientInfoFields<'a>) -> Self {
+        let ((version, key_derivation_algorithm), (key_encryption_algorithm, encrypted_key)) =
+            members;
+        PasswordRecipientInfo {
+            version,
+            key_derivation_algorithm,
+            key_encryption_algorithm,
+            encrypted_key,
+        }
+    }
+}
+
+impl<'a> Sequence for PasswordRecipientInfo<'a> {
+    ghost meaning = { sequence (two_fields (two_fields (field (alternative
+        ⟦<CmsVersion<'a> as Described>⟧.element)) (optional (alternative
+        ⟦<Implicit<AlgorithmIdentifierRef<'a>, 0> as Described>⟧.element))) (two_fields (field
+        (alternative ⟦<AlgorithmIdentifierRef<'a> as Described>⟧.element)) (field (alternative
+        ⟦<OctetStringRef<'a> as Described>⟧.element))))
+        ⟦<PasswordRecipientInfo<'a> as FromFields<PasswordRecipientInfoFields<'a>>>⟧.fields };
+
+    ghost fits = { (refl, refl) };
+}
+
+/// Decodes the fields one after the other, with the errors of every [`Sequence`].
+impl<'a, R: Reader<Borrowed = &'a [u8]>> DecodeValue<R> for PasswordRecipientInfo<'a> {
+    type Error = Error;
+
+    ghost decode_value_answers = { λ h s result t.
+        ⟦<PasswordRecipientInfoFields<'a> as Decode<SliceReader<'a>>>⟧.decode_answers s (map_ok
+        ⟦<PasswordRecipientInfo<'a> as FromFields<PasswordRecipientInfoFields<'a>>>⟧.fields result) t };
+
+    fn decode_value(alloc: Global, reader: &mut R, header: Header) -> Result<Self, Error> {
+        decode_sequence::<R, PasswordRecipientInfoFields<'a>, Self>(alloc, reader, header)
+    }
+
+    fn is_value(&self) {
+        <CmsVersion<'a> as DecodeValue<R>>::is_value(&self.version);
+        if let Some(value) = &self.key_derivation_algorithm.0 {
+            <Implicit<AlgorithmIdentifierRef<'a>, 0> as DecodeValue<R>>::is_value(value);
+        }
+        <AlgorithmIdentifierRef<'a> as DecodeValue<R>>::is_value(&self.key_encryption_algorithm);
+        <OctetStringRef<'a> as DecodeValue<R>>::is_value(&self.encrypted_key);
+    }
+}
+
+/// Writes the fields one after the other, with the errors of every [`Sequence`].
+impl<'a> EncodeValue for PasswordRecipientInfo<'a> {
+    ghost value_size = { λ v. ⟦<PasswordRecipientInfoFields<'a> as Encode>⟧.size
+        (⟦<PasswordRecipientInfo<'a> as FromFields<PasswordRecipientInfoFields<'a>>>⟧.fields v) };
+
+    ghost encode_value_answers = { λ v. ⟦<PasswordRecipientInfoFields<'a> as Encode>⟧.encode_answers
+        (⟦<PasswordRecipientInfo<'a> as FromFields<PasswordRecipientInfoFields<'a>>>⟧.fields v) };
+
+    fn value_len(&self) -> Result<Length, Error> {
+        field_refs!(
+            self,
+            (
+                (version, key_derivation_algorithm),
+                (key_encryption_algorithm, encrypted_key)
+            )
+        )
+        .encoded_len()
+    }
+
+    fn encode_value<W: Writer>(&self, writer: &mut W) -> Result<(), Error> {
+        field_refs!(
+            self,
+            (
+                (version, key_derivation_algorithm),
+                (key_encryption_algorithm, encrypted_key)
+            )
+        )
+        .encode(writer)
+    }
+}
+
+impl<'a> Item for PasswordRecipientInfo<'a> {
+    ghost item = { sequence_item ⟦<PasswordRecipientInfo<'a> as Described>⟧.element };
+}
+
+impl<'a, R: Reader<Borrowed = &'a [u8]>> DecodeItem<R> for PasswordRecipientInfo<'a> {
+    ghost is_item = { sequence_is_item ⟦<PasswordRecipientInfo<'a> as Described>⟧.element refl };
+
+    ghost decodes_items = { decodes_same (sequence_item
+        ⟦<PasswordRecipientInfo<'a> as Described>⟧.element) };
+}
+
+impl<'a> BorrowedItem for PasswordRecipientInfo<'a> {
+    ghost borrowed = { refl };
+}
+
+impl<'a> Nestable for PasswordRecipientInfo<'a> {
+    ghost nestable = { Prim.omega arith };
+}

@@ -1,0 +1,122 @@
+//! Written by asn1_compile from the module CMS: change the module instead.
+//!
+//! PkiStatusInfo.
+ghost use Rattle.std.specs.Prelude.{◌≡◌};
+ghost use Rattle.std.proofs.Common.{arith, refl};
+ghost use Rattle.der.specs.Prelude.{map_ok};
+ghost use Rattle.der_asn1.specs.Item.{decodes_same};
+ghost use Rattle.der_asn1.specs.Meaning.{alternative, field, optional, sequence, sequence_is_item, sequence_item, two_fields};
+
+use crate::asn1::pki_failure_info::PkiFailureInfo;
+use crate::asn1::pki_status::PkiStatus;
+use der::{
+    Decode, DecodeValue, Encode, EncodeValue, Error, FromFields, Header, Length, Reader, Sequence,
+    SliceReader, Writer, decode_sequence, field_refs,
+};
+use der_asn1::{
+    BorrowedItem, DecodeItem, Described, Item, NamedInteger, Nestable, Optional, SequenceOf,
+    Utf8StringRef,
+};
+use std::alloc::Global;
+
+/// Whether a request was granted, or why it was not (RFC 3161, 2.4.2), borrowed from the input.
+#[derive(Clone, Copy, Drop)]
+pub struct PkiStatusInfo<'a> {
+    /// Whether it was granted.
+    pub status: NamedInteger<PkiStatus>,
+    /// The reason as texts, if present. That there is at least one is not checked.
+    pub status_string: Optional<SequenceOf<'a, Utf8StringRef<'a>>>,
+    /// The reason as bits, if present.
+    pub fail_info: Optional<PkiFailureInfo<'a>>,
+}
+
+/// The fields of a [`PkiStatusInfo`] in pairs, in the order in which they are encoded.
+pub type PkiStatusInfoFields<'a> = (
+    NamedInteger<PkiStatus>,
+    (
+        Optional<SequenceOf<'a, Utf8StringRef<'a>>>,
+        Optional<PkiFailureInfo<'a>>,
+    ),
+);
+
+impl<'a> FromFields<PkiStatusInfoFields<'a>> for PkiStatusInfo<'a> {
+    ghost fields = { λ v. (v.status, (v.status_string, v.fail_info)) };
+
+    fn from_fields(members: PkiStatusInfoFields<'a>) -> Self {
+        let (status, (status_string, fail_info)) = members;
+        PkiStatusInfo {
+            status,
+            status_string,
+            fail_info,
+        }
+    }
+}
+
+impl<'a> Sequence for PkiStatusInfo<'a> {
+    ghost meaning = { sequence (two_fields (field (alternative
+        ⟦<NamedInteger<PkiStatus> as Described>⟧.element)) (two_fields (optional (alternative
+        ⟦<SequenceOf<'a, Utf8StringRef<'a>> as Described>⟧.element)) (optional (alternative
+        ⟦<PkiFailureInfo<'a> as Described>⟧.element))))
+        ⟦<PkiStatusInfo<'a> as FromFields<PkiStatusInfoFields<'a>>>⟧.fields };
+
+    ghost fits = { (refl, refl) };
+}
+
+/// Decodes the fields one after the other, with the errors of every [`Sequence`].
+impl<'a, R: Reader<Borrowed = &'a [u8]>> DecodeValue<R> for PkiStatusInfo<'a> {
+    type Error = Error;
+
+    ghost decode_value_answers = { λ h s result t.
+        ⟦<PkiStatusInfoFields<'a> as Decode<SliceReader<'a>>>⟧.decode_answers s (map_ok
+        ⟦<PkiStatusInfo<'a> as FromFields<PkiStatusInfoFields<'a>>>⟧.fields result) t };
+
+    fn decode_value(alloc: Global, reader: &mut R, header: Header) -> Result<Self, Error> {
+        decode_sequence::<R, PkiStatusInfoFields<'a>, Self>(alloc, reader, header)
+    }
+
+    fn is_value(&self) {
+        <NamedInteger<PkiStatus> as DecodeValue<R>>::is_value(&self.status);
+        if let Some(value) = &self.status_string.0 {
+            <SequenceOf<'a, Utf8StringRef<'a>> as DecodeValue<R>>::is_value(value);
+        }
+        if let Some(value) = &self.fail_info.0 {
+            <PkiFailureInfo<'a> as DecodeValue<R>>::is_value(value);
+        }
+    }
+}
+
+/// Writes the fields one after the other, with the errors of every [`Sequence`].
+impl<'a> EncodeValue for PkiStatusInfo<'a> {
+    ghost value_size = { λ v. ⟦<PkiStatusInfoFields<'a> as Encode>⟧.size
+        (⟦<PkiStatusInfo<'a> as FromFields<PkiStatusInfoFields<'a>>>⟧.fields v) };
+
+    ghost encode_value_answers = { λ v. ⟦<PkiStatusInfoFields<'a> as Encode>⟧.encode_answers
+        (⟦<PkiStatusInfo<'a> as FromFields<PkiStatusInfoFields<'a>>>⟧.fields v) };
+
+    fn value_len(&self) -> Result<Length, Error> {
+        field_refs!(self, (status, (status_string, fail_info))).encoded_len()
+    }
+
+    fn encode_value<W: Writer>(&self, writer: &mut W) -> Result<(), Error> {
+        field_refs!(self, (status, (status_string, fail_info))).encode(writer)
+    }
+}
+
+impl<'a> Item for PkiStatusInfo<'a> {
+    ghost item = { sequence_item ⟦<PkiStatusInfo<'a> as Described>⟧.element };
+}
+
+impl<'a, R: Reader<Borrowed = &'a [u8]>> DecodeItem<R> for PkiStatusInfo<'a> {
+    ghost is_item = { sequence_is_item ⟦<PkiStatusInfo<'a> as Described>⟧.element refl };
+
+    ghost decodes_items = { decodes_same (sequence_item
+        ⟦<PkiStatusInfo<'a> as Described>⟧.element) };
+}
+
+impl<'a> BorrowedItem for PkiStatusInfo<'a> {
+    ghost borrowed = { refl };
+}
+
+impl<'a> Nestable for PkiStatusInfo<'a> {
+    ghost nestable = { Prim.omega arith };
+}

@@ -1,0 +1,112 @@
+//! Written by asn1_compile from the module CMS: change the module instead.
+//!
+//! RecipientEncryptedKey.
+ghost use Rattle.std.specs.Prelude.{◌≡◌};
+ghost use Rattle.std.proofs.Common.{arith, refl};
+ghost use Rattle.der.specs.Prelude.{map_ok};
+ghost use Rattle.der_asn1.specs.Item.{decodes_same};
+ghost use Rattle.der_asn1.specs.Meaning.{alternative, field, sequence, sequence_is_item, sequence_item, two_fields};
+
+use crate::asn1::issuer_and_serial_number::IssuerAndSerialNumber;
+use crate::asn1::key_agree_recipient_identifier::KeyAgreeRecipientIdentifier;
+use crate::asn1::recipient_key_identifier::RecipientKeyIdentifier;
+use der::{
+    Decode, DecodeValue, Encode, EncodeValue, Error, FromFields, Header, Length, Reader, Sequence,
+    SliceReader, Writer, decode_sequence, field_refs,
+};
+use der_asn1::{
+    BorrowedItem, DecodeItem, Described, DescribedChoice, Implicit, Item, Nestable, OctetStringRef,
+};
+use std::alloc::Global;
+
+/// A key that is encrypted for a recipient (RFC 5652, 6.2.2), borrowed from the input.
+#[derive(Clone, Copy, Drop)]
+pub struct RecipientEncryptedKey<'a> {
+    /// The public key of the recipient.
+    pub rid: KeyAgreeRecipientIdentifier<'a>,
+    /// The octets of the encryption.
+    pub encrypted_key: OctetStringRef<'a>,
+}
+
+/// The fields of a [`RecipientEncryptedKey`] in pairs, in the order in which they are encoded.
+pub type RecipientEncryptedKeyFields<'a> = (KeyAgreeRecipientIdentifier<'a>, OctetStringRef<'a>);
+
+impl<'a> FromFields<RecipientEncryptedKeyFields<'a>> for RecipientEncryptedKey<'a> {
+    ghost fields = { λ v. (v.rid, v.encrypted_key) };
+
+    fn from_fields(members: RecipientEncryptedKeyFields<'a>) -> Self {
+        let (rid, encrypted_key) = members;
+        RecipientEncryptedKey { rid, encrypted_key }
+    }
+}
+
+impl<'a> Sequence for RecipientEncryptedKey<'a> {
+    ghost meaning = { sequence (two_fields (field
+        ⟦<KeyAgreeRecipientIdentifier<'a> as DescribedChoice>⟧.alternative) (field (alternative
+        ⟦<OctetStringRef<'a> as Described>⟧.element)))
+        ⟦<RecipientEncryptedKey<'a> as FromFields<RecipientEncryptedKeyFields<'a>>>⟧.fields };
+
+    ghost fits = { (refl, refl) };
+}
+
+/// Decodes the fields one after the other, with the errors of every [`Sequence`].
+impl<'a, R: Reader<Borrowed = &'a [u8]>> DecodeValue<R> for RecipientEncryptedKey<'a> {
+    type Error = Error;
+
+    ghost decode_value_answers = { λ h s result t.
+        ⟦<RecipientEncryptedKeyFields<'a> as Decode<SliceReader<'a>>>⟧.decode_answers s (map_ok
+        ⟦<RecipientEncryptedKey<'a> as FromFields<RecipientEncryptedKeyFields<'a>>>⟧.fields result) t };
+
+    fn decode_value(alloc: Global, reader: &mut R, header: Header) -> Result<Self, Error> {
+        decode_sequence::<R, RecipientEncryptedKeyFields<'a>, Self>(alloc, reader, header)
+    }
+
+    fn is_value(&self) {
+        match &self.rid {
+            KeyAgreeRecipientIdentifier::IssuerAndSerialNumber(value) => <IssuerAndSerialNumber<
+                'a,
+            > as DecodeValue<R>>::is_value(value),
+            KeyAgreeRecipientIdentifier::RKeyId(value) => <Implicit<
+                RecipientKeyIdentifier<'a>,
+                0,
+            > as DecodeValue<R>>::is_value(value),
+        }
+        <OctetStringRef<'a> as DecodeValue<R>>::is_value(&self.encrypted_key);
+    }
+}
+
+/// Writes the fields one after the other, with the errors of every [`Sequence`].
+impl<'a> EncodeValue for RecipientEncryptedKey<'a> {
+    ghost value_size = { λ v. ⟦<RecipientEncryptedKeyFields<'a> as Encode>⟧.size
+        (⟦<RecipientEncryptedKey<'a> as FromFields<RecipientEncryptedKeyFields<'a>>>⟧.fields v) };
+
+    ghost encode_value_answers = { λ v. ⟦<RecipientEncryptedKeyFields<'a> as Encode>⟧.encode_answers
+        (⟦<RecipientEncryptedKey<'a> as FromFields<RecipientEncryptedKeyFields<'a>>>⟧.fields v) };
+
+    fn value_len(&self) -> Result<Length, Error> {
+        field_refs!(self, (rid, encrypted_key)).encoded_len()
+    }
+
+    fn encode_value<W: Writer>(&self, writer: &mut W) -> Result<(), Error> {
+        field_refs!(self, (rid, encrypted_key)).encode(writer)
+    }
+}
+
+impl<'a> Item for RecipientEncryptedKey<'a> {
+    ghost item = { sequence_item ⟦<RecipientEncryptedKey<'a> as Described>⟧.element };
+}
+
+impl<'a, R: Reader<Borrowed = &'a [u8]>> DecodeItem<R> for RecipientEncryptedKey<'a> {
+    ghost is_item = { sequence_is_item ⟦<RecipientEncryptedKey<'a> as Described>⟧.element refl };
+
+    ghost decodes_items = { decodes_same (sequence_item
+        ⟦<RecipientEncryptedKey<'a> as Described>⟧.element) };
+}
+
+impl<'a> BorrowedItem for RecipientEncryptedKey<'a> {
+    ghost borrowed = { refl };
+}
+
+impl<'a> Nestable for RecipientEncryptedKey<'a> {
+    ghost nestable = { Prim.omega arith };
+}

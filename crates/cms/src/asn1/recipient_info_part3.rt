@@ -1,0 +1,84 @@
+//! Written by asn1_compile from the module CMS: change the module instead.
+//!
+//! RecipientInfoPart3.
+ghost use Rattle.std.specs.Prelude.{false};
+ghost use Rattle.der.specs.Prelude.{map_ok};
+ghost use Rattle.der_asn1.specs.Meaning.{alternative, choice_of};
+
+use crate::asn1::other_recipient_info::OtherRecipientInfo;
+use der::{Decode, Encode, Error, FromFields, Length, Reader, SliceReader, Tag, Writer};
+use der_asn1::{Choice, Described, DescribedChoice, Implicit, decode_choice};
+use std::alloc::Global;
+
+// Some alternatives of a RecipientInfo.
+#[derive(Drop)]
+pub(crate) struct RecipientInfoPart3<'a> {
+    pub(crate) choice: RecipientInfoPart3Alternatives<'a>,
+}
+
+// The alternatives, as nested choices of two.
+pub(crate) type RecipientInfoPart3Alternatives<'a> = Implicit<OtherRecipientInfo<'a>, 4>;
+
+impl<'a> FromFields<RecipientInfoPart3Alternatives<'a>> for RecipientInfoPart3<'a> {
+    ghost fields = { λ v. v.choice };
+
+    fn from_fields(choice: RecipientInfoPart3Alternatives<'a>) -> Self {
+        RecipientInfoPart3 { choice }
+    }
+}
+
+impl<'a> DescribedChoice for RecipientInfoPart3<'a> {
+    ghost alternative = { choice_of (alternative
+        ⟦<Implicit<OtherRecipientInfo<'a>, 4> as Described>⟧.element) (λ v. v.choice) };
+}
+
+impl<'a, R: Reader<Borrowed = &'a [u8]>> Decode<R> for RecipientInfoPart3<'a> {
+    type Error = Error;
+
+    ghost is_next = { ⟦<RecipientInfoPart3<'a> as DescribedChoice>⟧.alternative.is_next };
+
+    ghost decode_levels = { ⟦<RecipientInfoPart3<'a> as DescribedChoice>⟧.alternative.levels };
+
+    ghost allocates = { false };
+
+    ghost decode_answers = { λ s result t.
+        ⟦<RecipientInfoPart3Alternatives<'a> as Decode<SliceReader<'a>>>⟧.decode_answers s
+        (map_ok (λ v. v.choice) result) t };
+
+    #[inline(always)]
+    fn decode(alloc: Global, reader: &mut R) -> Result<Self, Error> {
+        decode_choice::<R, RecipientInfoPart3Alternatives<'a>, Self>(alloc, reader)
+    }
+}
+
+impl<'a, R: Reader<Borrowed = &'a [u8]>> Choice<R> for RecipientInfoPart3<'a> {
+    ghost chooses = { ⟦<RecipientInfoPart3<'a> as DescribedChoice>⟧.alternative.tags };
+
+    #[inline(always)]
+    fn can_decode(tag: Tag) -> bool {
+        <RecipientInfoPart3Alternatives<'a> as Choice<R>>::can_decode(tag)
+    }
+
+    ghost begins = { ⟦<RecipientInfoPart3<'a> as DescribedChoice>⟧.alternative.begins };
+}
+
+impl<'a> Encode for RecipientInfoPart3<'a> {
+    ghost encoding = { λ v. ⟦<RecipientInfoPart3Alternatives<'a> as Encode>⟧.encoding v.choice };
+
+    ghost encodable = { λ v. ⟦<RecipientInfoPart3Alternatives<'a> as Encode>⟧.encodable v.choice };
+
+    ghost size = { λ v. ⟦<RecipientInfoPart3Alternatives<'a> as Encode>⟧.size v.choice };
+
+    ghost encode_answers = { λ v.
+        ⟦<RecipientInfoPart3Alternatives<'a> as Encode>⟧.encode_answers v.choice };
+
+    #[inline(always)]
+    fn encoded_len(&self) -> Result<Length, Error> {
+        self.choice.encoded_len()
+    }
+
+    #[inline(always)]
+    fn encode<W: Writer>(&self, writer: &mut W) -> Result<(), Error> {
+        self.choice.encode(writer)
+    }
+}

@@ -1,0 +1,123 @@
+//! Written by asn1_compile from the module CMS: change the module instead.
+//!
+//! RevocationInfoChoices.
+ghost use Rattle.std.specs.Prelude.{◌≡◌, false};
+ghost use Rattle.std.proofs.Common.{arith, refl};
+ghost use Rattle.der.specs.Prelude.{Set, map_ok};
+ghost use Rattle.der_asn1.specs.Item.{decodes_same};
+ghost use Rattle.der_asn1.specs.Meaning.{renamed, sequence_is_item, sequence_item};
+
+use crate::asn1::revocation_info_choice::RevocationInfoChoice;
+use der::{
+    DecodeValue, EncodeValue, Error, FixedTag, FromFields, Header, Lawful, Length, ReadValue,
+    Reader, SliceReader, Tag, Writer, WrittenValue, decode_wrapped,
+};
+use der_asn1::{BorrowedItem, DecodeItem, Described, Item, Nestable, SetOf};
+use std::alloc::Global;
+
+/// Information on revoked certificates (RFC 5652, 10.2.1), in ascending order of its encodings.
+#[derive(Clone, Copy, Drop)]
+pub struct RevocationInfoChoices<'a> {
+    /// The list: a SET OF its items.
+    pub items: SetOf<'a, RevocationInfoChoice<'a>>,
+}
+
+// The list of which the value consists.
+type Items<'a> = SetOf<'a, RevocationInfoChoice<'a>>;
+
+impl<'a> FromFields<Items<'a>> for RevocationInfoChoices<'a> {
+    ghost fields = { λ v. v.items };
+
+    fn from_fields(items: Items<'a>) -> Self {
+        RevocationInfoChoices { items }
+    }
+}
+
+impl<'a> Described for RevocationInfoChoices<'a> {
+    ghost element = { renamed ⟦<Items<'a> as Described>⟧.element (λ v. v.items) };
+}
+
+impl<'a> FixedTag for RevocationInfoChoices<'a> {
+    ghost tag_is = { Set };
+
+    const TAG: Tag = Tag::Set;
+
+    fn fixed_tag() -> Tag
+        ensures { result ≡ Set }
+    {
+        Tag::Set
+    }
+}
+
+impl<'a> ReadValue for RevocationInfoChoices<'a> {
+    ghost valid = { ⟦<RevocationInfoChoices<'a> as Described>⟧.element.valid };
+
+    ghost takes = { ⟦<RevocationInfoChoices<'a> as Described>⟧.element.takes };
+
+    ghost value_levels = { ⟦<RevocationInfoChoices<'a> as Described>⟧.element.levels };
+
+    ghost allocates = { false };
+
+    ghost takes_valid = { ⟦<RevocationInfoChoices<'a> as Described>⟧.element.holds refl };
+}
+
+impl<'a> WrittenValue for RevocationInfoChoices<'a> {
+    ghost contents = { ⟦<RevocationInfoChoices<'a> as Described>⟧.element.contents };
+
+    ghost writable = { ⟦<RevocationInfoChoices<'a> as Described>⟧.element.valid };
+}
+
+impl<'a> Lawful for RevocationInfoChoices<'a> {
+    ghost lawful = { ⟦<RevocationInfoChoices<'a> as Described>⟧.element.lawful refl };
+}
+
+/// Decodes the list, with the errors of [`SetOf`].
+impl<'a, R: Reader<Borrowed = &'a [u8]>> DecodeValue<R> for RevocationInfoChoices<'a> {
+    type Error = Error;
+
+    ghost decode_value_answers = { λ h s result t.
+        ⟦<Items<'a> as DecodeValue<SliceReader<'a>>>⟧.decode_value_answers h s
+        (map_ok (λ v. v.items) result) t };
+
+    fn decode_value(alloc: Global, reader: &mut R, header: Header) -> Result<Self, Error> {
+        decode_wrapped::<R, Items<'a>, Self>(alloc, reader, header)
+    }
+
+    fn is_value(&self) {
+        <Items<'a> as DecodeValue<R>>::is_value(&self.items);
+    }
+}
+
+/// Writes the list, with the errors of [`SetOf`].
+impl<'a> EncodeValue for RevocationInfoChoices<'a> {
+    ghost value_size = { λ v. ⟦<Items<'a> as EncodeValue>⟧.value_size v.items };
+
+    ghost encode_value_answers = { λ v. ⟦<Items<'a> as EncodeValue>⟧.encode_value_answers v.items };
+
+    fn value_len(&self) -> Result<Length, Error> {
+        self.items.value_len()
+    }
+
+    fn encode_value<W: Writer>(&self, writer: &mut W) -> Result<(), Error> {
+        self.items.encode_value(writer)
+    }
+}
+
+impl<'a> Item for RevocationInfoChoices<'a> {
+    ghost item = { sequence_item ⟦<RevocationInfoChoices<'a> as Described>⟧.element };
+}
+
+impl<'a, R: Reader<Borrowed = &'a [u8]>> DecodeItem<R> for RevocationInfoChoices<'a> {
+    ghost is_item = { sequence_is_item ⟦<RevocationInfoChoices<'a> as Described>⟧.element refl };
+
+    ghost decodes_items = { decodes_same (sequence_item
+        ⟦<RevocationInfoChoices<'a> as Described>⟧.element) };
+}
+
+impl<'a> BorrowedItem for RevocationInfoChoices<'a> {
+    ghost borrowed = { refl };
+}
+
+impl<'a> Nestable for RevocationInfoChoices<'a> {
+    ghost nestable = { Prim.omega arith };
+}

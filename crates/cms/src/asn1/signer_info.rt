@@ -1,0 +1,188 @@
+//! Written by asn1_compile from the module CMS: change the module instead.
+//!
+//! SignerInfo.
+ghost use Rattle.std.specs.Prelude.{◌≡◌};
+ghost use Rattle.std.proofs.Common.{arith, refl};
+ghost use Rattle.der.specs.Prelude.{map_ok};
+ghost use Rattle.der_asn1.specs.Item.{decodes_same};
+ghost use Rattle.der_asn1.specs.Meaning.{alternative, field, optional, seen, sequence, sequence_is_item, sequence_item, two_fields};
+
+use crate::asn1::cms_version::CmsVersion;
+use crate::asn1::issuer_and_serial_number::IssuerAndSerialNumber;
+use crate::asn1::signer_identifier::SignerIdentifier;
+use crate::asn1::signer_info_part1::{SignerInfoPart1, SignerInfoPart1Fields};
+use crate::asn1::signer_info_part2::{SignerInfoPart2, SignerInfoPart2Fields};
+use der::{
+    Decode, DecodeValue, Encode, EncodeValue, Error, FromFields, Header, Length, Reader, Sequence,
+    SliceReader, Writer, decode_sequence, field_refs,
+};
+use der_asn1::{
+    BorrowedItem, DecodeItem, Described, DescribedChoice, Implicit, Item, Nestable, OctetStringRef,
+    Optional,
+};
+use spki::AlgorithmIdentifierRef;
+use std::alloc::Global;
+use x509::{Attributes, SubjectKeyIdentifier};
+
+/// A signature of one signer (RFC 5652, 5.3), borrowed from the input.
+#[derive(Clone, Copy, Drop)]
+pub struct SignerInfo<'a> {
+    /// The version: 1 if the signer is named by issuer and serial number, or else 3. Decoding does
+    /// not check this.
+    pub version: CmsVersion<'a>,
+    /// Whose signature it is.
+    pub sid: SignerIdentifier<'a>,
+    /// The algorithm of the digest.
+    pub digest_algorithm: AlgorithmIdentifierRef<'a>,
+    /// The attributes that the signature covers, if present. Here they have the tag 0, and the
+    /// signature covers them with the tag of a SET OF.
+    pub signed_attrs: Optional<Implicit<Attributes<'a>, 0>>,
+    /// The algorithm of the signature.
+    pub signature_algorithm: AlgorithmIdentifierRef<'a>,
+    /// The octets of the signature.
+    pub signature: OctetStringRef<'a>,
+    /// The attributes that the signature does not cover, if present.
+    pub unsigned_attrs: Optional<Implicit<Attributes<'a>, 1>>,
+}
+
+/// The fields of a [`SignerInfo`] in pairs, in the order in which they are encoded.
+pub type SignerInfoFields<'a> = (SignerInfoPart1Fields<'a>, SignerInfoPart2Fields<'a>);
+
+impl<'a> FromFields<(SignerInfoPart1<'a>, SignerInfoPart2<'a>)> for SignerInfo<'a> {
+    ghost fields = { λ v. (
+      record {
+        version = v.version;
+        sid = v.sid;
+        digest_algorithm = v.digest_algorithm;
+        signed_attrs = v.signed_attrs;
+      },
+      record {
+        signature_algorithm = v.signature_algorithm;
+        signature = v.signature;
+        unsigned_attrs = v.unsigned_attrs;
+      },
+    ) };
+
+    fn from_fields(members: (SignerInfoPart1<'a>, SignerInfoPart2<'a>)) -> Self {
+        let (part1, part2) = members;
+        SignerInfo {
+            version: part1.version,
+            sid: part1.sid,
+            digest_algorithm: part1.digest_algorithm,
+            signed_attrs: part1.signed_attrs,
+            signature_algorithm: part2.signature_algorithm,
+            signature: part2.signature,
+            unsigned_attrs: part2.unsigned_attrs,
+        }
+    }
+}
+
+impl<'a> Sequence for SignerInfo<'a> {
+    ghost meaning = { sequence (two_fields (seen
+        ⟦<SignerInfoPart1<'a> as FromFields<SignerInfoPart1Fields<'a>>>⟧.fields (two_fields
+        (two_fields (field (alternative ⟦<CmsVersion<'a> as Described>⟧.element)) (field
+        ⟦<SignerIdentifier<'a> as DescribedChoice>⟧.alternative)) (two_fields (field (alternative
+        ⟦<AlgorithmIdentifierRef<'a> as Described>⟧.element)) (optional (alternative
+        ⟦<Implicit<Attributes<'a>, 0> as Described>⟧.element))))) (seen
+        ⟦<SignerInfoPart2<'a> as FromFields<SignerInfoPart2Fields<'a>>>⟧.fields (two_fields (field
+        (alternative ⟦<AlgorithmIdentifierRef<'a> as Described>⟧.element)) (two_fields (field
+        (alternative ⟦<OctetStringRef<'a> as Described>⟧.element)) (optional (alternative
+        ⟦<Implicit<Attributes<'a>, 1> as Described>⟧.element))))))
+        ⟦<SignerInfo<'a> as FromFields<(SignerInfoPart1<'a>, SignerInfoPart2<'a>)>>⟧.fields };
+
+    ghost fits = { (refl, refl) };
+}
+
+/// Decodes the fields one after the other, with the errors of every [`Sequence`].
+impl<'a, R: Reader<Borrowed = &'a [u8]>> DecodeValue<R> for SignerInfo<'a> {
+    type Error = Error;
+
+    ghost decode_value_answers = { λ h s result t.
+        ⟦<(SignerInfoPart1<'a>, SignerInfoPart2<'a>) as Decode<SliceReader<'a>>>⟧.decode_answers s (map_ok
+        ⟦<SignerInfo<'a> as FromFields<(SignerInfoPart1<'a>, SignerInfoPart2<'a>)>>⟧.fields result) t };
+
+    fn decode_value(alloc: Global, reader: &mut R, header: Header) -> Result<Self, Error> {
+        decode_sequence::<R, (SignerInfoPart1<'a>, SignerInfoPart2<'a>), Self>(
+            alloc, reader, header,
+        )
+    }
+
+    fn is_value(&self) {
+        <CmsVersion<'a> as DecodeValue<R>>::is_value(&self.version);
+        match &self.sid {
+            SignerIdentifier::IssuerAndSerialNumber(value) => <IssuerAndSerialNumber<
+                'a,
+            > as DecodeValue<R>>::is_value(value),
+            SignerIdentifier::SubjectKeyIdentifier(value) => <Implicit<
+                SubjectKeyIdentifier<'a>,
+                0,
+            > as DecodeValue<R>>::is_value(value),
+        }
+        <AlgorithmIdentifierRef<'a> as DecodeValue<R>>::is_value(&self.digest_algorithm);
+        if let Some(value) = &self.signed_attrs.0 {
+            <Implicit<Attributes<'a>, 0> as DecodeValue<R>>::is_value(value);
+        }
+        <AlgorithmIdentifierRef<'a> as DecodeValue<R>>::is_value(&self.signature_algorithm);
+        <OctetStringRef<'a> as DecodeValue<R>>::is_value(&self.signature);
+        if let Some(value) = &self.unsigned_attrs.0 {
+            <Implicit<Attributes<'a>, 1> as DecodeValue<R>>::is_value(value);
+        }
+    }
+}
+
+/// Writes the fields one after the other, with the errors of every [`Sequence`].
+impl<'a> EncodeValue for SignerInfo<'a> {
+    ghost value_size = { λ v. ⟦<SignerInfoFields<'a> as Encode>⟧.size (
+      ⟦<SignerInfoPart1<'a> as FromFields<SignerInfoPart1Fields<'a>>>⟧.fields
+          (⟦<SignerInfo<'a> as FromFields<(SignerInfoPart1<'a>, SignerInfoPart2<'a>)>>⟧.fields v).0,
+      ⟦<SignerInfoPart2<'a> as FromFields<SignerInfoPart2Fields<'a>>>⟧.fields
+          (⟦<SignerInfo<'a> as FromFields<(SignerInfoPart1<'a>, SignerInfoPart2<'a>)>>⟧.fields v).1,
+    ) };
+
+    ghost encode_value_answers = { λ v. ⟦<SignerInfoFields<'a> as Encode>⟧.encode_answers (
+      ⟦<SignerInfoPart1<'a> as FromFields<SignerInfoPart1Fields<'a>>>⟧.fields
+          (⟦<SignerInfo<'a> as FromFields<(SignerInfoPart1<'a>, SignerInfoPart2<'a>)>>⟧.fields v).0,
+      ⟦<SignerInfoPart2<'a> as FromFields<SignerInfoPart2Fields<'a>>>⟧.fields
+          (⟦<SignerInfo<'a> as FromFields<(SignerInfoPart1<'a>, SignerInfoPart2<'a>)>>⟧.fields v).1,
+    ) };
+
+    fn value_len(&self) -> Result<Length, Error> {
+        field_refs!(
+            self,
+            (
+                ((version, sid), (digest_algorithm, signed_attrs)),
+                (signature_algorithm, (signature, unsigned_attrs))
+            )
+        )
+        .encoded_len()
+    }
+
+    fn encode_value<W: Writer>(&self, writer: &mut W) -> Result<(), Error> {
+        field_refs!(
+            self,
+            (
+                ((version, sid), (digest_algorithm, signed_attrs)),
+                (signature_algorithm, (signature, unsigned_attrs))
+            )
+        )
+        .encode(writer)
+    }
+}
+
+impl<'a> Item for SignerInfo<'a> {
+    ghost item = { sequence_item ⟦<SignerInfo<'a> as Described>⟧.element };
+}
+
+impl<'a, R: Reader<Borrowed = &'a [u8]>> DecodeItem<R> for SignerInfo<'a> {
+    ghost is_item = { sequence_is_item ⟦<SignerInfo<'a> as Described>⟧.element refl };
+
+    ghost decodes_items = { decodes_same (sequence_item ⟦<SignerInfo<'a> as Described>⟧.element) };
+}
+
+impl<'a> BorrowedItem for SignerInfo<'a> {
+    ghost borrowed = { refl };
+}
+
+impl<'a> Nestable for SignerInfo<'a> {
+    ghost nestable = { Prim.omega arith };
+}

@@ -1,0 +1,108 @@
+//! Written by asn1_compile from the module CMS: change the module instead.
+//!
+//! SigningCertificate.
+ghost use Rattle.std.specs.Prelude.{◌≡◌};
+ghost use Rattle.std.proofs.Common.{arith, refl};
+ghost use Rattle.der.specs.Prelude.{map_ok};
+ghost use Rattle.der_asn1.specs.Item.{decodes_same};
+ghost use Rattle.der_asn1.specs.Meaning.{alternative, field, optional, sequence, sequence_is_item, sequence_item, two_fields};
+
+use crate::asn1::ess_cert_id::EssCertId;
+use der::{
+    Decode, DecodeValue, Encode, EncodeValue, Error, FromFields, Header, Length, Reader, Sequence,
+    SliceReader, Writer, decode_sequence, field_refs,
+};
+use der_asn1::{BorrowedItem, DecodeItem, Described, Item, Nestable, Optional, SequenceOf};
+use std::alloc::Global;
+use x509::PolicyInformation;
+
+/// With which certificate a signature is to be verified, by SHA-1 hashes (RFC 5035, 5), borrowed
+/// from the input: the value of an attribute.
+#[derive(Clone, Copy, Drop)]
+pub struct SigningCertificate<'a> {
+    /// The certificate of the signer, and others that limit which ones may be used with it. That
+    /// there is at least one is not checked.
+    pub certs: SequenceOf<'a, EssCertId<'a>>,
+    /// The policies that are to be used, if they are limited.
+    pub policies: Optional<SequenceOf<'a, PolicyInformation<'a>>>,
+}
+
+/// The fields of a [`SigningCertificate`] in pairs, in the order in which they are encoded.
+pub type SigningCertificateFields<'a> = (
+    SequenceOf<'a, EssCertId<'a>>,
+    Optional<SequenceOf<'a, PolicyInformation<'a>>>,
+);
+
+impl<'a> FromFields<SigningCertificateFields<'a>> for SigningCertificate<'a> {
+    ghost fields = { λ v. (v.certs, v.policies) };
+
+    fn from_fields(members: SigningCertificateFields<'a>) -> Self {
+        let (certs, policies) = members;
+        SigningCertificate { certs, policies }
+    }
+}
+
+impl<'a> Sequence for SigningCertificate<'a> {
+    ghost meaning = { sequence (two_fields (field (alternative
+        ⟦<SequenceOf<'a, EssCertId<'a>> as Described>⟧.element)) (optional (alternative
+        ⟦<SequenceOf<'a, PolicyInformation<'a>> as Described>⟧.element)))
+        ⟦<SigningCertificate<'a> as FromFields<SigningCertificateFields<'a>>>⟧.fields };
+
+    ghost fits = { (refl, refl) };
+}
+
+/// Decodes the fields one after the other, with the errors of every [`Sequence`].
+impl<'a, R: Reader<Borrowed = &'a [u8]>> DecodeValue<R> for SigningCertificate<'a> {
+    type Error = Error;
+
+    ghost decode_value_answers = { λ h s result t.
+        ⟦<SigningCertificateFields<'a> as Decode<SliceReader<'a>>>⟧.decode_answers s (map_ok
+        ⟦<SigningCertificate<'a> as FromFields<SigningCertificateFields<'a>>>⟧.fields result) t };
+
+    fn decode_value(alloc: Global, reader: &mut R, header: Header) -> Result<Self, Error> {
+        decode_sequence::<R, SigningCertificateFields<'a>, Self>(alloc, reader, header)
+    }
+
+    fn is_value(&self) {
+        <SequenceOf<'a, EssCertId<'a>> as DecodeValue<R>>::is_value(&self.certs);
+        if let Some(value) = &self.policies.0 {
+            <SequenceOf<'a, PolicyInformation<'a>> as DecodeValue<R>>::is_value(value);
+        }
+    }
+}
+
+/// Writes the fields one after the other, with the errors of every [`Sequence`].
+impl<'a> EncodeValue for SigningCertificate<'a> {
+    ghost value_size = { λ v. ⟦<SigningCertificateFields<'a> as Encode>⟧.size
+        (⟦<SigningCertificate<'a> as FromFields<SigningCertificateFields<'a>>>⟧.fields v) };
+
+    ghost encode_value_answers = { λ v. ⟦<SigningCertificateFields<'a> as Encode>⟧.encode_answers
+        (⟦<SigningCertificate<'a> as FromFields<SigningCertificateFields<'a>>>⟧.fields v) };
+
+    fn value_len(&self) -> Result<Length, Error> {
+        field_refs!(self, (certs, policies)).encoded_len()
+    }
+
+    fn encode_value<W: Writer>(&self, writer: &mut W) -> Result<(), Error> {
+        field_refs!(self, (certs, policies)).encode(writer)
+    }
+}
+
+impl<'a> Item for SigningCertificate<'a> {
+    ghost item = { sequence_item ⟦<SigningCertificate<'a> as Described>⟧.element };
+}
+
+impl<'a, R: Reader<Borrowed = &'a [u8]>> DecodeItem<R> for SigningCertificate<'a> {
+    ghost is_item = { sequence_is_item ⟦<SigningCertificate<'a> as Described>⟧.element refl };
+
+    ghost decodes_items = { decodes_same (sequence_item
+        ⟦<SigningCertificate<'a> as Described>⟧.element) };
+}
+
+impl<'a> BorrowedItem for SigningCertificate<'a> {
+    ghost borrowed = { refl };
+}
+
+impl<'a> Nestable for SigningCertificate<'a> {
+    ghost nestable = { Prim.omega arith };
+}

@@ -1,0 +1,108 @@
+//! Written by asn1_compile from the module CMS: change the module instead.
+//!
+//! SigningCertificateV2.
+ghost use Rattle.std.specs.Prelude.{◌≡◌};
+ghost use Rattle.std.proofs.Common.{arith, refl};
+ghost use Rattle.der.specs.Prelude.{map_ok};
+ghost use Rattle.der_asn1.specs.Item.{decodes_same};
+ghost use Rattle.der_asn1.specs.Meaning.{alternative, field, optional, sequence, sequence_is_item, sequence_item, two_fields};
+
+use crate::asn1::ess_cert_id_v2::EssCertIdV2;
+use der::{
+    Decode, DecodeValue, Encode, EncodeValue, Error, FromFields, Header, Length, Reader, Sequence,
+    SliceReader, Writer, decode_sequence, field_refs,
+};
+use der_asn1::{BorrowedItem, DecodeItem, Described, Item, Nestable, Optional, SequenceOf};
+use std::alloc::Global;
+use x509::PolicyInformation;
+
+/// With which certificate a signature is to be verified, by hashes of any algorithm (RFC 5035, 3),
+/// borrowed from the input: the value of an attribute.
+#[derive(Clone, Copy, Drop)]
+pub struct SigningCertificateV2<'a> {
+    /// The certificate of the signer, and others that limit which ones may be used with it. That
+    /// there is at least one is not checked.
+    pub certs: SequenceOf<'a, EssCertIdV2<'a>>,
+    /// The policies that are to be used, if they are limited.
+    pub policies: Optional<SequenceOf<'a, PolicyInformation<'a>>>,
+}
+
+/// The fields of a [`SigningCertificateV2`] in pairs, in the order in which they are encoded.
+pub type SigningCertificateV2Fields<'a> = (
+    SequenceOf<'a, EssCertIdV2<'a>>,
+    Optional<SequenceOf<'a, PolicyInformation<'a>>>,
+);
+
+impl<'a> FromFields<SigningCertificateV2Fields<'a>> for SigningCertificateV2<'a> {
+    ghost fields = { λ v. (v.certs, v.policies) };
+
+    fn from_fields(members: SigningCertificateV2Fields<'a>) -> Self {
+        let (certs, policies) = members;
+        SigningCertificateV2 { certs, policies }
+    }
+}
+
+impl<'a> Sequence for SigningCertificateV2<'a> {
+    ghost meaning = { sequence (two_fields (field (alternative
+        ⟦<SequenceOf<'a, EssCertIdV2<'a>> as Described>⟧.element)) (optional (alternative
+        ⟦<SequenceOf<'a, PolicyInformation<'a>> as Described>⟧.element)))
+        ⟦<SigningCertificateV2<'a> as FromFields<SigningCertificateV2Fields<'a>>>⟧.fields };
+
+    ghost fits = { (refl, refl) };
+}
+
+/// Decodes the fields one after the other, with the errors of every [`Sequence`].
+impl<'a, R: Reader<Borrowed = &'a [u8]>> DecodeValue<R> for SigningCertificateV2<'a> {
+    type Error = Error;
+
+    ghost decode_value_answers = { λ h s result t.
+        ⟦<SigningCertificateV2Fields<'a> as Decode<SliceReader<'a>>>⟧.decode_answers s (map_ok
+        ⟦<SigningCertificateV2<'a> as FromFields<SigningCertificateV2Fields<'a>>>⟧.fields result) t };
+
+    fn decode_value(alloc: Global, reader: &mut R, header: Header) -> Result<Self, Error> {
+        decode_sequence::<R, SigningCertificateV2Fields<'a>, Self>(alloc, reader, header)
+    }
+
+    fn is_value(&self) {
+        <SequenceOf<'a, EssCertIdV2<'a>> as DecodeValue<R>>::is_value(&self.certs);
+        if let Some(value) = &self.policies.0 {
+            <SequenceOf<'a, PolicyInformation<'a>> as DecodeValue<R>>::is_value(value);
+        }
+    }
+}
+
+/// Writes the fields one after the other, with the errors of every [`Sequence`].
+impl<'a> EncodeValue for SigningCertificateV2<'a> {
+    ghost value_size = { λ v. ⟦<SigningCertificateV2Fields<'a> as Encode>⟧.size
+        (⟦<SigningCertificateV2<'a> as FromFields<SigningCertificateV2Fields<'a>>>⟧.fields v) };
+
+    ghost encode_value_answers = { λ v. ⟦<SigningCertificateV2Fields<'a> as Encode>⟧.encode_answers
+        (⟦<SigningCertificateV2<'a> as FromFields<SigningCertificateV2Fields<'a>>>⟧.fields v) };
+
+    fn value_len(&self) -> Result<Length, Error> {
+        field_refs!(self, (certs, policies)).encoded_len()
+    }
+
+    fn encode_value<W: Writer>(&self, writer: &mut W) -> Result<(), Error> {
+        field_refs!(self, (certs, policies)).encode(writer)
+    }
+}
+
+impl<'a> Item for SigningCertificateV2<'a> {
+    ghost item = { sequence_item ⟦<SigningCertificateV2<'a> as Described>⟧.element };
+}
+
+impl<'a, R: Reader<Borrowed = &'a [u8]>> DecodeItem<R> for SigningCertificateV2<'a> {
+    ghost is_item = { sequence_is_item ⟦<SigningCertificateV2<'a> as Described>⟧.element refl };
+
+    ghost decodes_items = { decodes_same (sequence_item
+        ⟦<SigningCertificateV2<'a> as Described>⟧.element) };
+}
+
+impl<'a> BorrowedItem for SigningCertificateV2<'a> {
+    ghost borrowed = { refl };
+}
+
+impl<'a> Nestable for SigningCertificateV2<'a> {
+    ghost nestable = { Prim.omega arith };
+}

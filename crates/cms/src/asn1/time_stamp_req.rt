@@ -1,0 +1,209 @@
+//! Written by asn1_compile from the module CMS: change the module instead.
+//!
+//! TimeStampReq.
+ghost use Rattle.std.specs.Prelude.{◌≡◌};
+ghost use Rattle.std.proofs.Common.{arith, refl};
+ghost use Rattle.der.specs.Prelude.{map_ok};
+ghost use Rattle.der_asn1.specs.Item.{decodes_same};
+ghost use Rattle.der_asn1.specs.Meaning.{alternative, defaulted, field, optional, seen, sequence, sequence_is_item, sequence_item, two_fields};
+
+use crate::asn1::message_imprint::MessageImprint;
+use crate::asn1::time_stamp_req_part1::{TimeStampReqPart1, TimeStampReqPart1Fields};
+use crate::asn1::time_stamp_req_part2::{TimeStampReqPart2, TimeStampReqPart2Fields};
+use crate::asn1::time_stamp_req_part3::{TimeStampReqPart3, TimeStampReqPart3Fields};
+use crate::asn1::tsa_policy_id::TsaPolicyId;
+use der::{
+    Decode, DecodeValue, Encode, EncodeValue, Error, FromFields, Header, Length, Reader, Sequence,
+    SliceReader, Writer, decode_sequence, field_refs,
+};
+use der_asn1::{
+    BooleanRef, BorrowedItem, DecodeItem, DefaultValue, Defaulted, Described, Implicit, IntRef,
+    Item, Nestable, Optional,
+};
+use std::alloc::Global;
+use x509::Extensions;
+
+/// A request for a timestamp (RFC 3161, 2.4.1), borrowed from the input.
+#[derive(Clone, Copy, Drop)]
+pub struct TimeStampReq<'a> {
+    /// The version, which is 1. Decoding does not check this.
+    pub version: IntRef<'a>,
+    /// The digest of the octets that get the timestamp.
+    pub message_imprint: MessageImprint<'a>,
+    /// The policy that the timestamp should have, if present.
+    pub req_policy: Optional<TsaPolicyId<'a>>,
+    /// A number that connects the response with the request, if present.
+    pub nonce: Optional<IntRef<'a>>,
+    /// Whether the response should have the certificate of the authority. The default is false.
+    pub cert_req: Defaulted<BooleanRef<'a>>,
+    /// The extensions, if present.
+    pub extensions: Optional<Implicit<Extensions<'a>, 0>>,
+}
+
+/// The fields of a [`TimeStampReq`] in pairs, in the order in which they are encoded.
+pub type TimeStampReqFields<'a> = (
+    TimeStampReqPart1Fields<'a>,
+    (TimeStampReqPart2Fields<'a>, TimeStampReqPart3Fields<'a>),
+);
+
+impl<'a> FromFields<
+    (
+        TimeStampReqPart1<'a>,
+        (TimeStampReqPart2<'a>, TimeStampReqPart3<'a>),
+    ),
+> for TimeStampReq<'a> {
+    ghost fields = { λ v. (
+      record { version = v.version; message_imprint = v.message_imprint },
+      (
+        record { req_policy = v.req_policy; nonce = v.nonce },
+        record {
+          cert_req = v.cert_req;
+          extensions = v.extensions;
+        },
+      ),
+    ) };
+
+    fn from_fields(
+        members: (
+            TimeStampReqPart1<'a>,
+            (TimeStampReqPart2<'a>, TimeStampReqPart3<'a>),
+        ),
+    ) -> Self {
+        let (part1, (part2, part3)) = members;
+        TimeStampReq {
+            version: part1.version,
+            message_imprint: part1.message_imprint,
+            req_policy: part2.req_policy,
+            nonce: part2.nonce,
+            cert_req: part3.cert_req,
+            extensions: part3.extensions,
+        }
+    }
+}
+
+impl<'a> Sequence for TimeStampReq<'a> {
+    ghost meaning = { sequence (two_fields (seen
+        ⟦<TimeStampReqPart1<'a> as FromFields<TimeStampReqPart1Fields<'a>>>⟧.fields (two_fields
+        (field (alternative ⟦<IntRef<'a> as Described>⟧.element)) (field (alternative
+        ⟦<MessageImprint<'a> as Described>⟧.element)))) (two_fields (seen
+        ⟦<TimeStampReqPart2<'a> as FromFields<TimeStampReqPart2Fields<'a>>>⟧.fields (two_fields
+        (optional (alternative ⟦<TsaPolicyId<'a> as Described>⟧.element)) (optional (alternative
+        ⟦<IntRef<'a> as Described>⟧.element)))) (seen
+        ⟦<TimeStampReqPart3<'a> as FromFields<TimeStampReqPart3Fields<'a>>>⟧.fields (two_fields
+        (defaulted ⟦<BooleanRef<'a> as DefaultValue>⟧.is_default (alternative
+        ⟦<BooleanRef<'a> as Described>⟧.element)) (optional (alternative
+        ⟦<Implicit<Extensions<'a>, 0> as Described>⟧.element))))))
+        ⟦<TimeStampReq<'a> as FromFields<(TimeStampReqPart1<'a>,
+        (TimeStampReqPart2<'a>, TimeStampReqPart3<'a>))>>⟧.fields };
+
+    ghost fits = { (refl, refl) };
+}
+
+/// Decodes the fields one after the other, with the errors of every [`Sequence`].
+impl<'a, R: Reader<Borrowed = &'a [u8]>> DecodeValue<R> for TimeStampReq<'a> {
+    type Error = Error;
+
+    ghost decode_value_answers = { λ h s result t.
+        ⟦<(TimeStampReqPart1<'a>,
+        (TimeStampReqPart2<'a>, TimeStampReqPart3<'a>)) as Decode<SliceReader<'a>>>⟧.decode_answers s
+        (map_ok ⟦<TimeStampReq<'a> as FromFields<(TimeStampReqPart1<'a>,
+        (TimeStampReqPart2<'a>, TimeStampReqPart3<'a>))>>⟧.fields result) t };
+
+    fn decode_value(alloc: Global, reader: &mut R, header: Header) -> Result<Self, Error> {
+        decode_sequence::<
+            R,
+            (
+                TimeStampReqPart1<'a>,
+                (TimeStampReqPart2<'a>, TimeStampReqPart3<'a>),
+            ),
+            Self,
+        >(alloc, reader, header)
+    }
+
+    fn is_value(&self) {
+        <IntRef<'a> as DecodeValue<R>>::is_value(&self.version);
+        <MessageImprint<'a> as DecodeValue<R>>::is_value(&self.message_imprint);
+        if let Some(value) = &self.req_policy.0 {
+            <TsaPolicyId<'a> as DecodeValue<R>>::is_value(value);
+        }
+        if let Some(value) = &self.nonce.0 {
+            <IntRef<'a> as DecodeValue<R>>::is_value(value);
+        }
+        <BooleanRef<'a> as DecodeValue<R>>::is_value(&self.cert_req.0);
+        if let Some(value) = &self.extensions.0 {
+            <Implicit<Extensions<'a>, 0> as DecodeValue<R>>::is_value(value);
+        }
+    }
+}
+
+/// Writes the fields one after the other, with the errors of every [`Sequence`].
+impl<'a> EncodeValue for TimeStampReq<'a> {
+    ghost value_size = { λ v. ⟦<TimeStampReqFields<'a> as Encode>⟧.size (
+      ⟦<TimeStampReqPart1<'a> as FromFields<TimeStampReqPart1Fields<'a>>>⟧.fields
+          (⟦<TimeStampReq<'a> as FromFields<(TimeStampReqPart1<'a>,
+        (TimeStampReqPart2<'a>, TimeStampReqPart3<'a>))>>⟧.fields v).0,
+      (
+        ⟦<TimeStampReqPart2<'a> as FromFields<TimeStampReqPart2Fields<'a>>>⟧.fields
+            (⟦<TimeStampReq<'a> as FromFields<(TimeStampReqPart1<'a>,
+        (TimeStampReqPart2<'a>, TimeStampReqPart3<'a>))>>⟧.fields v).1.0,
+        ⟦<TimeStampReqPart3<'a> as FromFields<TimeStampReqPart3Fields<'a>>>⟧.fields
+            (⟦<TimeStampReq<'a> as FromFields<(TimeStampReqPart1<'a>,
+        (TimeStampReqPart2<'a>, TimeStampReqPart3<'a>))>>⟧.fields v).1.1,
+      ),
+    ) };
+
+    ghost encode_value_answers = { λ v. ⟦<TimeStampReqFields<'a> as Encode>⟧.encode_answers (
+      ⟦<TimeStampReqPart1<'a> as FromFields<TimeStampReqPart1Fields<'a>>>⟧.fields
+          (⟦<TimeStampReq<'a> as FromFields<(TimeStampReqPart1<'a>,
+        (TimeStampReqPart2<'a>, TimeStampReqPart3<'a>))>>⟧.fields v).0,
+      (
+        ⟦<TimeStampReqPart2<'a> as FromFields<TimeStampReqPart2Fields<'a>>>⟧.fields
+            (⟦<TimeStampReq<'a> as FromFields<(TimeStampReqPart1<'a>,
+        (TimeStampReqPart2<'a>, TimeStampReqPart3<'a>))>>⟧.fields v).1.0,
+        ⟦<TimeStampReqPart3<'a> as FromFields<TimeStampReqPart3Fields<'a>>>⟧.fields
+            (⟦<TimeStampReq<'a> as FromFields<(TimeStampReqPart1<'a>,
+        (TimeStampReqPart2<'a>, TimeStampReqPart3<'a>))>>⟧.fields v).1.1,
+      ),
+    ) };
+
+    fn value_len(&self) -> Result<Length, Error> {
+        field_refs!(
+            self,
+            (
+                (version, message_imprint),
+                ((req_policy, nonce), (cert_req, extensions))
+            )
+        )
+        .encoded_len()
+    }
+
+    fn encode_value<W: Writer>(&self, writer: &mut W) -> Result<(), Error> {
+        field_refs!(
+            self,
+            (
+                (version, message_imprint),
+                ((req_policy, nonce), (cert_req, extensions))
+            )
+        )
+        .encode(writer)
+    }
+}
+
+impl<'a> Item for TimeStampReq<'a> {
+    ghost item = { sequence_item ⟦<TimeStampReq<'a> as Described>⟧.element };
+}
+
+impl<'a, R: Reader<Borrowed = &'a [u8]>> DecodeItem<R> for TimeStampReq<'a> {
+    ghost is_item = { sequence_is_item ⟦<TimeStampReq<'a> as Described>⟧.element refl };
+
+    ghost decodes_items = { decodes_same (sequence_item
+        ⟦<TimeStampReq<'a> as Described>⟧.element) };
+}
+
+impl<'a> BorrowedItem for TimeStampReq<'a> {
+    ghost borrowed = { refl };
+}
+
+impl<'a> Nestable for TimeStampReq<'a> {
+    ghost nestable = { Prim.omega arith };
+}

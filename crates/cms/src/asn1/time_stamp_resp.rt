@@ -1,0 +1,107 @@
+//! Written by asn1_compile from the module CMS: change the module instead.
+//!
+//! TimeStampResp.
+ghost use Rattle.std.specs.Prelude.{◌≡◌};
+ghost use Rattle.std.proofs.Common.{arith, refl};
+ghost use Rattle.der.specs.Prelude.{map_ok};
+ghost use Rattle.der_asn1.specs.Item.{decodes_same};
+ghost use Rattle.der_asn1.specs.Meaning.{alternative, field, optional, sequence, sequence_is_item, sequence_item, two_fields};
+
+use crate::asn1::pki_status_info::PkiStatusInfo;
+use crate::asn1::time_stamp_token::TimeStampToken;
+use der::{
+    Decode, DecodeValue, Encode, EncodeValue, Error, FromFields, Header, Length, Reader, Sequence,
+    SliceReader, Writer, decode_sequence, field_refs,
+};
+use der_asn1::{BorrowedItem, DecodeItem, Described, Item, Nestable, Optional};
+use std::alloc::Global;
+
+/// A response to a request for a timestamp (RFC 3161, 2.4.2), borrowed from the input.
+#[derive(Clone, Copy, Drop)]
+pub struct TimeStampResp<'a> {
+    /// Whether there is a timestamp, or why there is none.
+    pub status: PkiStatusInfo<'a>,
+    /// The timestamp, if present. It is there exactly if the status is granted or grantedWithMods,
+    /// but decoding does not check this.
+    pub time_stamp_token: Optional<TimeStampToken<'a>>,
+}
+
+/// The fields of a [`TimeStampResp`] in pairs, in the order in which they are encoded.
+pub type TimeStampRespFields<'a> = (PkiStatusInfo<'a>, Optional<TimeStampToken<'a>>);
+
+impl<'a> FromFields<TimeStampRespFields<'a>> for TimeStampResp<'a> {
+    ghost fields = { λ v. (v.status, v.time_stamp_token) };
+
+    fn from_fields(members: TimeStampRespFields<'a>) -> Self {
+        let (status, time_stamp_token) = members;
+        TimeStampResp {
+            status,
+            time_stamp_token,
+        }
+    }
+}
+
+impl<'a> Sequence for TimeStampResp<'a> {
+    ghost meaning = { sequence (two_fields (field (alternative
+        ⟦<PkiStatusInfo<'a> as Described>⟧.element)) (optional (alternative
+        ⟦<TimeStampToken<'a> as Described>⟧.element)))
+        ⟦<TimeStampResp<'a> as FromFields<TimeStampRespFields<'a>>>⟧.fields };
+
+    ghost fits = { (refl, refl) };
+}
+
+/// Decodes the fields one after the other, with the errors of every [`Sequence`].
+impl<'a, R: Reader<Borrowed = &'a [u8]>> DecodeValue<R> for TimeStampResp<'a> {
+    type Error = Error;
+
+    ghost decode_value_answers = { λ h s result t.
+        ⟦<TimeStampRespFields<'a> as Decode<SliceReader<'a>>>⟧.decode_answers s (map_ok
+        ⟦<TimeStampResp<'a> as FromFields<TimeStampRespFields<'a>>>⟧.fields result) t };
+
+    fn decode_value(alloc: Global, reader: &mut R, header: Header) -> Result<Self, Error> {
+        decode_sequence::<R, TimeStampRespFields<'a>, Self>(alloc, reader, header)
+    }
+
+    fn is_value(&self) {
+        <PkiStatusInfo<'a> as DecodeValue<R>>::is_value(&self.status);
+        if let Some(value) = &self.time_stamp_token.0 {
+            <TimeStampToken<'a> as DecodeValue<R>>::is_value(value);
+        }
+    }
+}
+
+/// Writes the fields one after the other, with the errors of every [`Sequence`].
+impl<'a> EncodeValue for TimeStampResp<'a> {
+    ghost value_size = { λ v. ⟦<TimeStampRespFields<'a> as Encode>⟧.size
+        (⟦<TimeStampResp<'a> as FromFields<TimeStampRespFields<'a>>>⟧.fields v) };
+
+    ghost encode_value_answers = { λ v. ⟦<TimeStampRespFields<'a> as Encode>⟧.encode_answers
+        (⟦<TimeStampResp<'a> as FromFields<TimeStampRespFields<'a>>>⟧.fields v) };
+
+    fn value_len(&self) -> Result<Length, Error> {
+        field_refs!(self, (status, time_stamp_token)).encoded_len()
+    }
+
+    fn encode_value<W: Writer>(&self, writer: &mut W) -> Result<(), Error> {
+        field_refs!(self, (status, time_stamp_token)).encode(writer)
+    }
+}
+
+impl<'a> Item for TimeStampResp<'a> {
+    ghost item = { sequence_item ⟦<TimeStampResp<'a> as Described>⟧.element };
+}
+
+impl<'a, R: Reader<Borrowed = &'a [u8]>> DecodeItem<R> for TimeStampResp<'a> {
+    ghost is_item = { sequence_is_item ⟦<TimeStampResp<'a> as Described>⟧.element refl };
+
+    ghost decodes_items = { decodes_same (sequence_item
+        ⟦<TimeStampResp<'a> as Described>⟧.element) };
+}
+
+impl<'a> BorrowedItem for TimeStampResp<'a> {
+    ghost borrowed = { refl };
+}
+
+impl<'a> Nestable for TimeStampResp<'a> {
+    ghost nestable = { Prim.omega arith };
+}

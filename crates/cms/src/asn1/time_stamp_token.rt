@@ -1,0 +1,9 @@
+//! Written by asn1_compile from the module CMS: change the module instead.
+//!
+//! TimeStampToken.
+
+use crate::asn1::content_info::ContentInfo;
+
+/// A timestamp (RFC 3161, 2.4.2): a SignedData whose content is a TSTInfo. That it is one is not
+/// checked.
+pub type TimeStampToken<'a> = ContentInfo<'a>;

@@ -1,0 +1,269 @@
+//! Written by asn1_compile from the module CMS: change the module instead.
+//!
+//! TstInfo.
+ghost use Rattle.std.specs.Prelude.{◌≡◌};
+ghost use Rattle.std.proofs.Common.{arith, refl};
+ghost use Rattle.der.specs.Prelude.{map_ok};
+ghost use Rattle.der_asn1.specs.Item.{decodes_same};
+ghost use Rattle.der_asn1.specs.Meaning.{alternative, defaulted, field, optional, seen, sequence, sequence_is_item, sequence_item, two_fields};
+
+use crate::asn1::accuracy::Accuracy;
+use crate::asn1::general_name_tagged::GeneralNameTagged;
+use crate::asn1::message_imprint::MessageImprint;
+use crate::asn1::tsa_policy_id::TsaPolicyId;
+use crate::asn1::tst_info_part1::{TstInfoPart1, TstInfoPart1Fields};
+use crate::asn1::tst_info_part2::{TstInfoPart2, TstInfoPart2Fields};
+use crate::asn1::tst_info_part3::{TstInfoPart3, TstInfoPart3Fields};
+use crate::asn1::tst_info_part4::{TstInfoPart4, TstInfoPart4Fields};
+use crate::asn1::tst_info_part5::{TstInfoPart5, TstInfoPart5Fields};
+use der::{
+    Decode, DecodeValue, Encode, EncodeValue, Error, FromFields, Header, Length, Reader, Sequence,
+    SliceReader, Writer, decode_sequence, field_refs,
+};
+use der_asn1::{
+    BooleanRef, BorrowedItem, DecodeItem, DefaultValue, Defaulted, Described, GeneralizedTime,
+    Implicit, IntRef, Item, Nestable, Optional,
+};
+use std::alloc::Global;
+use x509::Extensions;
+
+/// What a timestamp says (RFC 3161, 2.4.2), borrowed from the input.
+#[derive(Clone, Copy, Drop)]
+pub struct TstInfo<'a> {
+    /// The version, which is 1. Decoding does not check this.
+    pub version: IntRef<'a>,
+    /// The policy of the timestamp.
+    pub policy: TsaPolicyId<'a>,
+    /// The digest of the octets that have the timestamp.
+    pub message_imprint: MessageImprint<'a>,
+    /// The serial number of the timestamp.
+    pub serial_number: IntRef<'a>,
+    /// When the timestamp was made. The RFC allows fractions of a second, and decoding refuses them.
+    pub gen_time: GeneralizedTime,
+    /// How exact the time is, if present.
+    pub accuracy: Optional<Accuracy<'a>>,
+    /// Whether the order of all timestamps of the authority is that of their times. The default is
+    /// false.
+    pub ordering: Defaulted<BooleanRef<'a>>,
+    /// The number of the request, if it has one.
+    pub nonce: Optional<IntRef<'a>>,
+    /// The name of the authority, if present.
+    pub tsa: Optional<Implicit<GeneralNameTagged<'a>, 0>>,
+    /// The extensions, if present.
+    pub extensions: Optional<Implicit<Extensions<'a>, 1>>,
+}
+
+/// The fields of a [`TstInfo`] in pairs, in the order in which they are encoded.
+pub type TstInfoFields<'a> = (
+    (TstInfoPart1Fields<'a>, TstInfoPart2Fields<'a>),
+    (
+        TstInfoPart3Fields<'a>,
+        (TstInfoPart4Fields<'a>, TstInfoPart5Fields<'a>),
+    ),
+);
+
+impl<'a> FromFields<
+    (
+        (TstInfoPart1<'a>, TstInfoPart2<'a>),
+        (TstInfoPart3<'a>, (TstInfoPart4<'a>, TstInfoPart5<'a>)),
+    ),
+> for TstInfo<'a> {
+    ghost fields = { λ v. (
+      (
+        record {
+          version = v.version;
+          policy = v.policy;
+        },
+        record { message_imprint = v.message_imprint; serial_number = v.serial_number },
+      ),
+      (
+        record { gen_time = v.gen_time; accuracy = v.accuracy },
+        (
+          record {
+            ordering = v.ordering;
+            nonce = v.nonce;
+          },
+          record { tsa = v.tsa; extensions = v.extensions },
+        ),
+      ),
+    ) };
+
+    fn from_fields(
+        members: (
+            (TstInfoPart1<'a>, TstInfoPart2<'a>),
+            (TstInfoPart3<'a>, (TstInfoPart4<'a>, TstInfoPart5<'a>)),
+        ),
+    ) -> Self {
+        let ((part1, part2), (part3, (part4, part5))) = members;
+        TstInfo {
+            version: part1.version,
+            policy: part1.policy,
+            message_imprint: part2.message_imprint,
+            serial_number: part2.serial_number,
+            gen_time: part3.gen_time,
+            accuracy: part3.accuracy,
+            ordering: part4.ordering,
+            nonce: part4.nonce,
+            tsa: part5.tsa,
+            extensions: part5.extensions,
+        }
+    }
+}
+
+impl<'a> Sequence for TstInfo<'a> {
+    ghost meaning = { sequence (two_fields (two_fields (seen
+        ⟦<TstInfoPart1<'a> as FromFields<TstInfoPart1Fields<'a>>>⟧.fields (two_fields (field
+        (alternative ⟦<IntRef<'a> as Described>⟧.element)) (field (alternative
+        ⟦<TsaPolicyId<'a> as Described>⟧.element)))) (seen
+        ⟦<TstInfoPart2<'a> as FromFields<TstInfoPart2Fields<'a>>>⟧.fields (two_fields (field
+        (alternative ⟦<MessageImprint<'a> as Described>⟧.element)) (field (alternative
+        ⟦<IntRef<'a> as Described>⟧.element))))) (two_fields (seen
+        ⟦<TstInfoPart3<'a> as FromFields<TstInfoPart3Fields<'a>>>⟧.fields (two_fields (field
+        (alternative ⟦<GeneralizedTime as Described>⟧.element)) (optional (alternative
+        ⟦<Accuracy<'a> as Described>⟧.element)))) (two_fields (seen
+        ⟦<TstInfoPart4<'a> as FromFields<TstInfoPart4Fields<'a>>>⟧.fields (two_fields (defaulted
+        ⟦<BooleanRef<'a> as DefaultValue>⟧.is_default (alternative
+        ⟦<BooleanRef<'a> as Described>⟧.element)) (optional (alternative
+        ⟦<IntRef<'a> as Described>⟧.element)))) (seen
+        ⟦<TstInfoPart5<'a> as FromFields<TstInfoPart5Fields<'a>>>⟧.fields (two_fields (optional
+        (alternative ⟦<Implicit<GeneralNameTagged<'a>, 0> as Described>⟧.element)) (optional
+        (alternative ⟦<Implicit<Extensions<'a>, 1> as Described>⟧.element)))))))
+        ⟦<TstInfo<'a> as FromFields<((TstInfoPart1<'a>, TstInfoPart2<'a>), (TstInfoPart3<'a>,
+        (TstInfoPart4<'a>, TstInfoPart5<'a>)))>>⟧.fields };
+
+    ghost fits = { (refl, refl) };
+}
+
+/// Decodes the fields one after the other, with the errors of every [`Sequence`].
+impl<'a, R: Reader<Borrowed = &'a [u8]>> DecodeValue<R> for TstInfo<'a> {
+    type Error = Error;
+
+    ghost decode_value_answers = { λ h s result t.
+        ⟦<((TstInfoPart1<'a>, TstInfoPart2<'a>), (TstInfoPart3<'a>,
+        (TstInfoPart4<'a>, TstInfoPart5<'a>))) as Decode<SliceReader<'a>>>⟧.decode_answers s (map_ok
+        ⟦<TstInfo<'a> as FromFields<((TstInfoPart1<'a>, TstInfoPart2<'a>), (TstInfoPart3<'a>,
+        (TstInfoPart4<'a>, TstInfoPart5<'a>)))>>⟧.fields result) t };
+
+    fn decode_value(alloc: Global, reader: &mut R, header: Header) -> Result<Self, Error> {
+        decode_sequence::<
+            R,
+            (
+                (TstInfoPart1<'a>, TstInfoPart2<'a>),
+                (TstInfoPart3<'a>, (TstInfoPart4<'a>, TstInfoPart5<'a>)),
+            ),
+            Self,
+        >(alloc, reader, header)
+    }
+
+    fn is_value(&self) {
+        <IntRef<'a> as DecodeValue<R>>::is_value(&self.version);
+        <TsaPolicyId<'a> as DecodeValue<R>>::is_value(&self.policy);
+        <MessageImprint<'a> as DecodeValue<R>>::is_value(&self.message_imprint);
+        <IntRef<'a> as DecodeValue<R>>::is_value(&self.serial_number);
+        <GeneralizedTime as DecodeValue<R>>::is_value(&self.gen_time);
+        if let Some(value) = &self.accuracy.0 {
+            <Accuracy<'a> as DecodeValue<R>>::is_value(value);
+        }
+        <BooleanRef<'a> as DecodeValue<R>>::is_value(&self.ordering.0);
+        if let Some(value) = &self.nonce.0 {
+            <IntRef<'a> as DecodeValue<R>>::is_value(value);
+        }
+        if let Some(value) = &self.tsa.0 {
+            <Implicit<GeneralNameTagged<'a>, 0> as DecodeValue<R>>::is_value(value);
+        }
+        if let Some(value) = &self.extensions.0 {
+            <Implicit<Extensions<'a>, 1> as DecodeValue<R>>::is_value(value);
+        }
+    }
+}
+
+/// Writes the fields one after the other, with the errors of every [`Sequence`].
+impl<'a> EncodeValue for TstInfo<'a> {
+    ghost value_size = { λ v. ⟦<TstInfoFields<'a> as Encode>⟧.size (
+      (
+        ⟦<TstInfoPart1<'a> as FromFields<TstInfoPart1Fields<'a>>>⟧.fields
+            (⟦<TstInfo<'a> as FromFields<((TstInfoPart1<'a>, TstInfoPart2<'a>), (TstInfoPart3<'a>,
+        (TstInfoPart4<'a>, TstInfoPart5<'a>)))>>⟧.fields v).0.0,
+        ⟦<TstInfoPart2<'a> as FromFields<TstInfoPart2Fields<'a>>>⟧.fields
+            (⟦<TstInfo<'a> as FromFields<((TstInfoPart1<'a>, TstInfoPart2<'a>), (TstInfoPart3<'a>,
+        (TstInfoPart4<'a>, TstInfoPart5<'a>)))>>⟧.fields v).0.1,
+      ),
+      (
+        ⟦<TstInfoPart3<'a> as FromFields<TstInfoPart3Fields<'a>>>⟧.fields
+            (⟦<TstInfo<'a> as FromFields<((TstInfoPart1<'a>, TstInfoPart2<'a>), (TstInfoPart3<'a>,
+        (TstInfoPart4<'a>, TstInfoPart5<'a>)))>>⟧.fields v).1.0,
+        (
+          ⟦<TstInfoPart4<'a> as FromFields<TstInfoPart4Fields<'a>>>⟧.fields
+              (⟦<TstInfo<'a> as FromFields<((TstInfoPart1<'a>, TstInfoPart2<'a>), (TstInfoPart3<'a>,
+        (TstInfoPart4<'a>, TstInfoPart5<'a>)))>>⟧.fields v).1.1.0,
+          ⟦<TstInfoPart5<'a> as FromFields<TstInfoPart5Fields<'a>>>⟧.fields
+              (⟦<TstInfo<'a> as FromFields<((TstInfoPart1<'a>, TstInfoPart2<'a>), (TstInfoPart3<'a>,
+        (TstInfoPart4<'a>, TstInfoPart5<'a>)))>>⟧.fields v).1.1.1,
+        ),
+      ),
+    ) };
+
+    ghost encode_value_answers = { λ v. ⟦<TstInfoFields<'a> as Encode>⟧.encode_answers (
+      (
+        ⟦<TstInfoPart1<'a> as FromFields<TstInfoPart1Fields<'a>>>⟧.fields
+            (⟦<TstInfo<'a> as FromFields<((TstInfoPart1<'a>, TstInfoPart2<'a>), (TstInfoPart3<'a>,
+        (TstInfoPart4<'a>, TstInfoPart5<'a>)))>>⟧.fields v).0.0,
+        ⟦<TstInfoPart2<'a> as FromFields<TstInfoPart2Fields<'a>>>⟧.fields
+            (⟦<TstInfo<'a> as FromFields<((TstInfoPart1<'a>, TstInfoPart2<'a>), (TstInfoPart3<'a>,
+        (TstInfoPart4<'a>, TstInfoPart5<'a>)))>>⟧.fields v).0.1,
+      ),
+      (
+        ⟦<TstInfoPart3<'a> as FromFields<TstInfoPart3Fields<'a>>>⟧.fields
+            (⟦<TstInfo<'a> as FromFields<((TstInfoPart1<'a>, TstInfoPart2<'a>), (TstInfoPart3<'a>,
+        (TstInfoPart4<'a>, TstInfoPart5<'a>)))>>⟧.fields v).1.0,
+        (
+          ⟦<TstInfoPart4<'a> as FromFields<TstInfoPart4Fields<'a>>>⟧.fields
+              (⟦<TstInfo<'a> as FromFields<((TstInfoPart1<'a>, TstInfoPart2<'a>), (TstInfoPart3<'a>,
+        (TstInfoPart4<'a>, TstInfoPart5<'a>)))>>⟧.fields v).1.1.0,
+          ⟦<TstInfoPart5<'a> as FromFields<TstInfoPart5Fields<'a>>>⟧.fields
+              (⟦<TstInfo<'a> as FromFields<((TstInfoPart1<'a>, TstInfoPart2<'a>), (TstInfoPart3<'a>,
+        (TstInfoPart4<'a>, TstInfoPart5<'a>)))>>⟧.fields v).1.1.1,
+        ),
+      ),
+    ) };
+
+    fn value_len(&self) -> Result<Length, Error> {
+        field_refs!(
+            self,
+            (
+                ((version, policy), (message_imprint, serial_number)),
+                ((gen_time, accuracy), ((ordering, nonce), (tsa, extensions)))
+            )
+        )
+        .encoded_len()
+    }
+
+    fn encode_value<W: Writer>(&self, writer: &mut W) -> Result<(), Error> {
+        field_refs!(
+            self,
+            (
+                ((version, policy), (message_imprint, serial_number)),
+                ((gen_time, accuracy), ((ordering, nonce), (tsa, extensions)))
+            )
+        )
+        .encode(writer)
+    }
+}
+
+impl<'a> Item for TstInfo<'a> {
+    ghost item = { sequence_item ⟦<TstInfo<'a> as Described>⟧.element };
+}
+
+impl<'a, R: Reader<Borrowed = &'a [u8]>> DecodeItem<R> for TstInfo<'a> {
+    ghost is_item = { sequence_is_item ⟦<TstInfo<'a> as Described>⟧.element refl };
+
+    ghost decodes_items = { decodes_same (sequence_item ⟦<TstInfo<'a> as Described>⟧.element) };
+}
+
+impl<'a> BorrowedItem for TstInfo<'a> {
+    ghost borrowed = { refl };
+}
+
+impl<'a> Nestable for TstInfo<'a> {
+    ghost nestable = { Prim.omega arith };
+}

@@ -1,0 +1,100 @@
+//! Written by asn1_compile from the module PKCS-12: change the module instead.
+//!
+//! CertBag.
+ghost use Rattle.std.specs.Prelude.{◌≡◌};
+ghost use Rattle.std.proofs.Common.{arith, refl};
+ghost use Rattle.der.specs.Prelude.{map_ok};
+ghost use Rattle.der_asn1.specs.Item.{decodes_same};
+ghost use Rattle.der_asn1.specs.Meaning.{alternative, field, sequence, sequence_is_item, sequence_item, two_fields};
+
+use der::{
+    Decode, DecodeValue, Encode, EncodeValue, Error, FromFields, Header, Length, Reader, Sequence,
+    SliceReader, Writer, decode_sequence, field_refs,
+};
+use der_asn1::{
+    BorrowedItem, DecodeItem, Described, ExplicitAny, Item, Nestable, ObjectIdentifierRef,
+};
+use std::alloc::Global;
+
+/// A certificate (RFC 7292, 4.2.3), borrowed from the input.
+#[derive(Clone, Copy, Drop)]
+pub struct CertBag<'a> {
+    /// The type of the certificate.
+    pub oid: ObjectIdentifierRef<'a>,
+    /// The certificate: an element of any tag. It is not checked.
+    pub value: ExplicitAny<'a, 0>,
+}
+
+/// The fields of a [`CertBag`] in pairs, in the order in which they are encoded.
+pub type CertBagFields<'a> = (ObjectIdentifierRef<'a>, ExplicitAny<'a, 0>);
+
+impl<'a> FromFields<CertBagFields<'a>> for CertBag<'a> {
+    ghost fields = { λ v. (v.oid, v.value) };
+
+    fn from_fields(members: CertBagFields<'a>) -> Self {
+        let (oid, value) = members;
+        CertBag { oid, value }
+    }
+}
+
+impl<'a> Sequence for CertBag<'a> {
+    ghost meaning = { sequence (two_fields (field (alternative
+        ⟦<ObjectIdentifierRef<'a> as Described>⟧.element)) (field (alternative
+        ⟦<ExplicitAny<'a, 0> as Described>⟧.element)))
+        ⟦<CertBag<'a> as FromFields<CertBagFields<'a>>>⟧.fields };
+
+    ghost fits = { (refl, refl) };
+}
+
+/// Decodes the fields one after the other, with the errors of every [`Sequence`].
+impl<'a, R: Reader<Borrowed = &'a [u8]>> DecodeValue<R> for CertBag<'a> {
+    type Error = Error;
+
+    ghost decode_value_answers = { λ h s result t.
+        ⟦<CertBagFields<'a> as Decode<SliceReader<'a>>>⟧.decode_answers s (map_ok
+        ⟦<CertBag<'a> as FromFields<CertBagFields<'a>>>⟧.fields result) t };
+
+    fn decode_value(alloc: Global, reader: &mut R, header: Header) -> Result<Self, Error> {
+        decode_sequence::<R, CertBagFields<'a>, Self>(alloc, reader, header)
+    }
+
+    fn is_value(&self) {
+        <ObjectIdentifierRef<'a> as DecodeValue<R>>::is_value(&self.oid);
+        <ExplicitAny<'a, 0> as DecodeValue<R>>::is_value(&self.value);
+    }
+}
+
+/// Writes the fields one after the other, with the errors of every [`Sequence`].
+impl<'a> EncodeValue for CertBag<'a> {
+    ghost value_size = { λ v. ⟦<CertBagFields<'a> as Encode>⟧.size
+        (⟦<CertBag<'a> as FromFields<CertBagFields<'a>>>⟧.fields v) };
+
+    ghost encode_value_answers = { λ v. ⟦<CertBagFields<'a> as Encode>⟧.encode_answers
+        (⟦<CertBag<'a> as FromFields<CertBagFields<'a>>>⟧.fields v) };
+
+    fn value_len(&self) -> Result<Length, Error> {
+        field_refs!(self, (oid, value)).encoded_len()
+    }
+
+    fn encode_value<W: Writer>(&self, writer: &mut W) -> Result<(), Error> {
+        field_refs!(self, (oid, value)).encode(writer)
+    }
+}
+
+impl<'a> Item for CertBag<'a> {
+    ghost item = { sequence_item ⟦<CertBag<'a> as Described>⟧.element };
+}
+
+impl<'a, R: Reader<Borrowed = &'a [u8]>> DecodeItem<R> for CertBag<'a> {
+    ghost is_item = { sequence_is_item ⟦<CertBag<'a> as Described>⟧.element refl };
+
+    ghost decodes_items = { decodes_same (sequence_item ⟦<CertBag<'a> as Described>⟧.element) };
+}
+
+impl<'a> BorrowedItem for CertBag<'a> {
+    ghost borrowed = { refl };
+}
+
+impl<'a> Nestable for CertBag<'a> {
+    ghost nestable = { Prim.omega arith };
+}

@@ -1,0 +1,131 @@
+//! Written by asn1_compile from the module PKCS-12: change the module instead.
+//!
+//! MacData.
+ghost use Rattle.std.specs.Prelude.{◌≡◌};
+ghost use Rattle.std.proofs.Common.{arith, refl};
+ghost use Rattle.der.specs.Prelude.{map_ok};
+ghost use Rattle.der_asn1.specs.Item.{decodes_same};
+ghost use Rattle.der_asn1.specs.Meaning.{alternative, defaulted, field, seen, sequence, sequence_is_item, sequence_item, two_fields};
+
+use crate::asn1::mac_data_part1::{MacDataPart1, MacDataPart1Fields};
+use crate::asn1::mac_data_part2::{MacDataPart2, MacDataPart2Fields};
+use der::{
+    Decode, DecodeValue, Encode, EncodeValue, Error, FromFields, Header, Length, Reader, Sequence,
+    SliceReader, Writer, decode_sequence, field_refs,
+};
+use der_asn1::{
+    BorrowedItem, DecodeItem, DefaultU64, DefaultValue, Defaulted, Described, IntegerOf, Item,
+    Nestable, OctetStringRef, WithDefault,
+};
+use pkcs1::DigestInfo;
+use std::alloc::Global;
+
+/// A message authentication code with a key from a password (RFC 7292, 4), borrowed from the input.
+#[derive(Clone, Copy, Drop)]
+pub struct MacData<'a> {
+    /// The code, with the digest algorithm of HMAC, or with PBMAC1 and its parameters (RFC 9579).
+    pub mac: DigestInfo<'a>,
+    /// The salt. With PBMAC1 it is not used.
+    pub mac_salt: OctetStringRef<'a>,
+    /// The number of iterations. The default is 1. Decoding accepts every number from 0 to 2^64 - 1.
+    pub iterations: Defaulted<WithDefault<IntegerOf<u64>, DefaultU64<1>>>,
+}
+
+/// The fields of a [`MacData`] in pairs, in the order in which they are encoded.
+pub type MacDataFields<'a> = (MacDataPart1Fields<'a>, MacDataPart2Fields);
+
+impl<'a> FromFields<(MacDataPart1<'a>, MacDataPart2)> for MacData<'a> {
+    ghost fields = { λ v. (
+      record {
+        mac = v.mac;
+        mac_salt = v.mac_salt;
+      },
+      record { iterations = v.iterations },
+    ) };
+
+    fn from_fields(members: (MacDataPart1<'a>, MacDataPart2)) -> Self {
+        let (part1, part2) = members;
+        MacData {
+            mac: part1.mac,
+            mac_salt: part1.mac_salt,
+            iterations: part2.iterations,
+        }
+    }
+}
+
+impl<'a> Sequence for MacData<'a> {
+    ghost meaning = { sequence (two_fields (seen
+        ⟦<MacDataPart1<'a> as FromFields<MacDataPart1Fields<'a>>>⟧.fields (two_fields (field
+        (alternative ⟦<DigestInfo<'a> as Described>⟧.element)) (field (alternative
+        ⟦<OctetStringRef<'a> as Described>⟧.element)))) (seen
+        ⟦<MacDataPart2 as FromFields<MacDataPart2Fields>>⟧.fields (defaulted
+        ⟦<WithDefault<IntegerOf<u64>, DefaultU64<1>> as DefaultValue>⟧.is_default (alternative
+        ⟦<WithDefault<IntegerOf<u64>, DefaultU64<1>> as Described>⟧.element))))
+        ⟦<MacData<'a> as FromFields<(MacDataPart1<'a>, MacDataPart2)>>⟧.fields };
+
+    ghost fits = { (refl, refl) };
+}
+
+/// Decodes the fields one after the other, with the errors of every [`Sequence`].
+impl<'a, R: Reader<Borrowed = &'a [u8]>> DecodeValue<R> for MacData<'a> {
+    type Error = Error;
+
+    ghost decode_value_answers = { λ h s result t.
+        ⟦<(MacDataPart1<'a>, MacDataPart2) as Decode<SliceReader<'a>>>⟧.decode_answers s (map_ok
+        ⟦<MacData<'a> as FromFields<(MacDataPart1<'a>, MacDataPart2)>>⟧.fields result) t };
+
+    fn decode_value(alloc: Global, reader: &mut R, header: Header) -> Result<Self, Error> {
+        decode_sequence::<R, (MacDataPart1<'a>, MacDataPart2), Self>(alloc, reader, header)
+    }
+
+    fn is_value(&self) {
+        <DigestInfo<'a> as DecodeValue<R>>::is_value(&self.mac);
+        <OctetStringRef<'a> as DecodeValue<R>>::is_value(&self.mac_salt);
+        <WithDefault<IntegerOf<u64>, DefaultU64<1>> as DecodeValue<R>>::is_value(
+            &self.iterations.0,
+        );
+    }
+}
+
+/// Writes the fields one after the other, with the errors of every [`Sequence`].
+impl<'a> EncodeValue for MacData<'a> {
+    ghost value_size = { λ v. ⟦<MacDataFields<'a> as Encode>⟧.size (
+      ⟦<MacDataPart1<'a> as FromFields<MacDataPart1Fields<'a>>>⟧.fields
+          (⟦<MacData<'a> as FromFields<(MacDataPart1<'a>, MacDataPart2)>>⟧.fields v).0,
+      ⟦<MacDataPart2 as FromFields<MacDataPart2Fields>>⟧.fields
+          (⟦<MacData<'a> as FromFields<(MacDataPart1<'a>, MacDataPart2)>>⟧.fields v).1,
+    ) };
+
+    ghost encode_value_answers = { λ v. ⟦<MacDataFields<'a> as Encode>⟧.encode_answers (
+      ⟦<MacDataPart1<'a> as FromFields<MacDataPart1Fields<'a>>>⟧.fields
+          (⟦<MacData<'a> as FromFields<(MacDataPart1<'a>, MacDataPart2)>>⟧.fields v).0,
+      ⟦<MacDataPart2 as FromFields<MacDataPart2Fields>>⟧.fields
+          (⟦<MacData<'a> as FromFields<(MacDataPart1<'a>, MacDataPart2)>>⟧.fields v).1,
+    ) };
+
+    fn value_len(&self) -> Result<Length, Error> {
+        field_refs!(self, ((mac, mac_salt), iterations)).encoded_len()
+    }
+
+    fn encode_value<W: Writer>(&self, writer: &mut W) -> Result<(), Error> {
+        field_refs!(self, ((mac, mac_salt), iterations)).encode(writer)
+    }
+}
+
+impl<'a> Item for MacData<'a> {
+    ghost item = { sequence_item ⟦<MacData<'a> as Described>⟧.element };
+}
+
+impl<'a, R: Reader<Borrowed = &'a [u8]>> DecodeItem<R> for MacData<'a> {
+    ghost is_item = { sequence_is_item ⟦<MacData<'a> as Described>⟧.element refl };
+
+    ghost decodes_items = { decodes_same (sequence_item ⟦<MacData<'a> as Described>⟧.element) };
+}
+
+impl<'a> BorrowedItem for MacData<'a> {
+    ghost borrowed = { refl };
+}
+
+impl<'a> Nestable for MacData<'a> {
+    ghost nestable = { Prim.omega arith };
+}

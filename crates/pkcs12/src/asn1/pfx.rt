@@ -1,0 +1,112 @@
+//! Written by asn1_compile from the module PKCS-12: change the module instead.
+//!
+//! Pfx.
+ghost use Rattle.std.specs.Prelude.{◌≡◌};
+ghost use Rattle.std.proofs.Common.{arith, refl};
+ghost use Rattle.der.specs.Prelude.{map_ok};
+ghost use Rattle.der_asn1.specs.Item.{decodes_same};
+ghost use Rattle.der_asn1.specs.Meaning.{alternative, field, optional, sequence, sequence_is_item, sequence_item, two_fields};
+
+use crate::asn1::mac_data::MacData;
+use cms::ContentInfo;
+use der::{
+    Decode, DecodeValue, Encode, EncodeValue, Error, FromFields, Header, Length, Reader, Sequence,
+    SliceReader, Writer, decode_sequence, field_refs,
+};
+use der_asn1::{BorrowedItem, DecodeItem, Described, IntRef, Item, Nestable, Optional};
+use std::alloc::Global;
+
+/// A file with private keys and certificates (RFC 7292, 4), borrowed from the input. Nothing is
+/// verified or decrypted.
+#[derive(Clone, Copy, Drop)]
+pub struct Pfx<'a> {
+    /// The version, which is 3. Decoding does not check this.
+    pub version: IntRef<'a>,
+    /// The contents: a SignedData or, with a password, data. Data are the OCTET STRING with the DER
+    /// encoding of an AuthenticatedSafe.
+    pub auth_safe: ContentInfo<'a>,
+    /// The message authentication code of the contents, if present. Only one with a password has it,
+    /// but decoding does not check this.
+    pub mac_data: Optional<MacData<'a>>,
+}
+
+/// The fields of a [`Pfx`] in pairs, in the order in which they are encoded.
+pub type PfxFields<'a> = (IntRef<'a>, (ContentInfo<'a>, Optional<MacData<'a>>));
+
+impl<'a> FromFields<PfxFields<'a>> for Pfx<'a> {
+    ghost fields = { λ v. (v.version, (v.auth_safe, v.mac_data)) };
+
+    fn from_fields(members: PfxFields<'a>) -> Self {
+        let (version, (auth_safe, mac_data)) = members;
+        Pfx {
+            version,
+            auth_safe,
+            mac_data,
+        }
+    }
+}
+
+impl<'a> Sequence for Pfx<'a> {
+    ghost meaning = { sequence (two_fields (field (alternative ⟦<IntRef<'a> as Described>⟧.element))
+        (two_fields (field (alternative ⟦<ContentInfo<'a> as Described>⟧.element)) (optional
+        (alternative ⟦<MacData<'a> as Described>⟧.element))))
+        ⟦<Pfx<'a> as FromFields<PfxFields<'a>>>⟧.fields };
+
+    ghost fits = { (refl, refl) };
+}
+
+/// Decodes the fields one after the other, with the errors of every [`Sequence`].
+impl<'a, R: Reader<Borrowed = &'a [u8]>> DecodeValue<R> for Pfx<'a> {
+    type Error = Error;
+
+    ghost decode_value_answers = { λ h s result t.
+        ⟦<PfxFields<'a> as Decode<SliceReader<'a>>>⟧.decode_answers s (map_ok
+        ⟦<Pfx<'a> as FromFields<PfxFields<'a>>>⟧.fields result) t };
+
+    fn decode_value(alloc: Global, reader: &mut R, header: Header) -> Result<Self, Error> {
+        decode_sequence::<R, PfxFields<'a>, Self>(alloc, reader, header)
+    }
+
+    fn is_value(&self) {
+        <IntRef<'a> as DecodeValue<R>>::is_value(&self.version);
+        <ContentInfo<'a> as DecodeValue<R>>::is_value(&self.auth_safe);
+        if let Some(value) = &self.mac_data.0 {
+            <MacData<'a> as DecodeValue<R>>::is_value(value);
+        }
+    }
+}
+
+/// Writes the fields one after the other, with the errors of every [`Sequence`].
+impl<'a> EncodeValue for Pfx<'a> {
+    ghost value_size = { λ v. ⟦<PfxFields<'a> as Encode>⟧.size
+        (⟦<Pfx<'a> as FromFields<PfxFields<'a>>>⟧.fields v) };
+
+    ghost encode_value_answers = { λ v. ⟦<PfxFields<'a> as Encode>⟧.encode_answers
+        (⟦<Pfx<'a> as FromFields<PfxFields<'a>>>⟧.fields v) };
+
+    fn value_len(&self) -> Result<Length, Error> {
+        field_refs!(self, (version, (auth_safe, mac_data))).encoded_len()
+    }
+
+    fn encode_value<W: Writer>(&self, writer: &mut W) -> Result<(), Error> {
+        field_refs!(self, (version, (auth_safe, mac_data))).encode(writer)
+    }
+}
+
+impl<'a> Item for Pfx<'a> {
+    ghost item = { sequence_item ⟦<Pfx<'a> as Described>⟧.element };
+}
+
+impl<'a, R: Reader<Borrowed = &'a [u8]>> DecodeItem<R> for Pfx<'a> {
+    ghost is_item = { sequence_is_item ⟦<Pfx<'a> as Described>⟧.element refl };
+
+    ghost decodes_items = { decodes_same (sequence_item ⟦<Pfx<'a> as Described>⟧.element) };
+}
+
+impl<'a> BorrowedItem for Pfx<'a> {
+    ghost borrowed = { refl };
+}
+
+impl<'a> Nestable for Pfx<'a> {
+    ghost nestable = { Prim.omega arith };
+}

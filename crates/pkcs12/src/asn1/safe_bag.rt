@@ -1,0 +1,114 @@
+//! Written by asn1_compile from the module PKCS-12: change the module instead.
+//!
+//! SafeBag.
+ghost use Rattle.std.specs.Prelude.{◌≡◌};
+ghost use Rattle.std.proofs.Common.{arith, refl};
+ghost use Rattle.der.specs.Prelude.{map_ok};
+ghost use Rattle.der_asn1.specs.Item.{decodes_same};
+ghost use Rattle.der_asn1.specs.Meaning.{alternative, field, optional, sequence, sequence_is_item, sequence_item, two_fields};
+
+use der::{
+    Decode, DecodeValue, Encode, EncodeValue, Error, FromFields, Header, Length, Reader, Sequence,
+    SliceReader, Writer, decode_sequence, field_refs,
+};
+use der_asn1::{
+    BorrowedItem, DecodeItem, Described, ExplicitAny, Item, Nestable, ObjectIdentifierRef, Optional,
+};
+use std::alloc::Global;
+use x509::Attributes;
+
+/// A bag: a private key, a certificate, or other contents (RFC 7292, 4.2), borrowed from the input.
+#[derive(Clone, Copy, Drop)]
+pub struct SafeBag<'a> {
+    /// The type of the bag.
+    pub bag_id: ObjectIdentifierRef<'a>,
+    /// The contents: an element of any tag. It is not checked.
+    pub bag_value: ExplicitAny<'a, 0>,
+    /// The attributes, if present, such as a friendlyName.
+    pub bag_attributes: Optional<Attributes<'a>>,
+}
+
+/// The fields of a [`SafeBag`] in pairs, in the order in which they are encoded.
+pub type SafeBagFields<'a> = (
+    ObjectIdentifierRef<'a>,
+    (ExplicitAny<'a, 0>, Optional<Attributes<'a>>),
+);
+
+impl<'a> FromFields<SafeBagFields<'a>> for SafeBag<'a> {
+    ghost fields = { λ v. (v.bag_id, (v.bag_value, v.bag_attributes)) };
+
+    fn from_fields(members: SafeBagFields<'a>) -> Self {
+        let (bag_id, (bag_value, bag_attributes)) = members;
+        SafeBag {
+            bag_id,
+            bag_value,
+            bag_attributes,
+        }
+    }
+}
+
+impl<'a> Sequence for SafeBag<'a> {
+    ghost meaning = { sequence (two_fields (field (alternative
+        ⟦<ObjectIdentifierRef<'a> as Described>⟧.element)) (two_fields (field (alternative
+        ⟦<ExplicitAny<'a, 0> as Described>⟧.element)) (optional (alternative
+        ⟦<Attributes<'a> as Described>⟧.element))))
+        ⟦<SafeBag<'a> as FromFields<SafeBagFields<'a>>>⟧.fields };
+
+    ghost fits = { (refl, refl) };
+}
+
+/// Decodes the fields one after the other, with the errors of every [`Sequence`].
+impl<'a, R: Reader<Borrowed = &'a [u8]>> DecodeValue<R> for SafeBag<'a> {
+    type Error = Error;
+
+    ghost decode_value_answers = { λ h s result t.
+        ⟦<SafeBagFields<'a> as Decode<SliceReader<'a>>>⟧.decode_answers s (map_ok
+        ⟦<SafeBag<'a> as FromFields<SafeBagFields<'a>>>⟧.fields result) t };
+
+    fn decode_value(alloc: Global, reader: &mut R, header: Header) -> Result<Self, Error> {
+        decode_sequence::<R, SafeBagFields<'a>, Self>(alloc, reader, header)
+    }
+
+    fn is_value(&self) {
+        <ObjectIdentifierRef<'a> as DecodeValue<R>>::is_value(&self.bag_id);
+        <ExplicitAny<'a, 0> as DecodeValue<R>>::is_value(&self.bag_value);
+        if let Some(value) = &self.bag_attributes.0 {
+            <Attributes<'a> as DecodeValue<R>>::is_value(value);
+        }
+    }
+}
+
+/// Writes the fields one after the other, with the errors of every [`Sequence`].
+impl<'a> EncodeValue for SafeBag<'a> {
+    ghost value_size = { λ v. ⟦<SafeBagFields<'a> as Encode>⟧.size
+        (⟦<SafeBag<'a> as FromFields<SafeBagFields<'a>>>⟧.fields v) };
+
+    ghost encode_value_answers = { λ v. ⟦<SafeBagFields<'a> as Encode>⟧.encode_answers
+        (⟦<SafeBag<'a> as FromFields<SafeBagFields<'a>>>⟧.fields v) };
+
+    fn value_len(&self) -> Result<Length, Error> {
+        field_refs!(self, (bag_id, (bag_value, bag_attributes))).encoded_len()
+    }
+
+    fn encode_value<W: Writer>(&self, writer: &mut W) -> Result<(), Error> {
+        field_refs!(self, (bag_id, (bag_value, bag_attributes))).encode(writer)
+    }
+}
+
+impl<'a> Item for SafeBag<'a> {
+    ghost item = { sequence_item ⟦<SafeBag<'a> as Described>⟧.element };
+}
+
+impl<'a, R: Reader<Borrowed = &'a [u8]>> DecodeItem<R> for SafeBag<'a> {
+    ghost is_item = { sequence_is_item ⟦<SafeBag<'a> as Described>⟧.element refl };
+
+    ghost decodes_items = { decodes_same (sequence_item ⟦<SafeBag<'a> as Described>⟧.element) };
+}
+
+impl<'a> BorrowedItem for SafeBag<'a> {
+    ghost borrowed = { refl };
+}
+
+impl<'a> Nestable for SafeBag<'a> {
+    ghost nestable = { Prim.omega arith };
+}

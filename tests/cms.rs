@@ -1,0 +1,16 @@
+//! Tests of `cms` over messages and timestamps that `openssl` made.
+
+mod attributes;
+mod authenticated;
+mod encrypted;
+mod encrypted_octets;
+mod enveloped;
+mod every_octet;
+mod identifiers;
+mod originator;
+mod refusals;
+mod refused_timestamps;
+mod signed;
+mod signed_octets;
+mod timestamp_octets;
+mod timestamps;
