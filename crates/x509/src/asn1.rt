@@ -48,8 +48,6 @@ mod general_name;
 mod general_name_part1;
 mod general_name_part2;
 mod general_name_part3;
-mod general_name_part4;
-mod general_name_part5;
 mod general_names;
 mod general_subtree;
 mod general_subtree_part1;

@@ -13,8 +13,6 @@ use crate::asn1::edi_party_name::EdiPartyName;
 use crate::asn1::general_name_part1::GeneralNamePart1;
 use crate::asn1::general_name_part2::GeneralNamePart2;
 use crate::asn1::general_name_part3::GeneralNamePart3;
-use crate::asn1::general_name_part4::GeneralNamePart4;
-use crate::asn1::general_name_part5::GeneralNamePart5;
 use crate::asn1::name::Name;
 use crate::asn1::other_name::OtherName;
 use der::{Decode, Encode, Error, FromFields, Length, Reader, SliceReader, Tag, Writer};
@@ -51,24 +49,20 @@ pub enum GeneralName<'a> {
 // The alternatives, as nested choices of two.
 pub(crate) type GeneralNameAlternatives<'a> = Either<
     GeneralNamePart1<'a>,
-    Either<
-        GeneralNamePart2<'a>,
-        Either<GeneralNamePart3<'a>, Either<GeneralNamePart4<'a>, GeneralNamePart5<'a>>>,
-    >,
+    Either<GeneralNamePart2<'a>, GeneralNamePart3<'a>>,
 >;
 
 impl<'a> FromFields<GeneralNameAlternatives<'a>> for GeneralName<'a> {
     ghost fields = { elim [
       | variant.OtherName v ↦ First ((record { choice = First (v) }))
-      | variant.Rfc822Name v ↦ First ((record { choice = Second (v) }))
-      | variant.DnsName v ↦ Second (First ((record { choice = First (v) })))
-      | variant.X400Address v ↦ Second (First ((record { choice = Second (v) })))
-      | variant.DirectoryName v ↦ Second (Second (First ((record { choice = First (v) }))))
-      | variant.EdiPartyName v ↦ Second (Second (First ((record { choice = Second (v) }))))
-      | variant.UniformResourceIdentifier v ↦ Second (Second (Second (First
-          ((record { choice = First (v) })))))
-      | variant.IpAddress v ↦ Second (Second (Second (First ((record { choice = Second (v) })))))
-      | variant.RegisteredId v ↦ Second (Second (Second (Second ((record { choice = v })))))
+      | variant.Rfc822Name v ↦ First ((record { choice = Second (First (v)) }))
+      | variant.DnsName v ↦ First ((record { choice = Second (Second (v)) }))
+      | variant.X400Address v ↦ Second (First ((record { choice = First (v) })))
+      | variant.DirectoryName v ↦ Second (First ((record { choice = Second (First (v)) })))
+      | variant.EdiPartyName v ↦ Second (First ((record { choice = Second (Second (v)) })))
+      | variant.UniformResourceIdentifier v ↦ Second (Second ((record { choice = First (v) })))
+      | variant.IpAddress v ↦ Second (Second ((record { choice = Second (First (v)) })))
+      | variant.RegisteredId v ↦ Second (Second ((record { choice = Second (Second (v)) })))
     ] };
 
     fn from_fields(alternatives: GeneralNameAlternatives<'a>) -> Self {
@@ -80,65 +74,55 @@ impl<'a> FromFields<GeneralNameAlternatives<'a>> for GeneralName<'a> {
             ) => GeneralName::OtherName(value),
             Either::First(
                 GeneralNamePart1 {
-                    choice: Either::Second(value),
+                    choice: Either::Second(Either::First(value)),
                 },
             ) => GeneralName::Rfc822Name(value),
+            Either::First(
+                GeneralNamePart1 {
+                    choice: Either::Second(Either::Second(value)),
+                },
+            ) => GeneralName::DnsName(value),
             Either::Second(
                 Either::First(
                     GeneralNamePart2 {
                         choice: Either::First(value),
                     },
                 ),
-            ) => GeneralName::DnsName(value),
+            ) => GeneralName::X400Address(value),
             Either::Second(
                 Either::First(
                     GeneralNamePart2 {
-                        choice: Either::Second(value),
+                        choice: Either::Second(Either::First(value)),
                     },
-                ),
-            ) => GeneralName::X400Address(value),
-            Either::Second(
-                Either::Second(
-                    Either::First(
-                        GeneralNamePart3 {
-                            choice: Either::First(value),
-                        },
-                    ),
                 ),
             ) => GeneralName::DirectoryName(value),
             Either::Second(
-                Either::Second(
-                    Either::First(
-                        GeneralNamePart3 {
-                            choice: Either::Second(value),
-                        },
-                    ),
+                Either::First(
+                    GeneralNamePart2 {
+                        choice: Either::Second(Either::Second(value)),
+                    },
                 ),
             ) => GeneralName::EdiPartyName(value),
             Either::Second(
                 Either::Second(
-                    Either::Second(
-                        Either::First(
-                            GeneralNamePart4 {
-                                choice: Either::First(value),
-                            },
-                        ),
-                    ),
+                    GeneralNamePart3 {
+                        choice: Either::First(value),
+                    },
                 ),
             ) => GeneralName::UniformResourceIdentifier(value),
             Either::Second(
                 Either::Second(
-                    Either::Second(
-                        Either::First(
-                            GeneralNamePart4 {
-                                choice: Either::Second(value),
-                            },
-                        ),
-                    ),
+                    GeneralNamePart3 {
+                        choice: Either::Second(Either::First(value)),
+                    },
                 ),
             ) => GeneralName::IpAddress(value),
             Either::Second(
-                Either::Second(Either::Second(Either::Second(GeneralNamePart5 { choice: value }))),
+                Either::Second(
+                    GeneralNamePart3 {
+                        choice: Either::Second(Either::Second(value)),
+                    },
+                ),
             ) => GeneralName::RegisteredId(value),
         }
     }
@@ -146,10 +130,8 @@ impl<'a> FromFields<GeneralNameAlternatives<'a>> for GeneralName<'a> {
 
 impl<'a> DescribedChoice for GeneralName<'a> {
     ghost alternative = { choice_of (either ⟦<GeneralNamePart1<'a> as DescribedChoice>⟧.alternative
-        (either ⟦<GeneralNamePart2<'a> as DescribedChoice>⟧.alternative (either
-        ⟦<GeneralNamePart3<'a> as DescribedChoice>⟧.alternative (either
-        ⟦<GeneralNamePart4<'a> as DescribedChoice>⟧.alternative
-        ⟦<GeneralNamePart5<'a> as DescribedChoice>⟧.alternative))))
+        (either ⟦<GeneralNamePart2<'a> as DescribedChoice>⟧.alternative
+        ⟦<GeneralNamePart3<'a> as DescribedChoice>⟧.alternative))
         ⟦<GeneralName<'a> as FromFields<GeneralNameAlternatives<'a>>>⟧.fields };
 }
 

@@ -19,7 +19,7 @@ pub(crate) struct GeneralNamePart1<'a> {
 // The alternatives, as nested choices of two.
 pub(crate) type GeneralNamePart1Alternatives<'a> = Either<
     Implicit<OtherName<'a>, 0>,
-    Implicit<Ia5StringRef<'a>, 1>,
+    Either<Implicit<Ia5StringRef<'a>, 1>, Implicit<Ia5StringRef<'a>, 2>>,
 >;
 
 impl<'a> FromFields<GeneralNamePart1Alternatives<'a>> for GeneralNamePart1<'a> {
@@ -32,8 +32,9 @@ impl<'a> FromFields<GeneralNamePart1Alternatives<'a>> for GeneralNamePart1<'a> {
 
 impl<'a> DescribedChoice for GeneralNamePart1<'a> {
     ghost alternative = { choice_of (either (alternative
-        ⟦<Implicit<OtherName<'a>, 0> as Described>⟧.element) (alternative
-        ⟦<Implicit<Ia5StringRef<'a>, 1> as Described>⟧.element)) (λ v. v.choice) };
+        ⟦<Implicit<OtherName<'a>, 0> as Described>⟧.element) (either (alternative
+        ⟦<Implicit<Ia5StringRef<'a>, 1> as Described>⟧.element) (alternative
+        ⟦<Implicit<Ia5StringRef<'a>, 2> as Described>⟧.element))) (λ v. v.choice) };
 }
 
 impl<'a, R: Reader<Borrowed = &'a [u8]>> Decode<R> for GeneralNamePart1<'a> {

@@ -5,9 +5,11 @@ ghost use Rattle.std.specs.Prelude.{false};
 ghost use Rattle.der.specs.Prelude.{map_ok};
 ghost use Rattle.der_asn1.specs.Meaning.{alternative, choice_of, either};
 
+use crate::asn1::edi_party_name::EdiPartyName;
+use crate::asn1::name::Name;
 use der::{Decode, Encode, Error, FromFields, Length, Reader, SliceReader, Tag, Writer};
 use der_asn1::{
-    Choice, Described, DescribedChoice, Either, Ia5StringRef, Implicit, SequenceRef, decode_choice,
+    Choice, Described, DescribedChoice, Either, Explicit, Implicit, SequenceRef, decode_choice,
 };
 use std::alloc::Global;
 
@@ -19,8 +21,8 @@ pub(crate) struct GeneralNamePart2<'a> {
 
 // The alternatives, as nested choices of two.
 pub(crate) type GeneralNamePart2Alternatives<'a> = Either<
-    Implicit<Ia5StringRef<'a>, 2>,
     Implicit<SequenceRef<'a>, 3>,
+    Either<Explicit<Name<'a>, 4>, Implicit<EdiPartyName<'a>, 5>>,
 >;
 
 impl<'a> FromFields<GeneralNamePart2Alternatives<'a>> for GeneralNamePart2<'a> {
@@ -33,8 +35,9 @@ impl<'a> FromFields<GeneralNamePart2Alternatives<'a>> for GeneralNamePart2<'a> {
 
 impl<'a> DescribedChoice for GeneralNamePart2<'a> {
     ghost alternative = { choice_of (either (alternative
-        ⟦<Implicit<Ia5StringRef<'a>, 2> as Described>⟧.element) (alternative
-        ⟦<Implicit<SequenceRef<'a>, 3> as Described>⟧.element)) (λ v. v.choice) };
+        ⟦<Implicit<SequenceRef<'a>, 3> as Described>⟧.element) (either (alternative
+        ⟦<Explicit<Name<'a>, 4> as Described>⟧.element) (alternative
+        ⟦<Implicit<EdiPartyName<'a>, 5> as Described>⟧.element))) (λ v. v.choice) };
 }
 
 impl<'a, R: Reader<Borrowed = &'a [u8]>> Decode<R> for GeneralNamePart2<'a> {

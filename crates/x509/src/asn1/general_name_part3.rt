@@ -5,10 +5,11 @@ ghost use Rattle.std.specs.Prelude.{false};
 ghost use Rattle.der.specs.Prelude.{map_ok};
 ghost use Rattle.der_asn1.specs.Meaning.{alternative, choice_of, either};
 
-use crate::asn1::edi_party_name::EdiPartyName;
-use crate::asn1::name::Name;
 use der::{Decode, Encode, Error, FromFields, Length, Reader, SliceReader, Tag, Writer};
-use der_asn1::{Choice, Described, DescribedChoice, Either, Explicit, Implicit, decode_choice};
+use der_asn1::{
+    Choice, Described, DescribedChoice, Either, Ia5StringRef, Implicit, ObjectIdentifierRef,
+    OctetStringRef, decode_choice,
+};
 use std::alloc::Global;
 
 // Some alternatives of a GeneralName.
@@ -19,8 +20,8 @@ pub(crate) struct GeneralNamePart3<'a> {
 
 // The alternatives, as nested choices of two.
 pub(crate) type GeneralNamePart3Alternatives<'a> = Either<
-    Explicit<Name<'a>, 4>,
-    Implicit<EdiPartyName<'a>, 5>,
+    Implicit<Ia5StringRef<'a>, 6>,
+    Either<Implicit<OctetStringRef<'a>, 7>, Implicit<ObjectIdentifierRef<'a>, 8>>,
 >;
 
 impl<'a> FromFields<GeneralNamePart3Alternatives<'a>> for GeneralNamePart3<'a> {
@@ -33,8 +34,9 @@ impl<'a> FromFields<GeneralNamePart3Alternatives<'a>> for GeneralNamePart3<'a> {
 
 impl<'a> DescribedChoice for GeneralNamePart3<'a> {
     ghost alternative = { choice_of (either (alternative
-        ⟦<Explicit<Name<'a>, 4> as Described>⟧.element) (alternative
-        ⟦<Implicit<EdiPartyName<'a>, 5> as Described>⟧.element)) (λ v. v.choice) };
+        ⟦<Implicit<Ia5StringRef<'a>, 6> as Described>⟧.element) (either (alternative
+        ⟦<Implicit<OctetStringRef<'a>, 7> as Described>⟧.element) (alternative
+        ⟦<Implicit<ObjectIdentifierRef<'a>, 8> as Described>⟧.element))) (λ v. v.choice) };
 }
 
 impl<'a, R: Reader<Borrowed = &'a [u8]>> Decode<R> for GeneralNamePart3<'a> {
