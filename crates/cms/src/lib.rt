@@ -30,10 +30,10 @@ pub use asn1::{
     PkiFailureInfoBit, PkiStatus, PkiStatusInfo, PkiStatusInfoFields, RecipientEncryptedKey,
     RecipientEncryptedKeyFields, RecipientIdentifier, RecipientInfo, RecipientInfos,
     RecipientKeyIdentifier, RevocationInfoChoice, RevocationInfoChoiceAlternatives,
-    RevocationInfoChoices, SignedData, SignedDataFields, SignerIdentifier,
-    SignerIdentifierAlternatives, SignerInfo, SignerInfoFields, SigningCertificate,
-    SigningCertificateFields, SigningCertificateV2, SigningCertificateV2Fields, SigningTime,
-    TimeStampReq, TimeStampReqFields, TimeStampResp, TimeStampRespFields, TimeStampToken,
-    TsaPolicyId, TstInfo, TstInfoFields,
+    RevocationInfoChoices, SignedData, SignedDataFields, SignedMessage, SignedMessageFields,
+    SignerIdentifier, SignerIdentifierAlternatives, SignerInfo, SignerInfoFields,
+    SigningCertificate, SigningCertificateFields, SigningCertificateV2, SigningCertificateV2Fields,
+    SigningTime, TimeStampReq, TimeStampReqFields, TimeStampResp, TimeStampRespFields,
+    TimeStampToken, TsaPolicyId, TstInfo, TstInfoFields,
 };
 pub use sha256_default::Sha256Default;

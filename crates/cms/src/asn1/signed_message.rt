@@ -1,0 +1,104 @@
+//! Written by asn1_compile from the module CMS: change the module instead.
+//!
+//! SignedMessage.
+ghost use Rattle.std.specs.Prelude.{◌≡◌};
+ghost use Rattle.std.proofs.Common.{arith, refl};
+ghost use Rattle.der.specs.Prelude.{map_ok};
+ghost use Rattle.der_asn1.specs.Item.{decodes_same};
+ghost use Rattle.der_asn1.specs.Meaning.{alternative, field, sequence, sequence_is_item, sequence_item, two_fields};
+
+use crate::asn1::content_type::ContentType;
+use crate::asn1::signed_data::SignedData;
+use der::{
+    Decode, DecodeValue, Encode, EncodeValue, Error, FromFields, Header, Length, Reader, Sequence,
+    SliceReader, Writer, decode_sequence, field_refs,
+};
+use der_asn1::{BorrowedItem, DecodeItem, Described, Explicit, Item, Nestable};
+use std::alloc::Global;
+
+/// A message whose content is a SignedData (RFC 5652, 3), borrowed from the input.
+#[derive(Clone, Copy, Drop)]
+pub struct SignedMessage<'a> {
+    /// The type of the content. That it is id-signedData is not checked.
+    pub content_type: ContentType<'a>,
+    /// The content.
+    pub content: Explicit<SignedData<'a>, 0>,
+}
+
+/// The fields of a [`SignedMessage`] in pairs, in the order in which they are encoded.
+pub type SignedMessageFields<'a> = (ContentType<'a>, Explicit<SignedData<'a>, 0>);
+
+impl<'a> FromFields<SignedMessageFields<'a>> for SignedMessage<'a> {
+    ghost fields = { λ v. (v.content_type, v.content) };
+
+    fn from_fields(members: SignedMessageFields<'a>) -> Self {
+        let (content_type, content) = members;
+        SignedMessage {
+            content_type,
+            content,
+        }
+    }
+}
+
+impl<'a> Sequence for SignedMessage<'a> {
+    ghost meaning = { sequence (two_fields (field (alternative
+        ⟦<ContentType<'a> as Described>⟧.element)) (field (alternative
+        ⟦<Explicit<SignedData<'a>, 0> as Described>⟧.element)))
+        ⟦<SignedMessage<'a> as FromFields<SignedMessageFields<'a>>>⟧.fields };
+
+    ghost fits = { (refl, refl) };
+}
+
+/// Decodes the fields one after the other, with the errors of every [`Sequence`].
+impl<'a, R: Reader<Borrowed = &'a [u8]>> DecodeValue<R> for SignedMessage<'a> {
+    type Error = Error;
+
+    ghost decode_value_answers = { λ h s result t.
+        ⟦<SignedMessageFields<'a> as Decode<SliceReader<'a>>>⟧.decode_answers s (map_ok
+        ⟦<SignedMessage<'a> as FromFields<SignedMessageFields<'a>>>⟧.fields result) t };
+
+    fn decode_value(alloc: Global, reader: &mut R, header: Header) -> Result<Self, Error> {
+        decode_sequence::<R, SignedMessageFields<'a>, Self>(alloc, reader, header)
+    }
+
+    fn is_value(&self) {
+        <ContentType<'a> as DecodeValue<R>>::is_value(&self.content_type);
+        <Explicit<SignedData<'a>, 0> as DecodeValue<R>>::is_value(&self.content);
+    }
+}
+
+/// Writes the fields one after the other, with the errors of every [`Sequence`].
+impl<'a> EncodeValue for SignedMessage<'a> {
+    ghost value_size = { λ v. ⟦<SignedMessageFields<'a> as Encode>⟧.size
+        (⟦<SignedMessage<'a> as FromFields<SignedMessageFields<'a>>>⟧.fields v) };
+
+    ghost encode_value_answers = { λ v. ⟦<SignedMessageFields<'a> as Encode>⟧.encode_answers
+        (⟦<SignedMessage<'a> as FromFields<SignedMessageFields<'a>>>⟧.fields v) };
+
+    fn value_len(&self) -> Result<Length, Error> {
+        field_refs!(self, (content_type, content)).encoded_len()
+    }
+
+    fn encode_value<W: Writer>(&self, writer: &mut W) -> Result<(), Error> {
+        field_refs!(self, (content_type, content)).encode(writer)
+    }
+}
+
+impl<'a> Item for SignedMessage<'a> {
+    ghost item = { sequence_item ⟦<SignedMessage<'a> as Described>⟧.element };
+}
+
+impl<'a, R: Reader<Borrowed = &'a [u8]>> DecodeItem<R> for SignedMessage<'a> {
+    ghost is_item = { sequence_is_item ⟦<SignedMessage<'a> as Described>⟧.element refl };
+
+    ghost decodes_items = { decodes_same (sequence_item
+        ⟦<SignedMessage<'a> as Described>⟧.element) };
+}
+
+impl<'a> BorrowedItem for SignedMessage<'a> {
+    ghost borrowed = { refl };
+}
+
+impl<'a> Nestable for SignedMessage<'a> {
+    ghost nestable = { Prim.omega arith };
+}
