@@ -8,6 +8,7 @@ mod enveloped;
 mod every_octet;
 mod identifiers;
 mod originator;
+mod reading;
 mod refusals;
 mod refused_timestamps;
 mod signed;

@@ -10,6 +10,7 @@
 
 pub mod asn1;
 mod sha256_default;
+mod signed_attributes;
 
 pub use asn1::{
     Accuracy, AccuracyFields, AuthEnvelopedData, AuthEnvelopedDataFields, AuthenticatedData,
