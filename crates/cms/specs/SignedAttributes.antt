@@ -6,4 +6,4 @@ use Rattle.cms.specs.declared.asn1.signer_info.SignerInfo.{SignerInfo}
 
 -- the encoding of the signed attributes with the tag of a SET OF, if there are any
 abbrev pub covered_octets : SignerInfo → Option (List ℕ)
-covered_octets v = option_map (λ a. element_octets Set a.0.octets.now) v.signed_attrs.0
+covered_octets v = option_map (λ a. element_octets Set a.0.elements.octets.now) v.signed_attrs.0

@@ -28,7 +28,6 @@ mod enveloped_data;
 mod enveloped_data_part1;
 mod enveloped_data_part2;
 mod ess_cert_id;
-mod ess_cert_id_v2;
 mod general_name_tagged;
 mod issuer_and_serial_number;
 mod issuer_serial;
@@ -107,7 +106,6 @@ pub use encrypted_content_info::{EncryptedContentInfo, EncryptedContentInfoField
 pub use encrypted_data::{EncryptedData, EncryptedDataFields};
 pub use enveloped_data::{EnvelopedData, EnvelopedDataFields};
 pub use ess_cert_id::{EssCertId, EssCertIdFields};
-pub use ess_cert_id_v2::{EssCertIdV2, EssCertIdV2Fields};
 pub use general_name_tagged::{GeneralNameTagged, GeneralNameTaggedFields};
 pub use issuer_and_serial_number::{IssuerAndSerialNumber, IssuerAndSerialNumberFields};
 pub use issuer_serial::{IssuerSerial, IssuerSerialFields};

@@ -9,6 +9,7 @@
 #![tactic(auto)]
 
 pub mod asn1;
+mod ess_cert_id_v2;
 mod sha256_default;
 mod signed_attributes;
 
@@ -18,9 +19,9 @@ pub use asn1::{
     CompressedDataFields, ContentInfo, ContentInfoFields, ContentType, Countersignature,
     DigestedData, DigestedDataFields, EncapsulatedContentInfo, EncapsulatedContentInfoFields,
     EncryptedContentInfo, EncryptedContentInfoFields, EncryptedData, EncryptedDataFields,
-    EnvelopedData, EnvelopedDataFields, EssCertId, EssCertIdFields, EssCertIdV2, EssCertIdV2Fields,
-    GeneralNameTagged, GeneralNameTaggedFields, IssuerAndSerialNumber, IssuerAndSerialNumberFields,
-    IssuerSerial, IssuerSerialFields, KekIdentifier, KekIdentifierFields, KekRecipientInfo,
+    EnvelopedData, EnvelopedDataFields, EssCertId, EssCertIdFields, GeneralNameTagged,
+    GeneralNameTaggedFields, IssuerAndSerialNumber, IssuerAndSerialNumberFields, IssuerSerial,
+    IssuerSerialFields, KekIdentifier, KekIdentifierFields, KekRecipientInfo,
     KekRecipientInfoFields, KeyAgreeRecipientIdentifier, KeyAgreeRecipientIdentifierAlternatives,
     KeyAgreeRecipientInfo, KeyAgreeRecipientInfoFields, KeyTransRecipientInfo,
     KeyTransRecipientInfoFields, MessageDigest, MessageImprint, MessageImprintFields,
@@ -37,4 +38,5 @@ pub use asn1::{
     SigningTime, TimeStampReq, TimeStampReqFields, TimeStampResp, TimeStampRespFields,
     TimeStampToken, TsaPolicyId, TstInfo, TstInfoFields,
 };
+pub use ess_cert_id_v2::{EssCertIdV2, EssCertIdV2Fields};
 pub use sha256_default::Sha256Default;

@@ -22,7 +22,7 @@ impl<'a> SignerInfo<'a> {
         ensures absent { self.now.signed_attrs.0 ≡ None → result ≡ Ok None }
         ensures exact { (attributes : _) → self.now.signed_attrs.0 ≡ Some attributes
             → SliceAnswer (⟦<Attributes<'a> as Encode>⟧.encode_answers attributes.0) buffer.old
-            (map_ok (λ r. unwrap_or [] (option_map (λ s. s.now) r)) result) }
+            (map_ok (λ r. unwrap_or (option_map (λ s. s.now) r) []) result) }
     {
         match &self.signed_attrs.0 {
             Some(attributes) => {

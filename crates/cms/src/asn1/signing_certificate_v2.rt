@@ -7,7 +7,7 @@ ghost use Rattle.der.specs.Prelude.{map_ok};
 ghost use Rattle.der_asn1.specs.Item.{decodes_same};
 ghost use Rattle.der_asn1.specs.Meaning.{alternative, field, optional, sequence, sequence_is_item, sequence_item, two_fields};
 
-use crate::asn1::ess_cert_id_v2::EssCertIdV2;
+use crate::EssCertIdV2;
 use der::{
     Decode, DecodeValue, Encode, EncodeValue, Error, FromFields, Header, Length, Reader, Sequence,
     SliceReader, Writer, decode_sequence, field_refs,

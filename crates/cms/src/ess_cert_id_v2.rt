@@ -1,6 +1,5 @@
-//! Written by asn1_compile from the module CMS: change the module instead.
-//!
-//! EssCertIdV2.
+//! The identifier of a certificate, whose first field may be absent and has the tag of the last one.
+//! The first two fields are a pair: as the second is always there, the tag decides.
 ghost use Rattle.std.specs.Prelude.{◌≡◌};
 ghost use Rattle.std.proofs.Common.{arith, refl};
 ghost use Rattle.der.specs.Prelude.{map_ok};
@@ -8,8 +7,8 @@ ghost use Rattle.der_asn1.specs.Item.{decodes_same};
 ghost use Rattle.der_asn1.specs.DefaultedTo.{defaulted_to};
 ghost use Rattle.der_asn1.specs.Meaning.{alternative, field, optional, sequence, sequence_is_item, sequence_item, two_fields};
 
-use crate::Sha256Default;
-use crate::asn1::issuer_serial::IssuerSerial;
+use crate::asn1::IssuerSerial;
+use crate::sha256_default::Sha256Default;
 use der::{
     Decode, DecodeValue, Encode, EncodeValue, Error, FromFields, Header, Length, Reader, Sequence,
     SliceReader, Writer, decode_sequence, field_refs,
@@ -34,15 +33,18 @@ pub struct EssCertIdV2<'a> {
 
 /// The fields of a [`EssCertIdV2`] in pairs, in the order in which they are encoded.
 pub type EssCertIdV2Fields<'a> = (
-    DefaultedTo<AlgorithmIdentifierRef<'a>, Sha256Default>,
-    (OctetStringRef<'a>, Optional<IssuerSerial<'a>>),
+    (
+        DefaultedTo<AlgorithmIdentifierRef<'a>, Sha256Default>,
+        OctetStringRef<'a>,
+    ),
+    Optional<IssuerSerial<'a>>,
 );
 
 impl<'a> FromFields<EssCertIdV2Fields<'a>> for EssCertIdV2<'a> {
-    ghost fields = { λ v. (v.hash_algorithm, (v.cert_hash, v.issuer_serial)) };
+    ghost fields = { λ v. ((v.hash_algorithm, v.cert_hash), v.issuer_serial) };
 
     fn from_fields(members: EssCertIdV2Fields<'a>) -> Self {
-        let (hash_algorithm, (cert_hash, issuer_serial)) = members;
+        let ((hash_algorithm, cert_hash), issuer_serial) = members;
         EssCertIdV2 {
             hash_algorithm,
             cert_hash,
@@ -52,11 +54,11 @@ impl<'a> FromFields<EssCertIdV2Fields<'a>> for EssCertIdV2<'a> {
 }
 
 impl<'a> Sequence for EssCertIdV2<'a> {
-    ghost meaning = { sequence (two_fields (defaulted_to
+    ghost meaning = { sequence (two_fields (two_fields (defaulted_to
         ⟦<Sha256Default as DefaultOf<AlgorithmIdentifierRef<'a>>>⟧.default_contents
-        ⟦<AlgorithmIdentifierRef<'a> as Described>⟧.element (λ v. v.0)) (two_fields (field
-        (alternative ⟦<OctetStringRef<'a> as Described>⟧.element)) (optional (alternative
-        ⟦<IssuerSerial<'a> as Described>⟧.element))))
+        ⟦<AlgorithmIdentifierRef<'a> as Described>⟧.element (λ v. v.0)) (field (alternative
+        ⟦<OctetStringRef<'a> as Described>⟧.element))) (optional (alternative
+        ⟦<IssuerSerial<'a> as Described>⟧.element)))
         ⟦<EssCertIdV2<'a> as FromFields<EssCertIdV2Fields<'a>>>⟧.fields };
 
     ghost fits = { (refl, refl) };
@@ -92,11 +94,11 @@ impl<'a> EncodeValue for EssCertIdV2<'a> {
         (⟦<EssCertIdV2<'a> as FromFields<EssCertIdV2Fields<'a>>>⟧.fields v) };
 
     fn value_len(&self) -> Result<Length, Error> {
-        field_refs!(self, (hash_algorithm, (cert_hash, issuer_serial))).encoded_len()
+        field_refs!(self, ((hash_algorithm, cert_hash), issuer_serial)).encoded_len()
     }
 
     fn encode_value<W: Writer>(&self, writer: &mut W) -> Result<(), Error> {
-        field_refs!(self, (hash_algorithm, (cert_hash, issuer_serial))).encode(writer)
+        field_refs!(self, ((hash_algorithm, cert_hash), issuer_serial)).encode(writer)
     }
 }
 
