@@ -1,0 +1,4 @@
+pub mod Pieces
+pub mod PieceLemmas
+pub mod Contents
+pub mod Measured

@@ -1,0 +1,4 @@
+//! An OCTET STRING that is borrowed from the input, also where BER gives it in segments (X.690 8.7).
+#![tactic(auto)]
+
+mod measure;
