@@ -1,2 +1,3 @@
 pub mod RefusalLemmas
 pub mod MeasureLemmas
+pub mod SegmentedLemmas

@@ -2,3 +2,4 @@ pub mod Pieces
 pub mod PieceLemmas
 pub mod Contents
 pub mod Measured
+pub mod Segmented

@@ -2,3 +2,6 @@
 #![tactic(auto)]
 
 mod measure;
+mod segmented;
+
+pub use segmented::Segmented;
