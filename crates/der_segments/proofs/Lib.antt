@@ -1,3 +1,5 @@
 pub mod RefusalLemmas
 pub mod MeasureLemmas
 pub mod SegmentedLemmas
+pub mod WalkLemmas
+pub mod SegmentsLemmas

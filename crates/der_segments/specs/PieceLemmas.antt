@@ -29,7 +29,7 @@ pieces_view (after_definite {more = more} n small h) = view_definite n more smal
 pieces_view (after_indefinite {more = more} h) = view_indefinite more refl h
 pieces_view (piece {more = more} {pieces = ps} c small h) = view_piece c more ps small refl refl h
 
-first_same : {a b : ℕ} {x y : List ℕ} → a ∷ x ≡ b ∷ y → a ≡ b
+pub first_same : {a b : ℕ} {x y : List ℕ} → a ∷ x ≡ b ∷ y → a ≡ b
 first_same e = cc
 
 -- octets after a mark have one list of pieces
@@ -129,7 +129,7 @@ pieces_of_joined {s = s} {out = out} j =
     (r.0, subst (λ x. InPieces x r.0) (append-nil s) r.1, r.2 ∙ append-nil out)
 
 -- two lists of pieces are the same in one way at most
-pieces_prop : (ps qs : List (List ℕ)) (p q : ps ≡ qs) → p ≡ q
+pub pieces_prop : (ps qs : List (List ℕ)) (p q : ps ≡ qs) → p ≡ q
 pieces_prop ps qs = Coded-set (coded_list (coded_list coded_ℕ)) ps qs
 
 -- pieces that contents have

@@ -3,5 +3,7 @@
 
 mod measure;
 mod segmented;
+mod segments;
 
 pub use segmented::Segmented;
+pub use segments::Segments;
