@@ -3,3 +3,4 @@ pub mod MeasureLemmas
 pub mod SegmentedLemmas
 pub mod WalkLemmas
 pub mod SegmentsLemmas
+pub mod WriteLemmas

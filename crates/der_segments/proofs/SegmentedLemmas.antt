@@ -1,5 +1,5 @@
 -- Lemmas on a borrowed OCTET STRING, from its contents.
-use mathlib.Core.Logic.{∥∥₁_elim}
+use mathlib.Core.Logic.{∥∥₁_elim, ∥∥₁_map}
 use Rattle.std.proofs.Common.{◌≡◌, ℕ, ◌+◌, ◌^◌, ◌<◌, ◌≤◌, Bool, true, false, Ok, Err, List, [], ◌∷◌, ◌++◌, length, take, refl, inl, inr, sym, ap, ◌∙◌, subst, append-nil, arith}
 use Rattle.std.specs.Coded.{Coded-set, coded_ℕ}
 use Rattle.der_core.specs.Outcome.{Gives}
@@ -18,10 +18,10 @@ use Rattle.der.proofs.PartsLemmas.{parts_lacking}
 use Rattle.der.proofs.RefusedSegmentLemmas.{segments_refused}
 use Rattle.der_asn1.proofs.ListAnswerLemmas.{slice_read}
 use Rattle.der_asn1.proofs.OptionalReadLemmas.{rest_at_end}
-use Rattle.der_segments.specs.Contents.{Contains, IsContents, contents_pieces}
+use Rattle.der_segments.specs.Contents.{Contains, IsContents, contents_pieces, has_pieces}
 use Rattle.der_segments.specs.Measured.{Measures, NotMemory}
-use Rattle.der_segments.specs.PieceLemmas.{pieces_in_are, pieces_of_joined}
-use Rattle.der_segments.specs.Pieces.{joined_pieces}
+use Rattle.der_segments.specs.PieceLemmas.{pieces_in, pieces_in_are, pieces_of_joined, pieces_prop}
+use Rattle.der_segments.specs.Pieces.{joined_pieces, ArePieces, HasPieces}
 use Rattle.der_segments.specs.Segmented.{segmented_octets, segmented_levels, ReadsSegmented}
 use Rattle.der_segments.specs.declared.segmented.Segmented.{Segmented}
 use Rattle.der_segments.proofs.MeasureLemmas.{measures_appends}
@@ -74,3 +74,16 @@ segments_accepted {h} {s} {t} {e} {out} is_next sound few taken has r not =
     let lacks = parts_lacking s is_next out t e sound few taken (no_segments has (RefusesJoining.no_segments (inl has.ber) r))
     (λ x same joined. inr (segments_refused r sound is_next.working (omega arith) x joined)) in
     absurd (let other : is_out_of_memory_kind (kind_of e) ≡ true = ap (λ x. is_out_of_memory_kind (kind_of x)) lacks in cc)
+
+pub contents_have_pieces : {constructed : Bool} {octets : List ℕ} {count : ℕ} → ∥ IsContents constructed octets count ∥₁ → ∥ HasPieces constructed octets ∥₁
+contents_have_pieces {constructed} {octets} t = ∥∥₁_map t (λ c. has_pieces constructed c.levels octets c.out c.contains)
+
+-- the octets of a value are what its contents contain
+pub contents_contain : {constructed : Bool} {octets : List ℕ} {count : ℕ} (t : ∥ IsContents constructed octets count ∥₁) → ∥ ((levels : ℕ) × Contains constructed levels octets (joined_pieces (contents_pieces t))) ∥₁
+contents_contain {constructed} {octets} t = ∥∥₁_map t (λ c. (c.levels, subst (Contains constructed c.levels octets) (sym (octets_contained t c.levels c.out c.contains)) c.contains))
+
+-- the same contents have the same pieces
+pub same_left : {a b : Bool} {x y : List ℕ} (l : ∥ HasPieces a x ∥₁) (k : ∥ HasPieces b y ∥₁) → a ≡ b → x ≡ y → (pieces_in l).0 ≡ (pieces_in k).0
+same_left {a} {b} {x} {y} l k form same =
+    ∥∥₁_elim (pieces_in k).1 (pieces_prop (pieces_in l).0 (pieces_in k).0)
+    (λ p. pieces_in_are l (subst (λ c. ArePieces c x (pieces_in k).0) (sym form) (subst (λ z. ArePieces b z (pieces_in k).0) (sym same) p)))

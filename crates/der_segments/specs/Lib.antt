@@ -5,3 +5,5 @@ pub mod Measured
 pub mod Walk
 pub mod Segments
 pub mod Segmented
+pub mod Written
+pub mod Copied

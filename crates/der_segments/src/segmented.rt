@@ -2,7 +2,9 @@
 ghost use Rattle.std.specs.Prelude.{◌≡◌, ◌^◌, ◌<◌, false, true, length, ⊤};
 ghost use Rattle.der_segments.specs.Contents.{IsContents};
 
+mod access;
 mod der;
+mod written;
 
 use std::alloc::AllocError;
 
