@@ -1,5 +1,5 @@
 -- Lemmas on counting the octets that segments are joined to.
-use Rattle.std.proofs.Common.{◌≡◌, ℕ, ◌+◌, ◌-◌, ◌^◌, ◌<◌, ◌≤◌, Bool, true, false, Result, Ok, Err, IfOk, IfErr, OnOk, List, [], ◌∷◌, ◌++◌, length, take, refl, sym, ap, ◌∙◌, subst, append_assoc, length-append, nat_le, arith}
+use Rattle.std.proofs.Common.{◌≡◌, ℕ, ◌+◌, ◌^◌, ◌<◌, false, Result, Ok, Err, IfOk, IfErr, OnOk, List, [], ◌++◌, length, refl, sym, ap, ◌∙◌, subst, length-append, arith}
 use Rattle.der_base.specs.Length.{number, is_indefinite}
 use Rattle.der_base.specs.declared.length.Length.{Length}
 use Rattle.der_base.specs.declared.error.Error.{Error}
@@ -8,17 +8,17 @@ use Rattle.der_core.specs.declared.header.Header.{Header}
 use Rattle.der_core.specs.Nested.{ClosesValue}
 use Rattle.der_core.specs.Outcome.{Gives}
 use Rattle.der_core.specs.Reader.{read_slice_outcome}
-use Rattle.der_core.specs.ReaderState.{ReaderState, IsSound, Same, Reads, rest_of}
+use Rattle.der_core.specs.ReaderState.{ReaderState, IsSound, Same}
 use Rattle.der_core.proofs.ContentsLemmas.{value_closed}
 use Rattle.der_core.proofs.StateLemmas.{position_on, reads_none, reads_on}
 use Rattle.der.specs.Joined.{Joined, none}
-use Rattle.der.specs.Joining.{levels_left, AppendsJoined, AppendsOctets, PassesSegmentHeader, RefusesSegment, RefusesSegments}
+use Rattle.der.specs.Joining.{levels_left, AppendsJoined, PassesSegmentHeader, RefusesSegment, RefusesSegments}
 use Rattle.der.specs.Prelude.{OctetString}
 use Rattle.der.proofs.JoinedLemmas.{joined_more, joined_short}
 use Rattle.der.proofs.JoiningLemmas.{levels_same, reads_next, AppendsSegment, octets_appended, segments_refuse}
 use Rattle.der.proofs.NestedSegmentLemmas.{EntersSegment, nested_ok, nested_refused}
 use Rattle.der_asn1.proofs.ListAnswerLemmas.{slice_read}
-use Rattle.der_segments.specs.Measured.{Measures, NotMemory}
+use Rattle.der_segments.specs.Measured.{Measures}
 
 pub measures_none : (s : ReaderState) → Measures s 0 s
 measures_none s = record { octets = []; out = []; reads = reads_none s; joined = none; counted = refl }

@@ -1,17 +1,15 @@
 -- Lemmas: reading segments without copying them reports no failed allocation.
-use Rattle.std.proofs.Common.{◌≡◌, ℕ, ◌+◌, ◌^◌, ◌<◌, Bool, true, false, Err, List, [], ◌∷◌, nat_lt, nat_le, ◌==◌, refl, sym, ap, ◌∙◌, subst, IfErr, Result, if◌then◌else◌}
-use Rattle.der_base.specs.Error.{Refusal, refusal, missing_refusal, end_refusal, error_at, error_of_kind, kind_of, unexpected_tag}
+use Rattle.std.proofs.Common.{◌≡◌, ℕ, ◌^◌, Bool, true, false, List, [], ◌∷◌, nat_lt, ◌==◌, refl, sym, subst, if◌then◌else◌}
+use Rattle.der_base.specs.Error.{Refusal, missing_refusal, error_at, error_of_kind}
 use Rattle.der_base.specs.HeaderGrammar.{LengthFault, nothing, few, far, longer, indefinite_form, no_body, HeaderFault, no_identifier, no_length, primitive}
 use Rattle.der_base.specs.Length.{definite_length}
-use Rattle.der_base.specs.ScanGrammar.{BodyFault, NoBodyFault, ScanFault}
+use Rattle.der_base.specs.ScanGrammar.{BodyFault, ScanFault}
 use Rattle.der_base.specs.Tag.{IdentifierFault, identifier_kind, cut, refused}
 use Rattle.der_base.specs.declared.error.Error.{Error}
 use Rattle.der_base.specs.declared.error.ErrorKind.{ErrorKind}
 use Rattle.der_base.specs.declared.error.ErrorKind.TheVariants.{TagNumberInvalid, TagUnknown, Incomplete, Overflow}
 use Rattle.der_base.specs.declared.encoding_rules.EncodingRules.{EncodingRules}
-use Rattle.der_core.specs.Decode.{IsRefusedBy, has_failed, at_fault, is_out_of_memory_kind}
-use Rattle.der_core.specs.Outcome.{Gives}
-use Rattle.der_core.specs.Reader.{read_slice_outcome, enter_nested_outcome, read_eoc_outcome}
+use Rattle.der_core.specs.Decode.{has_failed, at_fault, is_out_of_memory_kind}
 use Rattle.der_core.specs.ReaderState.{ReaderState}
 use Rattle.der.specs.Joining.{RefusesSegmentHeader, no_header, other_tag, constructed_segment}
 use Rattle.der.specs.Prelude.{Tag}

@@ -1,17 +1,16 @@
 -- Lemmas on a borrowed OCTET STRING, from its contents.
 use mathlib.Core.Logic.{∥∥₁_elim, ∥∥₁_map}
-use Rattle.std.proofs.Common.{◌≡◌, ℕ, ◌+◌, ◌^◌, ◌<◌, ◌≤◌, Bool, true, false, Ok, Err, List, [], ◌∷◌, ◌++◌, length, take, refl, inl, inr, sym, ap, ◌∙◌, subst, append-nil, arith}
+use Rattle.std.proofs.Common.{◌≡◌, ℕ, ◌+◌, ◌≤◌, Bool, true, false, Ok, List, [], ◌∷◌, ◌++◌, length, refl, inl, inr, sym, ap, ◌∙◌, subst, append-nil, arith}
 use Rattle.std.specs.Coded.{Coded-set, coded_ℕ}
 use Rattle.der_core.specs.Outcome.{Gives}
 use Rattle.der_core.specs.Reader.{read_slice_outcome}
 use Rattle.der_core.specs.Decode.{is_out_of_memory_kind}
 use Rattle.der_core.specs.DecodeValue.{IsInside}
 use Rattle.der_core.specs.ReaderState.{ReaderState, IsSound, Reads, rest_of}
-use Rattle.der.specs.Error.{kind_of, error_of_kind}
-use Rattle.der.specs.ErrorKinds.{OutOfMemory}
+use Rattle.der.specs.Error.{kind_of}
 use Rattle.der.specs.Joined.{Joined}
 use Rattle.der.specs.Joining.{levels_left, RefusesJoining, RefusesSegments}
-use Rattle.der.specs.Parts.{HasSegments, TakesParts, ReadsParts, reads_octets, reads_segments, no_segments}
+use Rattle.der.specs.Parts.{HasSegments, TakesParts, reads_octets, reads_segments, no_segments}
 use Rattle.der.specs.Prelude.{Error, Head, Length, OctetString, number}
 use Rattle.der.proofs.JoiningLemmas.{joins_rest, reads_next}
 use Rattle.der.proofs.PartsLemmas.{parts_lacking}

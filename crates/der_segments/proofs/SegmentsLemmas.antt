@@ -1,6 +1,6 @@
 -- Lemmas on an iterator over segments.
 use mathlib.Core.Logic.{∥∥₁_elim, ∥∥₁_map}
-use Rattle.std.proofs.Common.{◌≡◌, ℕ, ◌+◌, ◌-◌, ◌<◌, ◌≤◌, Bool, true, false, Result, Ok, Err, Option, Some, None, MatchOption, IsOkAnd, OnOk, List, [], ◌∷◌, ◌++◌, length, take, refl, sym, ap, ◌∙◌, subst, append-nil, arith}
+use Rattle.std.proofs.Common.{◌≡◌, ℕ, ◌-◌, ◌<◌, Bool, true, false, Result, Ok, Err, Option, Some, None, MatchOption, IsOkAnd, OnOk, List, [], ◌∷◌, length, refl, sym, ap, ◌∙◌, subst, append-nil, arith}
 use Rattle.std.proofs.lemmas.List.{take_all}
 use Rattle.std.specs.Iterator.{MakesProgress, item_count}
 use Rattle.der_core.proofs.StateLemmas.{length-rest, rest_after}
@@ -65,8 +65,8 @@ steps_given now None {constructed} {octets} t l k form step = (
 steps_given now (Some x) {constructed} {octets} t l k form step =
     ∥∥₁_elim (pieces_in l).1 (pieces_prop (pieces_in l).0 (now x ∷ (pieces_in k).0))
     (λ a. (let g = step (pieces_in l).0 (subst (λ b. ArePieces b octets (pieces_in l).0) form a) in
-        let after : (pieces_in k).0 ≡ g.0 = pieces_in_are k (subst (λ b. ArePieces b (rest_of t) g.0) (sym form) g.2) in
-        g.1 ∙ ap (λ y. now x ∷ y) (sym after)))
+    let after : (pieces_in k).0 ≡ g.0 = pieces_in_are k (subst (λ b. ArePieces b (rest_of t) g.0) (sym form) g.2) in
+    g.1 ∙ ap (λ y. now x ∷ y) (sym after)))
 
 -- the pieces that are left are segments, so a step does not fail
 pub step_succeeds : {E B : Type 0} {constructed : Bool} {octets : List ℕ} (e : E) (P : List (List ℕ) → B → Type 0) → constructed ≡ true → ∥ HasPieces constructed octets ∥₁

@@ -1,16 +1,15 @@
 -- Lemmas on a walk over segments.
-use mathlib.Core.Logic.{∥∥₁_elim, ∥∥₁_map}
-use Rattle.std.proofs.Common.{◌≡◌, ◌≢◌, ℕ, ◌+◌, ◌-◌, ◌^◌, ◌<◌, ◌≤◌, Bool, true, false, Result, Ok, Err, Option, Some, None, MatchOption, IsOkAnd, List, [], ◌∷◌, ◌++◌, length, take, refl, sym, ap, ◌∙◌, subst, length-append, append-nil, arith}
-use Rattle.std.proofs.lemmas.List.{take_at, take_all}
+use Rattle.std.proofs.Common.{◌≡◌, ℕ, ◌^◌, ◌<◌, true, false, Result, Ok, Err, List, [], ◌∷◌, ◌++◌, length, take, refl, sym, ap, ◌∙◌, subst, length-append, arith}
+use Rattle.std.proofs.lemmas.List.{take_at}
 use Rattle.der_base.proofs.HeaderLemmas.{length_grammar}
 use Rattle.der_base.proofs.LengthLemmas.{length_definite}
 use Rattle.der_base.proofs.ScanLemmas.{body_fault_laws}
 use Rattle.der_base.specs.HeaderGrammar.{LengthNext, LengthFault, definite}
 use Rattle.der_base.specs.ScanGrammar.{BodyFault}
 use Rattle.der_core.proofs.DecodeLemmas.{accepts}
-use Rattle.der_core.proofs.StateLemmas.{by_front, byte_read, failed_on, length-rest, rest_after, reads_front}
+use Rattle.der_core.proofs.StateLemmas.{by_front, byte_read, failed_on, length-rest, rest_after}
 use Rattle.der_core.specs.Decode.{Decodes}
-use Rattle.der_core.specs.Outcome.{Gives, Meets}
+use Rattle.der_core.specs.Outcome.{Gives}
 use Rattle.der_core.specs.Reader.{read_byte_outcome, next_octet_outcome, read_slice_outcome}
 use Rattle.der_core.specs.ReaderState.{ReaderState, IsSound, advanced_state, rest_of}
 use Rattle.der.proofs.RefusedSegmentLemmas.{slice_there}
@@ -18,9 +17,8 @@ use Rattle.der.specs.ErrorKinds.{Overlength}
 use Rattle.der.specs.Length.{length_octets}
 use Rattle.der.specs.Prelude.{Error, Length, definite_length, number}
 use Rattle.der_asn1.proofs.ListAnswerLemmas.{slice_read}
-use Rattle.der_asn1.proofs.OptionalReadLemmas.{rest_before_end, rest_at_end}
-use Rattle.der_segments.specs.Pieces.{InPieces, nothing, ArePieces, HasPieces}
-use Rattle.der_segments.specs.PieceLemmas.{PiecesView, view_nothing, view_end, view_definite, view_indefinite, view_piece, pieces_view, pieces_prop, pieces_in, pieces_in_are, first_same}
+use Rattle.der_segments.specs.Pieces.{InPieces}
+use Rattle.der_segments.specs.PieceLemmas.{PiecesView, view_nothing, view_end, view_definite, view_indefinite, view_piece, pieces_view, first_same}
 use Rattle.der_segments.specs.Walk.{IsAtMark, IsAtPiece, at_end, before_piece, IsShortMark, of_end, of_indefinite, GivesPiece}
 
 -- reading an octet that is there does not fail

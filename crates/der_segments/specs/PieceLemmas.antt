@@ -2,11 +2,10 @@
 -- are joined to the same octets.
 use mathlib.Core.HLevel.{Σ_prop_path}
 use mathlib.Core.Logic.{∥∥₁_elim, ∥∥₁_prop}
-use Rattle.std.proofs.Common.{◌≡◌, ℕ, suc, ◌+◌, ◌^◌, ◌<◌, ◌≤◌, Bool, true, false, List, [], ◌∷◌, ◌++◌, length, refl, sym, ap, ◌∙◌, subst, append_assoc, append-nil, length-append, arith}
+use Rattle.std.proofs.Common.{◌≡◌, ℕ, ◌^◌, ◌<◌, Bool, true, false, List, [], ◌∷◌, ◌++◌, length, refl, sym, ap, ◌∙◌, subst, append_assoc, append-nil, arith}
 use Rattle.std.specs.Coded.{Coded-set, coded_list, coded_ℕ}
 use Rattle.der_base.proofs.DigitLemmas.{same_length_front}
 use Rattle.der_base.proofs.LengthLemmas.{length_front, length_definite}
-use Rattle.der.specs.Body.{Body}
 use Rattle.der.specs.Encode.{element_octets}
 use Rattle.der.specs.Joined.{Joined, none, segment, definite_segments, indefinite_segments}
 use Rattle.der.specs.Length.{length_octets}
@@ -97,7 +96,6 @@ segments_identifier d = go d refl refl
     go : {id : List ℕ} {t : Tag} {b : Bool} → IsIdentifier Ber id t b → t ≡ OctetString → b ≡ true → id ≡ 36 ∷ []
     go (of_tag {t = t} h) same set = absurd (let no : false ≡ true = ap (λ x. (label x).constructed) (sym same) ∙ set in cc)
     go of_segments same set = refl
-
 
 pub joined_before : {levels : ℕ} {s out : List ℕ} → Joined OctetString levels s out → (b : List ℕ) (qs : List (List ℕ)) → InPieces b qs
     → (all : List (List ℕ)) × InPieces (s ++ b) all × (joined_pieces all ≡ out ++ joined_pieces qs)

@@ -4,6 +4,7 @@
 -- writing it (`SegmentedWritten`).
 use Rattle.std.specs.Prelude.{◌≡◌, ℕ, ◌-◌, true, false, List, Result, Ok, Err}
 use Rattle.std.proofs.Common.{arith, refl, sym, ◌∙◌}
+use Rattle.der.specs.ElementSpec.{ElementSpec}
 use Rattle.der.specs.Encode.{WriterAnswer}
 use Rattle.der.specs.Error.{error_at}
 use Rattle.der.specs.ErrorKinds.{Noncanonical}
@@ -84,4 +85,18 @@ segmented_lawful =
           (λ h. (h.0, primitive_contents refl h.1), λ h. (h.0, as_contents refl h.1));
       shallow = omega arith;
       numbered = omega arith;
+    }
+
+-- the specification of its elements
+abbrev pub segmented_element : ElementSpec Segmented
+segmented_element =
+    record {
+      tag = OctetString;
+      takes = TakesSegmented;
+      valid = λ v. IsCounted (segmented_octets v);
+      contents = segmented_octets;
+      levels = segmented_levels;
+      is_compatible = true;
+      lawful = λ e. segmented_lawful;
+      holds = λ e v rules h octets taken. taken.0;
     }

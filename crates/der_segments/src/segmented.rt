@@ -4,6 +4,7 @@ ghost use Rattle.der_segments.specs.Contents.{IsContents};
 
 mod access;
 mod der;
+mod described;
 mod written;
 
 use std::alloc::AllocError;

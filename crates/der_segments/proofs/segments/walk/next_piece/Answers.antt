@@ -1,4 +1,4 @@
-use Rattle.std.proofs.Common.{◌≡◌, [], refl, sym, ap, ◌∙◌, false, true, rules}
+use Rattle.std.proofs.Common.{◌≡◌, [], refl, sym, ◌∙◌, false, true, rules}
 use Rattle.der.specs.Prelude.{rest_of, slice_state, definite_length}
 use Rattle.der_asn1.proofs.OptionalReadLemmas.{rest_before_end}
 use Rattle.der_asn1.proofs.SequenceOfLemmas.{slice_sound}

@@ -1,4 +1,4 @@
-use Rattle.std.proofs.Common.{◌≡◌, Ok, Err, refl, sym, ◌∙◌, subst}
+use Rattle.std.proofs.Common.{refl, sym, ◌∙◌, subst}
 use Rattle.der_segments.specs.Pieces.{InPieces}
 use Rattle.der_segments.proofs.WalkLemmas.{octet_there, octet_read, still_working, mark_read, short_passed, long_passed, length_read, others_same}
 use Rattle.der_segments.proofs.segments.walk.pass_mark.Goals as goal

@@ -1,5 +1,4 @@
-use Rattle.std.proofs.Common.{ap, refl, sym, ◌∙◌, arith, rules, ◌≡◌, Ok, ◌<◌, ◌^◌, length, false, true}
-use Rattle.std.proofs.lemmas.Result.{err_from_is_err_and}
+use Rattle.std.proofs.Common.{ap, ◌∙◌, arith, rules, ◌≡◌, length, false}
 use Rattle.der.proofs.DecodeLemmas.{remaining_ok}
 use Rattle.der.proofs.StateLemmas.{length-rest}
 use Rattle.der.proofs.PartsLemmas.{parts_taken}

@@ -1,4 +1,3 @@
-use Rattle.std.proofs.Common.{Err, refl}
 use Rattle.std.proofs.lemmas.Result.{err_from_is_err_and}
 use Rattle.der_segments.proofs.WriteLemmas.{piece_written, piece_keeps, piece_unwritten, piece_fits}
 use Rattle.der_segments.proofs.segmented.written.SegmentedEncodeValue.encode_value.Goals as goal

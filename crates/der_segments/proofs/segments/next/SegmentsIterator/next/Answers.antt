@@ -1,4 +1,4 @@
-use Rattle.std.proofs.Common.{◌≡◌, [], refl, sym, ap, ◌∙◌, false, true, rules, Ok, List, ℕ, Bor}
+use Rattle.std.proofs.Common.{◌≡◌, Ok, List, ℕ, Bor}
 use Rattle.der.specs.Prelude.{rest_of, slice_state}
 use Rattle.der_asn1.proofs.SequenceOfLemmas.{slice_sound}
 use Rattle.der_segments.specs.Segments.{pieces_left}
