@@ -29,6 +29,8 @@ mod readers;
 #[cfg(test)]
 mod scans;
 #[cfg(test)]
+mod segments;
+#[cfg(test)]
 mod strings;
 #[cfg(test)]
 mod values;

@@ -1,0 +1,6 @@
+pub mod RefusalLemmas
+pub mod MeasureLemmas
+pub mod SegmentedLemmas
+pub mod WalkLemmas
+pub mod SegmentsLemmas
+pub mod WriteLemmas

@@ -1,0 +1,44 @@
+//! Writing of an OCTET STRING that is borrowed from the input.
+ghost use Rattle.std.specs.Prelude.{◌≡◌, true};
+ghost use Rattle.der.specs.Octets.{IsCounted, octets_size};
+ghost use Rattle.der_segments.specs.Segmented.{SegmentedWritten, segmented_lawful, segmented_octets};
+ghost use Rattle.std.proofs.Common.{arith};
+
+use crate::segmented::Segmented;
+use der::{EncodeValue, Error, Lawful, Length, Writer, WrittenValue};
+
+impl<'a> WrittenValue for Segmented<'a> {
+    ghost contents = { segmented_octets };
+
+    ghost writable = { λ v. IsCounted (segmented_octets v) };
+}
+
+/// Writes the joined octets as the contents of a primitive encoding, with one write for each primitive
+/// segment.
+///
+/// # Errors
+///
+/// `value_len` never fails. `encode_value` returns the errors of [`Writer::write`] for the first
+/// segment that cannot be written; the segments before it remain.
+impl<'a> EncodeValue for Segmented<'a> {
+    ghost value_size = { octets_size segmented_octets };
+
+    ghost encode_value_answers = { SegmentedWritten };
+
+    #[inline(always)]
+    fn value_len(&self) -> Result<Length, Error> {
+        Ok(Length::new(self.count))
+    }
+
+    fn encode_value<W: Writer>(&self, writer: &mut W) -> Result<(), Error> {
+        let mut segments = self.segments();
+        'pieces: while let Some(piece) = segments.next() {
+            writer.write(piece)?;
+        }
+        Ok(())
+    }
+}
+
+impl<'a> Lawful for Segmented<'a> {
+    ghost lawful = { segmented_lawful };
+}
