@@ -13,5 +13,7 @@ mod refusals;
 mod refused_timestamps;
 mod signed;
 mod signed_octets;
+mod streamed;
+mod streamed_octets;
 mod timestamp_octets;
 mod timestamps;

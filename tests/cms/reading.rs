@@ -1,16 +1,29 @@
 //! How a signed message is read, as docs/CALLING.md shows it.
 use super::signed_octets::{ATTACHED, TWO};
-use crate::checks::{holds, same_octets};
+use super::streamed_octets::STREAMED;
+use crate::checks::{holds, same, same_octets};
 use cms::asn1::values::id_message_digest;
-use cms::{MessageDigest, SignedMessage, SignerInfo};
+use cms::{MessageDigest, Segmented, SignedMessage, SignerInfo};
 use der::{DecodeBytes, Error, ErrorKind, Length};
 use std::alloc::Global;
 
 /// The content of a signed message, borrowed from its octets; `None` if the content is elsewhere.
-fn content_of<'a>(alloc: Global, octets: &'a [u8]) -> Result<Option<&'a [u8]>, Error> {
-    let message = SignedMessage::from_der(alloc, octets)?;
+fn content_of<'a>(alloc: Global, octets: &'a [u8]) -> Result<Option<Segmented<'a>>, Error> {
+    let message = SignedMessage::from_ber(alloc, octets)?;
     let content = message.content.0.encap_content_info.e_content.0;
-    Ok(content.map(|inside| inside.0.octets()))
+    Ok(content.map(|inside| inside.0))
+}
+
+/// The sum of the octets of a content, read piece by piece as a digest reads them.
+fn sum_of(content: &Segmented<'_>) -> u32 {
+    let mut sum = 0u32;
+    let mut segments = content.segments();
+    while let Some(piece) = segments.next() {
+        for octet in piece {
+            sum = sum.wrapping_add(u32::from(*octet));
+        }
+    }
+    sum
 }
 
 /// The digest of the content that this signature covers; `None` if it has no such attribute.
@@ -36,9 +49,14 @@ fn covered_by<'b>(
 
 #[test]
 fn a_content_is_borrowed_from_the_message(rt: HostRuntime) {
-    match content_of(rt.alloc(), &ATTACHED) {
-        Ok(Some(content)) => same_octets(&rt, content, b"hello\n"),
-        _ => holds(&rt, false),
+    for message in [&ATTACHED[..], &STREAMED] {
+        let Ok(Some(content)) = content_of(rt.alloc(), message) else {
+            holds(&rt, false);
+            return;
+        };
+        same(&rt, content.joined_len(), 6);
+        // 104 + 101 + 108 + 108 + 111 + 10
+        same(&rt, sum_of(&content), 542);
     }
 }
 

@@ -38,5 +38,6 @@ pub use asn1::{
     SigningTime, TimeStampReq, TimeStampReqFields, TimeStampResp, TimeStampRespFields,
     TimeStampToken, TsaPolicyId, TstInfo, TstInfoFields,
 };
+pub use der_segments::Segmented;
 pub use ess_cert_id_v2::{EssCertIdV2, EssCertIdV2Fields};
 pub use sha256_default::Sha256Default;

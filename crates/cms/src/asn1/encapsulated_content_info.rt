@@ -7,14 +7,13 @@ ghost use Rattle.der.specs.Prelude.{map_ok};
 ghost use Rattle.der_asn1.specs.Item.{decodes_same};
 ghost use Rattle.der_asn1.specs.Meaning.{alternative, field, optional, sequence, sequence_is_item, sequence_item, two_fields};
 
+use crate::Segmented;
 use crate::asn1::content_type::ContentType;
 use der::{
     Decode, DecodeValue, Encode, EncodeValue, Error, FromFields, Header, Length, Reader, Sequence,
     SliceReader, Writer, decode_sequence, field_refs,
 };
-use der_asn1::{
-    BorrowedItem, DecodeItem, Described, Explicit, Item, Nestable, OctetStringRef, Optional,
-};
+use der_asn1::{BorrowedItem, DecodeItem, Described, Explicit, Item, Nestable, Optional};
 use std::alloc::Global;
 
 /// A content inside a message (RFC 5652, 5.2), borrowed from the input. In PKCS #7 the content may
@@ -25,13 +24,13 @@ pub struct EncapsulatedContentInfo<'a> {
     pub e_content_type: ContentType<'a>,
     /// The octets of the content, which are not checked. They are absent if the content is
     /// elsewhere, as for a detached signature.
-    pub e_content: Optional<Explicit<OctetStringRef<'a>, 0>>,
+    pub e_content: Optional<Explicit<Segmented<'a>, 0>>,
 }
 
 /// The fields of a [`EncapsulatedContentInfo`] in pairs, in the order in which they are encoded.
 pub type EncapsulatedContentInfoFields<'a> = (
     ContentType<'a>,
-    Optional<Explicit<OctetStringRef<'a>, 0>>,
+    Optional<Explicit<Segmented<'a>, 0>>,
 );
 
 impl<'a> FromFields<EncapsulatedContentInfoFields<'a>> for EncapsulatedContentInfo<'a> {
@@ -49,7 +48,7 @@ impl<'a> FromFields<EncapsulatedContentInfoFields<'a>> for EncapsulatedContentIn
 impl<'a> Sequence for EncapsulatedContentInfo<'a> {
     ghost meaning = { sequence (two_fields (field (alternative
         ⟦<ContentType<'a> as Described>⟧.element)) (optional (alternative
-        ⟦<Explicit<OctetStringRef<'a>, 0> as Described>⟧.element)))
+        ⟦<Explicit<Segmented<'a>, 0> as Described>⟧.element)))
         ⟦<EncapsulatedContentInfo<'a> as FromFields<EncapsulatedContentInfoFields<'a>>>⟧.fields };
 
     ghost fits = { (refl, refl) };
@@ -70,7 +69,7 @@ impl<'a, R: Reader<Borrowed = &'a [u8]>> DecodeValue<R> for EncapsulatedContentI
     fn is_value(&self) {
         <ContentType<'a> as DecodeValue<R>>::is_value(&self.e_content_type);
         if let Some(value) = &self.e_content.0 {
-            <Explicit<OctetStringRef<'a>, 0> as DecodeValue<R>>::is_value(value);
+            <Explicit<Segmented<'a>, 0> as DecodeValue<R>>::is_value(value);
         }
     }
 }
