@@ -3,7 +3,7 @@ ghost use Rattle.std.specs.Prelude.{◌≡◌, ◌^◌, ◌<◌, false, true, le
 ghost use Rattle.der_segments.specs.Contents.{IsContents};
 
 mod access;
-mod der;
+mod decode;
 mod described;
 mod written;
 
