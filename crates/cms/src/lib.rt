@@ -5,7 +5,9 @@
 //! contents and attributes.
 //!
 //! Decoding checks the form alone: no signature, code or digest is verified, and nothing is decrypted
-//! or decompressed. It reads DER; a message that a program wrote with indefinite lengths is refused.
+//! or decompressed. Under the Basic Encoding Rules (`from_ber`) each length may be indefinite, and a
+//! content may be in segments ([`Segmented`]); the items of lists must still be DER and in order, and
+//! encrypted contents in segments are refused.
 #![tactic(auto)]
 
 pub mod asn1;
