@@ -54,15 +54,15 @@ fn a_code_covers_some_attributes(rt: HostRuntime) {
         holds(&rt, false);
         return;
     };
-    let mut attributes = covered.0.iter(alloc);
+    let mut attributes = covered.0.items.iter(alloc);
     let (Some(first), Some(second)) = (attributes.next(), attributes.next()) else {
         holds(&rt, false);
         return;
     };
     holds(&rt, first.oid == id_message_digest());
     holds(&rt, second.oid == id_content_type());
-    same(&rt, others.0.iter(alloc).count(), 1);
-    for attribute in others.0.iter(alloc) {
+    same(&rt, others.0.items.iter(alloc).count(), 1);
+    for attribute in others.0.items.iter(alloc) {
         same_octets(&rt, attribute.oid.octets(), &[42, 3, 5]);
         same_octets(&rt, attribute.values.octets(), &[5, 0]);
     }

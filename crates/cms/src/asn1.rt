@@ -3,6 +3,7 @@
 //! The types of the module.
 
 mod accuracy;
+mod auth_attributes;
 mod auth_enveloped_data;
 mod auth_enveloped_data_part1;
 mod auth_enveloped_data_part2;
@@ -91,6 +92,7 @@ mod tst_info_part5;
 pub mod values;
 
 pub use accuracy::{Accuracy, AccuracyFields};
+pub use auth_attributes::AuthAttributes;
 pub use auth_enveloped_data::{AuthEnvelopedData, AuthEnvelopedDataFields};
 pub use authenticated_data::{AuthenticatedData, AuthenticatedDataFields};
 pub use certificate_choices::CertificateChoices;

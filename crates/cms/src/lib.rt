@@ -16,14 +16,14 @@ mod sha256_default;
 mod signed_attributes;
 
 pub use asn1::{
-    Accuracy, AccuracyFields, AuthEnvelopedData, AuthEnvelopedDataFields, AuthenticatedData,
-    AuthenticatedDataFields, CertificateChoices, CertificateSet, CmsVersion, CompressedData,
-    CompressedDataFields, ContentInfo, ContentInfoFields, ContentType, Countersignature,
-    DigestedData, DigestedDataFields, EncapsulatedContentInfo, EncapsulatedContentInfoFields,
-    EncryptedContentInfo, EncryptedContentInfoFields, EncryptedData, EncryptedDataFields,
-    EnvelopedData, EnvelopedDataFields, EssCertId, EssCertIdFields, GeneralNameTagged,
-    GeneralNameTaggedFields, IssuerAndSerialNumber, IssuerAndSerialNumberFields, IssuerSerial,
-    IssuerSerialFields, KekIdentifier, KekIdentifierFields, KekRecipientInfo,
+    Accuracy, AccuracyFields, AuthAttributes, AuthEnvelopedData, AuthEnvelopedDataFields,
+    AuthenticatedData, AuthenticatedDataFields, CertificateChoices, CertificateSet, CmsVersion,
+    CompressedData, CompressedDataFields, ContentInfo, ContentInfoFields, ContentType,
+    Countersignature, DigestedData, DigestedDataFields, EncapsulatedContentInfo,
+    EncapsulatedContentInfoFields, EncryptedContentInfo, EncryptedContentInfoFields, EncryptedData,
+    EncryptedDataFields, EnvelopedData, EnvelopedDataFields, EssCertId, EssCertIdFields,
+    GeneralNameTagged, GeneralNameTaggedFields, IssuerAndSerialNumber, IssuerAndSerialNumberFields,
+    IssuerSerial, IssuerSerialFields, KekIdentifier, KekIdentifierFields, KekRecipientInfo,
     KekRecipientInfoFields, KeyAgreeRecipientIdentifier, KeyAgreeRecipientIdentifierAlternatives,
     KeyAgreeRecipientInfo, KeyAgreeRecipientInfoFields, KeyTransRecipientInfo,
     KeyTransRecipientInfoFields, MessageDigest, MessageImprint, MessageImprintFields,

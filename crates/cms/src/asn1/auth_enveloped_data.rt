@@ -7,6 +7,7 @@ ghost use Rattle.der.specs.Prelude.{map_ok};
 ghost use Rattle.der_asn1.specs.Item.{decodes_same};
 ghost use Rattle.der_asn1.specs.Meaning.{alternative, field, optional, seen, sequence, sequence_is_item, sequence_item, two_fields};
 
+use crate::asn1::auth_attributes::AuthAttributes;
 use crate::asn1::auth_enveloped_data_part1::{
     AuthEnvelopedDataPart1, AuthEnvelopedDataPart1Fields,
 };
@@ -25,7 +26,6 @@ use der_asn1::{
     BorrowedItem, DecodeItem, Described, Implicit, Item, Nestable, OctetStringRef, Optional,
 };
 use std::alloc::Global;
-use x509::Attributes;
 
 /// A content that is encrypted and authenticated for recipients (RFC 5083, 2.1), borrowed from the
 /// input. Nothing is decrypted.
@@ -41,11 +41,11 @@ pub struct AuthEnvelopedData<'a> {
     pub auth_encrypted_content_info: EncryptedContentInfo<'a>,
     /// The attributes that the code covers, if present. Here they have the tag 1, and the code
     /// covers them with the tag of a SET OF.
-    pub auth_attrs: Optional<Implicit<Attributes<'a>, 1>>,
+    pub auth_attrs: Optional<Implicit<AuthAttributes<'a>, 1>>,
     /// The octets of the message authentication code.
     pub mac: OctetStringRef<'a>,
     /// The attributes that the code does not cover, if present.
-    pub unauth_attrs: Optional<Implicit<Attributes<'a>, 2>>,
+    pub unauth_attrs: Optional<Implicit<AuthAttributes<'a>, 2>>,
 }
 
 /// The fields of a [`AuthEnvelopedData`] in pairs, in the order in which they are encoded.
@@ -88,9 +88,10 @@ impl<'a> Sequence for AuthEnvelopedData<'a> {
         (two_fields (field (alternative ⟦<RecipientInfos<'a> as Described>⟧.element)) (field
         (alternative ⟦<EncryptedContentInfo<'a> as Described>⟧.element))))) (seen
         ⟦<AuthEnvelopedDataPart2<'a> as FromFields<AuthEnvelopedDataPart2Fields<'a>>>⟧.fields
-        (two_fields (optional (alternative ⟦<Implicit<Attributes<'a>, 1> as Described>⟧.element))
-        (two_fields (field (alternative ⟦<OctetStringRef<'a> as Described>⟧.element)) (optional
-        (alternative ⟦<Implicit<Attributes<'a>, 2> as Described>⟧.element))))))
+        (two_fields (optional (alternative
+        ⟦<Implicit<AuthAttributes<'a>, 1> as Described>⟧.element)) (two_fields (field (alternative
+        ⟦<OctetStringRef<'a> as Described>⟧.element)) (optional (alternative
+        ⟦<Implicit<AuthAttributes<'a>, 2> as Described>⟧.element))))))
         ⟦<AuthEnvelopedData<'a> as FromFields<(AuthEnvelopedDataPart1<'a>, AuthEnvelopedDataPart2<'a>)>>⟧.fields };
 
     ghost fits = { (refl, refl) };
@@ -119,11 +120,11 @@ impl<'a, R: Reader<Borrowed = &'a [u8]>> DecodeValue<R> for AuthEnvelopedData<'a
         <RecipientInfos<'a> as DecodeValue<R>>::is_value(&self.recipient_infos);
         <EncryptedContentInfo<'a> as DecodeValue<R>>::is_value(&self.auth_encrypted_content_info);
         if let Some(value) = &self.auth_attrs.0 {
-            <Implicit<Attributes<'a>, 1> as DecodeValue<R>>::is_value(value);
+            <Implicit<AuthAttributes<'a>, 1> as DecodeValue<R>>::is_value(value);
         }
         <OctetStringRef<'a> as DecodeValue<R>>::is_value(&self.mac);
         if let Some(value) = &self.unauth_attrs.0 {
-            <Implicit<Attributes<'a>, 2> as DecodeValue<R>>::is_value(value);
+            <Implicit<AuthAttributes<'a>, 2> as DecodeValue<R>>::is_value(value);
         }
     }
 }

@@ -4,23 +4,26 @@
 ghost use Rattle.std.specs.Prelude.{false};
 ghost use Rattle.der.specs.Prelude.{map_ok};
 
+use crate::asn1::auth_attributes::AuthAttributes;
 use der::{Decode, Error, FromFields, Reader, SliceReader, decode_fields};
 use der_asn1::{Implicit, OctetStringRef, Optional};
 use std::alloc::Global;
-use x509::Attributes;
 
 // Some fields of a AuthEnvelopedData.
 #[derive(Drop)]
 pub(crate) struct AuthEnvelopedDataPart2<'a> {
-    pub(crate) auth_attrs: Optional<Implicit<Attributes<'a>, 1>>,
+    pub(crate) auth_attrs: Optional<Implicit<AuthAttributes<'a>, 1>>,
     pub(crate) mac: OctetStringRef<'a>,
-    pub(crate) unauth_attrs: Optional<Implicit<Attributes<'a>, 2>>,
+    pub(crate) unauth_attrs: Optional<Implicit<AuthAttributes<'a>, 2>>,
 }
 
 // The fields in pairs, in the order in which they are encoded.
 pub(crate) type AuthEnvelopedDataPart2Fields<'a> = (
-    Optional<Implicit<Attributes<'a>, 1>>,
-    (OctetStringRef<'a>, Optional<Implicit<Attributes<'a>, 2>>),
+    Optional<Implicit<AuthAttributes<'a>, 1>>,
+    (
+        OctetStringRef<'a>,
+        Optional<Implicit<AuthAttributes<'a>, 2>>,
+    ),
 );
 
 impl<'a> FromFields<AuthEnvelopedDataPart2Fields<'a>> for AuthEnvelopedDataPart2<'a> {

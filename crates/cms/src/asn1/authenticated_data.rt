@@ -7,6 +7,7 @@ ghost use Rattle.der.specs.Prelude.{map_ok};
 ghost use Rattle.der_asn1.specs.Item.{decodes_same};
 ghost use Rattle.der_asn1.specs.Meaning.{alternative, field, optional, seen, sequence, sequence_is_item, sequence_item, two_fields};
 
+use crate::asn1::auth_attributes::AuthAttributes;
 use crate::asn1::authenticated_data_part1::{AuthenticatedDataPart1, AuthenticatedDataPart1Fields};
 use crate::asn1::authenticated_data_part2::{AuthenticatedDataPart2, AuthenticatedDataPart2Fields};
 use crate::asn1::authenticated_data_part3::{AuthenticatedDataPart3, AuthenticatedDataPart3Fields};
@@ -23,7 +24,6 @@ use der_asn1::{
 };
 use spki::AlgorithmIdentifierRef;
 use std::alloc::Global;
-use x509::Attributes;
 
 /// A content with a message authentication code for recipients (RFC 5652, 9.1), borrowed from the
 /// input.
@@ -44,11 +44,11 @@ pub struct AuthenticatedData<'a> {
     pub encap_content_info: EncapsulatedContentInfo<'a>,
     /// The attributes that the code covers, if present. Here they have the tag 2, and the code
     /// covers them with the tag of a SET OF.
-    pub auth_attrs: Optional<Implicit<Attributes<'a>, 2>>,
+    pub auth_attrs: Optional<Implicit<AuthAttributes<'a>, 2>>,
     /// The octets of the code.
     pub mac: OctetStringRef<'a>,
     /// The attributes that the code does not cover, if present.
-    pub unauth_attrs: Optional<Implicit<Attributes<'a>, 3>>,
+    pub unauth_attrs: Optional<Implicit<AuthAttributes<'a>, 3>>,
 }
 
 /// The fields of a [`AuthenticatedData`] in pairs, in the order in which they are encoded.
@@ -115,9 +115,10 @@ impl<'a> Sequence for AuthenticatedData<'a> {
         ⟦<Implicit<AlgorithmIdentifierRef<'a>, 1> as Described>⟧.element)) (field (alternative
         ⟦<EncapsulatedContentInfo<'a> as Described>⟧.element))))) (seen
         ⟦<AuthenticatedDataPart3<'a> as FromFields<AuthenticatedDataPart3Fields<'a>>>⟧.fields
-        (two_fields (optional (alternative ⟦<Implicit<Attributes<'a>, 2> as Described>⟧.element))
-        (two_fields (field (alternative ⟦<OctetStringRef<'a> as Described>⟧.element)) (optional
-        (alternative ⟦<Implicit<Attributes<'a>, 3> as Described>⟧.element)))))))
+        (two_fields (optional (alternative
+        ⟦<Implicit<AuthAttributes<'a>, 2> as Described>⟧.element)) (two_fields (field (alternative
+        ⟦<OctetStringRef<'a> as Described>⟧.element)) (optional (alternative
+        ⟦<Implicit<AuthAttributes<'a>, 3> as Described>⟧.element)))))))
         ⟦<AuthenticatedData<'a> as FromFields<(AuthenticatedDataPart1<'a>,
         (AuthenticatedDataPart2<'a>, AuthenticatedDataPart3<'a>))>>⟧.fields };
 
@@ -157,11 +158,11 @@ impl<'a, R: Reader<Borrowed = &'a [u8]>> DecodeValue<R> for AuthenticatedData<'a
         }
         <EncapsulatedContentInfo<'a> as DecodeValue<R>>::is_value(&self.encap_content_info);
         if let Some(value) = &self.auth_attrs.0 {
-            <Implicit<Attributes<'a>, 2> as DecodeValue<R>>::is_value(value);
+            <Implicit<AuthAttributes<'a>, 2> as DecodeValue<R>>::is_value(value);
         }
         <OctetStringRef<'a> as DecodeValue<R>>::is_value(&self.mac);
         if let Some(value) = &self.unauth_attrs.0 {
-            <Implicit<Attributes<'a>, 3> as DecodeValue<R>>::is_value(value);
+            <Implicit<AuthAttributes<'a>, 3> as DecodeValue<R>>::is_value(value);
         }
     }
 }

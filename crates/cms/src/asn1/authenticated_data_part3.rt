@@ -4,23 +4,26 @@
 ghost use Rattle.std.specs.Prelude.{false};
 ghost use Rattle.der.specs.Prelude.{map_ok};
 
+use crate::asn1::auth_attributes::AuthAttributes;
 use der::{Decode, Error, FromFields, Reader, SliceReader, decode_fields};
 use der_asn1::{Implicit, OctetStringRef, Optional};
 use std::alloc::Global;
-use x509::Attributes;
 
 // Some fields of a AuthenticatedData.
 #[derive(Drop)]
 pub(crate) struct AuthenticatedDataPart3<'a> {
-    pub(crate) auth_attrs: Optional<Implicit<Attributes<'a>, 2>>,
+    pub(crate) auth_attrs: Optional<Implicit<AuthAttributes<'a>, 2>>,
     pub(crate) mac: OctetStringRef<'a>,
-    pub(crate) unauth_attrs: Optional<Implicit<Attributes<'a>, 3>>,
+    pub(crate) unauth_attrs: Optional<Implicit<AuthAttributes<'a>, 3>>,
 }
 
 // The fields in pairs, in the order in which they are encoded.
 pub(crate) type AuthenticatedDataPart3Fields<'a> = (
-    Optional<Implicit<Attributes<'a>, 2>>,
-    (OctetStringRef<'a>, Optional<Implicit<Attributes<'a>, 3>>),
+    Optional<Implicit<AuthAttributes<'a>, 2>>,
+    (
+        OctetStringRef<'a>,
+        Optional<Implicit<AuthAttributes<'a>, 3>>,
+    ),
 );
 
 impl<'a> FromFields<AuthenticatedDataPart3Fields<'a>> for AuthenticatedDataPart3<'a> {

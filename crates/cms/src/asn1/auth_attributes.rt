@@ -1,0 +1,124 @@
+//! Written by asn1_compile from the module CMS: change the module instead.
+//!
+//! AuthAttributes.
+ghost use Rattle.std.specs.Prelude.{◌≡◌, false};
+ghost use Rattle.std.proofs.Common.{arith, refl};
+ghost use Rattle.der.specs.Prelude.{Set, map_ok};
+ghost use Rattle.der_asn1.specs.Item.{decodes_same};
+ghost use Rattle.der_asn1.specs.Meaning.{renamed, sequence_is_item, sequence_item};
+
+use der::{
+    DecodeValue, EncodeValue, Error, FixedTag, FromFields, Header, Lawful, Length, ReadValue,
+    Reader, SliceReader, Tag, Writer, WrittenValue, decode_wrapped,
+};
+use der_asn1::{BorrowedItem, DecodeItem, Described, Item, Nestable, SetOf};
+use std::alloc::Global;
+use x509::Attribute;
+
+/// Attributes beside a message authentication code (RFC 5652, 9.1), in ascending order of their
+/// encodings.
+#[derive(Clone, Copy, Drop)]
+pub struct AuthAttributes<'a> {
+    /// The list: a SET OF its items.
+    pub items: SetOf<'a, Attribute<'a>>,
+}
+
+// The list of which the value consists.
+type Items<'a> = SetOf<'a, Attribute<'a>>;
+
+impl<'a> FromFields<Items<'a>> for AuthAttributes<'a> {
+    ghost fields = { λ v. v.items };
+
+    fn from_fields(items: Items<'a>) -> Self {
+        AuthAttributes { items }
+    }
+}
+
+impl<'a> Described for AuthAttributes<'a> {
+    ghost element = { renamed ⟦<Items<'a> as Described>⟧.element (λ v. v.items) };
+}
+
+impl<'a> FixedTag for AuthAttributes<'a> {
+    ghost tag_is = { Set };
+
+    const TAG: Tag = Tag::Set;
+
+    fn fixed_tag() -> Tag
+        ensures { result ≡ Set }
+    {
+        Tag::Set
+    }
+}
+
+impl<'a> ReadValue for AuthAttributes<'a> {
+    ghost valid = { ⟦<AuthAttributes<'a> as Described>⟧.element.valid };
+
+    ghost takes = { ⟦<AuthAttributes<'a> as Described>⟧.element.takes };
+
+    ghost value_levels = { ⟦<AuthAttributes<'a> as Described>⟧.element.levels };
+
+    ghost allocates = { false };
+
+    ghost takes_valid = { ⟦<AuthAttributes<'a> as Described>⟧.element.holds refl };
+}
+
+impl<'a> WrittenValue for AuthAttributes<'a> {
+    ghost contents = { ⟦<AuthAttributes<'a> as Described>⟧.element.contents };
+
+    ghost writable = { ⟦<AuthAttributes<'a> as Described>⟧.element.valid };
+}
+
+impl<'a> Lawful for AuthAttributes<'a> {
+    ghost lawful = { ⟦<AuthAttributes<'a> as Described>⟧.element.lawful refl };
+}
+
+/// Decodes the list, with the errors of [`SetOf`].
+impl<'a, R: Reader<Borrowed = &'a [u8]>> DecodeValue<R> for AuthAttributes<'a> {
+    type Error = Error;
+
+    ghost decode_value_answers = { λ h s result t.
+        ⟦<Items<'a> as DecodeValue<SliceReader<'a>>>⟧.decode_value_answers h s
+        (map_ok (λ v. v.items) result) t };
+
+    fn decode_value(alloc: Global, reader: &mut R, header: Header) -> Result<Self, Error> {
+        decode_wrapped::<R, Items<'a>, Self>(alloc, reader, header)
+    }
+
+    fn is_value(&self) {
+        <Items<'a> as DecodeValue<R>>::is_value(&self.items);
+    }
+}
+
+/// Writes the list, with the errors of [`SetOf`].
+impl<'a> EncodeValue for AuthAttributes<'a> {
+    ghost value_size = { λ v. ⟦<Items<'a> as EncodeValue>⟧.value_size v.items };
+
+    ghost encode_value_answers = { λ v. ⟦<Items<'a> as EncodeValue>⟧.encode_value_answers v.items };
+
+    fn value_len(&self) -> Result<Length, Error> {
+        self.items.value_len()
+    }
+
+    fn encode_value<W: Writer>(&self, writer: &mut W) -> Result<(), Error> {
+        self.items.encode_value(writer)
+    }
+}
+
+impl<'a> Item for AuthAttributes<'a> {
+    ghost item = { sequence_item ⟦<AuthAttributes<'a> as Described>⟧.element };
+}
+
+impl<'a, R: Reader<Borrowed = &'a [u8]>> DecodeItem<R> for AuthAttributes<'a> {
+    ghost is_item = { sequence_is_item ⟦<AuthAttributes<'a> as Described>⟧.element refl };
+
+    ghost decodes_items = { decodes_same (sequence_item
+        ⟦<AuthAttributes<'a> as Described>⟧.element) };
+}
+
+impl<'a> BorrowedItem for AuthAttributes<'a> {
+    ghost borrowed = { refl };
+}
+
+impl<'a> Nestable for AuthAttributes<'a> {
+    ghost nestable = { Prim.omega arith };
+}
