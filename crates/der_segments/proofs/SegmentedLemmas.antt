@@ -86,3 +86,7 @@ pub same_left : {a b : Bool} {x y : List ℕ} (l : ∥ HasPieces a x ∥₁) (k 
 same_left {a} {b} {x} {y} l k form same =
     ∥∥₁_elim (pieces_in k).1 (pieces_prop (pieces_in l).0 (pieces_in k).0)
     (λ p. pieces_in_are l (subst (λ c. ArePieces c x (pieces_in k).0) (sym form) (subst (λ z. ArePieces b z (pieces_in k).0) (sym same) p)))
+
+pub contents_pieces_are : {constructed : Bool} {octets : List ℕ} {count : ℕ} (t : ∥ IsContents constructed octets count ∥₁) → ∥ ArePieces constructed octets (contents_pieces t) ∥₁
+unfolding contents_have_pieces
+contents_pieces_are t = (pieces_in (contents_have_pieces t)).1

@@ -1,4 +1,5 @@
-//! An OCTET STRING that is borrowed from the input, also where BER gives it in segments (X.690 8.7).
+//! An OCTET STRING (X.690 8.7) that is borrowed from the input, also where BER gives it in segments.
+//! Nothing is allocated: a message in segments needs no second copy.
 #![tactic(auto)]
 
 mod measure;

@@ -3,15 +3,16 @@ ghost use Rattle.std.specs.Prelude.{◌≡◌, ◌^◌, ◌<◌, false, true, le
 ghost use Rattle.der_segments.specs.Contents.{IsContents};
 
 mod access;
-mod decode;
 mod described;
+mod reading;
 mod written;
 
 use std::alloc::AllocError;
 
-/// An OCTET STRING (X.690 8.7) that is borrowed from the input. Under the Basic Encoding Rules it may
-/// be in segments, which may themselves be in segments. Decoding checks the segments and copies
-/// nothing; an octet string in segments can therefore be as long as the input.
+/// An OCTET STRING (X.690 8.7) that is borrowed from the input. Under the Basic Encoding Rules it
+/// may be in segments, which may themselves be in segments, up to 63 levels deep. Decoding checks
+/// the segments and copies nothing. The tag of a value is always OCTET STRING: in segments, its
+/// identifier octet is `0x24`. An IMPLICIT tag is therefore read in the primitive form alone.
 pub struct Segmented<'a> {
     octets: &'a [u8],
     constructed: bool,

@@ -13,8 +13,8 @@ impl<'a> WrittenValue for Segmented<'a> {
     ghost writable = { λ v. IsCounted (segmented_octets v) };
 }
 
-/// Writes the joined octets as the contents of a primitive encoding, with one write for each primitive
-/// segment.
+/// Writes the joined octets as the contents of a primitive encoding, with one write for each
+/// primitive segment.
 ///
 /// # Errors
 ///

@@ -37,17 +37,17 @@ impl<'a> ReadValue for Segmented<'a> {
 
 /// Borrows the contents from the input. If the header is constructed and the reader's rules are the
 /// Basic Encoding Rules, all octets up to the reader's end must be segments: elements with the tag
-/// OCTET STRING, which may themselves consist of segments. Under the Distinguished Encoding Rules, a
-/// constructed header is an error.
+/// OCTET STRING, which may themselves consist of segments. Under the Distinguished Encoding Rules,
+/// a constructed header is an error.
 ///
 /// # Errors
 ///
 /// - After a primitive header, the errors of [`Reader::read_slice`].
 /// - After a constructed header, under the Distinguished Encoding Rules, `Noncanonical` with the
 ///   header's tag, at the last octet of the header; the reader is unchanged.
-/// - After a constructed header, under the Basic Encoding Rules, `Failed` at the reader's position, if
-///   the reader had already failed, and the errors of [`read_constructed_vec`](der::read_constructed_vec)
-///   for the segments. None of these is `OutOfMemory`.
+/// - After a constructed header, under the Basic Encoding Rules, `Failed` at the reader's position,
+///   if the reader had already failed; otherwise the errors of a segment, as by
+///   [`read_constructed_vec`](der::read_constructed_vec), but never `OutOfMemory`.
 impl<'a, R: Reader<Borrowed = &'a [u8]>> DecodeValue<R> for Segmented<'a> {
     type Error = Error;
 

@@ -5,7 +5,7 @@ use Rattle.der.proofs.PartsLemmas.{parts_taken}
 use Rattle.der.specs.Parts.{HasSegments}
 use Rattle.der.specs.Prelude.{head_of}
 use Rattle.der_segments.proofs.SegmentedLemmas.{measured_contents, octets_counted, primitive_read, segments_read, segments_accepted}
-use Rattle.der_segments.proofs.segmented.decode.SegmentedDecodeValue.decode_value.Goals as goal
+use Rattle.der_segments.proofs.segmented.reading.SegmentedDecodeValue.decode_value.Goals as goal
 
 pub returns-then-not-is_constructed-clause-sound : goal.returns-then-not-is_constructed-clause-sound
 returns-then-not-is_constructed-clause-sound g c is_next ended =
