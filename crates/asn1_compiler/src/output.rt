@@ -79,14 +79,23 @@ pub fn read_external<'a>(
         let expected = "a module that no --with option in front gives";
         return Err(Failure::Refused(Refusal::of(module.name, expected)));
     }
-    let names = names_of(alloc, &module)?;
-    let types = types_in_order(alloc, &module, &checks.order, &names)?;
+    summary_of(alloc, &module, &checks, krate)
+}
+
+fn summary_of<'a>(
+    alloc: Global,
+    module: &Module<'a>,
+    checks: &Checks,
+    krate: &str,
+) -> Result<External<'a>, Failure<'a>> {
+    let names = names_of(alloc, module)?;
+    let types = types_in_order(alloc, module, &checks.order, &names)?;
     let written = Written {
-        module: &module,
+        module,
         names: &names,
         types: &types,
     };
-    external_of(alloc, &written, &checks, krate)
+    Ok(external_of(alloc, &written, checks, krate)?)
 }
 
 fn is_given(externals: &Vec<External<'_>>, name: &str) -> bool {
