@@ -16,7 +16,7 @@ use crate::tag_set::TagSet;
 pub use components::are_numbered;
 pub use names::{find_type, has_value};
 use std::alloc::Global;
-pub use tags::has_no_tag;
+pub use tags::{copy_at, has_no_tag};
 
 /// What the checks of a module find.
 #[derive(Drop)]

@@ -26,11 +26,7 @@ impl Constant {
             Constant::Negative(number) => Ok(Constant::Negative(*number)),
             Constant::Boolean(is_true) => Ok(Constant::Boolean(*is_true)),
             Constant::ObjectIdentifier(arcs) => {
-                let mut copy = Vec::new(alloc);
-                for arc in arcs.iter() {
-                    copy.push(*arc)?;
-                }
-                Ok(Constant::ObjectIdentifier(copy))
+                Ok(Constant::ObjectIdentifier(copy_of(alloc, arcs)?))
             }
             Constant::Other => Ok(Constant::Other),
         }
@@ -46,6 +42,15 @@ impl Constant {
     }
 }
 
+/// The same arcs.
+pub fn copy_of(alloc: Global, arcs: &Vec<u64>) -> Result<Vec<u64>, AllocError> {
+    let mut copy = Vec::new(alloc);
+    for arc in arcs.iter() {
+        copy.push(*arc)?;
+    }
+    Ok(copy)
+}
+
 /// A value with its name.
 #[derive(Drop)]
 pub struct NamedConstant<'a> {
@@ -55,7 +60,22 @@ pub struct NamedConstant<'a> {
     pub constant: Constant,
 }
 
+impl<'a> NamedConstant<'a> {
+    /// The same value.
+    pub fn copy(&self, alloc: Global) -> Result<Self, AllocError> {
+        Ok(NamedConstant {
+            name: self.name,
+            constant: self.constant.copy(alloc)?,
+        })
+    }
+}
+
 /// The index of the value with this name, if there is one.
 pub fn find_constant(constants: &Vec<NamedConstant<'_>>, name: &str) -> Option<usize> {
-    constants.iter().position(|named| named.name == name)
+    for (index, named) in constants.iter().enumerate() {
+        if named.name == name {
+            return Some(index);
+        }
+    }
+    None
 }

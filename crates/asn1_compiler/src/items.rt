@@ -54,10 +54,8 @@ pub fn items_of<'a>(alloc: Global, text: &'a str) -> Result<Vec<Item<'a>>, Failu
 }
 
 fn bad_item<'a>(text: &'a str, offset: usize) -> Refusal<'a> {
-    let found = text
-        .get(offset..)
-        .and_then(|rest| rest.get(..1))
-        .unwrap_or("this character");
+    let rest = text.get(offset..).unwrap_or("");
+    let found = rest.get(..1).unwrap_or("this character");
     let expected = match found {
         "\"" | "'" | "/" => NO_END,
         _ => NO_CHARACTER,

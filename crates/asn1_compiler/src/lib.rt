@@ -16,6 +16,7 @@ mod failure;
 mod item;
 mod item_kind;
 mod items;
+mod lines;
 mod link;
 mod module;
 mod named_number;

@@ -3,21 +3,25 @@
 mod abilities;
 mod alternatives;
 mod choice;
+mod choice_line;
 mod choice_part;
 mod defaults;
 mod directive;
 mod docs;
 mod enumeration;
 mod field;
+mod fields;
 mod file;
 mod imports;
 mod lists;
 mod naming;
+mod nest;
 mod numbers;
 mod oid_octets;
 mod part;
 mod piece;
 mod pieces;
+mod root;
 mod rust_names;
 mod rust_type;
 mod sequence;
@@ -35,9 +39,11 @@ use crate::link::link_module;
 use crate::module::Module;
 use crate::output::abilities::check_imported;
 use crate::output::alternatives::left_out;
-use crate::output::file::{file_of, library_of, proof_of, root_of};
+use crate::output::file::file_of;
 use crate::output::naming::names_of;
+use crate::output::piece::Piece;
 use crate::output::pieces::Written;
+use crate::output::root::{library_of, proof_of, root_of};
 use crate::output::summary::external_of;
 use crate::output::types::types_in_order;
 use crate::output::values::{values_file, values_name};
@@ -73,18 +79,32 @@ pub fn read_external<'a>(
         let expected = "a module that no --with option in front gives";
         return Err(Failure::Refused(Refusal::of(module.name, expected)));
     }
-    let names = names_of(alloc, &module)?;
-    let types = types_in_order(alloc, &module, &checks.order, &names)?;
+    summary_of(alloc, &module, &checks, krate)
+}
+
+fn summary_of<'a>(
+    alloc: Global,
+    module: &Module<'a>,
+    checks: &Checks,
+    krate: &str,
+) -> Result<External<'a>, Failure<'a>> {
+    let names = names_of(alloc, module)?;
+    let types = types_in_order(alloc, module, &checks.order, &names)?;
     let written = Written {
-        module: &module,
+        module,
         names: &names,
         types: &types,
     };
-    external_of(alloc, &written, &checks, krate)
+    Ok(external_of(alloc, &written, checks, krate)?)
 }
 
 fn is_given(externals: &Vec<External<'_>>, name: &str) -> bool {
-    externals.iter().any(|external| external.module == name)
+    for external in externals.iter() {
+        if external.module == name {
+            return true;
+        }
+    }
+    false
 }
 
 /// Compiles a module for the crate `krate`: the files to be written beneath its folder `src/`. It
@@ -96,29 +116,60 @@ pub fn compile<'a>(
     krate: &str,
 ) -> Result<Compiled<'a>, Failure<'a>> {
     let (module, checks) = checked_module(alloc, externals, text)?;
-    let names = names_of(alloc, &module)?;
-    let types = types_in_order(alloc, &module, &checks.order, &names)?;
-    check_imported(&module)?;
-    let written = Written {
-        module: &module,
-        names: &names,
-        types: &types,
-    };
-    let pieces = written.pieces(alloc)?;
-    let mut files = Vec::new(alloc);
-    files.push(library_of(alloc, &pieces)?)?;
-    let values = values_file(alloc, &module, &pieces)?;
-    let values_module = values.is_some().then_some(values_name(&pieces));
-    files.push(root_of(alloc, module.name.text, &pieces, values_module)?)?;
-    if let Some(file) = values {
-        files.push(file)?;
-    }
+    let files = files_of(alloc, &module, &checks, krate)?;
+    Ok(Compiled {
+        files,
+        left_out: left_out(alloc, &module)?,
+    })
+}
+
+fn files_of<'a>(
+    alloc: Global,
+    module: &Module<'a>,
+    checks: &Checks,
+    krate: &str,
+) -> Result<Vec<OutputFile>, Failure<'a>> {
+    let pieces = pieces_of(alloc, module, checks)?;
+    let mut files = vec![in alloc; library_of(alloc, &pieces)?]?;
+    add_root(alloc, &mut files, module, &pieces)?;
     for piece in pieces.iter() {
-        files.push(file_of(alloc, &module, krate, piece, &pieces)?)?;
+        files.push(file_of(alloc, module, krate, piece, &pieces)?)?;
         if !piece.proof.is_empty() {
             files.push(proof_of(alloc, krate, piece)?)?;
         }
     }
-    let left_out = left_out(alloc, &module)?;
-    Ok(Compiled { files, left_out })
+    Ok(files)
+}
+
+fn pieces_of<'a>(
+    alloc: Global,
+    module: &Module<'a>,
+    checks: &Checks,
+) -> Result<Vec<Piece>, Failure<'a>> {
+    let names = names_of(alloc, module)?;
+    let types = types_in_order(alloc, module, &checks.order, &names)?;
+    check_imported(module)?;
+    let written = Written {
+        module,
+        names: &names,
+        types: &types,
+    };
+    written.pieces(alloc)
+}
+
+// Adds the file that names all others, and that of the values if there is one.
+fn add_root<'a>(
+    alloc: Global,
+    files: &mut Vec<OutputFile>,
+    module: &Module<'a>,
+    pieces: &Vec<Piece>,
+) -> Result<(), Failure<'a>> {
+    let name = module.name.text;
+    match values_file(alloc, module, pieces)? {
+        Some(values) => {
+            files.push(root_of(alloc, name, pieces, Some(values_name(pieces)))?)?;
+            Ok(files.push(values)?)
+        }
+        None => Ok(files.push(root_of(alloc, name, pieces, None)?)?),
+    }
 }

@@ -15,7 +15,6 @@ use crate::refusal::Refusal;
 use crate::reserved::is_reserved;
 use crate::simple_type::SimpleType;
 use crate::type_node::TypeNode;
-use crate::value::Value;
 use std::alloc::Global;
 
 /// The greatest number of types around a type.
@@ -39,24 +38,7 @@ pub fn parse_module<'a>(alloc: Global, text: &'a str) -> Result<Module<'a>, Fail
         nodes: Vec::new(alloc),
     };
     let mut module = parser.head()?;
-    for _ in 0..text.len() {
-        if parser.takes("END") {
-            break;
-        }
-        let name = parser.next();
-        match name.kind {
-            ItemKind::UpperName => {
-                let of = parser.type_assigned(name)?;
-                module.types.push(TypeAssignment { name, of })?;
-            }
-            ItemKind::LowerName => {
-                let (of, value) = parser.value_assigned()?;
-                module.values.push(ValueAssignment { name, of, value })?;
-            }
-            _ => return Err(refused(name, "an assignment or END")),
-        }
-    }
-    parser.expect_end()?;
+    parser.assignments(&mut module)?;
     let Parser { nodes, .. } = parser;
     module.nodes = nodes;
     Ok(module)
@@ -123,6 +105,34 @@ impl<'a> Parser<'a> {
         Err(refused(item, expected))
     }
 
+    /// Parses assignments up to `END`, and the end of the file.
+    fn assignments(&mut self, module: &mut Module<'a>) -> Result<(), Failure<'a>> {
+        for _ in 0..self.items.len() {
+            if self.takes("END") {
+                break;
+            }
+            let name = self.next();
+            self.assignment(name, module)?;
+        }
+        self.expect_end()
+    }
+
+    /// Parses what follows the name of a type or of a value.
+    fn assignment(&mut self, name: Item<'a>, module: &mut Module<'a>) -> Result<(), Failure<'a>> {
+        match name.kind {
+            ItemKind::UpperName => {
+                let of = self.type_assigned(name)?;
+                module.types.push(TypeAssignment { name, of })?;
+            }
+            ItemKind::LowerName => {
+                let value = self.value_assigned(name)?;
+                module.values.push(value)?;
+            }
+            _ => return Err(refused(name, "an assignment or END")),
+        }
+        Ok(())
+    }
+
     fn expect_end(&mut self) -> Result<(), Failure<'a>> {
         match self.peek().kind {
             ItemKind::End => Ok(()),
@@ -143,13 +153,13 @@ impl<'a> Parser<'a> {
     }
 
     /// Parses what follows the name of a value.
-    fn value_assigned(&mut self) -> Result<(usize, Value<'a>), Failure<'a>> {
+    fn value_assigned(&mut self, name: Item<'a>) -> Result<ValueAssignment<'a>, Failure<'a>> {
         if self.peek().is("{") {
             return Err(refused(self.peek(), "no parameters, which are not supported"));
         }
         let of = self.type_at(MAX_DEPTH)?;
         self.expect("::=")?;
         let value = self.value()?;
-        Ok((of, value))
+        Ok(ValueAssignment { name, of, value })
     }
 }

@@ -6,7 +6,7 @@ use crate::external::External;
 use crate::failure::Failure;
 use crate::output::{OutputFile, compile, read_external};
 use crate::refusal::Refusal;
-use std::alloc::AllocError;
+use std::alloc::{AllocError, Global};
 use std::env::Args;
 use std::io::Write;
 use std::rt::Files;
@@ -78,21 +78,50 @@ fn run_with<'t, R: Files + AllocGlobal, W: Write>(
     };
     let mut externals: Vec<External<'t>> = Vec::new(rt.alloc());
     for (with, other) in command.with.iter().zip(others.iter()) {
-        match read_external(rt.alloc(), &externals, other.as_str(), with.krate) {
-            Ok(external) => {
-                if externals.push(external).is_err() {
-                    return say(OUT_OF_MEMORY, 1, out);
-                }
-            }
-            Err(failure) => return say_failure(rt, &failure, with.file, other.as_str(), out),
+        let other = other.as_str();
+        if let Err(failure) = add_external(rt.alloc(), &mut externals, other, with.krate) {
+            return say_failure(rt, &failure, with.file, other, out);
         }
     }
-    match compile(rt.alloc(), &externals, text.as_str(), command.crate_name()) {
-        Ok(compiled) => match write_files(rt, command.out, &compiled.files) {
-            Ok(()) => say_left_out(rt, &compiled, command.file, text.as_str(), out),
-            Err(_) => say("error: the files are not written\n", 1, out),
-        },
-        Err(failure) => say_failure(rt, &failure, command.file, text.as_str(), out),
+    run_compiler(rt, command, &externals, text.as_str(), out)
+}
+
+/// Reads a module that the crate `krate` holds, and adds it to those in front of it.
+fn add_external<'t>(
+    alloc: Global,
+    externals: &mut Vec<External<'t>>,
+    text: &'t str,
+    krate: &str,
+) -> Result<(), Failure<'t>> {
+    let external = read_external(alloc, externals, text, krate)?;
+    externals.push(external)?;
+    Ok(())
+}
+
+/// Compiles the module with this text, and writes its files.
+fn run_compiler<'t, R: Files + AllocGlobal, W: Write>(
+    rt: &R,
+    command: &CompileCommand<'_>,
+    externals: &Vec<External<'t>>,
+    text: &'t str,
+    out: &mut W,
+) -> u8 {
+    match compile(rt.alloc(), externals, text, command.crate_name()) {
+        Ok(compiled) => write_compiled(rt, command, &compiled, text, out),
+        Err(failure) => say_failure(rt, &failure, command.file, text, out),
+    }
+}
+
+fn write_compiled<R: Files + AllocGlobal, W: Write>(
+    rt: &R,
+    command: &CompileCommand<'_>,
+    compiled: &Compiled<'_>,
+    text: &str,
+    out: &mut W,
+) -> u8 {
+    match write_files(rt, command.out, &compiled.files) {
+        Ok(()) => say_left_out(rt, compiled, command.file, text, out),
+        Err(_) => say("error: the files are not written\n", 1, out),
     }
 }
 
@@ -104,17 +133,26 @@ fn say_left_out<R: AllocGlobal, W: Write>(
     text: &str,
     out: &mut W,
 ) -> u8 {
-    let mut lines = String::new(rt.alloc());
+    match warnings_of(rt.alloc(), compiled, name, text) {
+        Ok(lines) => say(lines.as_str(), 0, out),
+        Err(_) => say(OUT_OF_MEMORY, 1, out),
+    }
+}
+
+fn warnings_of(
+    alloc: Global,
+    compiled: &Compiled<'_>,
+    name: &str,
+    text: &str,
+) -> Result<String, AllocError> {
+    let mut lines = String::new(alloc);
     for left_out in compiled.left_out.iter() {
         let expected = "a type that the library knows; this alternative is left out";
-        let Ok(line) = Refusal::of(*left_out, expected).line(rt.alloc(), name, text) else {
-            return say(OUT_OF_MEMORY, 1, out);
-        };
-        if lines.push_str("warning: ").is_err() || lines.push_str(line.as_str()).is_err() {
-            return say(OUT_OF_MEMORY, 1, out);
-        }
+        let line = Refusal::of(*left_out, expected).line(alloc, name, text)?;
+        lines.push_str("warning: ")?;
+        lines.push_str(line.as_str())?;
     }
-    say(lines.as_str(), 0, out)
+    Ok(lines)
 }
 
 /// Prints why the module in the file `name` is refused.
@@ -142,18 +180,27 @@ fn write_files<R: Files + AllocGlobal>(
     folder: &str,
     files: &Vec<OutputFile>,
 ) -> io::Result<()> {
-    let library = format!(in rt.alloc(); "{folder}/src/lib.rt")?;
-    let has_library = fs::exists(rt, library.as_str())?;
-    for part in ["src", "specs"] {
-        let own = format!(in rt.alloc(); "{folder}/{part}/asn1")?;
-        if fs::exists(rt, own.as_str())? {
-            fs::remove_dir_all(rt, own.as_str())?;
-        }
-    }
+    let has_library = has_library(rt, folder)?;
+    remove_own(rt, folder, "src")?;
+    remove_own(rt, folder, "specs")?;
     for file in files.iter() {
         if file.path.as_str() != "src/lib.rt" || !has_library {
             write_file(rt, folder, file)?;
         }
+    }
+    Ok(())
+}
+
+fn has_library<R: Files + AllocGlobal>(rt: &R, folder: &str) -> io::Result<bool> {
+    let library = format!(in rt.alloc(); "{folder}/src/lib.rt")?;
+    fs::exists(rt, library.as_str())
+}
+
+/// Removes what the compiler owns in this part of a crate, if it is there.
+fn remove_own<R: Files + AllocGlobal>(rt: &R, folder: &str, part: &str) -> io::Result<()> {
+    let own = format!(in rt.alloc(); "{folder}/{part}/asn1")?;
+    if fs::exists(rt, own.as_str())? {
+        return fs::remove_dir_all(rt, own.as_str());
     }
     Ok(())
 }

@@ -1,67 +1,68 @@
 //! Reserved words.
 
+use crate::lines::is_line_of;
+
+const RESERVED: &str = "ABSENT
+ALL
+APPLICATION
+AUTOMATIC
+BEGIN
+BIT
+BY
+CHARACTER
+CHOICE
+CLASS
+COMPONENT
+COMPONENTS
+CONSTRAINED
+CONTAINING
+DEFAULT
+DEFINITIONS
+EMBEDDED
+ENCODED
+END
+ENUMERATED
+EXCEPT
+EXPLICIT
+EXPORTS
+EXTENSIBILITY
+EXTERNAL
+FALSE
+FROM
+IDENTIFIER
+IMPLICIT
+IMPLIED
+IMPORTS
+INCLUDES
+INSTANCE
+INTEGER
+INTERSECTION
+MAX
+MIN
+OBJECT
+OCTET
+OF
+OPTIONAL
+PATTERN
+PDV
+PRESENT
+PRIVATE
+RELATIVE-OID
+SEQUENCE
+SET
+SIZE
+STRING
+SYNTAX
+TAGS
+TRUE
+UNION
+UNIQUE
+UNIVERSAL
+WITH
+ANY
+DEFINED";
+
 /// Whether a word is reserved by the notation (X.680, 12.38), and the name of no built-in type.
 pub fn is_reserved(word: &str) -> bool {
-    matches!(
-        word,
-        "ABSENT"
-            | "ALL"
-            | "APPLICATION"
-            | "AUTOMATIC"
-            | "BEGIN"
-            | "BIT"
-            | "BY"
-            | "CHARACTER"
-            | "CHOICE"
-            | "CLASS"
-            | "COMPONENT"
-            | "COMPONENTS"
-            | "CONSTRAINED"
-            | "CONTAINING"
-            | "DEFAULT"
-            | "DEFINITIONS"
-            | "EMBEDDED"
-            | "ENCODED"
-            | "END"
-            | "ENUMERATED"
-            | "EXCEPT"
-            | "EXPLICIT"
-            | "EXPORTS"
-            | "EXTENSIBILITY"
-            | "EXTERNAL"
-            | "FALSE"
-            | "FROM"
-            | "IDENTIFIER"
-            | "IMPLICIT"
-            | "IMPLIED"
-            | "IMPORTS"
-            | "INCLUDES"
-            | "INSTANCE"
-            | "INTEGER"
-            | "INTERSECTION"
-            | "MAX"
-            | "MIN"
-            | "OBJECT"
-            | "OCTET"
-            | "OF"
-            | "OPTIONAL"
-            | "PATTERN"
-            | "PDV"
-            | "PRESENT"
-            | "PRIVATE"
-            | "RELATIVE-OID"
-            | "SEQUENCE"
-            | "SET"
-            | "SIZE"
-            | "STRING"
-            | "SYNTAX"
-            | "TAGS"
-            | "TRUE"
-            | "UNION"
-            | "UNIQUE"
-            | "UNIVERSAL"
-            | "WITH"
-            | "ANY"
-            | "DEFINED"
-    )
+    is_line_of(RESERVED, word)
 }

@@ -82,9 +82,12 @@ pub fn are_numbered(module: &Module<'_>, components: &Vec<Component<'_>>) -> boo
     if module.tags != TagDefault::Automatic {
         return false;
     }
-    components
-        .iter()
-        .all(|component| !is_tagged(module, component.of))
+    for component in components.iter() {
+        if is_tagged(module, component.of) {
+            return false;
+        }
+    }
+    true
 }
 
 fn is_tagged(module: &Module<'_>, index: usize) -> bool {

@@ -20,15 +20,22 @@ pub fn find_type(module: &Module<'_>, name: &str) -> Option<usize> {
 
 /// Whether the module defines a value with this name.
 pub fn has_value(module: &Module<'_>, name: &str) -> bool {
-    module
-        .values
-        .iter()
-        .any(|assigned| assigned.name.text == name)
+    for assigned in module.values.iter() {
+        if assigned.name.text == name {
+            return true;
+        }
+    }
+    false
 }
 
 /// Whether the module imports this name.
 pub fn is_imported(module: &Module<'_>, name: &str) -> bool {
-    module.imports.iter().any(|import| import.name.text == name)
+    for import in module.imports.iter() {
+        if import.name.text == name {
+            return true;
+        }
+    }
+    false
 }
 
 /// Checks that each name is defined once, and that each name that is used is defined.
@@ -44,31 +51,41 @@ pub fn check_names<'a>(module: &Module<'a>) -> Result<(), Refusal<'a>> {
 fn check_types<'a>(module: &Module<'a>) -> Result<(), Refusal<'a>> {
     for (count, assigned) in module.types.iter().enumerate() {
         let name = assigned.name;
-        let before = module
-            .types
-            .iter()
-            .take(count)
-            .any(|other| other.name.text == name.text);
-        if before || is_imported(module, name.text) {
+        if has_type_before(module, count, name.text) || is_imported(module, name.text) {
             return Err(Refusal::of(name, "a name that no other type has"));
         }
     }
     Ok(())
 }
 
+// Whether one of so many first types has this name.
+fn has_type_before(module: &Module<'_>, count: usize, name: &str) -> bool {
+    for other in module.types.iter().take(count) {
+        if other.name.text == name {
+            return true;
+        }
+    }
+    false
+}
+
 fn check_values<'a>(module: &Module<'a>) -> Result<(), Refusal<'a>> {
     for (count, assigned) in module.values.iter().enumerate() {
         let name = assigned.name;
-        let before = module
-            .values
-            .iter()
-            .take(count)
-            .any(|other| other.name.text == name.text);
-        if before || is_imported(module, name.text) {
+        if has_value_before(module, count, name.text) || is_imported(module, name.text) {
             return Err(Refusal::of(name, "a name that no other value has"));
         }
     }
     Ok(())
+}
+
+// Whether one of so many first values has this name.
+fn has_value_before(module: &Module<'_>, count: usize, name: &str) -> bool {
+    for other in module.values.iter().take(count) {
+        if other.name.text == name {
+            return true;
+        }
+    }
+    false
 }
 
 fn check_node<'a>(module: &Module<'a>, node: &TypeNode<'a>) -> Result<(), Refusal<'a>> {
@@ -94,15 +111,21 @@ fn check_reference<'a>(module: &Module<'a>, name: Item<'a>) -> Result<(), Refusa
 fn check_components<'a>(components: &Vec<Component<'a>>) -> Result<(), Refusal<'a>> {
     for (count, component) in components.iter().enumerate() {
         let name = component.name;
-        if components
-            .iter()
-            .take(count)
-            .any(|other| other.name.text == name.text)
-        {
+        if has_component_before(components, count, name.text) {
             return Err(Refusal::of(name, "a name that no other component has"));
         }
     }
     Ok(())
+}
+
+// Whether one of so many first components has this name.
+fn has_component_before(components: &Vec<Component<'_>>, count: usize, name: &str) -> bool {
+    for other in components.iter().take(count) {
+        if other.name.text == name {
+            return true;
+        }
+    }
+    false
 }
 
 fn check_numbers<'a>(
@@ -111,27 +134,50 @@ fn check_numbers<'a>(
     are_written: bool,
 ) -> Result<(), Refusal<'a>> {
     for (count, named) in numbers.iter().enumerate() {
-        let name = named.name;
-        if numbers
-            .iter()
-            .take(count)
-            .any(|other| other.name.text == name.text)
-        {
-            return Err(Refusal::of(name, "a name that no other number has"));
-        }
-        if numbers
-            .iter()
-            .take(count)
-            .any(|other| is_same_number(other, named))
-        {
-            return Err(Refusal::of(name, "a number that no other name has"));
-        }
+        check_before(numbers, count, named)?;
         if are_written && named.number.is_none() {
-            return Err(Refusal::of(name, "a number in parentheses behind this name"));
+            return Err(Refusal::of(named.name, "a number in parentheses behind this name"));
         }
         check_endpoint(module, named.number)?;
     }
     Ok(())
+}
+
+// Checks that none of so many first names is this one, and then that none has this number.
+fn check_before<'a>(
+    numbers: &Vec<NamedNumber<'a>>,
+    count: usize,
+    named: &NamedNumber<'a>,
+) -> Result<(), Refusal<'a>> {
+    if has_number_name_before(numbers, count, named.name.text) {
+        return Err(Refusal::of(named.name, "a name that no other number has"));
+    }
+    if has_number_before(numbers, count, named) {
+        return Err(Refusal::of(named.name, "a number that no other name has"));
+    }
+    Ok(())
+}
+
+fn has_number_name_before(numbers: &Vec<NamedNumber<'_>>, count: usize, name: &str) -> bool {
+    for other in numbers.iter().take(count) {
+        if other.name.text == name {
+            return true;
+        }
+    }
+    false
+}
+
+fn has_number_before(
+    numbers: &Vec<NamedNumber<'_>>,
+    count: usize,
+    named: &NamedNumber<'_>,
+) -> bool {
+    for other in numbers.iter().take(count) {
+        if is_same_number(other, named) {
+            return true;
+        }
+    }
+    false
 }
 
 // Whether two names have the same number, as they are written.

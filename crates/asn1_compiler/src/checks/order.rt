@@ -1,6 +1,7 @@
 //! The order of types, and types that contain themselves.
 
 use super::names::find_type;
+use crate::component::Component;
 use crate::constraint::Constraint;
 use crate::failure::Failure;
 use crate::module::Module;
@@ -18,13 +19,17 @@ pub fn order_of<'a>(alloc: Global, module: &Module<'a>) -> Result<Vec<usize>, Fa
             break;
         }
     }
+    check_ready(module, &ready)?;
+    Ok(order)
+}
+
+fn check_ready<'a>(module: &Module<'a>, ready: &Vec<bool>) -> Result<(), Refusal<'a>> {
     for assigned in module.types.iter() {
-        if !is_marked(&ready, assigned.of) {
-            let refusal = Refusal::of(assigned.name, "a type that does not contain itself");
-            return Err(Failure::Refused(refusal));
+        if !is_marked(ready, assigned.of) {
+            return Err(Refusal::of(assigned.name, "a type that does not contain itself"));
         }
     }
-    Ok(order)
+    Ok(())
 }
 
 // Adds the types whose parts are in the order; whether there are any.
@@ -52,6 +57,16 @@ pub fn is_marked(marks: &Vec<bool>, index: usize) -> bool {
     }
 }
 
+// Whether the types of these components are marked.
+fn are_marked(marks: &Vec<bool>, components: &Vec<Component<'_>>) -> bool {
+    for component in components.iter() {
+        if !is_marked(marks, component.of) {
+            return false;
+        }
+    }
+    true
+}
+
 /// Marks this index.
 pub fn mark(marks: &mut Vec<bool>, index: usize) {
     if let Some(place) = marks.get_mut(index) {
@@ -72,9 +87,7 @@ fn is_ready(module: &Module<'_>, node: &TypeNode<'_>, ready: &Vec<bool>) -> bool
             None => true,
         },
         TypeForm::Sequence(components) | TypeForm::Choice(components) => {
-            components
-                .iter()
-                .all(|component| is_marked(ready, component.of))
+            are_marked(ready, components)
         }
         TypeForm::SequenceOf(of) | TypeForm::SetOf(of) | TypeForm::Tagged(_, of) => {
             is_marked(ready, *of)

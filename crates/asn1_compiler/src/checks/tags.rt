@@ -20,10 +20,7 @@ pub fn tags_in_order<'a>(
     module: &Module<'a>,
     order: &Vec<usize>,
 ) -> Result<Vec<TagSet>, Failure<'a>> {
-    let mut table = Vec::new(alloc);
-    for _ in module.nodes.iter() {
-        table.push(TagSet::empty(alloc))?;
-    }
+    let mut table = empty_sets(alloc, module.nodes.len())?;
     for index in order.iter() {
         let Some(node) = module.nodes.get(*index) else {
             continue;
@@ -36,6 +33,14 @@ pub fn tags_in_order<'a>(
     Ok(table)
 }
 
+fn empty_sets(alloc: Global, count: usize) -> Result<Vec<TagSet>, AllocError> {
+    let mut table = Vec::new(alloc);
+    for _ in 0..count {
+        table.push(TagSet::empty(alloc))?;
+    }
+    Ok(table)
+}
+
 fn tags_of<'a>(
     alloc: Global,
     module: &Module<'a>,
@@ -43,27 +48,48 @@ fn tags_of<'a>(
     node: &TypeNode<'a>,
 ) -> Result<TagSet, Failure<'a>> {
     match &node.form {
-        TypeForm::Simple(simple) => match simple.tag_number() {
-            Some(number) => Ok(TagSet::universal(alloc, number)?),
-            None => Ok(TagSet::any(alloc)),
-        },
-        TypeForm::Integer(_) => Ok(TagSet::universal(alloc, 2)?),
-        TypeForm::Enumerated(_) => Ok(TagSet::universal(alloc, 10)?),
-        TypeForm::BitString(_) => Ok(TagSet::universal(alloc, 3)?),
-        TypeForm::SequenceOf(_) => Ok(TagSet::universal(alloc, 16)?),
-        TypeForm::SetOf(_) => Ok(TagSet::universal(alloc, 17)?),
-        TypeForm::Reference => match find_type(module, node.item.text) {
-            Some(of) => Ok(copy_at(alloc, table, of)?),
-            None => Ok(external_tags(alloc, module, node.item.text)?),
-        },
+        TypeForm::Reference => Ok(tags_of_name(alloc, module, table, node.item.text)?),
+        TypeForm::Choice(alternatives) => check_alternatives(alloc, module, table, alternatives),
+        TypeForm::Tagged(prefix, of) => tagged(alloc, module, node, *prefix, *of),
         TypeForm::Sequence(components) => {
             check_sequence(alloc, module, table, components)?;
-            Ok(TagSet::universal(alloc, 16)?)
+            Ok(tags_of_form(alloc, &node.form)?)
         }
-        TypeForm::Choice(alternatives) => {
-            Ok(check_alternatives(alloc, module, table, alternatives)?)
-        }
-        TypeForm::Tagged(prefix, of) => tagged(alloc, module, node, *prefix, *of),
+        form => Ok(tags_of_form(alloc, form)?),
+    }
+}
+
+// The tag of a type that has one of its own, or any tag.
+fn tags_of_form(alloc: Global, form: &TypeForm<'_>) -> Result<TagSet, AllocError> {
+    match tag_number(form) {
+        Some(number) => TagSet::universal(alloc, number),
+        None => Ok(TagSet::any(alloc)),
+    }
+}
+
+// The number of the universal tag of a type that is made so (X.680, 8.4).
+fn tag_number(form: &TypeForm<'_>) -> Option<u64> {
+    match form {
+        TypeForm::Simple(simple) => simple.tag_number(),
+        TypeForm::Integer(_) => Some(2),
+        TypeForm::BitString(_) => Some(3),
+        TypeForm::Enumerated(_) => Some(10),
+        TypeForm::Sequence(_) | TypeForm::SequenceOf(_) => Some(16),
+        TypeForm::SetOf(_) => Some(17),
+        _ => None,
+    }
+}
+
+// The tags of the type with this name.
+fn tags_of_name(
+    alloc: Global,
+    module: &Module<'_>,
+    table: &Vec<TagSet>,
+    name: &str,
+) -> Result<TagSet, AllocError> {
+    match find_type(module, name) {
+        Some(of) => copy_at(alloc, table, of),
+        None => external_tags(alloc, module, name),
     }
 }
 

@@ -18,11 +18,14 @@ pub fn check_unknown<'a>(alloc: Global, module: &Module<'a>) -> Result<(), Failu
             mark_all(&mut alternatives, components);
         }
     }
+    Ok(check_marked(module, &alternatives)?)
+}
+
+fn check_marked<'a>(module: &Module<'a>, alternatives: &Vec<bool>) -> Result<(), Refusal<'a>> {
     for (index, node) in module.nodes.iter().enumerate() {
         match node.form {
-            TypeForm::Simple(SimpleType::Unknown(_)) if !is_marked(&alternatives, index) => {
-                let refusal = Refusal::of(node.item, "a type that the library knows");
-                return Err(Failure::Refused(refusal));
+            TypeForm::Simple(SimpleType::Unknown(_)) if !is_marked(alternatives, index) => {
+                return Err(Refusal::of(node.item, "a type that the library knows"));
             }
             _ => {}
         }

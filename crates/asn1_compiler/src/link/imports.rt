@@ -17,33 +17,56 @@ pub fn add_imports<'a>(
     externals: &Vec<External<'a>>,
 ) -> Result<(), Failure<'a>> {
     check_once(module)?;
-    let mut types = Vec::new(alloc);
-    let mut values = Vec::new(alloc);
-    for import in module.imports.iter() {
-        let external = external_of(externals, import)?;
-        match import.name.kind {
-            ItemKind::UpperName => types.push(type_of(alloc, external, import)?)?,
-            _ => values.push(value_of(alloc, external, import)?)?,
-        }
-    }
+    let Imported { types, values } = find_imports(alloc, module, externals)?;
     module.imported = types;
     module.constants = values;
     Ok(())
 }
 
+// What a module imports.
+#[derive(Drop)]
+struct Imported<'a> {
+    types: Vec<ExternalType<'a>>,
+    values: Vec<NamedConstant<'a>>,
+}
+
+fn find_imports<'a>(
+    alloc: Global,
+    module: &Module<'a>,
+    externals: &Vec<External<'a>>,
+) -> Result<Imported<'a>, Failure<'a>> {
+    let mut found = Imported {
+        types: Vec::new(alloc),
+        values: Vec::new(alloc),
+    };
+    for import in module.imports.iter() {
+        let external = external_of(externals, import)?;
+        match import.name.kind {
+            ItemKind::UpperName => found.types.push(type_of(alloc, external, import)?)?,
+            _ => found.values.push(value_of(alloc, external, import)?)?,
+        }
+    }
+    Ok(found)
+}
+
 fn check_once<'a>(module: &Module<'a>) -> Result<(), Refusal<'a>> {
     for (count, import) in module.imports.iter().enumerate() {
         let name = import.name;
-        if module
-            .imports
-            .iter()
-            .take(count)
-            .any(|other| other.name.text == name.text)
-        {
+        if is_imported_before(module, count, name.text) {
             return Err(Refusal::of(name, "a name that is imported once"));
         }
     }
     Ok(())
+}
+
+// Whether one of so many first imports has this name.
+fn is_imported_before(module: &Module<'_>, count: usize, name: &str) -> bool {
+    for other in module.imports.iter().take(count) {
+        if other.name.text == name {
+            return true;
+        }
+    }
+    false
 }
 
 fn external_of<'e, 'a>(

@@ -114,7 +114,7 @@ fn resolved_endpoint<'a>(
     };
     let found = match base_form(scope.module, index) {
         Some(TypeForm::Integer(numbers)) => scope.number_named(numbers, name)?,
-        Some(TypeForm::Enumerated(numbers)) if is_named(numbers, name) => None,
+        Some(TypeForm::Enumerated(numbers)) if is_named(numbers, name.text) => None,
         _ => named_value(scope, name)?,
     };
     match found {
@@ -123,8 +123,14 @@ fn resolved_endpoint<'a>(
     }
 }
 
-fn is_named(numbers: &Vec<NamedNumber<'_>>, name: Item<'_>) -> bool {
-    numbers.iter().any(|named| named.name.text == name.text)
+/// Whether one of these numbers has this name.
+pub fn is_named(numbers: &Vec<NamedNumber<'_>>, name: &str) -> bool {
+    for named in numbers.iter() {
+        if named.name.text == name {
+            return true;
+        }
+    }
+    false
 }
 
 // The number that the value with this name is; `None` if it is another value.

@@ -1,9 +1,10 @@
 //! Values of a module.
 
 use super::arcs::arcs_of;
+use super::numbers::is_named;
 use super::scope::Scope;
 use crate::base_form::base_form;
-use crate::constant::{Constant, NamedConstant, find_constant};
+use crate::constant::{Constant, NamedConstant, copy_of, find_constant};
 use crate::endpoint::Endpoint;
 use crate::failure::Failure;
 use crate::item_kind::ItemKind;
@@ -13,7 +14,7 @@ use crate::refusal::Refusal;
 use crate::simple_type::SimpleType;
 use crate::type_node::TypeForm;
 use crate::value::{Value, ValueForm};
-use std::alloc::Global;
+use std::alloc::{AllocError, Global};
 
 const NOT_INTEGER: &str = "a number from -9223372036854775808 to 18446744073709551615, or its name";
 
@@ -23,19 +24,24 @@ pub fn constants_of<'a>(
     alloc: Global,
     module: &Module<'a>,
 ) -> Result<Vec<NamedConstant<'a>>, Failure<'a>> {
-    let mut known = Vec::new(alloc);
-    for imported in module.constants.iter() {
-        known.push(NamedConstant {
-            name: imported.name,
-            constant: imported.constant.copy(alloc)?,
-        })?;
-    }
+    let mut known = imported_constants(alloc, module)?;
     for _ in 0..module.values.len() {
         if !add_known(alloc, module, &mut known)? {
             break;
         }
     }
     check_known(module, &known)?;
+    Ok(known)
+}
+
+fn imported_constants<'a>(
+    alloc: Global,
+    module: &Module<'a>,
+) -> Result<Vec<NamedConstant<'a>>, AllocError> {
+    let mut known = Vec::new(alloc);
+    for imported in module.constants.iter() {
+        known.push(imported.copy(alloc)?)?;
+    }
     Ok(known)
 }
 
@@ -156,11 +162,7 @@ fn object_identifier<'a>(
     };
     match scope.constant(index) {
         Some(Constant::ObjectIdentifier(arcs)) => {
-            let mut copy = Vec::new(alloc);
-            for arc in arcs.iter() {
-                copy.push(*arc)?;
-            }
-            Ok(Some(Constant::ObjectIdentifier(copy)))
+            Ok(Some(Constant::ObjectIdentifier(copy_of(alloc, arcs)?)))
         }
         _ => Err(Failure::Refused(refusal)),
     }
@@ -190,7 +192,7 @@ fn other<'a>(
 // Whether this is an item of an ENUMERATED.
 fn is_item_of(form: &TypeForm<'_>, name: &str) -> bool {
     match form {
-        TypeForm::Enumerated(items) => items.iter().any(|item| item.name.text == name),
+        TypeForm::Enumerated(items) => is_named(items, name),
         _ => false,
     }
 }

@@ -3,6 +3,7 @@
 use super::directive::type_name;
 use super::docs::doc_of;
 use super::rust_type::RustType;
+use super::template::Places;
 use super::types::component_types;
 use crate::component::Component;
 use crate::failure::Failure;
@@ -21,6 +22,16 @@ pub struct Alternative {
     pub doc: String,
     /// Its type.
     pub of: RustType,
+}
+
+impl Places for Alternative {
+    fn push_place(&self, out: &mut String, letter: char) -> Result<(), AllocError> {
+        match letter {
+            'T' => out.push_str(self.of.text.as_str()),
+            'M' => self.of.push_alternative(out),
+            _ => Ok(()),
+        }
+    }
 }
 
 /// The alternatives for which the library has a type.

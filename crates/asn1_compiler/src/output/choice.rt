@@ -2,9 +2,11 @@
 ghost use Rattle.std.specs.Prelude.{◌<◌};
 
 use super::alternatives::Alternative;
-use super::template::{Place, fill};
-use std::alloc::{AllocError, Global};
-use std::fmt::Write;
+use super::choice_line::Line;
+use super::choice_part::ChoicePart;
+use super::nest::{MEANING, Nest, TYPES, lifetime_of, push_meaning, push_types};
+use super::template::{Places, fill};
+use std::alloc::AllocError;
 
 /// A CHOICE.
 #[derive(Drop)]
@@ -118,37 +120,26 @@ pub returns-in-@V-clause-succeeds : goal.returns-in-@V-clause-succeeds
 returns-in-@V-clause-succeeds g c = rw c.in-@V.is c.@E.ensures.succeeds
 ";
 
+// The line of an alternative of a part, as a term.
+const PART_VALUE: &str = "      | variant.@V v ↦ @G(record { choice = @Hv@J })@K\n";
+
+// The line of an alternative of a part, with its pattern.
+const PART_PATTERN: &str = "            @X@NPart@Q { choice: @Yvalue@J }@K => @N::@V(value),\n";
+
 /// The most parts of a CHOICE: more of them take the checker's bound too far.
 const PARTS: usize = 3;
 
 impl ChoiceText {
-    /// The text of the enum and of its implementations.
-    pub fn body(&self, alloc: Global) -> Result<String, AllocError> {
-        let variants = self.variants(alloc)?;
-        let types = self.types(alloc)?;
-        let values = self.lines(alloc, Line::Value)?;
-        let patterns = self.lines(alloc, Line::Pattern)?;
-        let meaning = self.meaning(alloc)?;
-        let lens = self.lines(alloc, Line::Len)?;
-        let encodes = self.lines(alloc, Line::Encode)?;
-        let places = [
-            Place::new('N', self.name.as_str()),
-            Place::new('L', lifetime_of(&self.alternatives)),
-            Place::new('D', self.doc.as_str()),
-            Place::new('F', variants.as_str()),
-            Place::new('T', types.as_str()),
-            Place::new('V', values.as_str()),
-            Place::new('P', patterns.as_str()),
-            Place::new('M', meaning.as_str()),
-            Place::new('A', lens.as_str()),
-            Place::new('B', encodes.as_str()),
-            Place::new('O', self.visibility()),
-        ];
-        let mut text = String::new(alloc);
-        fill(&mut text, ENUM, &places)?;
-        fill(&mut text, DECODE, &places)?;
-        fill(&mut text, ENCODE, &places)?;
-        Ok(text)
+    /// Adds the text of the enum and of its implementations.
+    pub fn push_body(&self, out: &mut String) -> Result<(), AllocError> {
+        fill(out, ENUM, self)?;
+        fill(out, DECODE, self)?;
+        fill(out, ENCODE, self)
+    }
+
+    /// Adds the text of the proof that `encode` writes the alternative that the value has.
+    pub fn push_proof(&self, out: &mut String) -> Result<(), AllocError> {
+        self.push_lines(out, PROOF)
     }
 
     // How the type of the alternatives begins: it is public unless it has private parts.
@@ -158,22 +149,6 @@ impl ChoiceText {
         } else {
             "/// The alternatives, as nested choices of two.\npub"
         }
-    }
-
-    /// The text of the proof that `encode` writes the alternative that the value has.
-    pub fn proof(&self, alloc: Global) -> Result<String, AllocError> {
-        let mut text = String::new(alloc);
-        for (count, alternative) in self.alternatives.iter().enumerate() {
-            let name = alternative.name.as_str();
-            let call = if count == 0 {
-                String::from_str(alloc, "encode")?
-            } else {
-                format!(in alloc; "encode-in-{name}")?
-            };
-            let places = [Place::new('V', name), Place::new('E', call.as_str())];
-            fill(&mut text, PROOF, &places)?;
-        }
-        Ok(text)
     }
 
     /// Whether the alternatives are in parts.
@@ -198,228 +173,75 @@ impl ChoiceText {
         self.alternatives.chunks(self.part_len()).count()
     }
 
-    fn variants(&self, alloc: Global) -> Result<String, AllocError> {
-        let mut text = String::new(alloc);
-        for alternative in self.alternatives.iter() {
-            let Alternative { name, of, doc } = alternative;
-            let of = of.text.as_str();
-            write!(text, "{doc}    {name}({of}),\n")?;
-        }
-        Ok(text)
-    }
-
-    fn types(&self, alloc: Global) -> Result<String, AllocError> {
-        if !self.has_parts() {
-            return types_of(alloc, &self.alternatives);
-        }
-        let name = self.name.as_str();
-        let mut parts = Vec::new(alloc);
-        for (count, chunk) in self.alternatives.chunks(self.part_len()).enumerate() {
-            let number = count + 1;
-            let lifetime = lifetime_of(chunk);
-            parts.push(format!(in alloc; "{name}Part{number}{lifetime}")?)?;
-        }
-        nested(alloc, &parts, "Either<", ", ", '>')
-    }
-
-    fn meaning(&self, alloc: Global) -> Result<String, AllocError> {
-        if !self.has_parts() {
-            return meaning_of(alloc, &self.alternatives);
-        }
-        let name = self.name.as_str();
-        let mut parts = Vec::new(alloc);
-        for (count, chunk) in self.alternatives.chunks(self.part_len()).enumerate() {
-            let number = count + 1;
-            let lifetime = lifetime_of(chunk);
-            parts.push(format!(in alloc;
-                "⟦<{name}Part{number}{lifetime} as DescribedChoice>⟧.alternative"
-            )?)?;
-        }
-        nested(alloc, &parts, "(either ", " ", ')')
-    }
-
-    // A line for each alternative.
-    fn lines(&self, alloc: Global, line: Line) -> Result<String, AllocError> {
-        let mut text = String::new(alloc);
-        for (count, alternative) in self.alternatives.iter().enumerate() {
-            text.push_str(self.line(alloc, line, count, alternative)?.as_str())?;
-        }
-        Ok(text)
-    }
-
-    fn line(
-        &self,
-        alloc: Global,
-        line: Line,
-        index: usize,
-        alternative: &Alternative,
-    ) -> Result<String, AllocError> {
-        let name = self.name.as_str();
-        let variant = alternative.name.as_str();
-        match line {
-            Line::Len => {
-                format!(in alloc; "            {name}::{variant}(value) => value.encoded_len(),\n")
-            }
-            Line::Encode => {
-                format!(in alloc; "            {name}::{variant}(value) => value.encode(writer),\n")
-            }
-            Line::Value => {
-                let value = self.value(alloc, index)?;
-                format!(in alloc; "      | variant.{variant} v ↦ {value}\n")
-            }
-            Line::Pattern => {
-                let pattern = self.pattern(alloc, index)?;
-                format!(in alloc; "            {pattern} => {name}::{variant}(value),\n")
-            }
+    /// The part with this index.
+    pub fn part(&self, index: usize) -> ChoicePart<'_> {
+        let alternatives = match self.alternatives.chunks(self.part_len()).nth(index) {
+            Some(alternatives) => alternatives,
+            None => &[],
+        };
+        ChoicePart {
+            of: self.name.as_str(),
+            number: index.saturating_add(1),
+            alternatives,
         }
     }
 
-    // The value of the alternative with this index, as a term.
-    fn value(&self, alloc: Global, index: usize) -> Result<String, AllocError> {
-        let total = self.alternatives.len();
-        if !self.has_parts() {
-            return injected(alloc, total, index, "First (", "Second (", "v");
+    // Adds the types of the alternatives, or of the parts, in nested choices.
+    fn push_types(&self, out: &mut String) -> Result<(), AllocError> {
+        if self.has_parts() {
+            return self.push_parts(out, TYPES, "@N@L");
         }
-        let part = index / self.part_len();
-        let inside = injected(
-            alloc,
-            self.len_of(part),
-            index % self.part_len(),
-            "First (",
-            "Second (",
-            "v",
-        )?;
-        let record = format!(in alloc; "(record {{ choice = {inside} }})")?;
-        injected(
-            alloc,
-            self.part_count(),
-            part,
-            "First (",
-            "Second (",
-            record.as_str(),
-        )
+        push_types(out, &self.alternatives)
     }
 
-    // The pattern of the alternative with this index.
-    fn pattern(&self, alloc: Global, index: usize) -> Result<String, AllocError> {
-        let (first, second) = ("Either::First(", "Either::Second(");
-        let total = self.alternatives.len();
-        if !self.has_parts() {
-            return injected(alloc, total, index, first, second, "value");
+    // Adds what the alternatives, or the parts, mean.
+    fn push_meaning(&self, out: &mut String) -> Result<(), AllocError> {
+        if self.has_parts() {
+            return self.push_parts(out, MEANING, "⟦<@N@L as DescribedChoice>⟧.alternative");
         }
-        let name = self.name.as_str();
-        let part = index / self.part_len();
-        let number = part.saturating_add(1);
-        let inside = injected(
-            alloc,
-            self.len_of(part),
-            index % self.part_len(),
-            first,
-            second,
-            "value",
-        )?;
-        let whole = format!(in alloc; "{name}Part{number} {{ choice: {inside} }}")?;
-        injected(
-            alloc,
-            self.part_count(),
-            part,
-            first,
-            second,
-            whole.as_str(),
-        )
+        push_meaning(out, &self.alternatives)
     }
 
-    // The number of alternatives in this part.
-    fn len_of(&self, part: usize) -> usize {
-        match self.alternatives.chunks(self.part_len()).nth(part) {
-            Some(chunk) => chunk.len(),
-            None => 0,
+    fn push_parts(&self, out: &mut String, nest: Nest, template: &str) -> Result<(), AllocError> {
+        let count = self.part_count();
+        for index in 0..count {
+            nest.push_before(out, count, index)?;
+            fill(out, template, &self.part(index))?;
         }
+        nest.push_end(out, count)
+    }
+
+    // Adds a template for each alternative.
+    fn push_lines(&self, out: &mut String, template: &str) -> Result<(), AllocError> {
+        for (index, alternative) in self.alternatives.iter().enumerate() {
+            let line = Line {
+                of: self,
+                index,
+                alternative,
+            };
+            fill(out, template, &line)?;
+        }
+        Ok(())
     }
 }
 
-/// Which line is written for an alternative.
-#[derive(Clone, Copy)]
-enum Line {
-    Value,
-    Pattern,
-    Len,
-    Encode,
-}
-
-/// The lifetime of an enum with these alternatives, or nothing.
-pub fn lifetime_of(alternatives: &[Alternative]) -> &'static str {
-    if alternatives
-        .iter()
-        .any(|alternative| alternative.of.has_lifetime)
-    {
-        return "<'a>";
-    }
-    ""
-}
-
-/// The types of alternatives, as nested choices of two.
-pub fn types_of(alloc: Global, alternatives: &[Alternative]) -> Result<String, AllocError> {
-    let mut types = Vec::new(alloc);
-    for alternative in alternatives {
-        types.push(String::from_str(alloc, alternative.of.text.as_str())?)?;
-    }
-    nested(alloc, &types, "Either<", ", ", '>')
-}
-
-/// What alternatives mean, as a term.
-pub fn meaning_of(alloc: Global, alternatives: &[Alternative]) -> Result<String, AllocError> {
-    let mut meanings = Vec::new(alloc);
-    for alternative in alternatives {
-        meanings.push(alternative.of.alternative(alloc)?)?;
-    }
-    nested(alloc, &meanings, "(either ", " ", ')')
-}
-
-// The items, each but the last with what follows it in one nested pair.
-fn nested(
-    alloc: Global,
-    items: &Vec<String>,
-    open: &str,
-    between: &str,
-    close: char,
-) -> Result<String, AllocError> {
-    let mut text = String::new(alloc);
-    let mut end = String::new(alloc);
-    for (count, item) in items.iter().enumerate() {
-        if count + 1 < items.len() {
-            text.push_str(open)?;
-            text.push_str(item.as_str())?;
-            text.push_str(between)?;
-            end.push(close)?;
-        } else {
-            text.push_str(item.as_str())?;
+impl Places for ChoiceText {
+    fn push_place(&self, out: &mut String, letter: char) -> Result<(), AllocError> {
+        match letter {
+            'N' => out.push_str(self.name.as_str()),
+            'L' => out.push_str(lifetime_of(&self.alternatives)),
+            'D' => out.push_str(self.doc.as_str()),
+            'F' => self.push_lines(out, "@D    @V(@T),\n"),
+            'T' => self.push_types(out),
+            'V' if self.has_parts() => self.push_lines(out, PART_VALUE),
+            'V' => self.push_lines(out, "      | variant.@V v ↦ @Hv@J\n"),
+            'P' if self.has_parts() => self.push_lines(out, PART_PATTERN),
+            'P' => self.push_lines(out, "            @Yvalue@J => @N::@V(value),\n"),
+            'M' => self.push_meaning(out),
+            'A' => self.push_lines(out, "            @N::@V(value) => value.encoded_len(),\n"),
+            'B' => self.push_lines(out, "            @N::@V(value) => value.encode(writer),\n"),
+            'O' => out.push_str(self.visibility()),
+            _ => Ok(()),
         }
     }
-    text.push_str(end.as_str())?;
-    Ok(text)
-}
-
-// The item with this index of so many in nested pairs.
-fn injected(
-    alloc: Global,
-    total: usize,
-    index: usize,
-    first: &str,
-    second: &str,
-    inside: &str,
-) -> Result<String, AllocError> {
-    let mut text = String::new(alloc);
-    let mut end = String::new(alloc);
-    for _ in 0..index {
-        text.push_str(second)?;
-        end.push(')')?;
-    }
-    if index < total && total - index > 1 {
-        text.push_str(first)?;
-        end.push(')')?;
-    }
-    text.push_str(inside)?;
-    text.push_str(end.as_str())?;
-    Ok(text)
 }

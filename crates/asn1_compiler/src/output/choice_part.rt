@@ -1,9 +1,10 @@
 //! The text of a part of a CHOICE.
 
 use super::alternatives::Alternative;
-use super::choice::{lifetime_of, meaning_of, types_of};
-use super::template::{Place, fill};
+use super::nest::{lifetime_of, push_meaning, push_types};
+use super::template::{Places, fill, filled};
 use std::alloc::{AllocError, Global};
+use std::fmt::Write;
 
 const PART: &str = "// Some alternatives of a @W.
 #[derive(Drop)]
@@ -77,24 +78,44 @@ impl@L Encode for @N@L {
 }
 ";
 
-/// The text of the part with these alternatives of the CHOICE `of`.
-pub fn choice_part_body(
-    alloc: Global,
-    of: &str,
-    number: usize,
-    alternatives: &[Alternative],
-) -> Result<String, AllocError> {
-    let name = format!(in alloc; "{of}Part{number}")?;
-    let types = types_of(alloc, alternatives)?;
-    let meaning = meaning_of(alloc, alternatives)?;
-    let places = [
-        Place::new('W', of),
-        Place::new('N', name.as_str()),
-        Place::new('L', lifetime_of(alternatives)),
-        Place::new('T', types.as_str()),
-        Place::new('M', meaning.as_str()),
-    ];
-    let mut text = String::new(alloc);
-    fill(&mut text, PART, &places)?;
-    Ok(text)
+/// A part of a CHOICE.
+#[derive(Clone, Copy)]
+pub struct ChoicePart<'c> {
+    /// The name of the CHOICE.
+    pub of: &'c str,
+    /// The number that is in the name of the part.
+    pub number: usize,
+    /// Its alternatives.
+    pub alternatives: &'c [Alternative],
+}
+
+impl<'c> ChoicePart<'c> {
+    /// Adds the text of the part.
+    pub fn push_body(&self, out: &mut String) -> Result<(), AllocError> {
+        fill(out, PART, self)
+    }
+
+    /// The name of the part.
+    pub fn name(&self, alloc: Global) -> Result<String, AllocError> {
+        filled(alloc, "@N", self)
+    }
+
+    // Adds the name of the part.
+    fn push_name(&self, out: &mut String) -> Result<(), AllocError> {
+        let (of, number) = (self.of, self.number);
+        write!(out, "{of}Part{number}")
+    }
+}
+
+impl<'c> Places for ChoicePart<'c> {
+    fn push_place(&self, out: &mut String, letter: char) -> Result<(), AllocError> {
+        match letter {
+            'W' => out.push_str(self.of),
+            'N' => self.push_name(out),
+            'L' => out.push_str(lifetime_of(self.alternatives)),
+            'T' => push_types(out, self.alternatives),
+            'M' => push_meaning(out, self.alternatives),
+            _ => Ok(()),
+        }
+    }
 }

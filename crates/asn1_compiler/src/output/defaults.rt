@@ -3,7 +3,7 @@
 use super::directive::{own_type, type_name};
 use super::enumeration::number_of_item;
 use super::rust_type::RustType;
-use super::template::{Place, fill};
+use super::template::{Places, filled};
 use crate::base_form::{base_form, base_of};
 use crate::constant::{Constant, find_constant};
 use crate::endpoint::Endpoint;
@@ -15,7 +15,8 @@ use crate::refusal::Refusal;
 use crate::simple_type::SimpleType;
 use crate::type_node::TypeForm;
 use crate::value::{Value, ValueForm};
-use std::alloc::Global;
+use std::alloc::{AllocError, Global};
+use std::fmt::Write;
 
 /// The type of a DEFAULT field.
 #[derive(Drop)]
@@ -24,6 +25,16 @@ pub struct DefaultType {
     pub of: RustType,
     /// The type that stands for the default, if the library has none for it.
     pub own: Option<OwnDefault>,
+}
+
+impl DefaultType {
+    /// The type of a field that needs no type for its default.
+    pub fn plain(alloc: Global, of: &RustType) -> Result<Self, AllocError> {
+        Ok(DefaultType {
+            of: of.copy(alloc)?,
+            own: None,
+        })
+    }
 }
 
 /// A type that stands for the default of one field.
@@ -64,10 +75,7 @@ pub fn default_type<'a>(
         return Err(not_written(value));
     };
     if own_type(module, base_of(module, leaf)).is_some() {
-        return Ok(DefaultType {
-            of: of.copy(alloc)?,
-            own: None,
-        });
+        return Ok(DefaultType::plain(alloc, of)?);
     }
     let inside = match base_form(module, leaf) {
         Some(TypeForm::Simple(SimpleType::Boolean)) => boolean(alloc, value)?,
@@ -80,7 +88,7 @@ pub fn default_type<'a>(
         Some(TypeForm::Integer(numbers)) => integer(alloc, module, numbers, value)?,
         _ => return Err(not_written(value)),
     };
-    let of = with_inside(alloc, of, found, inside.as_str(), value)?;
+    let of = with_inside(alloc, of, found.text.as_str(), inside.as_str(), value)?;
     Ok(DefaultType { of, own: None })
 }
 
@@ -88,17 +96,65 @@ pub fn default_type<'a>(
 fn with_inside<'a>(
     alloc: Global,
     of: &RustType,
-    found: &RustType,
+    found: &str,
     inside: &str,
     value: &Value<'a>,
 ) -> Result<RustType, Failure<'a>> {
-    match of.text.split_once(found.text.as_str()) {
+    match of.text.split_once(found) {
         Some((before, after)) => {
             let text = format!(in alloc; "{before}{inside}{after}")?;
             Ok(RustType::new(alloc, text.as_str(), of.kind)?)
         }
         None => Err(not_written(value)),
     }
+}
+
+// A default that is an item of an enumeration.
+#[derive(Drop)]
+struct ItemDefault<'t> {
+    // The name of the type that stands for it.
+    name: &'t str,
+    // The type of the item.
+    of: &'t str,
+    // The enumeration.
+    enumeration: &'t str,
+    // The name of the item.
+    variant: String,
+    // Its number.
+    number: u64,
+}
+
+impl<'t> Places for ItemDefault<'t> {
+    fn push_place(&self, out: &mut String, letter: char) -> Result<(), AllocError> {
+        match letter {
+            'N' => out.push_str(self.name),
+            'T' => out.push_str(self.of),
+            'E' => out.push_str(self.enumeration),
+            'V' => out.push_str(self.variant.as_str()),
+            'I' => write!(out, "{}", self.number),
+            _ => Ok(()),
+        }
+    }
+}
+
+// The type of a field with this default.
+fn with_item<'a>(
+    alloc: Global,
+    of: &RustType,
+    text: &ItemDefault<'_>,
+    value: &Value<'a>,
+) -> Result<DefaultType, Failure<'a>> {
+    let inside = filled(alloc, "WithDefault<@T, @N>", text)?;
+    let of = with_inside(alloc, of, text.of, inside.as_str(), value)?;
+    let own = own_default(alloc, text)?;
+    Ok(DefaultType { of, own: Some(own) })
+}
+
+fn own_default(alloc: Global, text: &ItemDefault<'_>) -> Result<OwnDefault, AllocError> {
+    Ok(OwnDefault {
+        name: String::from_str(alloc, text.name)?,
+        text: filled(alloc, ITEM, text)?,
+    })
 }
 
 // The type of a field whose default is an item of an enumeration.
@@ -115,25 +171,15 @@ fn item_default<'a>(
     };
     for (count, item) in items.iter().enumerate() {
         if item.name.text == value.item.text {
-            let number = format!(in alloc; "{}", number_of_item(item, count)?)?;
-            let variant = type_name(alloc, item.name)?;
-            let places = [
-                Place::new('N', name),
-                Place::new('T', found.text.as_str()),
-                Place::new('E', enumeration),
-                Place::new('V', variant.as_str()),
-                Place::new('I', number.as_str()),
-            ];
-            let mut text = String::new(alloc);
-            fill(&mut text, ITEM, &places)?;
-            let own = Some(OwnDefault {
-                name: String::from_str(alloc, name)?,
-                text,
-            });
-            let text = found.text.as_str();
-            let inside = format!(in alloc; "WithDefault<{text}, {name}>")?;
-            let of = with_inside(alloc, of, found, inside.as_str(), value)?;
-            return Ok(DefaultType { of, own });
+            let number = number_of_item(item, count)?;
+            let text = ItemDefault {
+                name,
+                of: found.text.as_str(),
+                enumeration,
+                variant: type_name(alloc, item.name)?,
+                number,
+            };
+            return with_item(alloc, of, &text, value);
         }
     }
     Err(Failure::Refused(Refusal::of(value.item, "the name of a number of this type")))

@@ -22,9 +22,10 @@ pub const DEFAULT: &str = "Rust default:";
 
 /// Whether the line of a comment, without its marks, gives a name.
 pub fn is_directive(line: &str) -> bool {
-    [NAME, FIELD, TYPE, DEFAULT]
-        .iter()
-        .any(|key| line.starts_with(key))
+    line.starts_with(NAME)
+        || line.starts_with(FIELD)
+        || line.starts_with(TYPE)
+        || line.starts_with(DEFAULT)
 }
 
 /// The name that a comment gives behind `key`, if it is a name of Rust.
@@ -78,9 +79,18 @@ pub fn name_of_type(text: &str) -> &str {
 fn is_name(text: &str) -> bool {
     let octets = text.as_bytes();
     match octets.first() {
-        Some(octet) if !is_digit(*octet) => octets.iter().all(|it| is_word_octet(*it)),
+        Some(octet) if !is_digit(*octet) => are_word_octets(octets),
         _ => false,
     }
+}
+
+fn are_word_octets(octets: &[u8]) -> bool {
+    for octet in octets {
+        if !is_word_octet(*octet) {
+            return false;
+        }
+    }
+    true
 }
 
 /// The name of the type or the variant with this name in the module.

@@ -1,12 +1,12 @@
 //! The text of an ENUMERATED, and of the bits of a BIT STRING.
 
 use super::directive::type_name;
-use super::template::{Place, fill};
+use super::template::{Places, fill};
 use crate::endpoint::Endpoint;
 use crate::failure::Failure;
 use crate::named_number::NamedNumber;
 use crate::refusal::Refusal;
-use std::alloc::Global;
+use std::alloc::{AllocError, Global};
 use std::fmt::Write;
 
 const ENUM: &str = "@D#[derive(Clone, Copy, Debug, PartialEq, Eq)]
@@ -16,7 +16,7 @@ pub enum @N {
 
 const ENUMERATION: &str = "
 impl Enumeration for @N {
-    ghost item_of = { λ n. @I };
+    ghost item_of = { λ n. @INone };
 
     ghost number_of = { elim [
 @V    ] };
@@ -33,44 +33,98 @@ impl Enumeration for @N {
 }
 ";
 
-/// The text of an enum with these items; `is_enumerated` if it is that of an ENUMERATED.
-pub fn enumeration_body<'a>(
+// An enum that is written.
+#[derive(Drop)]
+struct EnumText<'t> {
+    doc: &'t str,
+    name: &'t str,
+    variants: Vec<Variant>,
+}
+
+#[derive(Drop)]
+struct Variant {
+    name: String,
+    number: u64,
+}
+
+// A variant, for which a line is written.
+#[derive(Clone, Copy)]
+struct Line<'t> {
+    of: &'t str,
+    variant: &'t Variant,
+}
+
+impl<'t> EnumText<'t> {
+    // Adds a template for each variant.
+    fn push_lines(&self, out: &mut String, template: &str) -> Result<(), AllocError> {
+        for variant in self.variants.iter() {
+            let line = Line {
+                of: self.name,
+                variant,
+            };
+            fill(out, template, &line)?;
+        }
+        Ok(())
+    }
+}
+
+impl<'t> Places for EnumText<'t> {
+    fn push_place(&self, out: &mut String, letter: char) -> Result<(), AllocError> {
+        match letter {
+            'D' => out.push_str(self.doc),
+            'N' => out.push_str(self.name),
+            'F' => self.push_lines(out, "    @V = @I,\n"),
+            'I' => self.push_lines(out, "if n == @I then Some variant.@V else "),
+            'V' => self.push_lines(out, "      | variant.@V ↦ @I\n"),
+            'P' => self.push_lines(out, "            @I => Some(@N::@V),\n"),
+            _ => Ok(()),
+        }
+    }
+}
+
+impl<'t> Places for Line<'t> {
+    fn push_place(&self, out: &mut String, letter: char) -> Result<(), AllocError> {
+        match letter {
+            'N' => out.push_str(self.of),
+            'V' => out.push_str(self.variant.name.as_str()),
+            'I' => write!(out, "{}", self.variant.number),
+            _ => Ok(()),
+        }
+    }
+}
+
+/// Adds the text of an enum with these items; `is_enumerated` if it is that of an ENUMERATED.
+pub fn push_enumeration<'a>(
     alloc: Global,
+    out: &mut String,
     doc: &str,
     name: &str,
     items: &Vec<NamedNumber<'a>>,
     is_enumerated: bool,
-) -> Result<String, Failure<'a>> {
-    let mut variants = String::new(alloc);
-    let mut choices = String::new(alloc);
-    let mut numbers = String::new(alloc);
-    let mut arms = String::new(alloc);
+) -> Result<(), Failure<'a>> {
+    let text = EnumText {
+        doc,
+        name,
+        variants: variants_of(alloc, items)?,
+    };
+    fill(out, ENUM, &text)?;
+    if is_enumerated {
+        fill(out, ENUMERATION, &text)?;
+    }
+    Ok(())
+}
+
+fn variants_of<'a>(
+    alloc: Global,
+    items: &Vec<NamedNumber<'a>>,
+) -> Result<Vec<Variant>, Failure<'a>> {
+    let mut variants = Vec::new(alloc);
     for (count, item) in items.iter().enumerate() {
         let number = number_of_item(item, count)?;
-        let variant = type_name(alloc, item.name)?;
-        write!(variants, "    {variant} = {number},\n")?;
-        write!(
-            choices,
-            "if n == {number} then Some variant.{variant} else "
-        )?;
-        write!(numbers, "      | variant.{variant} ↦ {number}\n")?;
-        write!(arms, "            {number} => Some({name}::{variant}),\n")?;
+        let name = type_name(alloc, item.name)?;
+        variants.push(Variant { name, number })?;
     }
-    choices.push_str("None")?;
-    let places = [
-        Place::new('D', doc),
-        Place::new('N', name),
-        Place::new('F', variants.as_str()),
-        Place::new('I', choices.as_str()),
-        Place::new('V', numbers.as_str()),
-        Place::new('P', arms.as_str()),
-    ];
-    let mut text = String::new(alloc);
-    fill(&mut text, ENUM, &places)?;
-    if is_enumerated {
-        fill(&mut text, ENUMERATION, &places)?;
-    }
-    Ok(text)
+    Ok(variants)
 }
 
 /// The number of an item; items without numbers are counted.

@@ -2,7 +2,9 @@
 
 use super::defaults::OwnDefault;
 use super::rust_type::{RustKind, RustType};
-use std::alloc::{AllocError, Global};
+use super::template::{Items, Places, fill, push_pairs};
+use std::alloc::AllocError;
+use std::fmt::Write;
 
 /// Whether a field may be absent.
 #[derive(Drop)]
@@ -32,6 +34,20 @@ pub struct Field {
     pub own: Option<OwnDefault>,
 }
 
+const DEFAULTED_TO: &str =
+    "(defaulted_to ⟦<@O as DefaultOf<@T>>⟧.default_contents ⟦<@T as Described>⟧.element (λ v. v.0))";
+
+const CHECK_OPTIONAL: &str = "        if let Some(value) = &self.@N.0 {
+            <@T as DecodeValue<R>>::is_value(value);
+        }
+";
+
+const CHECK_OPTIONAL_CHOICE: &str = "        if let Some(value) = &self.@N.0 {
+            match value {
+@A}
+        }
+";
+
 impl Field {
     /// What the field costs the checker, beside one that is required.
     pub fn weight(&self) -> usize {
@@ -44,62 +60,149 @@ impl Field {
         }
     }
 
-    /// The type of the field.
-    pub fn whole_type(&self, alloc: Global) -> Result<String, AllocError> {
+    /// Adds the type of the field.
+    pub fn push_whole_type(&self, out: &mut String) -> Result<(), AllocError> {
         let text = self.of.text.as_str();
         match &self.presence {
-            FieldPresence::Required => String::from_str(alloc, text),
-            FieldPresence::Optional => format!(in alloc; "Optional<{text}>"),
-            FieldPresence::Defaulted => format!(in alloc; "Defaulted<{text}>"),
+            FieldPresence::Required => out.push_str(text),
+            FieldPresence::Optional => write!(out, "Optional<{text}>"),
+            FieldPresence::Defaulted => write!(out, "Defaulted<{text}>"),
             FieldPresence::DefaultedTo(default) => {
                 let default = default.as_str();
-                format!(in alloc; "DefaultedTo<{text}, {default}>")
+                write!(out, "DefaultedTo<{text}, {default}>")
             }
         }
     }
 
-    /// What the field means, as a term of a clause.
-    pub fn meaning(&self, alloc: Global) -> Result<String, AllocError> {
-        let of = self.of.alternative(alloc)?;
-        let text = self.of.text.as_str();
-        match &self.presence {
-            FieldPresence::Required => format!(in alloc; "(field {of})"),
-            FieldPresence::Optional => format!(in alloc; "(optional {of})"),
-            FieldPresence::Defaulted => {
-                format!(in alloc; "(defaulted ⟦<{text} as DefaultValue>⟧.is_default {of})")
-            }
-            FieldPresence::DefaultedTo(default) => {
-                let default = default.as_str();
-                let octets = format!(in alloc;
-                    "⟦<{default} as DefaultOf<{text}>>⟧.default_contents"
-                )?;
-                let octets = octets.as_str();
-                format!(in alloc;
-                    "(defaulted_to {octets} ⟦<{text} as Described>⟧.element (λ v. v.0))"
-                )
-            }
+    /// What the field means, as a term of a clause and a template.
+    pub fn meaning(&self) -> &'static str {
+        match self.presence {
+            FieldPresence::Required => "(field @M)",
+            FieldPresence::Optional => "(optional @M)",
+            FieldPresence::Defaulted => "(defaulted ⟦<@T as DefaultValue>⟧.is_default @M)",
+            FieldPresence::DefaultedTo(_) => DEFAULTED_TO,
         }
     }
 
-    /// The statement which checks that the value of the field is one of its type.
-    pub fn check(&self, alloc: Global) -> Result<String, AllocError> {
-        let name = self.name.as_str();
-        let end = match self.of.kind {
-            RustKind::Choice => "",
-            _ => ";",
-        };
-        if matches!(self.presence, FieldPresence::Optional) {
-            let check = self.of.check(alloc, "value")?;
-            return format!(in alloc;
-                "        if let Some(value) = &self.{name}.0 {{\n            {check}{end}\n        }}\n"
-            );
+    /// The statement which checks that the value of the field is one of its type, as a template.
+    pub fn check(&self) -> &'static str {
+        match (self.of.kind, &self.presence) {
+            (RustKind::Choice, FieldPresence::Optional) => CHECK_OPTIONAL_CHOICE,
+            (RustKind::Choice, _) => "        match &self.@N@I {\n@A}\n",
+            (_, FieldPresence::Optional) => CHECK_OPTIONAL,
+            _ => "        <@T as DecodeValue<R>>::is_value(&self.@N@I);\n",
         }
-        let inside = match &self.presence {
+    }
+
+    // Where the value stands in the field.
+    fn inside(&self) -> &'static str {
+        match self.presence {
             FieldPresence::Defaulted | FieldPresence::DefaultedTo(_) => ".0",
             _ => "",
-        };
-        let place = format!(in alloc; "&self.{name}{inside}")?;
-        let check = self.of.check(alloc, place.as_str())?;
-        format!(in alloc; "        {check}{end}\n")
+        }
     }
+
+    // The type that stands for the default, if it is written by hand.
+    fn own_default(&self) -> &str {
+        match &self.presence {
+            FieldPresence::DefaultedTo(default) => default.as_str(),
+            _ => "",
+        }
+    }
+}
+
+impl Places for Field {
+    fn push_place(&self, out: &mut String, letter: char) -> Result<(), AllocError> {
+        match letter {
+            'N' => out.push_str(self.name.as_str()),
+            'D' => out.push_str(self.doc.as_str()),
+            'T' => out.push_str(self.of.text.as_str()),
+            'A' => out.push_str(self.of.arms.as_str()),
+            'M' => self.of.push_alternative(out),
+            'O' => out.push_str(self.own_default()),
+            'I' => out.push_str(self.inside()),
+            'W' => self.push_whole_type(out),
+            _ => Ok(()),
+        }
+    }
+}
+
+/// The lifetime of a struct with these fields, or nothing.
+pub fn lifetime_of(fields: &[Field]) -> &'static str {
+    for field in fields {
+        if field.of.has_lifetime {
+            return "<'a>";
+        }
+    }
+    ""
+}
+
+/// What is written of each of some fields, in pairs.
+#[derive(Clone, Copy)]
+pub enum Row {
+    Types,
+    Names,
+    Values,
+    Meaning,
+}
+
+impl Row {
+    /// What each pair begins with.
+    pub fn open(self) -> &'static str {
+        match self {
+            Row::Meaning => "(two_fields ",
+            _ => "(",
+        }
+    }
+
+    /// What stands between the parts of a pair.
+    pub fn between(self) -> &'static str {
+        match self {
+            Row::Meaning => " ",
+            _ => ", ",
+        }
+    }
+}
+
+// Some fields, and what is written of each.
+#[derive(Clone, Copy)]
+struct FieldRow<'f> {
+    fields: &'f [Field],
+    row: Row,
+}
+
+impl<'f> Items for FieldRow<'f> {
+    fn push_item(&self, out: &mut String, index: usize) -> Result<(), AllocError> {
+        let Some(field) = self.fields.get(index) else {
+            return Ok(());
+        };
+        match self.row {
+            Row::Types => field.push_whole_type(out),
+            Row::Names => out.push_str(field.name.as_str()),
+            Row::Values => fill(out, "v.@N", field),
+            Row::Meaning => fill(out, field.meaning(), field),
+        }
+    }
+}
+
+/// Adds what is written of each of these fields, in pairs.
+pub fn push_row(out: &mut String, fields: &[Field], row: Row) -> Result<(), AllocError> {
+    let items = FieldRow { fields, row };
+    push_pairs(out, &items, fields.len(), row.open(), row.between())
+}
+
+/// Adds a template for each of these fields.
+pub fn push_fields(out: &mut String, fields: &[Field], template: &str) -> Result<(), AllocError> {
+    for field in fields {
+        fill(out, template, field)?;
+    }
+    Ok(())
+}
+
+/// Adds the statements which check that the values of these fields are of their types.
+pub fn push_checks(out: &mut String, fields: &[Field]) -> Result<(), AllocError> {
+    for field in fields {
+        fill(out, field.check(), field)?;
+    }
+    Ok(())
 }

@@ -1,85 +1,80 @@
 //! The `use` lines of a file, from the names in its text.
 
+use crate::lines::push_line;
 use crate::octet_class::is_word_octet;
 use std::alloc::{AllocError, Global};
+use std::fmt::Write;
 
 const WIDTH: usize = 100;
 
-/// Adds a line that imports those of the names that stand in the text as words.
+/// Adds a line that imports those of the names, each on its line, that stand in the text as words.
 pub fn push_use(
     alloc: Global,
     out: &mut String,
     text: &str,
     path: &str,
-    names: &[&str],
+    names: &str,
 ) -> Result<(), AllocError> {
-    let mut found: Vec<&str> = Vec::new(alloc);
-    for name in names {
-        if has_word(text, name) {
-            found.push(*name)?;
-        }
-    }
-    push_names(alloc, out, path, &found)
+    let found = words_in(alloc, text, names)?;
+    push_names(alloc, out, path, found.as_str())
 }
 
-/// Adds a line that imports these names, if there are any.
+// Those of the names, each on its line, that stand in the text as words.
+fn words_in(alloc: Global, text: &str, names: &str) -> Result<String, AllocError> {
+    let mut found = String::new(alloc);
+    for name in names.lines() {
+        if has_word(text, name) {
+            push_line(&mut found, name)?;
+        }
+    }
+    Ok(found)
+}
+
+/// Adds a line that imports these names, each on its line, if there are any.
 pub fn push_names(
     alloc: Global,
     out: &mut String,
     path: &str,
-    names: &Vec<&str>,
+    names: &str,
 ) -> Result<(), AllocError> {
+    let line = joined(alloc, names)?;
+    let line = line.as_str();
+    match names.lines().count() {
+        0 => Ok(()),
+        1 => write!(out, "use {path}::{line};\n"),
+        _ if path.len().saturating_add(line.len()).saturating_add(9) <= WIDTH => {
+            write!(out, "use {path}::{{{line}}};\n")
+        }
+        _ => {
+            write!(out, "use {path}::{{")?;
+            push_lines(alloc, out, names)?;
+            out.push_str("\n};\n")
+        }
+    }
+}
+
+// The lines with commas between them.
+fn joined(alloc: Global, names: &str) -> Result<String, AllocError> {
     let mut line = String::new(alloc);
-    for (count, name) in names.iter().enumerate() {
+    for (count, name) in names.lines().enumerate() {
         if count > 0 {
             line.push_str(", ")?;
         }
         line.push_str(name)?;
     }
-    match names.len() {
-        0 => Ok(()),
-        1 => push_one(out, path, &line),
-        _ => push_many(alloc, out, path, &line, names),
-    }
-}
-
-fn push_one(out: &mut String, path: &str, name: &String) -> Result<(), AllocError> {
-    out.push_str("use ")?;
-    out.push_str(path)?;
-    out.push_str("::")?;
-    out.push_str(name.as_str())?;
-    out.push_str(";\n")
-}
-
-fn push_many(
-    alloc: Global,
-    out: &mut String,
-    path: &str,
-    line: &String,
-    names: &Vec<&str>,
-) -> Result<(), AllocError> {
-    out.push_str("use ")?;
-    out.push_str(path)?;
-    out.push_str("::{")?;
-    if path.len().saturating_add(line.len()).saturating_add(9) <= WIDTH {
-        out.push_str(line.as_str())?;
-        return out.push_str("};\n");
-    }
-    push_lines(alloc, out, names)?;
-    out.push_str("\n};\n")
+    Ok(line)
 }
 
 // Adds the names in lines of at most 100 columns.
-fn push_lines(alloc: Global, out: &mut String, names: &Vec<&str>) -> Result<(), AllocError> {
+fn push_lines(alloc: Global, out: &mut String, names: &str) -> Result<(), AllocError> {
     let mut line = String::new(alloc);
-    for name in names.iter() {
+    for name in names.lines() {
         if line.len().saturating_add(name.len()).saturating_add(6) > WIDTH {
             out.push_str(line.as_str())?;
             line = String::new(alloc);
         }
-        line.push_str(if line.is_empty() { "\n    " } else { " " })?;
-        line.push_str(name)?;
-        line.push(',')?;
+        let space = if line.is_empty() { "\n    " } else { " " };
+        write!(line, "{space}{name},")?;
     }
     out.push_str(line.as_str())
 }
@@ -114,26 +109,20 @@ fn is_bound_octet(octet: u8) -> bool {
     is_word_octet(octet) || octet == b':'
 }
 
-/// Adds a line that imports those of the names for clauses that stand in the text as words.
+/// Adds a line that imports those of the names for clauses, each on its line, that stand in the
+/// text as words.
 pub fn push_ghost_use(
     alloc: Global,
     out: &mut String,
     text: &str,
     path: &str,
-    names: &[&str],
+    names: &str,
 ) -> Result<(), AllocError> {
-    let mut line = String::new(alloc);
-    for name in names {
-        if has_word(text, name) {
-            if !line.is_empty() {
-                line.push_str(", ")?;
-            }
-            line.push_str(name)?;
-        }
-    }
-    if line.is_empty() {
+    let found = words_in(alloc, text, names)?;
+    if found.is_empty() {
         return Ok(());
     }
+    let line = joined(alloc, found.as_str())?;
     let line = line.as_str();
-    out.push_str(format!(in alloc; "ghost use {path}.{{{line}}};\n")?.as_str())
+    write!(out, "ghost use {path}.{{{line}}};\n")
 }

@@ -2,11 +2,11 @@
 
 use super::directive::{FIELD, directive};
 use super::sequence::ITEM;
-use super::template::{Place, fill};
+use super::template::{Places, fill};
 use crate::base_form::base_of;
 use crate::module::Module;
 use crate::type_node::TypeForm;
-use std::alloc::{AllocError, Global};
+use std::alloc::AllocError;
 
 const LIST: &str = "@D#[derive(Clone, Copy, Drop)]
 pub struct @N<'a> {
@@ -108,36 +108,46 @@ impl<'a> EncodeValue for @N<'a> {
 }
 ";
 
-/// The text of a struct with this name around a list of the type `list`, which is a field with the
-/// name `field`.
-pub fn list_body<'t>(
-    alloc: Global,
-    doc: &'t str,
-    name: &'t str,
-    field: &'t str,
-    list: &'t str,
-) -> Result<String, AllocError> {
-    let is_set = list.starts_with("SetOf");
-    let (word, library) = if is_set {
-        ("SET", "SetOf")
-    } else {
-        ("SEQUENCE", "SequenceOf")
-    };
-    let places = [
-        Place::new('D', doc),
-        Place::new('N', name),
-        Place::new('F', field),
-        Place::new('T', list),
-        Place::new('W', word),
-        Place::new('O', library),
-        Place::new('L', "<'a>"),
-    ];
-    let mut text = String::new(alloc);
-    fill(&mut text, LIST, &places)?;
-    fill(&mut text, if is_set { SET } else { SEQUENCE }, &places)?;
-    fill(&mut text, BOTH, &places)?;
-    fill(&mut text, ITEM, &places)?;
-    Ok(text)
+/// A struct around a list.
+#[derive(Clone, Copy)]
+pub struct ListText<'t> {
+    /// The lines of its documentation.
+    pub doc: &'t str,
+    /// Its name.
+    pub name: &'t str,
+    /// The name of the field that is the list.
+    pub field: &'t str,
+    /// The type of the list.
+    pub list: &'t str,
+}
+
+impl<'t> ListText<'t> {
+    /// Adds the text of the struct and of its implementations.
+    pub fn push_body(&self, out: &mut String) -> Result<(), AllocError> {
+        fill(out, LIST, self)?;
+        fill(out, if self.is_set() { SET } else { SEQUENCE }, self)?;
+        fill(out, BOTH, self)?;
+        fill(out, ITEM, self)
+    }
+
+    fn is_set(&self) -> bool {
+        self.list.starts_with("SetOf")
+    }
+}
+
+impl<'t> Places for ListText<'t> {
+    fn push_place(&self, out: &mut String, letter: char) -> Result<(), AllocError> {
+        match letter {
+            'D' => out.push_str(self.doc),
+            'N' => out.push_str(self.name),
+            'F' => out.push_str(self.field),
+            'T' => out.push_str(self.list),
+            'W' => out.push_str(if self.is_set() { "SET" } else { "SEQUENCE" }),
+            'O' => out.push_str(if self.is_set() { "SetOf" } else { "SequenceOf" }),
+            'L' => out.push_str("<'a>"),
+            _ => Ok(()),
+        }
+    }
 }
 
 /// The name of the field of the list with this index, if the list is a struct: the one that the
@@ -158,8 +168,12 @@ pub fn list_field<'a>(module: &Module<'a>, index: usize) -> Option<&'a str> {
 
 // Whether the type with this index is an item of a list, maybe by name.
 fn is_list_item(module: &Module<'_>, index: usize) -> bool {
-    module.nodes.iter().any(|node| match &node.form {
-        TypeForm::SequenceOf(of) | TypeForm::SetOf(of) => base_of(module, *of) == index,
-        _ => false,
-    })
+    for node in module.nodes.iter() {
+        if let TypeForm::SequenceOf(of) | TypeForm::SetOf(of) = &node.form
+            && base_of(module, *of) == index
+        {
+            return true;
+        }
+    }
+    false
 }

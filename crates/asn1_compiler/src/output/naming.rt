@@ -11,16 +11,27 @@ use std::alloc::{AllocError, Global};
 /// A name for each type, by its index; an empty one for types of values alone. A type without a
 /// name has that of the type around it and that of the component.
 pub fn names_of(alloc: Global, module: &Module<'_>) -> Result<Vec<String>, AllocError> {
-    let mut names = Vec::new(alloc);
-    for _ in module.nodes.iter() {
-        names.push(String::new(alloc))?;
-    }
-    for assigned in module.types.iter() {
-        set_name(&mut names, assigned.of, type_name(alloc, assigned.name)?);
-    }
+    let mut names = assigned_names(alloc, module)?;
     for count in 0..module.nodes.len() {
         let index = module.nodes.len() - 1 - count;
         name_parts(alloc, module, &mut names, index)?;
+    }
+    Ok(names)
+}
+
+// The names that types have in the module; an empty one for any other type.
+fn assigned_names(alloc: Global, module: &Module<'_>) -> Result<Vec<String>, AllocError> {
+    let mut names = empty_names(alloc, module.nodes.len())?;
+    for assigned in module.types.iter() {
+        set_name(&mut names, assigned.of, type_name(alloc, assigned.name)?);
+    }
+    Ok(names)
+}
+
+fn empty_names(alloc: Global, count: usize) -> Result<Vec<String>, AllocError> {
+    let mut names = Vec::new(alloc);
+    for _ in 0..count {
+        names.push(String::new(alloc))?;
     }
     Ok(names)
 }
@@ -35,7 +46,12 @@ pub fn text_at(texts: &Vec<String>, index: usize) -> &str {
 
 /// Whether the type with this index has a name in the module.
 pub fn is_assigned(module: &Module<'_>, index: usize) -> bool {
-    module.types.iter().any(|assigned| assigned.of == index)
+    for assigned in module.types.iter() {
+        if assigned.of == index {
+            return true;
+        }
+    }
+    false
 }
 
 fn set_name(names: &mut Vec<String>, index: usize, name: String) {

@@ -35,10 +35,16 @@ pub fn is_closed(node: &TypeNode<'_>, numbers: &Vec<NamedNumber<'_>>) -> bool {
     if numbers.is_empty() || high < low || high >= 4294967296 {
         return false;
     }
-    high - low == numbers.len() as u64 - 1
-        && numbers
-            .iter()
-            .all(|named| is_within(named.number, low, high))
+    high - low == numbers.len() as u64 - 1 && are_within(numbers, low, high)
+}
+
+fn are_within(numbers: &Vec<NamedNumber<'_>>, low: u64, high: u64) -> bool {
+    for named in numbers.iter() {
+        if !is_within(named.number, low, high) {
+            return false;
+        }
+    }
+    true
 }
 
 fn is_within(number: Option<Endpoint<'_>>, low: u64, high: u64) -> bool {

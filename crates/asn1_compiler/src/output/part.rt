@@ -1,9 +1,10 @@
 //! The text of a part of a SEQUENCE.
 
-use super::field::Field;
-use super::sequence::{lifetime_of, named, types_of};
-use super::template::{Place, fill};
+use super::field::{Field, Row, lifetime_of, push_fields, push_row};
+use super::sequence::SequenceText;
+use super::template::{Places, fill, filled, path};
 use std::alloc::{AllocError, Global};
+use std::fmt::Write;
 
 const PART: &str = "// Some fields of a @W.
 #[derive(Drop)]
@@ -14,7 +15,7 @@ pub(crate) struct @N@L {
 pub(crate) type @NFields@L = @T;
 
 impl@L FromFields<@NFields@L> for @N@L {
-    ghost fields = { λ v. @V };
+    ghost fields = { λ v. @R };
 
     fn from_fields(members: @NFields@L) -> Self {
         let @P = members;
@@ -42,40 +43,78 @@ impl<'a, R: Reader<Borrowed = &'a [u8]>> Decode<R> for @N@L {
 }
 ";
 
-/// The text of the part with these fields of the SEQUENCE `of`.
-pub fn part_body(
-    alloc: Global,
-    of: &str,
-    number: usize,
-    fields: &[Field],
-) -> Result<String, AllocError> {
-    let name = format!(in alloc; "{of}Part{number}")?;
-    let mut lines = String::new(alloc);
-    let mut members = String::new(alloc);
-    for field in fields {
-        let field_name = field.name.as_str();
-        let whole = field.whole_type(alloc)?;
-        let whole = whole.as_str();
-        lines.push_str(format!(in alloc; "    pub(crate) {field_name}: {whole},\n")?.as_str())?;
-        if !members.is_empty() {
-            members.push_str(", ")?;
-        }
-        members.push_str(field_name)?;
+/// A part of a SEQUENCE.
+#[derive(Clone, Copy)]
+pub struct PartText<'s> {
+    /// The SEQUENCE.
+    pub of: &'s SequenceText,
+    /// The index of the part.
+    pub index: usize,
+    /// Its fields.
+    pub fields: &'s [Field],
+}
+
+impl<'s> PartText<'s> {
+    /// The number that is in the name of the part.
+    pub fn number(&self) -> usize {
+        self.index.saturating_add(1)
     }
-    let types = types_of(alloc, fields)?;
-    let values = named(alloc, fields, "v.")?;
-    let pattern = named(alloc, fields, "")?;
-    let places = [
-        Place::new('W', of),
-        Place::new('N', name.as_str()),
-        Place::new('L', lifetime_of(fields)),
-        Place::new('F', lines.as_str()),
-        Place::new('S', members.as_str()),
-        Place::new('T', types.as_str()),
-        Place::new('V', values.as_str()),
-        Place::new('P', pattern.as_str()),
-    ];
-    let mut text = String::new(alloc);
-    fill(&mut text, PART, &places)?;
-    Ok(text)
+
+    /// Adds the text of the part.
+    pub fn push_body(&self, out: &mut String) -> Result<(), AllocError> {
+        fill(out, PART, self)
+    }
+
+    /// The name of the part.
+    pub fn name(&self, alloc: Global) -> Result<String, AllocError> {
+        filled(alloc, "@N", self)
+    }
+
+    // Adds the name of the part.
+    fn push_name(&self, out: &mut String) -> Result<(), AllocError> {
+        let (of, number) = (self.of.name.as_str(), self.number());
+        write!(out, "{of}Part{number}")
+    }
+
+    /// Adds the type of the part.
+    pub fn push_type(&self, out: &mut String) -> Result<(), AllocError> {
+        let (of, number, lifetime) = (
+            self.of.name.as_str(),
+            self.number(),
+            lifetime_of(self.fields),
+        );
+        write!(out, "{of}Part{number}{lifetime}")
+    }
+}
+
+impl<'s> Places for PartText<'s> {
+    fn push_place(&self, out: &mut String, letter: char) -> Result<(), AllocError> {
+        match letter {
+            'W' => out.push_str(self.of.name.as_str()),
+            'N' => self.push_name(out),
+            'I' => write!(out, "{}", self.number()),
+            'L' => out.push_str(lifetime_of(self.fields)),
+            'F' => push_fields(out, self.fields, "    pub(crate) @N: @W,\n"),
+            'S' => push_names(out, self.fields),
+            'T' => push_row(out, self.fields, Row::Types),
+            'R' => push_row(out, self.fields, Row::Values),
+            'V' => push_fields(out, self.fields, "@N = v.@N; "),
+            'P' => push_row(out, self.fields, Row::Names),
+            'M' => push_row(out, self.fields, Row::Meaning),
+            'Q' => self.of.push_made(out),
+            'G' => out.push_str(path(self.of.part_count(), self.index)),
+            _ => Ok(()),
+        }
+    }
+}
+
+// Adds the names of fields, with commas between them.
+fn push_names(out: &mut String, fields: &[Field]) -> Result<(), AllocError> {
+    for (count, field) in fields.iter().enumerate() {
+        if count > 0 {
+            out.push_str(", ")?;
+        }
+        out.push_str(field.name.as_str())?;
+    }
+    Ok(())
 }

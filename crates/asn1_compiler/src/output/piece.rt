@@ -1,5 +1,6 @@
 //! The text of a file without its imports.
 
+use super::rust_names::snake_name;
 use std::alloc::{AllocError, Global};
 
 /// What a piece defines, which decides what its clauses import.
@@ -21,8 +22,8 @@ pub struct Piece {
     pub file: String,
     /// The name of the type.
     pub name: String,
-    /// All names that the other files may import.
-    pub names: Vec<String>,
+    /// All names that the other files may import, each on its line.
+    pub names: String,
     /// Whether these names are public.
     pub is_public: bool,
     /// What it defines.
@@ -34,27 +35,24 @@ pub struct Piece {
 }
 
 impl Piece {
-    /// A piece that defines a type with this name and, if `end` is not empty, one with `end` behind
-    /// the name.
-    pub fn new(
-        alloc: Global,
-        name: &str,
-        end: &str,
-        kind: PieceKind,
-        body: String,
-    ) -> Result<Self, AllocError> {
-        let mut names = vec![in alloc; String::from_str(alloc, name)?]?;
-        if !end.is_empty() {
-            names.push(format!(in alloc; "{name}{end}")?)?;
-        }
+    /// A piece without text that defines a type with this name and, if `end` is not empty, one with
+    /// `end` behind the name.
+    pub fn new(alloc: Global, name: &str, end: &str, kind: PieceKind) -> Result<Self, AllocError> {
         Ok(Piece {
-            file: super::rust_names::snake_name(alloc, name)?,
+            file: snake_name(alloc, name)?,
             name: String::from_str(alloc, name)?,
-            names,
+            names: names_with(alloc, name, end)?,
             is_public: kind != PieceKind::SequencePart && kind != PieceKind::ChoicePart,
             kind,
-            body,
+            body: String::new(alloc),
             proof: String::new(alloc),
         })
     }
+}
+
+fn names_with(alloc: Global, name: &str, end: &str) -> Result<String, AllocError> {
+    if end.is_empty() {
+        return format!(in alloc; "{name}\n");
+    }
+    format!(in alloc; "{name}\n{name}{end}\n")
 }

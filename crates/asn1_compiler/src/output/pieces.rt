@@ -2,27 +2,29 @@
 
 use super::alternatives::alternatives;
 use super::choice::ChoiceText;
-use super::choice_part::choice_part_body;
-use super::defaults::{DefaultType, default_type};
-use super::directive::{field_name, name_of_type, own_default, own_type, type_name};
+use super::choice_part::ChoicePart;
+use super::directive::own_type;
 use super::docs::doc_of;
-use super::enumeration::enumeration_body;
-use super::field::{Field, FieldPresence};
-use super::lists::{list_body, list_field};
+use super::enumeration::push_enumeration;
+use super::fields::tagged_text;
+use super::lists::{ListText, list_field};
 use super::naming::{is_assigned, text_at};
 use super::numbers::is_closed;
-use super::part::part_body;
+use super::part::PartText;
 use super::piece::{Piece, PieceKind};
 use super::rust_type::{RustKind, RustType};
-use super::sequence::{SequenceText, lifetime_of};
-use super::types::{component_types, list_text, tagged_name};
+use super::sequence::SequenceText;
+use super::types::{list_text, tagged_name};
 use crate::checks::are_numbered;
-use crate::component::{Component, Presence};
+use crate::component::Component;
 use crate::failure::Failure;
+use crate::lines::push_line;
 use crate::module::Module;
+use crate::named_number::NamedNumber;
 use crate::refusal::Refusal;
 use crate::type_node::{TypeForm, TypeNode};
 use std::alloc::{AllocError, Global};
+use std::fmt::Write;
 
 /// A module with what is known of its types.
 #[derive(Clone, Copy)]
@@ -35,6 +37,14 @@ pub struct Written<'m, 'a> {
     pub types: &'m Vec<RustType>,
 }
 
+// A type of the module, with its index and the name that it has in Rust.
+#[derive(Clone, Copy)]
+struct Named<'m, 'a> {
+    index: usize,
+    node: &'m TypeNode<'a>,
+    name: &'m str,
+}
+
 /// The most fields of a SEQUENCE, and the most alternatives of a CHOICE.
 const MOST: usize = 25;
 
@@ -45,7 +55,7 @@ impl<'m, 'a> Written<'m, 'a> {
         for (index, node) in self.module.nodes.iter().enumerate() {
             let name = text_at(self.names, index);
             if !name.is_empty() && own_type(self.module, index).is_none() {
-                self.add_pieces(alloc, &mut pieces, index, node, name)?;
+                self.add_pieces(alloc, &mut pieces, Named { index, node, name })?;
             }
         }
         Ok(pieces)
@@ -56,77 +66,97 @@ impl<'m, 'a> Written<'m, 'a> {
         &self,
         alloc: Global,
         pieces: &mut Vec<Piece>,
-        index: usize,
-        node: &TypeNode<'a>,
-        name: &str,
+        of: Named<'_, 'a>,
     ) -> Result<(), Failure<'a>> {
-        let doc = self.doc(alloc, index, name)?;
-        match &node.form {
-            TypeForm::Sequence(components) => {
-                check_count(node, components)?;
-                let text = self.sequence(alloc, name, doc, components)?;
-                add_sequence(alloc, pieces, &text)?;
-                self.add_numbered_choices(alloc, pieces, components)?;
+        match &of.node.form {
+            TypeForm::Sequence(components) => self.add_sequence(alloc, pieces, of, components),
+            TypeForm::Choice(components) => self.add_choice(alloc, pieces, of, components),
+            TypeForm::Enumerated(items) => self.add_enumeration(alloc, pieces, of, items),
+            TypeForm::Integer(items) if is_closed(of.node, items) => {
+                self.add_enumeration(alloc, pieces, of, items)
             }
-            TypeForm::Choice(components) => {
-                check_count(node, components)?;
-                let text = ChoiceText {
-                    name: String::from_str(alloc, name)?,
-                    doc,
-                    alternatives: alternatives(alloc, self.module, self.types, components)?,
-                };
-                add_choice(alloc, pieces, &text)?;
-                self.add_numbered_choices(alloc, pieces, components)?;
+            TypeForm::SequenceOf(_) | TypeForm::SetOf(_) => match list_field(
+                self.module,
+                of.index,
+            ) {
+                Some(field) => Ok(self.add_list(alloc, pieces, of, field)?),
+                None => self.add_alias(alloc, pieces, of),
+            },
+            TypeForm::Tagged(_, inside) => {
+                self.add_tagged_choice(alloc, pieces, *inside)?;
+                self.add_alias(alloc, pieces, of)
             }
-            TypeForm::Enumerated(items) => {
-                let body = enumeration_body(alloc, doc.as_str(), name, items, true)?;
-                add_piece(
-                    pieces,
-                    Piece::new(alloc, name, "", PieceKind::Enumeration, body)?,
-                )?;
-            }
-            TypeForm::Integer(items) if is_closed(node, items) => {
-                let body = enumeration_body(alloc, doc.as_str(), name, items, true)?;
-                add_piece(
-                    pieces,
-                    Piece::new(alloc, name, "", PieceKind::Enumeration, body)?,
-                )?;
-            }
-            TypeForm::SequenceOf(_) | TypeForm::SetOf(_) => {
-                self.add_list(alloc, pieces, index, node, name, doc)?;
-            }
-            TypeForm::Tagged(_, of) => {
-                self.add_tagged_choice(alloc, pieces, *of)?;
-                if is_assigned(self.module, index) {
-                    add_piece(pieces, self.alias(alloc, index, node, name, doc)?)?;
-                }
-            }
-            _ if is_assigned(self.module, index) => {
-                add_piece(pieces, self.alias(alloc, index, node, name, doc)?)?;
-            }
-            _ => {}
+            _ => self.add_alias(alloc, pieces, of),
         }
-        Ok(())
     }
 
-    // Adds the piece of a list that is a struct, or has a name in the module.
+    fn add_sequence(
+        &self,
+        alloc: Global,
+        pieces: &mut Vec<Piece>,
+        of: Named<'_, 'a>,
+        components: &Vec<Component<'a>>,
+    ) -> Result<(), Failure<'a>> {
+        check_count(of.node, components)?;
+        let fields = self.fields(alloc, of.name, components)?;
+        let doc = self.doc(alloc, of)?;
+        add_fields(
+            alloc,
+            pieces,
+            &SequenceText::new(alloc, of.name, doc, fields)?,
+        )?;
+        self.add_numbered_choices(alloc, pieces, components)
+    }
+
+    fn add_choice(
+        &self,
+        alloc: Global,
+        pieces: &mut Vec<Piece>,
+        of: Named<'_, 'a>,
+        components: &Vec<Component<'a>>,
+    ) -> Result<(), Failure<'a>> {
+        check_count(of.node, components)?;
+        let text = ChoiceText {
+            name: String::from_str(alloc, of.name)?,
+            doc: self.doc(alloc, of)?,
+            alternatives: alternatives(alloc, self.module, self.types, components)?,
+        };
+        add_alternatives(alloc, pieces, &text)?;
+        self.add_numbered_choices(alloc, pieces, components)
+    }
+
+    fn add_enumeration(
+        &self,
+        alloc: Global,
+        pieces: &mut Vec<Piece>,
+        of: Named<'_, 'a>,
+        items: &Vec<NamedNumber<'a>>,
+    ) -> Result<(), Failure<'a>> {
+        let mut piece = Piece::new(alloc, of.name, "", PieceKind::Enumeration)?;
+        let doc = self.doc(alloc, of)?;
+        push_enumeration(alloc, &mut piece.body, doc.as_str(), of.name, items, true)?;
+        Ok(add_piece(pieces, piece)?)
+    }
+
+    // Adds the piece of a list that is a struct with this field.
     fn add_list(
         &self,
         alloc: Global,
         pieces: &mut Vec<Piece>,
-        index: usize,
-        node: &TypeNode<'a>,
-        name: &str,
-        doc: String,
-    ) -> Result<(), Failure<'a>> {
-        if let Some(field) = list_field(self.module, index) {
-            let list = list_text(alloc, self.types, node)?;
-            let body = list_body(alloc, doc.as_str(), name, field, list.as_str())?;
-            add_piece(pieces, Piece::new(alloc, name, "", PieceKind::List, body)?)?;
-        } else if is_assigned(self.module, index) {
-            add_piece(pieces, self.alias(alloc, index, node, name, doc)?)?;
-        }
-        Ok(())
+        of: Named<'_, 'a>,
+        field: &str,
+    ) -> Result<(), AllocError> {
+        let mut piece = Piece::new(alloc, of.name, "", PieceKind::List)?;
+        let list = list_text(alloc, self.types, of.node)?;
+        let doc = self.doc(alloc, of)?;
+        let text = ListText {
+            doc: doc.as_str(),
+            name: of.name,
+            field,
+            list: list.as_str(),
+        };
+        text.push_body(&mut piece.body)?;
+        add_piece(pieces, piece)
     }
 
     // Adds the pieces of tags in front of a CHOICE, for components that the module numbers.
@@ -150,162 +180,96 @@ impl<'m, 'a> Written<'m, 'a> {
         alloc: Global,
         pieces: &mut Vec<Piece>,
         index: usize,
-    ) -> Result<(), Failure<'a>> {
-        let Some(of) = self.types.get(index) else {
-            return Ok(());
-        };
-        if of.kind != RustKind::Choice {
-            return Ok(());
+    ) -> Result<(), AllocError> {
+        match self.types.get(index) {
+            Some(of) if of.kind == RustKind::Choice => add_tagged(alloc, pieces, of),
+            _ => Ok(()),
         }
-        let name = tagged_name(alloc, of)?;
-        if pieces
-            .iter()
-            .any(|piece| piece.name.as_str() == name.as_str())
-        {
-            return Ok(());
-        }
-        let fields = vec![in alloc;
-            Field {
-                name: String::from_str(alloc, "value")?,
-                doc: String::from_str(alloc, "    /// The value behind the tag.\n")?,
-                of: of.copy(alloc)?,
-                presence: FieldPresence::Required,
-                own: None,
-            },
-        ]?;
-        let choice = name_of_type(of.text.as_str());
-        let text = SequenceText {
-            name,
-            lifetime: lifetime_of(&fields),
-            doc: format!(in alloc; "/// What an explicit tag has in it: a [`{choice}`].\n")?,
-            fields,
-        };
-        Ok(add_sequence(alloc, pieces, &text)?)
     }
 
     // What the module says of a type.
-    fn doc(&self, alloc: Global, index: usize, name: &str) -> Result<String, AllocError> {
+    fn doc(&self, alloc: Global, of: Named<'_, 'a>) -> Result<String, AllocError> {
         for assigned in self.module.types.iter() {
-            if assigned.of == index {
+            if assigned.of == of.index {
                 return doc_of(alloc, assigned.name.comments, "", assigned.name.text);
             }
         }
-        doc_of(alloc, "", "", name)
+        doc_of(alloc, "", "", of.name)
     }
 
-    fn alias(
+    // Adds the piece of a type that has a name in the module, as another name of a type of Rust.
+    fn add_alias(
         &self,
         alloc: Global,
-        index: usize,
-        node: &TypeNode<'a>,
-        name: &str,
-        doc: String,
-    ) -> Result<Piece, Failure<'a>> {
-        let mut body = String::new(alloc);
-        let mut end = "";
-        if let Some(of) = self.types.get(index) {
-            let lifetime = if of.has_lifetime { "<'a>" } else { "" };
-            let (doc, text) = (doc.as_str(), of.text.as_str());
-            body = format!(in alloc; "{doc}pub type {name}{lifetime} = {text};\n")?;
+        pieces: &mut Vec<Piece>,
+        of: Named<'_, 'a>,
+    ) -> Result<(), Failure<'a>> {
+        if !is_assigned(self.module, of.index) {
+            return Ok(());
         }
-        if let TypeForm::BitString(bits) = &node.form
-            && !bits.is_empty()
-        {
-            let doc = format!(in alloc;
-                "\n/// The named bits of a [`{name}`], with their numbers.\n"
-            )?;
-            let bit = format!(in alloc; "{name}Bit")?;
-            let more = enumeration_body(alloc, doc.as_str(), bit.as_str(), bits, false)?;
-            body.push_str(more.as_str())?;
-            end = "Bit";
-        }
-        Ok(Piece::new(alloc, name, end, PieceKind::Alias, body)?)
-    }
-
-    fn sequence(
-        &self,
-        alloc: Global,
-        name: &str,
-        doc: String,
-        components: &Vec<Component<'a>>,
-    ) -> Result<SequenceText, Failure<'a>> {
-        let fields = self.fields(alloc, name, components)?;
-        Ok(SequenceText {
-            name: String::from_str(alloc, name)?,
-            lifetime: lifetime_of(&fields),
-            doc,
-            fields,
-        })
-    }
-
-    fn fields(
-        &self,
-        alloc: Global,
-        name: &str,
-        components: &Vec<Component<'a>>,
-    ) -> Result<Vec<Field>, Failure<'a>> {
-        let mut fields = Vec::new(alloc);
-        let types = component_types(alloc, self.module, self.types, components)?;
-        for (component, of) in components.iter().zip(types.iter()) {
-            fields.push(self.field(alloc, name, component, of)?)?;
-        }
-        Ok(fields)
-    }
-
-    fn field(
-        &self,
-        alloc: Global,
-        owner: &str,
-        component: &Component<'a>,
-        of: &RustType,
-    ) -> Result<Field, Failure<'a>> {
-        let mut own = None;
-        let (presence, of) = match (&component.presence, own_default(component.name)) {
-            (Presence::Required, _) => (FieldPresence::Required, of.copy(alloc)?),
-            (Presence::Optional, _) => (FieldPresence::Optional, of.copy(alloc)?),
-            (Presence::Default(_), Some(default)) => {
-                let presence = FieldPresence::DefaultedTo(String::from_str(alloc, default)?);
-                (presence, of.copy(alloc)?)
-            }
-            (Presence::Default(value), None) => {
-                let end = type_name(alloc, component.name)?;
-                let end = end.as_str();
-                let name = format!(in alloc; "{owner}{end}Default")?;
-                let found = default_type(
-                    alloc,
-                    self.module,
-                    self.types,
-                    of,
-                    component.of,
-                    value,
-                    name.as_str(),
-                )?;
-                let DefaultType { of, own: found } = found;
-                own = found;
-                (FieldPresence::Defaulted, of)
-            }
+        let end = if named_bits(of.node).is_some() {
+            "Bit"
+        } else {
+            ""
         };
-        Ok(Field {
-            name: field_name(alloc, component.name)?,
-            doc: doc_of(alloc, component.name.comments, "    ", component.name.text)?,
-            of,
-            presence,
-            own,
-        })
+        let mut piece = Piece::new(alloc, of.name, end, PieceKind::Alias)?;
+        self.push_alias(alloc, &mut piece.body, of)?;
+        if let Some(bits) = named_bits(of.node) {
+            push_bits(alloc, &mut piece.body, of.name, bits)?;
+        }
+        Ok(add_piece(pieces, piece)?)
     }
+
+    fn push_alias(
+        &self,
+        alloc: Global,
+        out: &mut String,
+        of: Named<'_, 'a>,
+    ) -> Result<(), AllocError> {
+        let Some(found) = self.types.get(of.index) else {
+            return Ok(());
+        };
+        out.push_str(self.doc(alloc, of)?.as_str())?;
+        let lifetime = if found.has_lifetime { "<'a>" } else { "" };
+        let (name, text) = (of.name, found.text.as_str());
+        write!(out, "pub type {name}{lifetime} = {text};\n")
+    }
+}
+
+// The named bits of a BIT STRING that has any.
+fn named_bits<'n, 'a>(node: &'n TypeNode<'a>) -> Option<&'n Vec<NamedNumber<'a>>> {
+    match &node.form {
+        TypeForm::BitString(bits) if !bits.is_empty() => Some(bits),
+        _ => None,
+    }
+}
+
+// Adds the enum of the named bits of the type with this name.
+fn push_bits<'a>(
+    alloc: Global,
+    out: &mut String,
+    name: &str,
+    bits: &Vec<NamedNumber<'a>>,
+) -> Result<(), Failure<'a>> {
+    let doc = format!(in alloc; "\n/// The named bits of a [`{name}`], with their numbers.\n")?;
+    let bit = format!(in alloc; "{name}Bit")?;
+    push_enumeration(alloc, out, doc.as_str(), bit.as_str(), bits, false)
 }
 
 // Adds a piece in the order of the names of files.
 fn add_piece(pieces: &mut Vec<Piece>, piece: Piece) -> Result<(), AllocError> {
-    let mut place = pieces.len();
+    let place = place_of(pieces, piece.file.as_str());
+    Ok(pieces.insert(place.min(pieces.len()), piece)?)
+}
+
+// The index of the first piece whose file comes behind this one.
+fn place_of(pieces: &Vec<Piece>, file: &str) -> usize {
     for (index, other) in pieces.iter().enumerate() {
-        if piece.file.as_str() < other.file.as_str() {
-            place = index;
-            break;
+        if file < other.file.as_str() {
+            return index;
         }
     }
-    let place = place.min(pieces.len());
-    Ok(pieces.insert(place, piece)?)
+    pieces.len()
 }
 
 fn check_count<'a>(
@@ -319,54 +283,79 @@ fn check_count<'a>(
     Ok(())
 }
 
-fn add_sequence(
+// Adds the piece of a tag in front of this CHOICE, unless it is there.
+fn add_tagged(alloc: Global, pieces: &mut Vec<Piece>, of: &RustType) -> Result<(), AllocError> {
+    let name = tagged_name(alloc, of)?;
+    for piece in pieces.iter() {
+        if piece.name.as_str() == name.as_str() {
+            return Ok(());
+        }
+    }
+    let text = tagged_text(alloc, name, of)?;
+    add_fields(alloc, pieces, &text)
+}
+
+// Adds the pieces of a SEQUENCE.
+fn add_fields(
     alloc: Global,
     pieces: &mut Vec<Piece>,
     text: &SequenceText,
 ) -> Result<(), AllocError> {
-    let name = text.name.as_str();
-    let body = text.body(alloc)?;
-    let mut piece = Piece::new(alloc, name, "Fields", PieceKind::Sequence, body)?;
-    for field in text.fields.iter() {
-        if let Some(own) = &field.own {
-            piece
-                .names
-                .push(String::from_str(alloc, own.name.as_str())?)?;
-        }
-    }
-    add_piece(pieces, piece)?;
+    add_piece(pieces, sequence_piece(alloc, text)?)?;
     if !text.has_parts() {
         return Ok(());
     }
-    for (count, chunk) in text.fields.chunks(text.part_len()).enumerate() {
-        let number = count + 1;
-        let body = part_body(alloc, name, number, chunk)?;
-        let part = format!(in alloc; "{name}Part{number}")?;
-        let kind = PieceKind::SequencePart;
-        add_piece(
-            pieces,
-            Piece::new(alloc, part.as_str(), "Fields", kind, body)?,
-        )?;
+    for index in 0..text.part_count() {
+        add_piece(pieces, part_piece(alloc, &text.part(index))?)?;
     }
     Ok(())
 }
 
-fn add_choice(alloc: Global, pieces: &mut Vec<Piece>, text: &ChoiceText) -> Result<(), AllocError> {
-    let name = text.name.as_str();
-    let body = text.body(alloc)?;
-    let end = if text.has_parts() { "" } else { "Alternatives" };
-    let mut piece = Piece::new(alloc, name, end, PieceKind::Choice, body)?;
-    piece.proof = text.proof(alloc)?;
-    add_piece(pieces, piece)?;
+fn sequence_piece(alloc: Global, text: &SequenceText) -> Result<Piece, AllocError> {
+    let mut piece = Piece::new(alloc, text.name.as_str(), "Fields", PieceKind::Sequence)?;
+    text.push_body(&mut piece.body)?;
+    for field in text.fields.iter() {
+        if let Some(own) = &field.own {
+            push_line(&mut piece.names, own.name.as_str())?;
+        }
+    }
+    Ok(piece)
+}
+
+fn part_piece(alloc: Global, part: &PartText<'_>) -> Result<Piece, AllocError> {
+    let name = part.name(alloc)?;
+    let mut piece = Piece::new(alloc, name.as_str(), "Fields", PieceKind::SequencePart)?;
+    part.push_body(&mut piece.body)?;
+    Ok(piece)
+}
+
+// Adds the pieces of a CHOICE.
+fn add_alternatives(
+    alloc: Global,
+    pieces: &mut Vec<Piece>,
+    text: &ChoiceText,
+) -> Result<(), AllocError> {
+    add_piece(pieces, choice_piece(alloc, text)?)?;
     if !text.has_parts() {
         return Ok(());
     }
-    for (count, chunk) in text.alternatives.chunks(text.part_len()).enumerate() {
-        let number = count + 1;
-        let body = choice_part_body(alloc, name, number, chunk)?;
-        let part = format!(in alloc; "{name}Part{number}")?;
-        let kind = PieceKind::ChoicePart;
-        add_piece(pieces, Piece::new(alloc, part.as_str(), "", kind, body)?)?;
+    for index in 0..text.part_count() {
+        add_piece(pieces, choice_part_piece(alloc, &text.part(index))?)?;
     }
     Ok(())
+}
+
+fn choice_piece(alloc: Global, text: &ChoiceText) -> Result<Piece, AllocError> {
+    let end = if text.has_parts() { "" } else { "Alternatives" };
+    let mut piece = Piece::new(alloc, text.name.as_str(), end, PieceKind::Choice)?;
+    text.push_body(&mut piece.body)?;
+    text.push_proof(&mut piece.proof)?;
+    Ok(piece)
+}
+
+fn choice_part_piece(alloc: Global, part: &ChoicePart<'_>) -> Result<Piece, AllocError> {
+    let name = part.name(alloc)?;
+    let mut piece = Piece::new(alloc, name.as_str(), "", PieceKind::ChoicePart)?;
+    part.push_body(&mut piece.body)?;
+    Ok(piece)
 }

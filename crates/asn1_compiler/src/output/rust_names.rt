@@ -1,7 +1,56 @@
 //! Names of Rust for names of the notation.
 
+use crate::lines::is_line_of;
 use crate::octet_class::{is_digit, is_lower, is_upper};
 use std::alloc::{AllocError, Global};
+
+// The keywords of Rust, and of its contracts.
+const KEYWORDS: &str = "as
+async
+await
+box
+break
+const
+continue
+crate
+dyn
+else
+ensures
+enum
+extern
+false
+final
+fn
+for
+ghost
+if
+impl
+in
+let
+loop
+macro
+match
+mod
+move
+mut
+pub
+ref
+requires
+result
+return
+self
+static
+struct
+super
+trait
+true
+try
+type
+unsafe
+use
+where
+while
+yield";
 
 /// The name in words of lower case with `_` between them: `tbsCertificate` is `tbs_certificate`. A
 /// keyword of Rust gets a `_` behind it.
@@ -18,7 +67,7 @@ pub fn snake_name(alloc: Global, name: &str) -> Result<String, AllocError> {
         }
         text.push(char::from(octets[at].to_ascii_lowercase()))?;
     }
-    if is_keyword(text.as_str()) {
+    if is_line_of(KEYWORDS, text.as_str()) {
         text.push('_')?;
     }
     Ok(text)
@@ -57,55 +106,4 @@ fn begins_word(octets: &[u8], at: usize) -> bool {
         return true;
     }
     at + 1 < octets.len() && is_lower(octets[at + 1])
-}
-
-fn is_keyword(word: &str) -> bool {
-    matches!(
-        word,
-        "as" | "async"
-            | "await"
-            | "box"
-            | "break"
-            | "const"
-            | "continue"
-            | "crate"
-            | "dyn"
-            | "else"
-            | "ensures"
-            | "enum"
-            | "extern"
-            | "false"
-            | "final"
-            | "fn"
-            | "for"
-            | "ghost"
-            | "if"
-            | "impl"
-            | "in"
-            | "let"
-            | "loop"
-            | "macro"
-            | "match"
-            | "mod"
-            | "move"
-            | "mut"
-            | "pub"
-            | "ref"
-            | "requires"
-            | "result"
-            | "return"
-            | "self"
-            | "static"
-            | "struct"
-            | "super"
-            | "trait"
-            | "true"
-            | "try"
-            | "type"
-            | "unsafe"
-            | "use"
-            | "where"
-            | "while"
-            | "yield"
-    )
 }

@@ -1,6 +1,7 @@
 //! Types of Rust for types of the notation.
 
 use std::alloc::{AllocError, Global};
+use std::fmt::Write;
 
 /// How the fields of a type are read.
 #[derive(Clone, Copy, Debug, PartialEq, Eq)]
@@ -37,6 +38,16 @@ impl RustType {
         })
     }
 
+    /// The type of an element with this text; it has a lifetime if the text has one.
+    pub fn element(alloc: Global, text: String) -> Self {
+        RustType {
+            has_lifetime: text.contains('\''),
+            text,
+            kind: RustKind::Element,
+            arms: String::new(alloc),
+        }
+    }
+
     /// The same type.
     pub fn copy(&self, alloc: Global) -> Result<Self, AllocError> {
         self.renamed(alloc, self.text.as_str())
@@ -52,23 +63,23 @@ impl RustType {
         })
     }
 
-    /// What a value of this type means, as a term of a clause.
-    pub fn alternative(&self, alloc: Global) -> Result<String, AllocError> {
+    /// Adds what a value of this type means, as a term of a clause.
+    pub fn push_alternative(&self, out: &mut String) -> Result<(), AllocError> {
         let text = self.text.as_str();
         match self.kind {
-            RustKind::Any => String::from_str(alloc, "any_element"),
-            RustKind::Choice => format!(in alloc; "⟦<{text} as DescribedChoice>⟧.alternative"),
-            RustKind::Element => format!(in alloc; "(alternative ⟦<{text} as Described>⟧.element)"),
+            RustKind::Any => out.push_str("any_element"),
+            RustKind::Choice => write!(out, "⟦<{text} as DescribedChoice>⟧.alternative"),
+            RustKind::Element => write!(out, "(alternative ⟦<{text} as Described>⟧.element)"),
         }
     }
 
-    /// The expression which checks that the value at a place is one of this type.
-    pub fn check(&self, alloc: Global, place: &str) -> Result<String, AllocError> {
+    /// Adds the expression which checks that the value `value` is one of this type.
+    pub fn push_check(&self, out: &mut String) -> Result<(), AllocError> {
         let text = self.text.as_str();
         let arms = self.arms.as_str();
         match self.kind {
-            RustKind::Choice => format!(in alloc; "match {place} {{\n{arms}}}"),
-            _ => format!(in alloc; "<{text} as DecodeValue<R>>::is_value({place})"),
+            RustKind::Choice => write!(out, "match value {{\n{arms}}}"),
+            _ => write!(out, "<{text} as DecodeValue<R>>::is_value(value)"),
         }
     }
 }

@@ -1,9 +1,11 @@
 //! The text of a SEQUENCE.
 ghost use Rattle.std.specs.Prelude.{◌<◌};
 
-use super::field::{Field, FieldPresence};
-use super::template::{Place, fill, path, push_pairs};
+use super::field::{Field, FieldPresence, Row, lifetime_of, push_checks, push_fields, push_row};
+use super::part::PartText;
+use super::template::{Items, Places, fill, push_pairs};
 use std::alloc::{AllocError, Global};
+use std::fmt::Write;
 
 /// A SEQUENCE of at most 25 fields.
 #[derive(Drop)]
@@ -95,6 +97,11 @@ impl@L Nestable for @N@L {
 }
 ";
 
+// What a part means, and the fields that it takes from a value.
+const SEEN_PART: &str = "(seen ⟦<@N@L as FromFields<@NFields@L>>⟧.fields @M)";
+
+const ENCODED_PART: &str = "⟦<@N@L as FromFields<@NFields@L>>⟧.fields (@Q v)@G";
+
 /// The most fields in one pair of pairs: more of them take the checker's bound too far.
 const PART: usize = 4;
 
@@ -102,59 +109,42 @@ const PART: usize = 4;
 const WEIGHT: usize = 6;
 
 impl SequenceText {
-    /// The text of the struct and of its implementations.
-    pub fn body(&self, alloc: Global) -> Result<String, AllocError> {
-        let name = self.name.as_str();
-        let lifetime = self.lifetime;
-        let whole = self.whole(alloc)?;
-        let whole = whole.as_str();
-        let fields = format!(in alloc; "⟦<{name}{lifetime} as FromFields<{whole}>>⟧.fields")?;
-        let lines = self.field_lines(alloc)?;
-        let types = self.types(alloc)?;
-        let values = self.values(alloc)?;
-        let pattern = self.pattern(alloc)?;
-        let members = self.members(alloc)?;
-        let meaning = self.meaning(alloc)?;
-        let checks = self.checks(alloc)?;
-        let encoded = self.encoded(alloc, fields.as_str())?;
-        let references = self.references(alloc)?;
-        let places = [
-            Place::new('N', name),
-            Place::new('L', lifetime),
-            Place::new('D', self.doc.as_str()),
-            Place::new('K', self.derived()),
-            Place::new('Q', whole),
-            Place::new('A', fields.as_str()),
-            Place::new('F', lines.as_str()),
-            Place::new('T', types.as_str()),
-            Place::new('V', values.as_str()),
-            Place::new('P', pattern.as_str()),
-            Place::new('S', members.as_str()),
-            Place::new('M', meaning.as_str()),
-            Place::new('C', checks.as_str()),
-            Place::new('E', encoded.as_str()),
-            Place::new('R', references.as_str()),
-        ];
-        let mut text = String::new(alloc);
-        fill(&mut text, STRUCT, &places)?;
-        fill(&mut text, DECODE, &places)?;
-        fill(&mut text, ITEM, &places)?;
+    /// A SEQUENCE with this name.
+    pub fn new(
+        alloc: Global,
+        name: &str,
+        doc: String,
+        fields: Vec<Field>,
+    ) -> Result<Self, AllocError> {
+        Ok(SequenceText {
+            name: String::from_str(alloc, name)?,
+            lifetime: lifetime_of(&fields),
+            doc,
+            fields,
+        })
+    }
+
+    /// Adds the text of the struct and of its implementations.
+    pub fn push_body(&self, out: &mut String) -> Result<(), AllocError> {
+        fill(out, STRUCT, self)?;
+        fill(out, DECODE, self)?;
+        fill(out, ITEM, self)?;
         for field in self.fields.iter() {
             if let Some(own) = &field.own {
-                text.push_str(own.text.as_str())?;
+                out.push_str(own.text.as_str())?;
             }
         }
-        Ok(text)
+        Ok(())
     }
 
     // What the struct derives. A field with a default of its own cannot be copied.
     fn derived(&self) -> &'static str {
-        let is_own = |field: &Field| matches!(field.presence, FieldPresence::DefaultedTo(_));
-        if self.fields.iter().any(is_own) {
-            "Drop"
-        } else {
-            "Clone, Copy, Drop"
+        for field in self.fields.iter() {
+            if matches!(field.presence, FieldPresence::DefaultedTo(_)) {
+                return "Drop";
+            }
         }
+        "Clone, Copy, Drop"
     }
 
     /// Whether the fields are in parts.
@@ -169,160 +159,147 @@ impl SequenceText {
     {
         for parts in 1usize..5 {
             let len = (self.fields.len().saturating_add(parts - 1) / parts).max(1);
-            if len <= PART
-                && self
-                    .fields
-                    .chunks(len)
-                    .all(|part| weight_of(part) <= WEIGHT)
-            {
+            if len <= PART && are_light(&self.fields, len) {
                 return len;
             }
         }
         (self.fields.len().saturating_add(4) / 5).max(1)
     }
 
-    // The type from which the struct is made.
-    fn whole(&self, alloc: Global) -> Result<String, AllocError> {
-        let name = self.name.as_str();
+    /// The number of parts.
+    pub fn part_count(&self) -> usize {
+        self.fields.chunks(self.part_len()).count()
+    }
+
+    /// The part with this index.
+    pub fn part(&self, index: usize) -> PartText<'_> {
+        let fields = match self.fields.chunks(self.part_len()).nth(index) {
+            Some(fields) => fields,
+            None => &[],
+        };
+        PartText {
+            of: self,
+            index,
+            fields,
+        }
+    }
+
+    // Adds what is written of each field, or of each part, in pairs.
+    fn push_row(&self, out: &mut String, row: Row, part: &'static str) -> Result<(), AllocError> {
         if !self.has_parts() {
-            let lifetime = self.lifetime;
-            return format!(in alloc; "{name}Fields{lifetime}");
+            return push_row(out, &self.fields, row);
         }
-        let mut parts = Vec::new(alloc);
-        for (count, chunk) in self.fields.chunks(self.part_len()).enumerate() {
-            let number = count + 1;
-            let lifetime = lifetime_of(chunk);
-            parts.push(format!(in alloc; "{name}Part{number}{lifetime}")?)?;
-        }
-        paired(alloc, &parts, "(", ", ")
+        let items = PartRow {
+            of: self,
+            template: part,
+        };
+        push_pairs(out, &items, self.part_count(), row.open(), row.between())
     }
 
-    fn field_lines(&self, alloc: Global) -> Result<String, AllocError> {
-        let mut lines = String::new(alloc);
-        for field in self.fields.iter() {
-            lines.push_str(field.doc.as_str())?;
-            lines.push_str("    pub ")?;
-            lines.push_str(field.name.as_str())?;
-            lines.push_str(": ")?;
-            lines.push_str(field.whole_type(alloc)?.as_str())?;
-            lines.push_str(",\n")?;
+    // Adds the type from which the struct is made.
+    fn push_whole(&self, out: &mut String) -> Result<(), AllocError> {
+        if self.has_parts() {
+            let items = WholeRow { of: self };
+            return push_pairs(out, &items, self.part_count(), "(", ", ");
         }
-        Ok(lines)
+        let (name, lifetime) = (self.name.as_str(), self.lifetime);
+        write!(out, "{name}Fields{lifetime}")
     }
 
-    fn types(&self, alloc: Global) -> Result<String, AllocError> {
-        if !self.has_parts() {
-            return types_of(alloc, &self.fields);
-        }
-        let name = self.name.as_str();
-        let mut parts = Vec::new(alloc);
-        for (count, chunk) in self.fields.chunks(self.part_len()).enumerate() {
-            let number = count + 1;
-            let lifetime = lifetime_of(chunk);
-            parts.push(format!(in alloc; "{name}Part{number}Fields{lifetime}")?)?;
-        }
-        paired(alloc, &parts, "(", ", ")
-    }
-
-    fn values(&self, alloc: Global) -> Result<String, AllocError> {
-        if !self.has_parts() {
-            return named(alloc, &self.fields, "v.");
-        }
-        let mut parts = Vec::new(alloc);
-        for chunk in self.fields.chunks(self.part_len()) {
-            parts.push(record_of(alloc, chunk)?)?;
-        }
-        paired(alloc, &parts, "(", ", ")
-    }
-
-    fn pattern(&self, alloc: Global) -> Result<String, AllocError> {
-        if !self.has_parts() {
-            return named(alloc, &self.fields, "");
-        }
-        let mut parts = Vec::new(alloc);
-        for (count, _) in self.fields.chunks(self.part_len()).enumerate() {
-            let number = count + 1;
-            parts.push(format!(in alloc; "part{number}")?)?;
-        }
-        paired(alloc, &parts, "(", ", ")
-    }
-
-    fn members(&self, alloc: Global) -> Result<String, AllocError> {
-        let mut text = String::new(alloc);
+    // Adds the names of the fields, with the parts in which they are.
+    fn push_members(&self, out: &mut String) -> Result<(), AllocError> {
         let part_len = self.part_len();
         for (count, field) in self.fields.iter().enumerate() {
             if count > 0 {
-                text.push_str(", ")?;
+                out.push_str(", ")?;
             }
-            let name = field.name.as_str();
-            text.push_str(name)?;
+            let (name, number) = (field.name.as_str(), count / part_len + 1);
             if self.has_parts() {
-                let number = count / part_len + 1;
-                text.push_str(format!(in alloc; ": part{number}.{name}")?.as_str())?;
+                write!(out, "{name}: part{number}.{name}")?;
+            } else {
+                out.push_str(name)?;
             }
         }
-        Ok(text)
+        Ok(())
     }
 
-    fn meaning(&self, alloc: Global) -> Result<String, AllocError> {
-        if !self.has_parts() {
-            return meaning_of(alloc, &self.fields);
+    // Adds the fields, from which each part takes its own.
+    fn push_encoded(&self, out: &mut String) -> Result<(), AllocError> {
+        if self.has_parts() {
+            return self.push_row(out, Row::Types, ENCODED_PART);
         }
-        let name = self.name.as_str();
-        let mut parts = Vec::new(alloc);
-        for (count, chunk) in self.fields.chunks(self.part_len()).enumerate() {
-            let number = count + 1;
-            let lifetime = lifetime_of(chunk);
-            let part = format!(in alloc; "{name}Part{number}")?;
-            let part = part.as_str();
-            let fields = format!(in alloc;
-                "⟦<{part}{lifetime} as FromFields<{part}Fields{lifetime}>>⟧.fields"
-            )?;
-            let meaning = meaning_of(alloc, chunk)?;
-            parts.push(format!(in alloc; "(seen {fields} {meaning})")?)?;
-        }
-        paired(alloc, &parts, "(two_fields ", " ")
+        out.push_str("(")?;
+        self.push_made(out)?;
+        out.push_str(" v)")
     }
 
-    fn checks(&self, alloc: Global) -> Result<String, AllocError> {
-        let mut text = String::new(alloc);
-        for field in self.fields.iter() {
-            text.push_str(field.check(alloc)?.as_str())?;
-        }
-        Ok(text)
+    /// Adds what takes a value apart, as a term of a clause.
+    pub fn push_made(&self, out: &mut String) -> Result<(), AllocError> {
+        let (name, lifetime) = (self.name.as_str(), self.lifetime);
+        write!(out, "⟦<{name}{lifetime} as FromFields<")?;
+        self.push_whole(out)?;
+        out.push_str(">>⟧.fields")
     }
+}
 
-    fn encoded(&self, alloc: Global, fields: &str) -> Result<String, AllocError> {
-        if !self.has_parts() {
-            return format!(in alloc; "({fields} v)");
+impl Places for SequenceText {
+    fn push_place(&self, out: &mut String, letter: char) -> Result<(), AllocError> {
+        match letter {
+            'N' => out.push_str(self.name.as_str()),
+            'L' => out.push_str(self.lifetime),
+            'D' => out.push_str(self.doc.as_str()),
+            'K' => out.push_str(self.derived()),
+            'Q' => self.push_whole(out),
+            'A' => self.push_made(out),
+            'F' => push_fields(out, &self.fields, "@D    pub @N: @W,\n"),
+            'T' => self.push_row(out, Row::Types, "@NFields@L"),
+            'V' => self.push_row(out, Row::Values, "record { @V}"),
+            'P' => self.push_row(out, Row::Names, "part@I"),
+            'S' => self.push_members(out),
+            'M' => self.push_row(out, Row::Meaning, SEEN_PART),
+            'C' => push_checks(out, &self.fields),
+            'E' => self.push_encoded(out),
+            'R' => self.push_row(out, Row::Names, "@P"),
+            _ => Ok(()),
         }
-        let name = self.name.as_str();
-        let mut parts = Vec::new(alloc);
-        let total = self.fields.chunks(self.part_len()).count();
-        for (count, chunk) in self.fields.chunks(self.part_len()).enumerate() {
-            let number = count + 1;
-            let lifetime = lifetime_of(chunk);
-            let at = path(total, count);
-            let part = format!(in alloc; "{name}Part{number}")?;
-            let part = part.as_str();
-            let own = format!(in alloc;
-                "⟦<{part}{lifetime} as FromFields<{part}Fields{lifetime}>>⟧.fields"
-            )?;
-            parts.push(format!(in alloc; "{own} ({fields} v){at}")?)?;
-        }
-        paired(alloc, &parts, "(", ", ")
     }
+}
 
-    fn references(&self, alloc: Global) -> Result<String, AllocError> {
-        if !self.has_parts() {
-            return named(alloc, &self.fields, "");
-        }
-        let mut parts = Vec::new(alloc);
-        for chunk in self.fields.chunks(self.part_len()) {
-            parts.push(named(alloc, chunk, "")?)?;
-        }
-        paired(alloc, &parts, "(", ", ")
+// The parts of a SEQUENCE, and what is written of each.
+#[derive(Clone, Copy)]
+struct PartRow<'s> {
+    of: &'s SequenceText,
+    template: &'static str,
+}
+
+impl<'s> Items for PartRow<'s> {
+    fn push_item(&self, out: &mut String, index: usize) -> Result<(), AllocError> {
+        fill(out, self.template, &self.of.part(index))
     }
+}
+
+// The types of the parts of a SEQUENCE.
+#[derive(Clone, Copy)]
+struct WholeRow<'s> {
+    of: &'s SequenceText,
+}
+
+impl<'s> Items for WholeRow<'s> {
+    fn push_item(&self, out: &mut String, index: usize) -> Result<(), AllocError> {
+        self.of.part(index).push_type(out)
+    }
+}
+
+// Whether no part of so many fields costs the checker too much.
+fn are_light(fields: &Vec<Field>, len: usize) -> bool
+    requires { 0 < len }
+{
+    for part in fields.chunks(len) {
+        if weight_of(part) > WEIGHT {
+            return false;
+        }
+    }
+    true
 }
 
 // What fields cost the checker.
@@ -332,62 +309,4 @@ fn weight_of(fields: &[Field]) -> usize {
         weight = weight.saturating_add(field.weight());
     }
     weight
-}
-
-/// The lifetime of a struct with these fields, or nothing.
-pub fn lifetime_of(fields: &[Field]) -> &'static str {
-    if fields.iter().any(|field| field.of.has_lifetime) {
-        return "<'a>";
-    }
-    ""
-}
-
-/// The items in pairs.
-pub fn paired(
-    alloc: Global,
-    items: &Vec<String>,
-    open: &str,
-    between: &str,
-) -> Result<String, AllocError> {
-    let mut text = String::new(alloc);
-    push_pairs(&mut text, items, open, between)?;
-    Ok(text)
-}
-
-/// The types of fields in pairs.
-pub fn types_of(alloc: Global, fields: &[Field]) -> Result<String, AllocError> {
-    let mut types = Vec::new(alloc);
-    for field in fields {
-        types.push(field.whole_type(alloc)?)?;
-    }
-    paired(alloc, &types, "(", ", ")
-}
-
-/// The names of fields in pairs, each behind `prefix`.
-pub fn named(alloc: Global, fields: &[Field], prefix: &str) -> Result<String, AllocError> {
-    let mut names = Vec::new(alloc);
-    for field in fields {
-        let name = field.name.as_str();
-        names.push(format!(in alloc; "{prefix}{name}")?)?;
-    }
-    paired(alloc, &names, "(", ", ")
-}
-
-fn meaning_of(alloc: Global, fields: &[Field]) -> Result<String, AllocError> {
-    let mut meanings = Vec::new(alloc);
-    for field in fields {
-        meanings.push(field.meaning(alloc)?)?;
-    }
-    paired(alloc, &meanings, "(two_fields ", " ")
-}
-
-// The record of a part with these fields of a value `v`.
-fn record_of(alloc: Global, fields: &[Field]) -> Result<String, AllocError> {
-    let mut text = String::from_str(alloc, "record { ")?;
-    for field in fields {
-        let name = field.name.as_str();
-        text.push_str(format!(in alloc; "{name} = v.{name}; ")?.as_str())?;
-    }
-    text.push('}')?;
-    Ok(text)
 }

@@ -4,16 +4,15 @@ use super::abilities::has_item;
 use super::directive::type_name;
 use super::naming::text_at;
 use super::pieces::Written;
+use super::rust_type::RustType;
 use super::types::named_type;
 use crate::base_form::base_form;
-use crate::checks::{Checks, has_no_tag, has_value};
+use crate::checks::{Checks, copy_at, has_no_tag, has_value};
 use crate::constant::NamedConstant;
 use crate::external::External;
 use crate::external_type::{ExternalType, bare_form};
-use crate::failure::Failure;
-use crate::module::TypeAssignment;
+use crate::module::{Module, TypeAssignment};
 use crate::octet_class::is_word_octet;
-use crate::tag_set::TagSet;
 use crate::type_node::TypeForm;
 use std::alloc::{AllocError, Global};
 
@@ -23,26 +22,36 @@ pub fn external_of<'a>(
     written: &Written<'_, 'a>,
     checks: &Checks,
     krate: &str,
-) -> Result<External<'a>, Failure<'a>> {
+) -> Result<External<'a>, AllocError> {
     let module = written.module;
+    Ok(External {
+        module: module.name.text,
+        types: types_of(alloc, written, checks, krate)?,
+        values: values_of(alloc, module)?,
+    })
+}
+
+fn types_of<'a>(
+    alloc: Global,
+    written: &Written<'_, 'a>,
+    checks: &Checks,
+    krate: &str,
+) -> Result<Vec<ExternalType<'a>>, AllocError> {
     let mut types = Vec::new(alloc);
-    for assigned in module.types.iter() {
+    for assigned in written.module.types.iter() {
         types.push(external_type(alloc, written, checks, krate, assigned)?)?;
     }
+    Ok(types)
+}
+
+fn values_of<'a>(alloc: Global, module: &Module<'a>) -> Result<Vec<NamedConstant<'a>>, AllocError> {
     let mut values = Vec::new(alloc);
     for named in module.constants.iter() {
         if has_value(module, named.name) {
-            values.push(NamedConstant {
-                name: named.name,
-                constant: named.constant.copy(alloc)?,
-            })?;
+            values.push(named.copy(alloc)?)?;
         }
     }
-    Ok(External {
-        module: module.name.text,
-        types,
-        values,
-    })
+    Ok(values)
 }
 
 fn external_type<'a>(
@@ -51,34 +60,49 @@ fn external_type<'a>(
     checks: &Checks,
     krate: &str,
     assigned: &TypeAssignment<'a>,
-) -> Result<ExternalType<'a>, Failure<'a>> {
+) -> Result<ExternalType<'a>, AllocError> {
+    let module = written.module;
+    let index = assigned.of;
+    Ok(ExternalType {
+        krate: String::from_str(alloc, krate)?,
+        name: assigned.name.text,
+        rust_name: type_name(alloc, assigned.name)?,
+        of: qualified_type(alloc, written, krate, index)?,
+        tags: copy_at(alloc, &checks.tags, index)?,
+        has_no_tag: has_no_tag(module, index),
+        is_item: has_item(module, index),
+        form: form_at(alloc, module, index)?,
+    })
+}
+
+// How the type with this index is made, without the types that it is made of.
+fn form_at<'a>(
+    alloc: Global,
+    module: &Module<'a>,
+    index: usize,
+) -> Result<TypeForm<'a>, AllocError> {
+    match base_form(module, index) {
+        Some(form) => bare_form(alloc, form),
+        None => Ok(TypeForm::Reference),
+    }
+}
+
+// The type of Rust with this index, as another crate names it.
+fn qualified_type(
+    alloc: Global,
+    written: &Written<'_, '_>,
+    krate: &str,
+    index: usize,
+) -> Result<RustType, AllocError> {
     let Written {
         module,
         names,
         types,
     } = *written;
-    let index = assigned.of;
-    let mut tags = TagSet::empty(alloc);
-    if let Some(found) = checks.tags.get(index) {
-        tags.add(found)?;
-    }
-    let form = match base_form(module, index) {
-        Some(form) => bare_form(alloc, form)?,
-        None => TypeForm::Reference,
-    };
     let mut of = named_type(alloc, module, types, names, index)?;
     let arms = qualified(alloc, names, krate, of.arms.as_str())?;
     of.arms = arms;
-    Ok(ExternalType {
-        krate: String::from_str(alloc, krate)?,
-        name: assigned.name.text,
-        rust_name: type_name(alloc, assigned.name)?,
-        of,
-        tags,
-        has_no_tag: has_no_tag(module, index),
-        is_item: has_item(module, index),
-        form,
-    })
+    Ok(of)
 }
 
 // The text with the name of the crate in front of each name of that crate.
@@ -103,6 +127,15 @@ fn qualified(
     Ok(whole)
 }
 
+fn is_name(names: &Vec<String>, word: &str) -> bool {
+    for name in names.iter() {
+        if name.as_str() == word {
+            return true;
+        }
+    }
+    false
+}
+
 // Adds a word, with the name of the crate in front of a name of that crate.
 fn push_word(
     text: &mut String,
@@ -112,8 +145,7 @@ fn push_word(
 ) -> Result<(), AllocError> {
     let is_qualified = text.as_str().ends_with("::");
     let name_of = word.strip_suffix("Tagged").unwrap_or(word);
-    let is_own = !name_of.is_empty() && names.iter().any(|name| name.as_str() == name_of);
-    if is_own && !is_qualified {
+    if !name_of.is_empty() && is_name(names, name_of) && !is_qualified {
         text.push_str(krate)?;
         text.push_str("::")?;
     }

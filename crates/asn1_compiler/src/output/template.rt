@@ -1,29 +1,19 @@
 //! Texts with places to be filled.
 
-use std::alloc::AllocError;
+use std::alloc::{AllocError, Global};
 
-/// What stands for a letter behind `@` in a template.
-#[derive(Clone, Copy)]
-pub struct Place<'a> {
-    /// The letter.
-    pub letter: char,
-    /// The text in its place.
-    pub text: &'a str,
-}
-
-impl<'a> Place<'a> {
-    /// A place.
-    pub fn new(letter: char, text: &'a str) -> Self {
-        Place { letter, text }
-    }
+/// What stands in the places of a template.
+pub trait Places {
+    /// Adds the text in the place of this letter.
+    fn push_place(&self, out: &mut String, letter: char) -> Result<(), AllocError>;
 }
 
 /// Adds a template, in which each `@` and the letter behind it stand for the text of that place.
-pub fn fill(out: &mut String, template: &str, places: &[Place<'_>]) -> Result<(), AllocError> {
+pub fn fill<P: Places>(out: &mut String, template: &str, places: &P) -> Result<(), AllocError> {
     let mut is_place = false;
     for character in template.chars() {
         if is_place {
-            push_place(out, places, character)?;
+            places.push_place(out, character)?;
             is_place = false;
         } else if character == '@' {
             is_place = true;
@@ -34,32 +24,33 @@ pub fn fill(out: &mut String, template: &str, places: &[Place<'_>]) -> Result<()
     Ok(())
 }
 
-fn push_place(out: &mut String, places: &[Place<'_>], letter: char) -> Result<(), AllocError> {
-    for place in places {
-        if place.letter == letter {
-            return out.push_str(place.text);
-        }
-    }
-    Ok(())
+/// The text that a template stands for.
+pub fn filled<P: Places>(alloc: Global, template: &str, places: &P) -> Result<String, AllocError> {
+    let mut text = String::new(alloc);
+    fill(&mut text, template, places)?;
+    Ok(text)
 }
 
-/// Adds the items in pairs of pairs, each of which begins with `open` and has `between` in it.
-pub fn push_pairs(
+/// Texts that stand one after the other, by index.
+pub trait Items {
+    /// Adds the item with this index.
+    fn push_item(&self, out: &mut String, index: usize) -> Result<(), AllocError>;
+}
+
+/// Adds so many items in pairs of pairs, each of which begins with `open` and has `between` in it.
+pub fn push_pairs<I: Items>(
     out: &mut String,
-    items: &Vec<String>,
+    items: &I,
+    count: usize,
     open: &str,
     between: &str,
 ) -> Result<(), AllocError> {
-    for character in pairs(items.len()).chars() {
+    for character in pairs(count).chars() {
         match character {
             '(' => out.push_str(open)?,
             ',' => out.push_str(between)?,
             ')' => out.push(')')?,
-            digit => {
-                if let Some(item) = items.get(digit_value(digit)) {
-                    out.push_str(item.as_str())?;
-                }
-            }
+            digit => items.push_item(out, digit_value(digit))?,
         }
     }
     Ok(())

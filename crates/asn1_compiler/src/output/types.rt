@@ -1,6 +1,6 @@
 //! The type of Rust of each type.
 
-use super::alternatives::alternatives;
+use super::alternatives::{Alternative, alternatives};
 use super::directive::{name_of_type, own_type};
 use super::lists::list_field;
 use super::naming::text_at;
@@ -29,10 +29,7 @@ pub fn types_in_order<'a>(
     order: &Vec<usize>,
     names: &Vec<String>,
 ) -> Result<Vec<RustType>, Failure<'a>> {
-    let mut table = Vec::new(alloc);
-    for _ in module.nodes.iter() {
-        table.push(RustType::new(alloc, "", RustKind::Element)?)?;
-    }
+    let mut table = empty_types(alloc, module)?;
     for index in order.iter() {
         let Some(node) = module.nodes.get(*index) else {
             continue;
@@ -45,6 +42,14 @@ pub fn types_in_order<'a>(
     Ok(table)
 }
 
+fn empty_types(alloc: Global, module: &Module<'_>) -> Result<Vec<RustType>, AllocError> {
+    let mut table = Vec::new(alloc);
+    for _ in module.nodes.iter() {
+        table.push(RustType::element(alloc, String::new(alloc)))?;
+    }
+    Ok(table)
+}
+
 fn type_of<'a>(
     alloc: Global,
     module: &Module<'a>,
@@ -53,70 +58,82 @@ fn type_of<'a>(
     index: usize,
     node: &TypeNode<'a>,
 ) -> Result<RustType, Failure<'a>> {
-    let name = text_at(names, index);
     if let Some(own) = own_type(module, index) {
         return Ok(RustType::new(alloc, own, RustKind::Element)?);
     }
+    let name = text_at(names, index);
     match &node.form {
         TypeForm::Simple(SimpleType::Any) => {
             Ok(RustType::new(alloc, "AnyRef<'a>", RustKind::Any)?)
         }
-        TypeForm::Simple(SimpleType::OctetString) => {
-            string(alloc, table, node, "OctetStringOf", "OctetStringRef<'a>")
-        }
-        TypeForm::Simple(simple) => {
-            Ok(RustType::new(alloc, simple_text(*simple), RustKind::Element)?)
-        }
-        TypeForm::Integer(numbers) => Ok(integer(alloc, node, numbers, name)?),
-        TypeForm::Enumerated(_) => {
-            let text = format!(in alloc; "Enumerated<{name}>")?;
-            Ok(RustType::new(alloc, text.as_str(), RustKind::Element)?)
-        }
-        TypeForm::BitString(bits) if bits.is_empty() => {
-            string(alloc, table, node, "BitStringOf", "BitStringRef<'a>")
-        }
-        TypeForm::BitString(_) => {
-            Ok(RustType::new(alloc, "NamedBitsRef<'a>", RustKind::Element)?)
-        }
         TypeForm::Reference => reference(alloc, module, table, names, node),
+        TypeForm::Choice(parts) => choice(alloc, module, table, name, parts),
+        TypeForm::Tagged(prefix, of) => tagged(alloc, module, table, node, *prefix, *of),
+        TypeForm::SequenceOf(_) | TypeForm::SetOf(_) => {
+            Ok(RustType::element(alloc, list_type(alloc, module, table, name, index, node)?))
+        }
+        _ => Ok(RustType::element(alloc, element_text(alloc, table, name, node)?)),
+    }
+}
+
+// The type of a list: a struct, or the list itself.
+fn list_type(
+    alloc: Global,
+    module: &Module<'_>,
+    table: &Vec<RustType>,
+    name: &str,
+    index: usize,
+    node: &TypeNode<'_>,
+) -> Result<String, AllocError> {
+    match list_field(module, index) {
+        Some(_) => format!(in alloc; "{name}<'a>"),
+        None => list_text(alloc, table, node),
+    }
+}
+
+// The type of an element that is no list and has no tag in front of it.
+fn element_text(
+    alloc: Global,
+    table: &Vec<RustType>,
+    name: &str,
+    node: &TypeNode<'_>,
+) -> Result<String, AllocError> {
+    match &node.form {
+        TypeForm::Simple(SimpleType::OctetString) => {
+            string_text(alloc, table, node, "OctetStringOf", "OctetStringRef<'a>")
+        }
+        TypeForm::Simple(simple) => String::from_str(alloc, simple_text(*simple)),
+        TypeForm::Integer(numbers) => integer_text(alloc, node, numbers, name),
+        TypeForm::Enumerated(_) => format!(in alloc; "Enumerated<{name}>"),
+        TypeForm::BitString(bits) if bits.is_empty() => {
+            string_text(alloc, table, node, "BitStringOf", "BitStringRef<'a>")
+        }
+        TypeForm::BitString(_) => String::from_str(alloc, "NamedBitsRef<'a>"),
         TypeForm::Sequence(parts) => {
             let lifetime = lifetime_of(table, parts);
-            let text = format!(in alloc; "{name}{lifetime}")?;
-            Ok(RustType::new(alloc, text.as_str(), RustKind::Element)?)
+            format!(in alloc; "{name}{lifetime}")
         }
-        TypeForm::Choice(parts) => choice(alloc, module, table, names, index, parts),
-        TypeForm::SequenceOf(_) | TypeForm::SetOf(_) => match list_field(module, index) {
-            Some(_) => {
-                let text = format!(in alloc; "{name}<'a>")?;
-                Ok(RustType::new(alloc, text.as_str(), RustKind::Element)?)
-            }
-            None => {
-                let text = list_text(alloc, table, node)?;
-                Ok(RustType::new(alloc, text.as_str(), RustKind::Element)?)
-            }
-        },
-        TypeForm::Tagged(prefix, of) => tagged(alloc, module, table, node, *prefix, *of),
+        _ => Ok(String::new(alloc)),
     }
 }
 
 // The type of a string: `word` of the type whose encoding it contains, if that has a tag of its
 // own, or else `plain`.
-fn string<'a>(
+fn string_text(
     alloc: Global,
     table: &Vec<RustType>,
-    node: &TypeNode<'a>,
+    node: &TypeNode<'_>,
     word: &str,
     plain: &str,
-) -> Result<RustType, Failure<'a>> {
+) -> Result<String, AllocError> {
     if let Constraint::Containing(of) = node.constraint
         && let Some(found) = table.get(of)
         && found.kind == RustKind::Element
     {
         let inside = found.text.as_str();
-        let text = format!(in alloc; "{word}<{inside}>")?;
-        return Ok(RustType::new(alloc, text.as_str(), RustKind::Element)?);
+        return format!(in alloc; "{word}<{inside}>");
     }
-    Ok(RustType::new(alloc, plain, RustKind::Element)?)
+    String::from_str(alloc, plain)
 }
 
 fn simple_text(simple: SimpleType) -> &'static str {
@@ -139,22 +156,18 @@ fn simple_text(simple: SimpleType) -> &'static str {
 }
 
 // The type of an INTEGER. One without two bounds that are 0 or more has any size and sign.
-fn integer(
+fn integer_text(
     alloc: Global,
     node: &TypeNode<'_>,
     numbers: &Vec<NamedNumber<'_>>,
     name: &str,
-) -> Result<RustType, AllocError> {
+) -> Result<String, AllocError> {
     if is_closed(node, numbers) {
-        let text = format!(in alloc; "NamedInteger<{name}>")?;
-        return RustType::new(alloc, text.as_str(), RustKind::Element);
+        return format!(in alloc; "NamedInteger<{name}>");
     }
     match bounds(node) {
-        Some((low, high)) => {
-            let text = format!(in alloc; "IntegerIn<{low}, {high}>")?;
-            RustType::new(alloc, text.as_str(), RustKind::Element)
-        }
-        None => RustType::new(alloc, "IntRef<'a>", RustKind::Element),
+        Some((low, high)) => format!(in alloc; "IntegerIn<{low}, {high}>"),
+        None => String::from_str(alloc, "IntRef<'a>"),
     }
 }
 
@@ -165,11 +178,10 @@ fn not_written<'a>(node: &TypeNode<'a>) -> Failure<'a> {
 
 // The lifetime of a type with these components.
 fn lifetime_of(table: &Vec<RustType>, components: &Vec<Component<'_>>) -> &'static str {
-    if components
-        .iter()
-        .any(|component| has_lifetime(table, component.of))
-    {
-        return "<'a>";
+    for component in components.iter() {
+        if has_lifetime(table, component.of) {
+            return "<'a>";
+        }
     }
     ""
 }
@@ -224,17 +236,24 @@ pub fn list_text(
     table: &Vec<RustType>,
     node: &TypeNode<'_>,
 ) -> Result<String, AllocError> {
-    let (word, of) = match &node.form {
-        TypeForm::SequenceOf(of) => ("SequenceOf<'a, ", *of),
-        TypeForm::SetOf(of) => ("SetOf<'a, ", *of),
-        _ => return Ok(String::new(alloc)),
-    };
-    let mut text = String::from_str(alloc, word)?;
-    if let Some(found) = table.get(of) {
-        text.push_str(found.text.as_str())?;
+    match &node.form {
+        TypeForm::SequenceOf(of) => {
+            let items = text_of(table, *of);
+            format!(in alloc; "SequenceOf<'a, {items}>")
+        }
+        TypeForm::SetOf(of) => {
+            let items = text_of(table, *of);
+            format!(in alloc; "SetOf<'a, {items}>")
+        }
+        _ => Ok(String::new(alloc)),
     }
-    text.push('>')?;
-    Ok(text)
+}
+
+fn text_of(table: &Vec<RustType>, index: usize) -> &str {
+    match table.get(index) {
+        Some(found) => found.text.as_str(),
+        None => "",
+    }
 }
 
 fn tagged<'a>(
@@ -248,20 +267,22 @@ fn tagged<'a>(
     let Some(found) = table.get(of) else {
         return Err(not_written(node));
     };
-    if found.kind == RustKind::Choice {
-        let mut inside = tagged_name(alloc, found)?;
-        if found.has_lifetime {
-            inside.push_str("<'a>")?;
-        }
-        let inside = RustType::new(alloc, inside.as_str(), RustKind::Element)?;
-        return Ok(wrapped(alloc, "Implicit", &inside, prefix.tag)?);
-    }
-    let text = match (found.kind, tagging(module, prefix.tagging)) {
+    let word = match (found.kind, tagging(module, prefix.tagging)) {
+        (RustKind::Choice, _) => return Ok(tagged_choice(alloc, found, prefix.tag)?),
         (RustKind::Element, Tagging::Implicit) => "Implicit",
         (RustKind::Element, Tagging::Explicit) => "Explicit",
-        _ => "ExplicitAny",
+        (RustKind::Any, _) => return Ok(wrapped(alloc, "ExplicitAny", "'a", prefix.tag)?),
     };
-    Ok(wrapped(alloc, text, found, prefix.tag)?)
+    Ok(wrapped(alloc, word, found.text.as_str(), prefix.tag)?)
+}
+
+// The type of a tag in front of a CHOICE.
+fn tagged_choice(alloc: Global, found: &RustType, tag: Tag) -> Result<RustType, AllocError> {
+    let mut inside = tagged_name(alloc, found)?;
+    if found.has_lifetime {
+        inside.push_str("<'a>")?;
+    }
+    wrapped(alloc, "Implicit", inside.as_str(), tag)
 }
 
 /// The name of the struct that stands for this CHOICE inside an explicit tag.
@@ -279,19 +300,15 @@ fn tagging(module: &Module<'_>, written: Option<Tagging>) -> Tagging {
     }
 }
 
-// The type behind a tag.
-fn wrapped(alloc: Global, word: &str, found: &RustType, tag: Tag) -> Result<RustType, AllocError> {
+// The type of a tag in front of the type `inside`.
+fn wrapped(alloc: Global, word: &str, inside: &str, tag: Tag) -> Result<RustType, AllocError> {
     let number = tag.number;
-    let inside = match found.kind {
-        RustKind::Any => "'a",
-        _ => found.text.as_str(),
-    };
     let text = match tag.class {
         TagClass::Application => format!(in alloc; "Application<{word}<{inside}, {number}>>")?,
         TagClass::Private => format!(in alloc; "Private<{word}<{inside}, {number}>>")?,
         _ => format!(in alloc; "{word}<{inside}, {number}>")?,
     };
-    RustType::new(alloc, text.as_str(), RustKind::Element)
+    Ok(RustType::element(alloc, text))
 }
 
 /// The type of each component, without OPTIONAL and DEFAULT, with the tags that the module numbers.
@@ -307,19 +324,23 @@ pub fn component_types<'a>(
         let Some(node) = module.nodes.get(component.of) else {
             continue;
         };
-        let found = if are_numbered {
-            let tag = Tag {
-                class: TagClass::ContextSpecific,
-                number: count as u64,
-            };
-            let prefix = TagPrefix { tag, tagging: None };
-            tagged(alloc, module, table, node, prefix, component.of)?
+        if are_numbered {
+            let prefix = numbered(count);
+            types.push(tagged(alloc, module, table, node, prefix, component.of)?)?;
         } else {
-            copy_at(alloc, table, component.of)?
-        };
-        types.push(found)?;
+            types.push(copy_at(alloc, table, component.of)?)?;
+        }
     }
     Ok(types)
+}
+
+// The tag of the component with this index.
+fn numbered(count: usize) -> TagPrefix {
+    let tag = Tag {
+        class: TagClass::ContextSpecific,
+        number: count as u64,
+    };
+    TagPrefix { tag, tagging: None }
 }
 
 fn copy_at(alloc: Global, table: &Vec<RustType>, index: usize) -> Result<RustType, AllocError> {
@@ -333,22 +354,36 @@ fn choice<'a>(
     alloc: Global,
     module: &Module<'a>,
     table: &Vec<RustType>,
-    names: &Vec<String>,
-    index: usize,
+    name: &str,
     components: &Vec<Component<'a>>,
 ) -> Result<RustType, Failure<'a>> {
-    let name = text_at(names, index);
-    let mut arms = String::new(alloc);
-    for alternative in alternatives(alloc, module, table, components)?.iter() {
-        let variant = alternative.name.as_str();
-        let check = alternative.of.check(alloc, "value")?;
-        write!(arms, "            {name}::{variant}(value) => {check},\n")?;
-    }
+    let alternatives = alternatives(alloc, module, table, components)?;
     let lifetime = lifetime_of(table, components);
-    Ok(RustType {
+    Ok(choice_of(alloc, name, lifetime, &alternatives)?)
+}
+
+fn choice_of(
+    alloc: Global,
+    name: &str,
+    lifetime: &str,
+    alternatives: &Vec<Alternative>,
+) -> Result<RustType, AllocError> {
+    let mut of = RustType {
         text: format!(in alloc; "{name}{lifetime}")?,
         kind: RustKind::Choice,
         has_lifetime: !lifetime.is_empty(),
-        arms,
-    })
+        arms: String::new(alloc),
+    };
+    for alternative in alternatives.iter() {
+        push_arm(&mut of.arms, name, alternative)?;
+    }
+    Ok(of)
+}
+
+// Adds the arm that checks the value of an alternative.
+fn push_arm(out: &mut String, name: &str, alternative: &Alternative) -> Result<(), AllocError> {
+    let variant = alternative.name.as_str();
+    write!(out, "            {name}::{variant}(value) => ")?;
+    alternative.of.push_check(out)?;
+    out.push_str(",\n")
 }

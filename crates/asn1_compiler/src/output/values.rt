@@ -6,9 +6,10 @@ use super::imports::push_ghost_use;
 use super::oid_octets::octets_of;
 use super::piece::Piece;
 use super::rust_names::snake_name;
-use super::template::{Place, fill};
+use super::template::{Places, fill};
 use crate::constant::{Constant, find_constant};
 use crate::failure::Failure;
+use crate::lines::{is_line_of, push_line};
 use crate::module::{Module, ValueAssignment};
 use crate::refusal::Refusal;
 use std::alloc::{AllocError, Global};
@@ -36,9 +37,6 @@ const NAME_OF: &str = "
 /// The name that the module has for an OBJECT IDENTIFIER; the first one if it has several.
 pub fn name_of(oid: &ObjectIdentifierRef<'_>) -> Option<&'static str> {
     match oid.octets() {
-@R        _ => None,
-    }
-}
 ";
 
 /// The least arc that is too large for the checker to compute octets from it.
@@ -46,8 +44,10 @@ const LARGE: u64 = 1048576;
 
 /// The name of the file, without its ending: one that no type has.
 pub fn values_name(pieces: &Vec<Piece>) -> &'static str {
-    if pieces.iter().any(|piece| piece.file.as_str() == "values") {
-        return "module_values";
+    for piece in pieces.iter() {
+        if piece.file.as_str() == "values" {
+            return "module_values";
+        }
     }
     "values"
 }
@@ -60,37 +60,73 @@ pub fn values_file<'a>(
     pieces: &Vec<Piece>,
 ) -> Result<Option<OutputFile>, Failure<'a>> {
     check_names(alloc, module)?;
-    let mut constants = String::new(alloc);
-    let mut functions = String::new(alloc);
+    let texts = texts_of(alloc, module)?;
+    if texts.constants.is_empty() && texts.functions.is_empty() {
+        return Ok(None);
+    }
+    Ok(Some(file_of(alloc, module, pieces, &texts)?))
+}
+
+// The texts of the values of a module.
+#[derive(Drop)]
+struct Texts {
+    constants: String,
+    functions: String,
+}
+
+fn texts_of(alloc: Global, module: &Module<'_>) -> Result<Texts, AllocError> {
+    let mut texts = Texts {
+        constants: String::new(alloc),
+        functions: String::new(alloc),
+    };
     for assigned in module.values.iter() {
         match constant_of(module, assigned) {
             Some(Constant::ObjectIdentifier(arcs)) => {
-                push_identifier(alloc, &mut functions, assigned, arcs)?;
+                push_identifier(alloc, &mut texts.functions, assigned, arcs)?;
             }
-            Some(constant) => push_constant(alloc, &mut constants, assigned, constant)?,
+            Some(constant) => push_constant(alloc, &mut texts.constants, assigned, constant)?,
             None => {}
         }
     }
-    if constants.is_empty() && functions.is_empty() {
-        return Ok(None);
-    }
-    let (of, name) = (module.name.text, values_name(pieces));
-    let mut text = format!(in alloc;
+    Ok(texts)
+}
+
+fn file_of(
+    alloc: Global,
+    module: &Module<'_>,
+    pieces: &Vec<Piece>,
+    texts: &Texts,
+) -> Result<OutputFile, AllocError> {
+    let name = values_name(pieces);
+    let mut file = OutputFile {
+        path: format!(in alloc; "src/asn1/{name}.rt")?,
+        text: String::new(alloc),
+    };
+    push_texts(alloc, &mut file.text, module, texts)?;
+    Ok(file)
+}
+
+fn push_texts(
+    alloc: Global,
+    out: &mut String,
+    module: &Module<'_>,
+    texts: &Texts,
+) -> Result<(), AllocError> {
+    let of = module.name.text;
+    write!(
+        out,
         "//! Written by asn1_compile from the module {of}: change the module instead.\n//!\n//! The values of the module.\n"
     )?;
-    if !functions.is_empty() {
-        text.push_str(GHOST_USES)?;
-        let arcs = "Rattle.der_asn1.specs.Arcs";
-        push_ghost_use(alloc, &mut text, functions.as_str(), arcs, &["oid_octets"])?;
-        text.push_str(USES)?;
-        push_name_of(alloc, &mut functions, module)?;
+    if texts.functions.is_empty() {
+        return out.push_str(texts.constants.as_str());
     }
-    text.push_str(constants.as_str())?;
-    text.push_str(functions.as_str())?;
-    Ok(Some(OutputFile {
-        path: format!(in alloc; "src/asn1/{name}.rt")?,
-        text,
-    }))
+    out.push_str(GHOST_USES)?;
+    let arcs = "Rattle.der_asn1.specs.Arcs";
+    push_ghost_use(alloc, out, texts.functions.as_str(), arcs, "oid_octets")?;
+    out.push_str(USES)?;
+    out.push_str(texts.constants.as_str())?;
+    out.push_str(texts.functions.as_str())?;
+    push_name_of(alloc, out, module)
 }
 
 // What an assigned value is.
@@ -112,25 +148,34 @@ fn is_written(module: &Module<'_>, assigned: &ValueAssignment<'_>) -> bool {
 
 // Checks that the names of values are distinct in Rust too.
 fn check_names<'a>(alloc: Global, module: &Module<'a>) -> Result<(), Failure<'a>> {
-    let mut names = vec![in alloc; String::from_str(alloc, "name_of")?]?;
+    let mut names = String::from_str(alloc, "name_of\n")?;
     for assigned in module.values.iter() {
-        if !is_written(module, assigned) {
-            continue;
-        }
-        let name = snake_name(alloc, assigned.name.text)?;
-        if names.iter().any(|other| other.as_str() == name.as_str()) {
+        if is_written(module, assigned) && !adds_name(alloc, &mut names, assigned)? {
             let expected = "a name that differs from all others in more than hyphens and capitals";
             return Err(Failure::Refused(Refusal::of(assigned.name, expected)));
         }
-        names.push(name)?;
     }
     Ok(())
 }
 
-fn push_constant<'a>(
+// Adds the name of a value on a line of its own, unless it is there; whether it was not.
+fn adds_name(
+    alloc: Global,
+    names: &mut String,
+    assigned: &ValueAssignment<'_>,
+) -> Result<bool, AllocError> {
+    let name = snake_name(alloc, assigned.name.text)?;
+    if is_line_of(names.as_str(), name.as_str()) {
+        return Ok(false);
+    }
+    push_line(names, name.as_str())?;
+    Ok(true)
+}
+
+fn push_constant(
     alloc: Global,
     out: &mut String,
-    assigned: &ValueAssignment<'a>,
+    assigned: &ValueAssignment<'_>,
     constant: &Constant,
 ) -> Result<(), AllocError> {
     let doc = doc_of(alloc, assigned.name.comments, "", assigned.name.text)?;
@@ -155,69 +200,115 @@ fn constant_name(alloc: Global, name: &str) -> Result<String, AllocError> {
     Ok(text)
 }
 
-fn push_identifier<'a>(
+// A value that is an OBJECT IDENTIFIER.
+#[derive(Drop)]
+struct IdentifierText<'v> {
+    doc: String,
+    name: String,
+    arcs: &'v Vec<u64>,
+    octets: Vec<u8>,
+}
+
+fn push_identifier(
     alloc: Global,
     out: &mut String,
-    assigned: &ValueAssignment<'a>,
+    assigned: &ValueAssignment<'_>,
     arcs: &Vec<u64>,
 ) -> Result<(), AllocError> {
     let doc = doc_of(alloc, assigned.name.comments, "", assigned.name.text)?;
-    let name = snake_name(alloc, assigned.name.text)?;
-    let meaning = meaning_of(alloc, arcs)?;
-    let octets = octets_text(alloc, arcs)?;
-    let places = [
-        Place::new('D', doc.as_str()),
-        Place::new('N', name.as_str()),
-        Place::new('A', meaning.as_str()),
-        Place::new('O', octets.as_str()),
-    ];
-    fill(out, IDENTIFIER, &places)
+    let text = IdentifierText {
+        doc,
+        name: snake_name(alloc, assigned.name.text)?,
+        arcs,
+        octets: octets_of(alloc, arcs)?,
+    };
+    fill(out, IDENTIFIER, &text)
 }
 
-// What the clause of an OBJECT IDENTIFIER says of its octets: that they are those of its arcs; or
-// which they are, if an arc is too large for the checker.
-fn meaning_of(alloc: Global, arcs: &Vec<u64>) -> Result<String, AllocError> {
-    if arcs.iter().all(|arc| *arc < LARGE) {
-        let mut text = String::from_str(alloc, "oid_octets (")?;
-        for arc in arcs.iter() {
-            write!(text, "{arc} ∷ ")?;
+impl<'v> Places for IdentifierText<'v> {
+    fn push_place(&self, out: &mut String, letter: char) -> Result<(), AllocError> {
+        match letter {
+            'D' => out.push_str(self.doc.as_str()),
+            'N' => out.push_str(self.name.as_str()),
+            'A' if are_small(self.arcs) => push_arcs(out, self.arcs),
+            'A' => push_list(out, &self.octets),
+            'O' => push_octets(out, &self.octets),
+            _ => Ok(()),
         }
-        text.push_str("[])")?;
-        return Ok(text);
     }
-    let mut text = String::new(alloc);
-    for octet in octets_of(alloc, arcs)?.iter() {
-        write!(text, "{octet} ∷ ")?;
-    }
-    text.push_str("[]")?;
-    Ok(text)
 }
 
-// The octets of an OBJECT IDENTIFIER with commas between them.
-fn octets_text(alloc: Global, arcs: &Vec<u64>) -> Result<String, AllocError> {
-    let mut text = String::new(alloc);
-    for octet in octets_of(alloc, arcs)?.iter() {
-        if !text.is_empty() {
-            text.push_str(", ")?;
+// Whether the checker can compute octets from these arcs.
+fn are_small(arcs: &Vec<u64>) -> bool {
+    for arc in arcs.iter() {
+        if *arc >= LARGE {
+            return false;
         }
-        write!(text, "{octet:#04X}")?;
     }
-    Ok(text)
+    true
+}
+
+// Adds what the clause of an OBJECT IDENTIFIER says of its octets: that they are those of its arcs.
+fn push_arcs(out: &mut String, arcs: &Vec<u64>) -> Result<(), AllocError> {
+    out.push_str("oid_octets (")?;
+    for arc in arcs.iter() {
+        write!(out, "{arc} ∷ ")?;
+    }
+    out.push_str("[])")
+}
+
+// Adds what the clause says if an arc is too large for the checker: which octets they are.
+fn push_list(out: &mut String, octets: &Vec<u8>) -> Result<(), AllocError> {
+    for octet in octets.iter() {
+        write!(out, "{octet} ∷ ")?;
+    }
+    out.push_str("[]")
+}
+
+// Adds octets with commas between them.
+fn push_octets(out: &mut String, octets: &Vec<u8>) -> Result<(), AllocError> {
+    for (count, octet) in octets.iter().enumerate() {
+        if count > 0 {
+            out.push_str(", ")?;
+        }
+        write!(out, "{octet:#04X}")?;
+    }
+    Ok(())
 }
 
 // Adds the function that returns the names of all OBJECT IDENTIFIERs.
 fn push_name_of(alloc: Global, out: &mut String, module: &Module<'_>) -> Result<(), AllocError> {
-    let mut rows = String::new(alloc);
+    out.push_str(NAME_OF)?;
     let mut before: Vec<&Vec<u64>> = Vec::new(alloc);
     for assigned in module.values.iter() {
         if let Some(Constant::ObjectIdentifier(arcs)) = constant_of(module, assigned)
-            && !before.iter().any(|other| *other == arcs)
+            && !has_arcs(&before, arcs)
         {
-            let (octets, name) = (octets_text(alloc, arcs)?, assigned.name.text);
-            let octets = octets.as_str();
-            write!(rows, "        [{octets}] => Some(\"{name}\"),\n")?;
+            push_name(alloc, out, arcs, assigned.name.text)?;
             before.push(arcs)?;
         }
     }
-    fill(out, NAME_OF, &[Place::new('R', rows.as_str())])
+    out.push_str("        _ => None,\n    }\n}\n")
+}
+
+fn has_arcs(before: &Vec<&Vec<u64>>, arcs: &Vec<u64>) -> bool {
+    for other in before.iter() {
+        if *other == arcs {
+            return true;
+        }
+    }
+    false
+}
+
+// Adds the arm for one OBJECT IDENTIFIER.
+fn push_name(
+    alloc: Global,
+    out: &mut String,
+    arcs: &Vec<u64>,
+    name: &str,
+) -> Result<(), AllocError> {
+    let octets = octets_of(alloc, arcs)?;
+    out.push_str("        [")?;
+    push_octets(out, &octets)?;
+    write!(out, "] => Some(\"{name}\"),\n")
 }

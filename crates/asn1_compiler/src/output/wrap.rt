@@ -4,25 +4,25 @@ use std::alloc::{AllocError, Global};
 
 const WIDTH: usize = 100;
 
-/// The text, with long clauses broken in front of words that begin with `(` or `⟦`, and behind `;`.
-pub fn wrapped(alloc: Global, text: &str) -> Result<String, AllocError> {
-    let mut out = String::new(alloc);
+/// Adds a text, with long clauses broken in front of words that begin with `(` or `⟦`, and behind
+/// `;`.
+pub fn push_wrapped(alloc: Global, out: &mut String, text: &str) -> Result<(), AllocError> {
     for line in text.lines() {
         if is_long_clause(line) {
-            push_wrapped(alloc, &mut out, line)?;
+            push_clause(alloc, out, line)?;
         } else {
             out.push_str(line)?;
         }
         out.push('\n')?;
     }
-    Ok(out)
+    Ok(())
 }
 
 fn is_long_clause(line: &str) -> bool {
     line.chars().count() > WIDTH && (line.contains('⟦') || line.contains("record {"))
 }
 
-fn push_wrapped(alloc: Global, out: &mut String, line: &str) -> Result<(), AllocError> {
+fn push_clause(alloc: Global, out: &mut String, line: &str) -> Result<(), AllocError> {
     let mut column = 0usize;
     let mut group = String::new(alloc);
     let mut before = '(';

@@ -27,10 +27,7 @@ impl<'a> Parser<'a> {
 
     // Parses up to `BEGIN`: the name of the module, and what it says of its tags.
     fn header(&mut self) -> Result<(Item<'a>, TagDefault), Failure<'a>> {
-        let name = self.expect_kind(ItemKind::UpperName, "the name of a module")?;
-        if self.peek().is("{") {
-            self.braces()?;
-        }
+        let name = self.module_name()?;
         self.expect("DEFINITIONS")?;
         let tags = self.tag_default()?;
         if self.peek().is("EXTENSIBILITY") {
@@ -89,8 +86,7 @@ impl<'a> Parser<'a> {
         Err(refused(self.peek(), ";"))
     }
 
-    // Parses the names that one module defines, and its name.
-    fn imports_of_module(&mut self, imports: &mut Vec<Import<'a>>) -> Result<(), Failure<'a>> {
+    fn imported_names(&mut self) -> Result<Vec<Item<'a>>, Failure<'a>> {
         let mut names = Vec::new(self.alloc);
         for _ in 0..self.items.len() {
             let name = self.next();
@@ -102,11 +98,23 @@ impl<'a> Parser<'a> {
                 break;
             }
         }
-        self.expect("FROM")?;
-        let module = self.expect_kind(ItemKind::UpperName, "the name of a module")?;
+        Ok(names)
+    }
+
+    // Parses the name of a module, and moves past the OBJECT IDENTIFIER behind it.
+    fn module_name(&mut self) -> Result<Item<'a>, Failure<'a>> {
+        let name = self.expect_kind(ItemKind::UpperName, "the name of a module")?;
         if self.peek().is("{") {
             self.braces()?;
         }
+        Ok(name)
+    }
+
+    // Parses the names that one module defines, and its name.
+    fn imports_of_module(&mut self, imports: &mut Vec<Import<'a>>) -> Result<(), Failure<'a>> {
+        let names = self.imported_names()?;
+        self.expect("FROM")?;
+        let module = self.module_name()?;
         for name in names.iter() {
             imports.push(Import {
                 name: *name,

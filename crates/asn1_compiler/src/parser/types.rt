@@ -21,7 +21,8 @@ impl<'a> Parser<'a> {
         if depth == 0 {
             return Err(refused(item, "at most 64 types around a type"));
         }
-        let (form, size) = self.form(item, depth - 1)?;
+        let mut size = Constraint::None;
+        let form = self.form(item, &mut size, depth - 1)?;
         let constraint = self.constraint_behind(size, depth - 1)?;
         self.add(TypeNode {
             item,
@@ -30,38 +31,35 @@ impl<'a> Parser<'a> {
         })
     }
 
+    // Parses how a type is made. The size of a list, which stands in front of its items, goes to
+    // `size`.
     #[cycle(types)]
     fn form(
         &mut self,
         item: Item<'a>,
+        size: &mut Constraint<'a>,
         depth: u32,
-    ) -> Result<(TypeForm<'a>, Constraint<'a>), Failure<'a>> {
+    ) -> Result<TypeForm<'a>, Failure<'a>> {
         if item.is("[") {
             let prefix = self.tag_prefix()?;
-            let of = self.type_at(depth)?;
-            return Ok((TypeForm::Tagged(prefix, of), Constraint::None));
+            return Ok(TypeForm::Tagged(prefix, self.type_at(depth)?));
         }
         if item.is("CHOICE") {
-            return Ok((TypeForm::Choice(self.components(depth)?), Constraint::None));
-        }
-        if item.is("SEQUENCE") && self.takes_unread() {
-            return Ok((TypeForm::Simple(SimpleType::Unread), Constraint::None));
-        }
-        if item.is("SEQUENCE") && self.peek().is("{") {
-            return Ok((
-                TypeForm::Sequence(self.components(depth)?),
-                Constraint::None,
-            ));
-        }
-        if item.is("SEQUENCE") {
-            let (size, of) = self.list_of(depth)?;
-            return Ok((TypeForm::SequenceOf(of), size));
+            return Ok(TypeForm::Choice(self.components(depth)?));
         }
         if item.is("SET") {
-            let (size, of) = self.list_of(depth)?;
-            return Ok((TypeForm::SetOf(of), size));
+            return Ok(TypeForm::SetOf(self.list_of(size, depth)?));
         }
-        Ok((self.leaf(item)?, Constraint::None))
+        if !item.is("SEQUENCE") {
+            return self.leaf(item);
+        }
+        if self.takes_unread() {
+            return Ok(TypeForm::Simple(SimpleType::Unread));
+        }
+        if self.peek().is("{") {
+            return Ok(TypeForm::Sequence(self.components(depth)?));
+        }
+        Ok(TypeForm::SequenceOf(self.list_of(size, depth)?))
     }
 
     // Whether `{ ... }` stands here: a SEQUENCE of which no component is known. If so, moves past it.
@@ -77,23 +75,29 @@ impl<'a> Parser<'a> {
 
     // Parses what follows `SEQUENCE` or `SET` of a list: a size, `OF`, and the type of the items.
     #[cycle(types)]
-    fn list_of(&mut self, depth: u32) -> Result<(Constraint<'a>, usize), Failure<'a>> {
-        if self.peek().is("{") {
-            return Err(refused(self.peek(), "OF (a SET with components is not supported)"));
-        }
-        let mut size = Constraint::None;
-        if self.peek().is("SIZE") {
-            size = self.constraint()?;
-        } else if self.takes("(") {
-            size = self.constraint()?;
-            self.expect(")")?;
-        }
+    fn list_of(&mut self, size: &mut Constraint<'a>, depth: u32) -> Result<usize, Failure<'a>> {
+        *size = self.list_size()?;
         self.expect("OF")?;
         if self.peek().kind == ItemKind::LowerName {
             self.at = self.at.saturating_add(1);
         }
-        let of = self.type_at(depth)?;
-        Ok((size, of))
+        self.type_at(depth)
+    }
+
+    // Parses the size of a list, if there is one.
+    fn list_size(&mut self) -> Result<Constraint<'a>, Failure<'a>> {
+        if self.peek().is("{") {
+            return Err(refused(self.peek(), "OF (a SET with components is not supported)"));
+        }
+        if self.peek().is("SIZE") {
+            return self.constraint();
+        }
+        if !self.takes("(") {
+            return Ok(Constraint::None);
+        }
+        let size = self.constraint()?;
+        self.expect(")")?;
+        Ok(size)
     }
 
     // Parses components in braces, without marks of extensions.
@@ -117,16 +121,20 @@ impl<'a> Parser<'a> {
 
     #[cycle(types)]
     fn component(&mut self, depth: u32) -> Result<Component<'a>, Failure<'a>> {
+        let name = self.component_name()?;
+        let of = self.type_at(depth)?;
+        let presence = self.presence()?;
+        Ok(Component { name, of, presence })
+    }
+
+    fn component_name(&mut self) -> Result<Item<'a>, Failure<'a>> {
         if self.peek().is("COMPONENTS") {
             return Err(refused(self.peek(), "no COMPONENTS OF, which is not supported"));
         }
         if self.peek().is("[[") {
             return Err(refused(self.peek(), "no version brackets, which are not supported"));
         }
-        let name = self.expect_kind(ItemKind::LowerName, "the name of a component")?;
-        let of = self.type_at(depth)?;
-        let presence = self.presence()?;
-        Ok(Component { name, of, presence })
+        self.expect_kind(ItemKind::LowerName, "the name of a component")
     }
 
     fn presence(&mut self) -> Result<Presence<'a>, Failure<'a>> {

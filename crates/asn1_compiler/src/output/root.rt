@@ -1,0 +1,107 @@
+//! The files that name others, and the proofs beside them.
+
+use super::file::OutputFile;
+use super::imports::{push_names, push_use};
+use super::piece::Piece;
+use std::alloc::{AllocError, Global};
+use std::fmt::Write;
+
+const LIBRARY: &str = "//! Types that are compiled from ASN.1.
+#![tactic(auto)]
+
+pub mod asn1;
+";
+
+/// The file that names all others.
+pub fn root_of(
+    alloc: Global,
+    module: &str,
+    all: &Vec<Piece>,
+    values: Option<&str>,
+) -> Result<OutputFile, AllocError> {
+    let mut file = OutputFile {
+        path: String::from_str(alloc, "src/asn1.rt")?,
+        text: String::new(alloc),
+    };
+    push_mods(&mut file.text, module, all, values)?;
+    file.text.push('\n')?;
+    push_exports(alloc, &mut file.text, all)?;
+    Ok(file)
+}
+
+fn push_mods(
+    out: &mut String,
+    module: &str,
+    all: &Vec<Piece>,
+    values: Option<&str>,
+) -> Result<(), AllocError> {
+    write!(
+        out,
+        "//! Written by asn1_compile from the module {module}: change the module instead.\n//!\n//! The types of the module.\n\n"
+    )?;
+    for piece in all.iter() {
+        let file = piece.file.as_str();
+        write!(out, "mod {file};\n")?;
+    }
+    match values {
+        Some(file) => write!(out, "pub mod {file};\n"),
+        None => Ok(()),
+    }
+}
+
+fn push_exports(alloc: Global, out: &mut String, all: &Vec<Piece>) -> Result<(), AllocError> {
+    for piece in all.iter() {
+        if piece.is_public {
+            push_export(alloc, out, piece)?;
+        }
+    }
+    Ok(())
+}
+
+fn push_export(alloc: Global, out: &mut String, piece: &Piece) -> Result<(), AllocError> {
+    out.push_str("pub ")?;
+    let (body, file) = (piece.body.as_str(), piece.file.as_str());
+    push_use(alloc, out, body, file, piece.names.as_str())
+}
+
+/// The proof of a piece that has one.
+pub fn proof_of(alloc: Global, krate: &str, piece: &Piece) -> Result<OutputFile, AllocError> {
+    let (name, file) = (piece.name.as_str(), piece.file.as_str());
+    Ok(OutputFile {
+        path: format!(in alloc; "proofs/asn1/{file}/{name}Encode/encode/Answers.antt")?,
+        text: proof_text(alloc, krate, piece)?,
+    })
+}
+
+fn proof_text(alloc: Global, krate: &str, piece: &Piece) -> Result<String, AllocError> {
+    let (name, file) = (piece.name.as_str(), piece.file.as_str());
+    let proof = piece.proof.as_str();
+    format!(in alloc;
+        "-- Written by asn1_compile: change the module instead.\nuse Rattle.{krate}.proofs.asn1.{file}.{name}Encode.encode.Goals as goal\n{proof}"
+    )
+}
+
+/// The root of a crate that holds the module and nothing else.
+pub fn library_of(alloc: Global, all: &Vec<Piece>) -> Result<OutputFile, AllocError> {
+    let mut file = OutputFile {
+        path: String::from_str(alloc, "src/lib.rt")?,
+        text: String::from_str(alloc, LIBRARY)?,
+    };
+    let names = public_names(alloc, all)?;
+    if !names.is_empty() {
+        file.text.push_str("\npub ")?;
+        push_names(alloc, &mut file.text, "asn1", names.as_str())?;
+    }
+    Ok(file)
+}
+
+// All public names, each on its line.
+fn public_names(alloc: Global, all: &Vec<Piece>) -> Result<String, AllocError> {
+    let mut names = String::new(alloc);
+    for piece in all.iter() {
+        if piece.is_public {
+            names.push_str(piece.names.as_str())?;
+        }
+    }
+    Ok(names)
+}
