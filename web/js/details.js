@@ -44,7 +44,7 @@ function showDetails(place, { library, tree, treeView, selected: at }) {
   ];
   const list = element('dl', '', ...facts.flatMap(([name, fact]) => [element('dt', '', name), element('dd', '', fact)]));
   if (text || error)
-    list.append(element('dt', '', 'Value'), element('dd', error ? 'whole wrong' : 'whole', error ? `${errorText(error)}: ${text}` : text));
+    list.append(element('dt', '', 'Value'), element('dd', error ? 'whole wrong' : 'whole', error ? `${errorText(error)}${text && `: ${text}`}` : text));
   const digits = () => hexadecimal(library.octets(start, finish)).replaceAll(' ', '');
   const buttons = element('p', 'buttons',
     button('Copy hexadecimal', it => copy(it, digits())),

@@ -18,6 +18,7 @@ class FieldView {
     this.fields = fields;
     this.list.top = 0;
     this.place.scrollTop = 0;
+    this.place.style.setProperty('--rows', fields.count);
     this.list.resize(fields.count);
   }
 

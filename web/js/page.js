@@ -7,6 +7,7 @@ class Page {
     this.library = library;
     this.files = [];
     this.selected = -1;
+    this.link = location.hash;
     this.fields = new FieldView(find('fields'), this);
     this.treeView = new TreeView(find('tree'), this);
     this.octetView = new OctetView(find('octets'), this);
@@ -14,7 +15,7 @@ class Page {
     find('rules').addEventListener('change', () => this.show());
     find('block').addEventListener('change', () => this.show());
     find('place').addEventListener('click', () => this.goTo(this.place.start));
-    window.addEventListener('hashchange', () => this.follow());
+    window.addEventListener('hashchange', () => this.follow(location.hash));
     for (const tab of document.querySelectorAll('[data-tab]'))
       tab.addEventListener('click', () => this.choose(tab.dataset.tab));
     this.choose('tree');
@@ -70,12 +71,14 @@ class Page {
     document.body.classList.add('opened');
     find('title').textContent = title;
     this.selected = -1;
+    find('details').replaceChildren();
     this.fields.open(fields);
     this.treeView.open(library, this.tree, fields.labels);
     this.octetView.open(file.octets);
     this.place = read.place ?? (error ? this.placeInTree(error) : null);
     this.report(file, read.error ?? error, isRead, read.error !== null);
-    this.follow();
+    this.follow(this.link);
+    this.link = '';
   }
 
   // The octets of the element before the position of an error of its value.
@@ -116,9 +119,9 @@ class Page {
     this.octetView.show(offset);
   }
 
-  // Follows a link to an offset.
-  follow() {
-    const offset = location.hash.match(/^#offset=(\d+)$/)?.[1];
+  // Follows a link to an offset, which waits for the first file.
+  follow(link) {
+    const offset = link.match(/^#offset=(\d+)$/)?.[1];
     if (offset !== undefined && this.tree && Number(offset) <= this.library.length)
       this.goTo(Number(offset));
   }

@@ -144,7 +144,7 @@ class TreeView {
     if (label)
       part.append(element('span', 'label', label));
     const { text, error } = valueOf(this.library, tree, at, 120);
-    part.append(element('span', error ? 'value wrong' : 'value', error ? `${error.message}: ${text}` : text));
+    part.append(element('span', error ? 'value wrong' : 'value', error ? `${error.message}${text && `: ${text}`}` : text));
     row.append(element('span', 'offset', String(tree.start[at])), this.lengths(at), part);
     this.mark(row, at, sign);
     return row;

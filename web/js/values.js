@@ -41,7 +41,7 @@ function valueOf(library, tree, at, most) {
   const tag = tree.tag[at], start = tree.start[at], end = tree.end[at];
   try {
     if (tree.has(at, FLAG.cut))
-      return { text: hexadecimal(library.octets(tree.body[at], end), 24), error: new DerError(KIND.incomplete, 'cut', null) };
+      return { text: '', error: new DerError(KIND.incomplete, 'octets of it are missing', null) };
     if (tree.has(at, FLAG.constructed))
       return { text: '' };
     const reader = new Reader(library, start, end);
