@@ -1,6 +1,8 @@
 // All about one element: where it is, its whole value, and buttons that copy or save it.
 
 const MOST_TEXT = 20000;
+const MOST_LINKED = 16384;
+const MOST_DIGESTED = 1 << 24;
 
 function button(label, act) {
   const made = element('button', '', label);
@@ -23,6 +25,19 @@ function save(octets, name) {
   link.download = name;
   link.click();
   setTimeout(() => URL.revokeObjectURL(link.href), 1000);
+}
+
+// A link to this place of the page with the whole file in it: it is no request, but it may be long.
+function linkTo(library, offset) {
+  const octets = library.octets(0, library.length);
+  const letters = btoa(String.fromCharCode(...octets)).replaceAll('+', '-').replaceAll('/', '_').replaceAll('=', '');
+  return `${location.href.split('#')[0]}#der=${letters}&offset=${offset}`;
+}
+
+// Puts the SHA-256 of octets into an element, where the browser computes one.
+async function putDigest(place, octets) {
+  const digest = await crypto.subtle?.digest('SHA-256', octets);
+  place.textContent = digest ? hexadecimal(new Uint8Array(digest)).replaceAll(' ', '') : 'not here';
 }
 
 // The labels of the elements around a node and of itself, from the outside.
@@ -50,5 +65,12 @@ function showDetails(place, { library, tree, treeView, selected: at }) {
     button('Copy hexadecimal', it => copy(it, digits())),
     button('Copy value', it => copy(it, text)),
     button('Save octets', () => save(library.octets(start, finish).slice(), `element-${start}.der`)));
+  if (library.length <= MOST_LINKED)
+    buttons.append(button('Copy link with the file', it => copy(it, linkTo(library, start))));
+  if (finish - start <= MOST_DIGESTED) {
+    const digest = element('dd');
+    list.append(element('dt', '', 'SHA-256'), digest);
+    putDigest(digest, library.octets(start, finish).slice());
+  }
   place.replaceChildren(list, buttons);
 }

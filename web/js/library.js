@@ -39,6 +39,11 @@ class Library {
     }
   }
 
+  version() {
+    const number = this.calls.der_version();
+    return [number / 10000, number / 100 % 100, number % 100].map(Math.floor).join('.');
+  }
+
   byte(slot) { return this.bytes[this.base + slot]; }
   u16(slot) { return this.view.getUint16(this.base + slot, true); }
   u32(slot) { return this.view.getUint32(this.base + slot, true); }

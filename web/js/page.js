@@ -7,7 +7,7 @@ class Page {
     this.library = library;
     this.files = [];
     this.selected = -1;
-    this.link = location.hash;
+    this.link = linkOf(location.hash);
     this.fields = new FieldView(find('fields'), this);
     this.treeView = new TreeView(find('tree'), this);
     this.octetView = new OctetView(find('octets'), this);
@@ -15,10 +15,13 @@ class Page {
     find('rules').addEventListener('change', () => this.show());
     find('block').addEventListener('change', () => this.show());
     find('place').addEventListener('click', () => this.goTo(this.place.start));
-    window.addEventListener('hashchange', () => this.follow(location.hash));
+    window.addEventListener('hashchange', () => this.follow(linkOf(location.hash)));
     for (const tab of document.querySelectorAll('[data-tab]'))
       tab.addEventListener('click', () => this.choose(tab.dataset.tab));
+    find('version').textContent = library.version();
     this.choose('tree');
+    if (this.link.octets)
+      this.openFiles('link', [{ label: '', octets: this.link.octets }]);
   }
 
   // On a narrow screen one of the parts is visible.
@@ -78,7 +81,7 @@ class Page {
     this.place = read.place ?? (error ? this.placeInTree(error) : null);
     this.report(file, read.error ?? error, isRead, read.error !== null);
     this.follow(this.link);
-    this.link = '';
+    this.link = {};
   }
 
   // The octets of the element before the position of an error of its value.
@@ -113,17 +116,16 @@ class Page {
 
   // Shows an octet, and the element that has it.
   goTo(offset) {
-    const node = this.tree.nodeAt(offset);
+    const node = this.tree.nodeAt(offset === this.library.length ? offset - 1 : offset);
     if (node >= 0)
       this.select(node);
     this.octetView.show(offset);
   }
 
   // Follows a link to an offset, which waits for the first file.
-  follow(link) {
-    const offset = link.match(/^#offset=(\d+)$/)?.[1];
-    if (offset !== undefined && this.tree && Number(offset) <= this.library.length)
-      this.goTo(Number(offset));
+  follow({ offset }) {
+    if (offset !== undefined && this.tree && offset <= this.library.length)
+      this.goTo(offset);
   }
 
   selectStart(offset) {
@@ -171,6 +173,12 @@ class Page {
       }
     this.octetView.mark(marks);
   }
+}
+
+// What a link has: the octets of a file in base64url, an offset, or both.
+function linkOf(hash) {
+  const [, octets, offset] = hash.match(/^#(?:der=([\w-]+)&?)?(?:offset=(\d+))?$/) ?? [];
+  return { octets: octets && fromBase64(octets), offset: offset && Number(offset) };
 }
 
 // What a person may do after this error.
