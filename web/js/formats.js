@@ -65,14 +65,11 @@ function shapeFields(fields, type) {
   const { library, tree, labels } = fields;
   nameParts(library, tree, 0, type, (at, label, inside, depth) => {
     labels.set(tree.start[at], label);
-    const row = { depth, label, offset: tree.start[at], text: '' };
-    if (!label || fields.hidden > depth)
+    if (!label || depth >= fields.hidden)
       return;
-    fields.hidden = 0;
-    const summary = partText(library, tree, at, inside);
-    if (summary !== null)
-      fields.hidden = depth + 1;
-    fields.rows.push({ ...row, text: summary ?? '' });
+    const text = partText(library, tree, at, inside);
+    fields.hidden = text === null ? Infinity : depth + 1;
+    fields.rows.push({ depth, label, offset: tree.start[at], text: text ?? '' });
   });
 }
 
@@ -106,7 +103,7 @@ function attributeLine(library, tree, at) {
 function describe(library, tree) {
   const fields = new Fields(library, tree);
   fields.labels = new Map();
-  fields.hidden = 0;
+  fields.hidden = Infinity;
   const { format, struct, refused } = readFormat(library, tree);
   const name = (at, label) => label && fields.labels.set(tree.start[at], label);
   if (format) {

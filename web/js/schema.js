@@ -97,14 +97,15 @@ function nameParts(library, tree, at, type, see, depth = 0) {
     return;
   let previous = -1;
   for (const [child, part] of partsOf(tree, at, type)) {
-    let inside = part.type, node = child;
+    let inside = part.type, node = child, below = depth + 1;
     see(child, part.label, inside, depth);
     if (inside === '!') {
       inside = typeOfContent(library, tree, previous);
       node = tree.children(child)[0] ?? child;
-      see(node, inside ?? '', inside, depth + 1);
+      see(node, inside ?? '', inside, below);
+      below += 1;
     }
-    nameParts(library, tree, node, inside, see, depth + 1);
+    nameParts(library, tree, node, inside, see, below);
     previous = child;
   }
 }
