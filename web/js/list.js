@@ -16,13 +16,19 @@ class RowList {
     new ResizeObserver(() => this.redraw()).observe(place);
   }
 
-  get scale() { return Math.max(1, this.count * this.rowHeight / HIGHEST); }
+  get height() { return Math.min(HIGHEST, this.count * this.rowHeight); }
   get page() { return Math.max(1, Math.floor(this.place.clientHeight / this.rowHeight)); }
   get last() { return Math.max(0, this.count * this.rowHeight - this.place.clientHeight); }
 
+  // How far the rows move while the bar moves by one.
+  get scale() {
+    const range = this.height - this.place.clientHeight;
+    return this.height < HIGHEST || range <= 0 ? 1 : this.last / range;
+  }
+
   resize(count) {
     this.count = count;
-    this.space.style.height = `${Math.min(HIGHEST, count * this.rowHeight)}px`;
+    this.space.style.height = `${this.height}px`;
     this.top = Math.min(this.top, this.last);
     this.redraw();
   }

@@ -119,10 +119,14 @@ class Tree {
     return found.subarray(0, length);
   }
 
-  // Expands what is around a node.
+  // Expands what is around a node, and returns whether anything was collapsed.
   reveal(at) {
-    for (let it = this.parent(at); it >= 0; it = this.parent(it))
+    let found = false;
+    for (let it = this.parent(at); it >= 0; it = this.parent(it)) {
+      found ||= this.has(it, FLAG.collapsed);
       this.flags[it] &= ~FLAG.collapsed;
+    }
+    return found;
   }
 }
 

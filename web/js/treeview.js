@@ -48,8 +48,8 @@ class TreeView {
   show(node) {
     this.selected = node;
     if (node >= 0) {
-      this.tree.reveal(node);
-      this.refresh();
+      if (this.tree.reveal(node))
+        this.refresh();
       this.list.show(this.indexOf(node));
     } else {
       this.list.redraw();

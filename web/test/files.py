@@ -77,7 +77,7 @@ def large_list(small):
     """A revocation list of more than 10 MiB: one of openssl with many entries (its signature is wrong)."""
     begin = small.index(bytes.fromhex("02021234")) - 2
     entry = small[begin : begin + 2 + small[begin + 1]]
-    serials = range(0x10000000, 0x10000000 + 250_000)
+    serials = range(0x10000000, 0x10000000 + 290_000)
     entries = b"".join(element(0x30, element(2, it.to_bytes(4, "big")) + entry[6:]) for it in serials)
     rows = [(int(it[0]), *map(int, it[1].split(" + "))) for it in parsed_octets(small)]
     outer, inner = rows[0], rows[1]
