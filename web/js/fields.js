@@ -43,6 +43,8 @@ class Fields {
 
   octets(span) { return this.library.octets(span.start, span.start + span.length); }
 
+  value(label, at) { this.add(label, this.tree.start[at], () => valueOf(this.library, this.tree, at, 192).text); }
+
   name(label, span) { this.add(label, this.before(span), () => nameText(this.library, span)); }
 
   bits(label, bits) {
@@ -118,15 +120,15 @@ function childNamed(labels, tree, at, name) {
 }
 
 function certificateFields(fields, it) {
-  const { library, tree, labels } = fields, inside = tree.startingAt(it.signedPart.start);
+  const { tree, labels } = fields, inside = tree.startingAt(it.signedPart.start);
   const validity = childNamed(labels, tree, inside, 'validity');
   const [from, until] = tree.children(validity);
   fields.add('Version', childNamed(labels, tree, inside, 'version') ? tree.start[inside + 1] : null, () => String(it.version));
   fields.serialNumber(it.serialNumber);
   fields.algorithm('Signature algorithm', it.signatureAlgorithm);
   fields.name('Issuer', it.issuer);
-  fields.add('Not before', tree.start[from], () => timeText(it.notBefore));
-  fields.add('Not after', tree.start[until], () => timeText(it.notAfter));
+  fields.value('Not before', from);
+  fields.value('Not after', until);
   fields.name('Subject', it.subject);
   fields.publicKey('Public key', it.publicKey);
   if (it.issuerId)
@@ -151,9 +153,9 @@ function revocationListFields(fields, it) {
   fields.add('Version', childNamed(labels, tree, inside, 'version') ? tree.start[inside + 1] : null, () => String(it.version));
   fields.algorithm('Signature algorithm', it.signatureAlgorithm);
   fields.name('Issuer', it.issuer);
-  fields.add('This update', tree.start[update], () => timeText(it.thisUpdate));
-  if (it.nextUpdate !== null)
-    fields.add('Next update', tree.start[next], () => timeText(it.nextUpdate));
+  fields.value('This update', update);
+  if (it.hasNextUpdate)
+    fields.value('Next update', next);
   fields.extensions('Extensions', it.extensions);
   fields.bits('Signature', it.signature);
   const entries = it.entries ? tree.children(tree.withContents(it.entries.start)) : [];
@@ -164,7 +166,7 @@ function revocationListFields(fields, it) {
 // The row of an entry of a revocation list, which is read when it is shown.
 function revokedRow({ library, tree }, at) {
   const offset = tree.start[at], entry = readRevoked(library, offset, tree.end[at] - offset);
-  const texts = [timeText(entry.date)];
+  const texts = [valueOf(library, tree, tree.children(at)[1], 96).text];
   for (const it of entry.extensions ? readExtensions(library, entry.extensions) : [])
     texts.push(extensionText(library, entry.extensions, it));
   return { depth: 1, label: integerOf(library, entry.serialNumber), offset, text: texts.join(', ') };

@@ -249,6 +249,16 @@ class Reader {
     return characters.join('');
   }
 
-  // A time as seconds since 1970.
-  time(tag, type) { this.value('der_read_time', 16, BigInt(tag), BigInt(type)); return this.library.i64(SLOT.value); }
+  // A time: year, month, day, hour, minute, second.
+  time(tag, type) {
+    this.value('der_read_time', 16, BigInt(tag), BigInt(type));
+    const { library } = this;
+    return [library.u16(SLOT.value + 8), ...[10, 11, 12, 13, 14].map(it => library.byte(SLOT.value + it))];
+  }
+
+  // Another reader at the same place.
+  copy() {
+    const made = new Reader(this.library);
+    return Object.assign(made, { origin: this.origin, state: this.state.slice() });
+  }
 }

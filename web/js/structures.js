@@ -11,7 +11,7 @@ function readCertificate(library, start, length) {
     subjectId: library.byte(at + 330) ? library.bits(at + 208) : null,
     extensions: library.byte(at + 331) ? library.span(at + 232) : null,
     signatureAlgorithm: library.algorithm(at + 248), signature: library.bits(at + 288),
-    notBefore: library.i64(at + 312), notAfter: library.i64(at + 320), version: library.byte(at + 328),
+    version: library.byte(at + 328),
   };
 }
 
@@ -32,8 +32,7 @@ function readRevocationList(library, start, length) {
     entries: library.byte(at + 186) ? library.span(at + 72) : null,
     extensions: library.byte(at + 187) ? library.span(at + 88) : null,
     signatureAlgorithm: library.algorithm(at + 104), signature: library.bits(at + 144),
-    thisUpdate: library.i64(at + 168), nextUpdate: library.byte(at + 185) ? library.i64(at + 176) : null,
-    version: library.byte(at + 184),
+    hasNextUpdate: library.byte(at + 185) !== 0, version: library.byte(at + 184),
   };
 }
 
@@ -96,7 +95,6 @@ function readRevoked(library, start, length) {
   reader.value('der_next_revoked', 48);
   const at = SLOT.value;
   return {
-    serialNumber: library.span(at), date: library.i64(at + 32),
-    extensions: library.byte(at + 40) ? library.span(at + 16) : null,
+    serialNumber: library.span(at), extensions: library.byte(at + 40) ? library.span(at + 16) : null,
   };
 }

@@ -21,10 +21,9 @@ function asciiOf(octets) {
 
 function counted(number, one) { return `${number.toLocaleString('en')} ${one}${number === 1 ? '' : 's'}`; }
 
-// A time from seconds since 1970, which may be before the year 1000.
-function timeText(seconds) {
-  const text = new Date(Number(seconds) * 1000).toISOString();
-  return `${text.slice(0, 10)} ${text.slice(11, 19)} UTC`;
+function timeText([year, ...rest]) {
+  const [month, day, hour, minute, second] = rest.map(it => String(it).padStart(2, '0'));
+  return `${String(year).padStart(4, '0')}-${month}-${day} ${hour}:${minute}:${second} UTC`;
 }
 
 // An integer from its contents, in decimal notation, or in hexadecimal if it is long.

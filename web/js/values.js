@@ -23,14 +23,19 @@ function bitsText(library, bits, most) {
 
 const READ = {
   0x01: reader => (reader.boolean(0x01) ? 'TRUE' : 'FALSE'),
-  0x02: (reader, library) => integerOf(library, reader.integer(0x02)),
-  0x0a: (reader, library) => integerOf(library, reader.integer(0x0a)),
+  0x02: (reader, library) => numberOf(library, reader, 0x02),
+  0x0a: (reader, library) => numberOf(library, reader, 0x0a),
   0x03: (reader, library, most) => bitsText(library, reader.bitString(0x03), most),
   0x05: reader => { reader.none(0x05); return ''; },
   0x06: (reader, library) => identifierText(library, reader.identifier(0x06)),
   0x17: reader => timeText(reader.time(0x17, 0x17)),
   0x18: reader => timeText(reader.time(0x18, 0x18)),
 };
+
+function numberOf(library, reader, tag) {
+  const again = reader.copy(), span = reader.integer(tag);
+  return span.length > 8 ? integerOf(library, span) : String(again.number(tag));
+}
 
 function integerOf(library, span) {
   return integerText(library.octets(span.start, span.start + span.length));
