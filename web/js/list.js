@@ -13,7 +13,8 @@ class RowList {
     place.replaceChildren(this.space);
     place.addEventListener('scroll', () => this.scrolled(), { passive: true });
     place.addEventListener('wheel', event => this.wheel(event), { passive: false });
-    new ResizeObserver(() => this.redraw()).observe(place);
+    // a part that was hidden has lost where it was
+    new ResizeObserver(() => this.moveTo(this.top)).observe(place);
   }
 
   get height() { return Math.min(HIGHEST, this.count * this.rowHeight); }
@@ -29,8 +30,7 @@ class RowList {
   resize(count) {
     this.count = count;
     this.space.style.height = `${this.height}px`;
-    this.top = Math.min(this.top, this.last);
-    this.redraw();
+    this.moveTo(this.top);
   }
 
   scrolled() {
@@ -53,6 +53,8 @@ class RowList {
     this.top = Math.max(0, Math.min(this.last, top));
     this.ours = this.top / this.scale;
     this.place.scrollTop = this.ours;
+    if (this.scale === 1 && this.place.clientHeight)
+      this.top = this.place.scrollTop;
     this.redraw();
   }
 

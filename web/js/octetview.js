@@ -23,8 +23,19 @@ class OctetView {
     if (width === this.width && !isNew)
       return;
     this.width = width;
-    // one place more than there are octets: an error may be at the end
-    this.list.resize(Math.ceil((this.octets.length + 1) / width));
+    this.resize();
+  }
+
+  // An error may be at the end, one place behind the octets.
+  resize() {
+    const places = Math.max(this.octets.length, this.fault ? this.fault.end : 0);
+    this.list.resize(Math.ceil(places / this.width));
+  }
+
+  // Marks the octets of an error, if there is one.
+  setFault(place) {
+    this.fault = place;
+    this.resize();
   }
 
   at(target, then) {

@@ -98,7 +98,7 @@ class Page {
     const where = place && (last > place.start ? `octets ${place.start} to ${last}` : `octet ${place.start}`);
     find('place').hidden = !place;
     find('place').textContent = `Show ${where}`;
-    this.octetView.fault = place;
+    this.octetView.setFault(place);
     if (!error)
       this.say(isRead ? `${said}. Read under DER, with all fields.` : `${said}. The elements are read; the format is not checked.`, false);
     else
