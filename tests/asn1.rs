@@ -7,6 +7,7 @@ mod choices;
 mod comparisons;
 mod constants;
 mod containing;
+mod decode_as;
 mod default_encodings;
 mod default_values;
 mod defaults;

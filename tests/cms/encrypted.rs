@@ -8,7 +8,7 @@ use cms::asn1::values::{
     id_sha256,
 };
 use cms::{CompressedData, ContentInfo, DigestedData, EncryptedData};
-use der::{DecodeBytes, Tag};
+use der::{DecodeBytes, ErrorKind, Length, Tag, TagNumber};
 use der_asn1::ObjectIdentifierRef;
 use std::alloc::Global;
 
@@ -101,15 +101,20 @@ fn a_compressed_message_has_octets_of_zlib(rt: HostRuntime) {
 #[test]
 fn other_octets_are_no_encrypted_message(rt: HostRuntime) {
     let alloc = rt.alloc();
-    for identifier in [0xA0, 0x81] {
+    // the constructed form of the tag, which DER does not allow, and another tag
+    let tag = Tag::ContextSpecific {
+        constructed: true,
+        number: TagNumber(0),
+    };
+    let rows = [
+        (0xA0, ErrorKind::Noncanonical { tag }.at(Length::new(50))),
+        (0x81, trailing(49, 18)),
+    ];
+    for (identifier, error) in rows {
         let mut octets = ENCRYPTED;
         octets[64] = identifier;
-        same_at(
-            &rt,
-            identifier,
-            refusal::<EncryptedData>(alloc, &octets[15..]),
-            Some(trailing(49, 18)),
-        );
+        let refused = refusal::<EncryptedData>(alloc, &octets[15..]);
+        same_at(&rt, identifier, refused, Some(error));
     }
     let mut octets = DIGESTED;
     octets[56] = 0x03;

@@ -12,3 +12,4 @@ pub mod UnixTimeLemmas
 pub mod SetOfLemmas
 pub mod ArcLemmas
 pub mod ListAnswerLemmas
+pub mod DecodesAsLemmas

@@ -42,3 +42,4 @@ pub mod Printed
 pub mod DefaultedTo
 pub mod ZeroOctet
 pub mod BitStringOf
+pub mod DecodesAs

@@ -16,6 +16,7 @@ mod choice;
 mod comparisons;
 mod contents_order;
 mod date_time;
+mod decode_as;
 mod default_constants;
 mod default_contents;
 mod default_element;

@@ -11,6 +11,7 @@ mod extensions;
 mod files;
 mod headers;
 mod keys;
+mod messages;
 mod nested;
 mod orders;
 mod revocation_lists;

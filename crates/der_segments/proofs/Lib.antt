@@ -4,3 +4,4 @@ pub mod SegmentedLemmas
 pub mod WalkLemmas
 pub mod SegmentsLemmas
 pub mod WriteLemmas
+pub mod ImplicitSegmentedLemmas

@@ -7,3 +7,4 @@ pub mod Segments
 pub mod Segmented
 pub mod Written
 pub mod Copied
+pub mod ImplicitSegmented

@@ -48,6 +48,11 @@ const CHECK_OPTIONAL_CHOICE: &str = "        if let Some(value) = &self.@N.0 {
         }
 ";
 
+const CHECK_OPTIONAL_OWN_CHOICE: &str = "        if let Some(value) = &self.@N.0 {
+            value.is_value();
+        }
+";
+
 impl Field {
     /// What the field costs the checker, beside one that is required.
     pub fn weight(&self) -> usize {
@@ -86,7 +91,10 @@ impl Field {
 
     /// The statement which checks that the value of the field is one of its type, as a template.
     pub fn check(&self) -> &'static str {
+        let is_own = self.of.arms.is_empty();
         match (self.of.kind, &self.presence) {
+            (RustKind::Choice, FieldPresence::Optional) if is_own => CHECK_OPTIONAL_OWN_CHOICE,
+            (RustKind::Choice, _) if is_own => "        self.@N@I.is_value();\n",
             (RustKind::Choice, FieldPresence::Optional) => CHECK_OPTIONAL_CHOICE,
             (RustKind::Choice, _) => "        match &self.@N@I {\n@A}\n",
             (_, FieldPresence::Optional) => CHECK_OPTIONAL,

@@ -23,7 +23,8 @@ pub struct RustType {
     pub kind: RustKind,
     /// Whether it has a lifetime.
     pub has_lifetime: bool,
-    /// The arms of a `match` that checks the values of a choice; empty for other types.
+    /// The arms of a `match` that checks the values of a choice; empty for other types, and for a
+    /// choice that is written by hand, which has a method `is_value`.
     pub arms: String,
 }
 
@@ -78,6 +79,7 @@ impl RustType {
         let text = self.text.as_str();
         let arms = self.arms.as_str();
         match self.kind {
+            RustKind::Choice if arms.is_empty() => out.push_str("value.is_value()"),
             RustKind::Choice => write!(out, "match value {{\n{arms}}}"),
             _ => write!(out, "<{text} as DecodeValue<R>>::is_value(value)"),
         }

@@ -59,7 +59,7 @@ fn type_of<'a>(
     node: &TypeNode<'a>,
 ) -> Result<RustType, Failure<'a>> {
     if let Some(own) = own_type(module, index) {
-        return Ok(RustType::new(alloc, own, RustKind::Element)?);
+        return Ok(RustType::new(alloc, own, own_kind(node))?);
     }
     let name = text_at(names, index);
     match &node.form {
@@ -73,6 +73,14 @@ fn type_of<'a>(
             Ok(RustType::element(alloc, list_type(alloc, module, table, name, index, node)?))
         }
         _ => Ok(RustType::element(alloc, element_text(alloc, table, name, node)?)),
+    }
+}
+
+// How a type that is written by hand is read.
+fn own_kind(node: &TypeNode<'_>) -> RustKind {
+    match node.form {
+        TypeForm::Choice(_) => RustKind::Choice,
+        _ => RustKind::Element,
     }
 }
 

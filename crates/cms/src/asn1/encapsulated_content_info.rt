@@ -17,7 +17,8 @@ use der_asn1::{BorrowedItem, DecodeItem, Described, Explicit, Item, Nestable, Op
 use std::alloc::Global;
 
 /// A content inside a message (RFC 5652, 5.2), borrowed from the input. In PKCS #7 the content may
-/// be an element with another tag than OCTET STRING (RFC 5652, 5.2.1), which decoding refuses.
+/// be an element with another tag than OCTET STRING (RFC 5652, 5.2.1): decoding refuses that here, and
+/// accepts it in a Pkcs7ContentInfo.
 #[derive(Clone, Copy, Drop)]
 pub struct EncapsulatedContentInfo<'a> {
     /// The type of the content.

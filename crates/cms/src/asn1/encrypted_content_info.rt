@@ -7,14 +7,13 @@ ghost use Rattle.der.specs.Prelude.{map_ok};
 ghost use Rattle.der_asn1.specs.Item.{decodes_same};
 ghost use Rattle.der_asn1.specs.Meaning.{alternative, field, optional, sequence, sequence_is_item, sequence_item, two_fields};
 
+use crate::EncryptedOctets;
 use crate::asn1::content_type::ContentType;
 use der::{
     Decode, DecodeValue, Encode, EncodeValue, Error, FromFields, Header, Length, Reader, Sequence,
     SliceReader, Writer, decode_sequence, field_refs,
 };
-use der_asn1::{
-    BorrowedItem, DecodeItem, Described, Implicit, Item, Nestable, OctetStringRef, Optional,
-};
+use der_asn1::{BorrowedItem, DecodeItem, Described, DescribedChoice, Item, Nestable, Optional};
 use spki::AlgorithmIdentifierRef;
 use std::alloc::Global;
 
@@ -26,16 +25,13 @@ pub struct EncryptedContentInfo<'a> {
     /// The algorithm of the encryption.
     pub content_encryption_algorithm: AlgorithmIdentifierRef<'a>,
     /// The octets of the encryption. They are absent if they are elsewhere.
-    pub encrypted_content: Optional<Implicit<OctetStringRef<'a>, 0>>,
+    pub encrypted_content: Optional<EncryptedOctets<'a>>,
 }
 
 /// The fields of a [`EncryptedContentInfo`] in pairs, in the order in which they are encoded.
 pub type EncryptedContentInfoFields<'a> = (
     ContentType<'a>,
-    (
-        AlgorithmIdentifierRef<'a>,
-        Optional<Implicit<OctetStringRef<'a>, 0>>,
-    ),
+    (AlgorithmIdentifierRef<'a>, Optional<EncryptedOctets<'a>>),
 );
 
 impl<'a> FromFields<EncryptedContentInfoFields<'a>> for EncryptedContentInfo<'a> {
@@ -54,8 +50,8 @@ impl<'a> FromFields<EncryptedContentInfoFields<'a>> for EncryptedContentInfo<'a>
 impl<'a> Sequence for EncryptedContentInfo<'a> {
     ghost meaning = { sequence (two_fields (field (alternative
         ⟦<ContentType<'a> as Described>⟧.element)) (two_fields (field (alternative
-        ⟦<AlgorithmIdentifierRef<'a> as Described>⟧.element)) (optional (alternative
-        ⟦<Implicit<OctetStringRef<'a>, 0> as Described>⟧.element))))
+        ⟦<AlgorithmIdentifierRef<'a> as Described>⟧.element)) (optional
+        ⟦<EncryptedOctets<'a> as DescribedChoice>⟧.alternative)))
         ⟦<EncryptedContentInfo<'a> as FromFields<EncryptedContentInfoFields<'a>>>⟧.fields };
 
     ghost fits = { (refl, refl) };
@@ -79,7 +75,7 @@ impl<'a, R: Reader<Borrowed = &'a [u8]>> DecodeValue<R> for EncryptedContentInfo
             &self.content_encryption_algorithm,
         );
         if let Some(value) = &self.encrypted_content.0 {
-            <Implicit<OctetStringRef<'a>, 0> as DecodeValue<R>>::is_value(value);
+            value.is_value();
         }
     }
 }

@@ -1,0 +1,106 @@
+//! Written by asn1_compile from the module CMS: change the module instead.
+//!
+//! Pkcs7ContentInfo.
+ghost use Rattle.std.specs.Prelude.{◌≡◌};
+ghost use Rattle.std.proofs.Common.{arith, refl};
+ghost use Rattle.der.specs.Prelude.{map_ok};
+ghost use Rattle.der_asn1.specs.Item.{decodes_same};
+ghost use Rattle.der_asn1.specs.Meaning.{alternative, field, optional, sequence, sequence_is_item, sequence_item, two_fields};
+
+use crate::asn1::content_type::ContentType;
+use der::{
+    Decode, DecodeValue, Encode, EncodeValue, Error, FromFields, Header, Length, Reader, Sequence,
+    SliceReader, Writer, decode_sequence, field_refs,
+};
+use der_asn1::{BorrowedItem, DecodeItem, Described, ExplicitAny, Item, Nestable, Optional};
+use std::alloc::Global;
+
+/// A content inside a message of PKCS #7 (RFC 2315, 7), borrowed from the input.
+#[derive(Clone, Copy, Drop)]
+pub struct Pkcs7ContentInfo<'a> {
+    /// The type of the content.
+    pub content_type: ContentType<'a>,
+    /// The content: an element of any tag. Its contents are not checked. It is absent if the content
+    /// is elsewhere, as for a detached signature.
+    pub content: Optional<ExplicitAny<'a, 0>>,
+}
+
+/// The fields of a [`Pkcs7ContentInfo`] in pairs, in the order in which they are encoded.
+pub type Pkcs7ContentInfoFields<'a> = (ContentType<'a>, Optional<ExplicitAny<'a, 0>>);
+
+impl<'a> FromFields<Pkcs7ContentInfoFields<'a>> for Pkcs7ContentInfo<'a> {
+    ghost fields = { λ v. (v.content_type, v.content) };
+
+    fn from_fields(members: Pkcs7ContentInfoFields<'a>) -> Self {
+        let (content_type, content) = members;
+        Pkcs7ContentInfo {
+            content_type,
+            content,
+        }
+    }
+}
+
+impl<'a> Sequence for Pkcs7ContentInfo<'a> {
+    ghost meaning = { sequence (two_fields (field (alternative
+        ⟦<ContentType<'a> as Described>⟧.element)) (optional (alternative
+        ⟦<ExplicitAny<'a, 0> as Described>⟧.element)))
+        ⟦<Pkcs7ContentInfo<'a> as FromFields<Pkcs7ContentInfoFields<'a>>>⟧.fields };
+
+    ghost fits = { (refl, refl) };
+}
+
+/// Decodes the fields one after the other, with the errors of every [`Sequence`].
+impl<'a, R: Reader<Borrowed = &'a [u8]>> DecodeValue<R> for Pkcs7ContentInfo<'a> {
+    type Error = Error;
+
+    ghost decode_value_answers = { λ h s result t.
+        ⟦<Pkcs7ContentInfoFields<'a> as Decode<SliceReader<'a>>>⟧.decode_answers s (map_ok
+        ⟦<Pkcs7ContentInfo<'a> as FromFields<Pkcs7ContentInfoFields<'a>>>⟧.fields result) t };
+
+    fn decode_value(alloc: Global, reader: &mut R, header: Header) -> Result<Self, Error> {
+        decode_sequence::<R, Pkcs7ContentInfoFields<'a>, Self>(alloc, reader, header)
+    }
+
+    fn is_value(&self) {
+        <ContentType<'a> as DecodeValue<R>>::is_value(&self.content_type);
+        if let Some(value) = &self.content.0 {
+            <ExplicitAny<'a, 0> as DecodeValue<R>>::is_value(value);
+        }
+    }
+}
+
+/// Writes the fields one after the other, with the errors of every [`Sequence`].
+impl<'a> EncodeValue for Pkcs7ContentInfo<'a> {
+    ghost value_size = { λ v. ⟦<Pkcs7ContentInfoFields<'a> as Encode>⟧.size
+        (⟦<Pkcs7ContentInfo<'a> as FromFields<Pkcs7ContentInfoFields<'a>>>⟧.fields v) };
+
+    ghost encode_value_answers = { λ v. ⟦<Pkcs7ContentInfoFields<'a> as Encode>⟧.encode_answers
+        (⟦<Pkcs7ContentInfo<'a> as FromFields<Pkcs7ContentInfoFields<'a>>>⟧.fields v) };
+
+    fn value_len(&self) -> Result<Length, Error> {
+        field_refs!(self, (content_type, content)).encoded_len()
+    }
+
+    fn encode_value<W: Writer>(&self, writer: &mut W) -> Result<(), Error> {
+        field_refs!(self, (content_type, content)).encode(writer)
+    }
+}
+
+impl<'a> Item for Pkcs7ContentInfo<'a> {
+    ghost item = { sequence_item ⟦<Pkcs7ContentInfo<'a> as Described>⟧.element };
+}
+
+impl<'a, R: Reader<Borrowed = &'a [u8]>> DecodeItem<R> for Pkcs7ContentInfo<'a> {
+    ghost is_item = { sequence_is_item ⟦<Pkcs7ContentInfo<'a> as Described>⟧.element refl };
+
+    ghost decodes_items = { decodes_same (sequence_item
+        ⟦<Pkcs7ContentInfo<'a> as Described>⟧.element) };
+}
+
+impl<'a> BorrowedItem for Pkcs7ContentInfo<'a> {
+    ghost borrowed = { refl };
+}
+
+impl<'a> Nestable for Pkcs7ContentInfo<'a> {
+    ghost nestable = { Prim.omega arith };
+}

@@ -1,0 +1,179 @@
+//! Written by asn1_compile from the module CMS: change the module instead.
+//!
+//! Pkcs7SignedData.
+ghost use Rattle.std.specs.Prelude.{◌≡◌};
+ghost use Rattle.std.proofs.Common.{arith, refl};
+ghost use Rattle.der.specs.Prelude.{map_ok};
+ghost use Rattle.der_asn1.specs.Item.{decodes_same};
+ghost use Rattle.der_asn1.specs.Meaning.{alternative, field, optional, seen, sequence, sequence_is_item, sequence_item, two_fields};
+
+use crate::asn1::certificate_set::CertificateSet;
+use crate::asn1::cms_version::CmsVersion;
+use crate::asn1::pkcs7_content_info::Pkcs7ContentInfo;
+use crate::asn1::pkcs7_signed_data_part1::{Pkcs7SignedDataPart1, Pkcs7SignedDataPart1Fields};
+use crate::asn1::pkcs7_signed_data_part2::{Pkcs7SignedDataPart2, Pkcs7SignedDataPart2Fields};
+use crate::asn1::revocation_info_choices::RevocationInfoChoices;
+use crate::asn1::signer_info::SignerInfo;
+use der::{
+    Decode, DecodeValue, Encode, EncodeValue, Error, FromFields, Header, Length, Reader, Sequence,
+    SliceReader, Writer, decode_sequence, field_refs,
+};
+use der_asn1::{BorrowedItem, DecodeItem, Described, Implicit, Item, Nestable, Optional, SetOf};
+use spki::AlgorithmIdentifierRef;
+use std::alloc::Global;
+
+/// A content with signatures in PKCS #7 (RFC 2315, 9.1), such as a signature of Authenticode, borrowed
+/// from the input. The content may be an element of any tag.
+#[derive(Clone, Copy, Drop)]
+pub struct Pkcs7SignedData<'a> {
+    /// The version: 1. Decoding does not check this.
+    pub version: CmsVersion<'a>,
+    /// The digest algorithms of the signatures, in ascending order of their encodings.
+    pub digest_algorithms: SetOf<'a, AlgorithmIdentifierRef<'a>>,
+    /// The content.
+    pub content_info: Pkcs7ContentInfo<'a>,
+    /// Certificates that help to verify the signatures, if present.
+    pub certificates: Optional<Implicit<CertificateSet<'a>, 0>>,
+    /// Information on revoked certificates, if present.
+    pub crls: Optional<Implicit<RevocationInfoChoices<'a>, 1>>,
+    /// The signatures, in ascending order of their encodings. There may be none.
+    pub signer_infos: SetOf<'a, SignerInfo<'a>>,
+}
+
+/// The fields of a [`Pkcs7SignedData`] in pairs, in the order in which they are encoded.
+pub type Pkcs7SignedDataFields<'a> = (
+    Pkcs7SignedDataPart1Fields<'a>,
+    Pkcs7SignedDataPart2Fields<'a>,
+);
+
+impl<'a> FromFields<(Pkcs7SignedDataPart1<'a>, Pkcs7SignedDataPart2<'a>)> for Pkcs7SignedData<'a> {
+    ghost fields = { λ v. (
+      record {
+        version = v.version;
+        digest_algorithms = v.digest_algorithms;
+        content_info = v.content_info;
+      },
+      record {
+        certificates = v.certificates;
+        crls = v.crls;
+        signer_infos = v.signer_infos;
+      },
+    ) };
+
+    fn from_fields(members: (Pkcs7SignedDataPart1<'a>, Pkcs7SignedDataPart2<'a>)) -> Self {
+        let (part1, part2) = members;
+        Pkcs7SignedData {
+            version: part1.version,
+            digest_algorithms: part1.digest_algorithms,
+            content_info: part1.content_info,
+            certificates: part2.certificates,
+            crls: part2.crls,
+            signer_infos: part2.signer_infos,
+        }
+    }
+}
+
+impl<'a> Sequence for Pkcs7SignedData<'a> {
+    ghost meaning = { sequence (two_fields (seen
+        ⟦<Pkcs7SignedDataPart1<'a> as FromFields<Pkcs7SignedDataPart1Fields<'a>>>⟧.fields
+        (two_fields (field (alternative ⟦<CmsVersion<'a> as Described>⟧.element)) (two_fields (field
+        (alternative ⟦<SetOf<'a, AlgorithmIdentifierRef<'a>> as Described>⟧.element)) (field
+        (alternative ⟦<Pkcs7ContentInfo<'a> as Described>⟧.element))))) (seen
+        ⟦<Pkcs7SignedDataPart2<'a> as FromFields<Pkcs7SignedDataPart2Fields<'a>>>⟧.fields
+        (two_fields (optional (alternative
+        ⟦<Implicit<CertificateSet<'a>, 0> as Described>⟧.element)) (two_fields (optional
+        (alternative ⟦<Implicit<RevocationInfoChoices<'a>, 1> as Described>⟧.element)) (field
+        (alternative ⟦<SetOf<'a, SignerInfo<'a>> as Described>⟧.element))))))
+        ⟦<Pkcs7SignedData<'a> as FromFields<(Pkcs7SignedDataPart1<'a>, Pkcs7SignedDataPart2<'a>)>>⟧.fields };
+
+    ghost fits = { (refl, refl) };
+}
+
+/// Decodes the fields one after the other, with the errors of every [`Sequence`].
+impl<'a, R: Reader<Borrowed = &'a [u8]>> DecodeValue<R> for Pkcs7SignedData<'a> {
+    type Error = Error;
+
+    ghost decode_value_answers = { λ h s result t.
+        ⟦<(Pkcs7SignedDataPart1<'a>, Pkcs7SignedDataPart2<'a>) as Decode<SliceReader<'a>>>⟧.decode_answers s
+        (map_ok
+        ⟦<Pkcs7SignedData<'a> as FromFields<(Pkcs7SignedDataPart1<'a>, Pkcs7SignedDataPart2<'a>)>>⟧.fields result) t };
+
+    fn decode_value(alloc: Global, reader: &mut R, header: Header) -> Result<Self, Error> {
+        decode_sequence::<R, (Pkcs7SignedDataPart1<'a>, Pkcs7SignedDataPart2<'a>), Self>(
+            alloc, reader, header,
+        )
+    }
+
+    fn is_value(&self) {
+        <CmsVersion<'a> as DecodeValue<R>>::is_value(&self.version);
+        <SetOf<'a, AlgorithmIdentifierRef<'a>> as DecodeValue<R>>::is_value(
+            &self.digest_algorithms,
+        );
+        <Pkcs7ContentInfo<'a> as DecodeValue<R>>::is_value(&self.content_info);
+        if let Some(value) = &self.certificates.0 {
+            <Implicit<CertificateSet<'a>, 0> as DecodeValue<R>>::is_value(value);
+        }
+        if let Some(value) = &self.crls.0 {
+            <Implicit<RevocationInfoChoices<'a>, 1> as DecodeValue<R>>::is_value(value);
+        }
+        <SetOf<'a, SignerInfo<'a>> as DecodeValue<R>>::is_value(&self.signer_infos);
+    }
+}
+
+/// Writes the fields one after the other, with the errors of every [`Sequence`].
+impl<'a> EncodeValue for Pkcs7SignedData<'a> {
+    ghost value_size = { λ v. ⟦<Pkcs7SignedDataFields<'a> as Encode>⟧.size (
+      ⟦<Pkcs7SignedDataPart1<'a> as FromFields<Pkcs7SignedDataPart1Fields<'a>>>⟧.fields
+          (⟦<Pkcs7SignedData<'a> as FromFields<(Pkcs7SignedDataPart1<'a>, Pkcs7SignedDataPart2<'a>)>>⟧.fields v).0,
+      ⟦<Pkcs7SignedDataPart2<'a> as FromFields<Pkcs7SignedDataPart2Fields<'a>>>⟧.fields
+          (⟦<Pkcs7SignedData<'a> as FromFields<(Pkcs7SignedDataPart1<'a>, Pkcs7SignedDataPart2<'a>)>>⟧.fields v).1,
+    ) };
+
+    ghost encode_value_answers = { λ v. ⟦<Pkcs7SignedDataFields<'a> as Encode>⟧.encode_answers (
+      ⟦<Pkcs7SignedDataPart1<'a> as FromFields<Pkcs7SignedDataPart1Fields<'a>>>⟧.fields
+          (⟦<Pkcs7SignedData<'a> as FromFields<(Pkcs7SignedDataPart1<'a>, Pkcs7SignedDataPart2<'a>)>>⟧.fields v).0,
+      ⟦<Pkcs7SignedDataPart2<'a> as FromFields<Pkcs7SignedDataPart2Fields<'a>>>⟧.fields
+          (⟦<Pkcs7SignedData<'a> as FromFields<(Pkcs7SignedDataPart1<'a>, Pkcs7SignedDataPart2<'a>)>>⟧.fields v).1,
+    ) };
+
+    fn value_len(&self) -> Result<Length, Error> {
+        field_refs!(
+            self,
+            (
+                (version, (digest_algorithms, content_info)),
+                (certificates, (crls, signer_infos))
+            )
+        )
+        .encoded_len()
+    }
+
+    fn encode_value<W: Writer>(&self, writer: &mut W) -> Result<(), Error> {
+        field_refs!(
+            self,
+            (
+                (version, (digest_algorithms, content_info)),
+                (certificates, (crls, signer_infos))
+            )
+        )
+        .encode(writer)
+    }
+}
+
+impl<'a> Item for Pkcs7SignedData<'a> {
+    ghost item = { sequence_item ⟦<Pkcs7SignedData<'a> as Described>⟧.element };
+}
+
+impl<'a, R: Reader<Borrowed = &'a [u8]>> DecodeItem<R> for Pkcs7SignedData<'a> {
+    ghost is_item = { sequence_is_item ⟦<Pkcs7SignedData<'a> as Described>⟧.element refl };
+
+    ghost decodes_items = { decodes_same (sequence_item
+        ⟦<Pkcs7SignedData<'a> as Described>⟧.element) };
+}
+
+impl<'a> BorrowedItem for Pkcs7SignedData<'a> {
+    ghost borrowed = { refl };
+}
+
+impl<'a> Nestable for Pkcs7SignedData<'a> {
+    ghost nestable = { Prim.omega arith };
+}
