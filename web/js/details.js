@@ -1,0 +1,76 @@
+// All about one element: where it is, its whole value, and buttons that copy or save it.
+
+const MOST_TEXT = 20000;
+const MOST_LINKED = 16384;
+const MOST_DIGESTED = 1 << 24;
+
+function button(label, act) {
+  const made = element('button', '', label);
+  made.type = 'button';
+  made.addEventListener('click', () => act(made));
+  return made;
+}
+
+function copy(made, text) {
+  const label = made.textContent;
+  navigator.clipboard.writeText(text).then(() => 'Copied', () => 'Not allowed here').then(said => {
+    made.textContent = said;
+    setTimeout(() => { made.textContent = label; }, 1500);
+  });
+}
+
+function save(octets, name) {
+  const link = element('a');
+  link.href = URL.createObjectURL(new Blob([octets], { type: 'application/octet-stream' }));
+  link.download = name;
+  link.click();
+  setTimeout(() => URL.revokeObjectURL(link.href), 1000);
+}
+
+// A link to this place of the page with the whole file in it: it is no request, but it may be long.
+function linkTo(library, offset) {
+  const octets = library.octets(0, library.length);
+  const letters = btoa(String.fromCharCode(...octets)).replaceAll('+', '-').replaceAll('/', '_').replaceAll('=', '');
+  return `${location.href.split('#')[0]}#der=${letters}&offset=${offset}`;
+}
+
+// Puts the SHA-256 of octets into an element, where the browser computes one.
+async function putDigest(place, octets) {
+  const digest = await crypto.subtle?.digest('SHA-256', octets);
+  place.textContent = digest ? hexadecimal(new Uint8Array(digest)).replaceAll(' ', '') : 'not here';
+}
+
+// The labels of the elements around a node and of itself, from the outside.
+function pathOf(tree, labels, node) {
+  const names = [];
+  for (let at = node; at >= 0; at = tree.parent(at))
+    names.unshift(labels.get(tree.start[at]) ?? tagText(tree.tag[at]));
+  return names.join(' › ');
+}
+
+function showDetails(place, { library, tree, treeView, selected: at }) {
+  const start = tree.start[at], body = tree.body[at], end = tree.end[at], finish = tree.finish(at);
+  const { text, error } = valueOf(library, tree, at, MOST_TEXT);
+  const facts = [
+    ['Type', `${tagText(tree.tag[at])}, ${tree.has(at, FLAG.constructed) ? 'constructed' : 'primitive'}`],
+    ['Place', `offset ${start} (0x${start.toString(16)}), header ${counted(body - start, 'octet')}, contents ${counted(end - body, 'octet')} to ${end}`
+      + (finish > end ? `, then ${finish - end} end-of-contents octets` : '')],
+    ['Inside of', pathOf(tree, treeView.labels, at)],
+  ];
+  const list = element('dl', '', ...facts.flatMap(([name, fact]) => [element('dt', '', name), element('dd', '', fact)]));
+  if (text || error)
+    list.append(element('dt', '', 'Value'), element('dd', error ? 'whole wrong' : 'whole', error ? `${errorText(error)}${text && `: ${text}`}` : text));
+  const digits = () => hexadecimal(library.octets(start, finish)).replaceAll(' ', '');
+  const buttons = element('p', 'buttons',
+    button('Copy hexadecimal', it => copy(it, digits())),
+    button('Copy value', it => copy(it, text)),
+    button('Save octets', () => save(library.octets(start, finish).slice(), `element-${start}.der`)));
+  if (library.length <= MOST_LINKED)
+    buttons.append(button('Copy link with the file', it => copy(it, linkTo(library, start))));
+  if (finish - start <= MOST_DIGESTED) {
+    const digest = element('dd');
+    list.append(element('dt', '', 'SHA-256'), digest);
+    putDigest(digest, library.octets(start, finish).slice());
+  }
+  place.replaceChildren(list, buttons);
+}

@@ -1,0 +1,174 @@
+// The tree as a list of rows, with the keys of a tree (ARIA Authoring Practices, "Tree View").
+
+const ROW_HEIGHT = 22;
+const STEP = 14;
+const DEEPEST = 40;
+
+class TreeView {
+  // `page` is called back: `select(node)`, `hover(node)`.
+  constructor(place, page) {
+    Object.assign(this, { place, page, tree: null, shown: new Uint32Array(0), selected: -1, hovered: -1 });
+    this.list = new RowList(place, ROW_HEIGHT, index => this.draw(index));
+    place.addEventListener('keydown', event => this.key(event));
+    place.addEventListener('click', event => this.click(event));
+    place.addEventListener('mouseover', event => page.hover(this.nodeOf(event.target)));
+    place.addEventListener('mouseleave', () => page.hover(-1));
+  }
+
+  open(library, tree, labels) {
+    Object.assign(this, { library, tree, labels, selected: -1, hovered: -1 });
+    this.list.top = 0;
+    this.place.scrollTop = 0;
+    this.refresh();
+  }
+
+  refresh() {
+    this.shown = this.tree.shown();
+    this.list.resize(this.shown.length);
+  }
+
+  nodeOf(target) {
+    const row = target.closest?.('.row');
+    return row ? Number(row.dataset.node) : -1;
+  }
+
+  // The index of the row of a node, or of the last row before it.
+  indexOf(node) {
+    let low = 0, high = this.shown.length;
+    while (low < high) {
+      const middle = (low + high) >> 1;
+      if (this.shown[middle] <= node)
+        low = middle + 1;
+      else
+        high = middle;
+    }
+    return low - 1;
+  }
+
+  show(node) {
+    this.selected = node;
+    if (node >= 0) {
+      if (this.tree.reveal(node))
+        this.refresh();
+      this.list.show(this.indexOf(node));
+    } else {
+      this.list.redraw();
+    }
+  }
+
+  // Whether the contents of a node that has no nodes inside may be read as elements.
+  canOpen(at) {
+    const { tree } = this, length = tree.end[at] - tree.body[at];
+    if (tree.has(at, FLAG.opened) || tree.hasChildren(at) || length < 2)
+      return false;
+    if (tree.has(at, FLAG.constructed) || tree.tag[at] === 0x04)
+      return this.library.isTree(tree.body[at], tree.end[at]);
+    const isBits = tree.tag[at] === 0x03 && this.library.octets(tree.body[at], tree.body[at] + 1)[0] === 0;
+    return isBits && length > 2 && this.library.isTree(tree.body[at] + 1, tree.end[at]);
+  }
+
+  // Reads the contents of a string, and puts their elements below it.
+  openContents(at) {
+    const { tree, library } = this, from = tree.body[at] + (tree.tag[at] === 0x03 ? 1 : 0);
+    const inside = Tree.of(library.readTree(from, tree.end[at], false), from, tree.depth[at] + 1, FLAG.inner);
+    tree.insert(at, inside);
+    tree.flags[at] |= FLAG.opened;
+    if (this.selected > at)
+      this.selected += inside.count;
+    this.page.inserted(at, inside.count);
+    this.refresh();
+  }
+
+  toggle(at) {
+    const { tree } = this;
+    if (tree.hasChildren(at)) {
+      tree.flags[at] ^= FLAG.collapsed;
+      this.refresh();
+    } else if (this.canOpen(at)) {
+      this.openContents(at);
+    }
+  }
+
+  click(event) {
+    const node = this.nodeOf(event.target);
+    if (node < 0)
+      return;
+    if (event.target.classList.contains('expander'))
+      this.toggle(node);
+    this.page.select(node);
+  }
+
+  key(event) {
+    if (!this.tree || event.ctrlKey || event.altKey || event.metaKey)
+      return;
+    const index = Math.max(0, this.indexOf(this.selected)), last = this.shown.length - 1;
+    const to = { ArrowDown: this.selected < 0 ? 0 : index + 1, ArrowUp: index - 1, Home: 0, End: last,
+      PageDown: index + this.list.page, PageUp: index - this.list.page }[event.key];
+    if (to !== undefined)
+      this.page.select(this.shown[Math.max(0, Math.min(last, to))]);
+    else if (!this.keyOfNode(event.key))
+      return;
+    event.preventDefault();
+  }
+
+  keyOfNode(key) {
+    const { tree, selected } = this;
+    if (selected < 0)
+      return false;
+    const isOpen = tree.hasChildren(selected) && !tree.has(selected, FLAG.collapsed);
+    if (key === 'Enter' || key === ' ' || (key === 'ArrowRight' && !isOpen) || (key === 'ArrowLeft' && isOpen))
+      this.toggle(selected);
+    else if (key === 'ArrowRight')
+      this.page.select(selected + 1);
+    else if (key === 'ArrowLeft' && tree.parent(selected) >= 0)
+      this.page.select(tree.parent(selected));
+    else
+      return key === 'ArrowLeft';
+    return true;
+  }
+
+  expander(at) {
+    const { tree } = this;
+    if (tree.hasChildren(at))
+      return tree.has(at, FLAG.collapsed) ? '▸' : '▾';
+    return this.canOpen(at) ? '▹' : '';
+  }
+
+  draw(index) {
+    const { tree } = this, at = this.shown[index], sign = this.expander(at);
+    const row = element('div', 'row');
+    const part = element('span', 'part');
+    part.style.paddingLeft = `${STEP * Math.min(DEEPEST, tree.depth[at])}px`;
+    part.append(element('span', 'expander', sign), element('span', 'tag', tagText(tree.tag[at])));
+    const label = this.labels.get(tree.start[at]);
+    if (label)
+      part.append(element('span', 'label', label));
+    const { text, error } = valueOf(this.library, tree, at, 120);
+    part.append(element('span', error ? 'value wrong' : 'value', error ? `${error.message}${text && `: ${text}`}` : text));
+    row.append(element('span', 'offset', String(tree.start[at])), this.lengths(at), part);
+    this.mark(row, at, sign);
+    return row;
+  }
+
+  lengths(at) {
+    const { tree } = this, length = tree.has(at, FLAG.indefinite) ? '∞' : String(tree.end[at] - tree.body[at]);
+    return element('span', 'length', `${tree.body[at] - tree.start[at]} + ${length}`);
+  }
+
+  // What the row says to readers of screens, and to tests.
+  mark(row, at, sign) {
+    const { tree } = this, isSelected = at === this.selected;
+    row.dataset.node = at;
+    row.id = `node${at}`;
+    row.setAttribute('role', 'treeitem');
+    row.setAttribute('aria-level', tree.depth[at] + 1);
+    row.setAttribute('aria-selected', isSelected);
+    if (sign)
+      row.setAttribute('aria-expanded', sign === '▾');
+    row.classList.toggle('selected', isSelected);
+    row.classList.toggle('hovered', at === this.hovered);
+    row.classList.toggle('inner', tree.has(at, FLAG.inner));
+    if (isSelected)
+      this.place.setAttribute('aria-activedescendant', row.id);
+  }
+}
