@@ -73,7 +73,9 @@ class Fields {
     });
   }
 
-  serialNumber(span) { this.add('Serial number', this.before(span), () => integerOf(this.library, span)); }
+  serialNumber(span) {
+    this.add('Serial number', this.before(span), () => `${serialText(this.octets(span))} (hexadecimal)`);
+  }
 
   extensions(label, list) {
     if (!list)
@@ -176,7 +178,8 @@ function revocationListFields(fields, it) {
 // The row of an entry of a revocation list, which is read when it is shown.
 function revokedRow({ library, tree }, at) {
   const offset = tree.start[at], entry = readRevoked(library, offset, tree.end[at] - offset);
-  return rowOf(1, integerOf(library, entry.serialNumber), offset, () => {
+  const { start, length } = entry.serialNumber;
+  return rowOf(1, serialText(library.octets(start, start + length)), offset, () => {
     const texts = [valueOf(library, tree, tree.children(at)[1], 96).text];
     for (const it of entry.extensions ? readExtensions(library, entry.extensions) : [])
       texts.push(extensionText(library, entry.extensions, it));

@@ -94,7 +94,7 @@ class Tests:
         self.browser.size(1400, 3000)
         self.open(f"{self.folder}/rsa-certificate.der")
         serial = openssl(self.folder, "x509", "-in", "rsa.crt", "-noout", "-serial").strip().partition("=")[2]
-        wanted = {"Serial number": str(int(serial, 16)), "Version": "3", "Subject": "C=DE, O=Test & Söhne, CN=example.org",
+        wanted = {"Serial number": f"{serial} (hexadecimal)", "Version": "3", "Subject": "C=DE, O=Test & Söhne, CN=example.org",
                   "Signature algorithm": "sha256WithRSAEncryption (1.2.840.113549.1.1.11)", "Modulus": "2,048 bits, exponent 65537",
                   "subjectAltName (2.5.29.17)": "DNS:example.org, DNS:www.example.org, IP:127.0.0.1, email:a@example.org",
                   "keyUsage (2.5.29.15), critical": "keyCertSign, cRLSign",
@@ -105,7 +105,7 @@ class Tests:
             wanted[label] = re.search(rf"{name}=(.*)Z", dates)[1] + " UTC"
         self.hold_rows(wanted)
         self.open(f"{self.folder}/rsa-list.der")
-        entry = {"4660": "2026-01-02 03:04:05 UTC, keyCompromise", "Revoked certificates": "1", "Version": "2",
+        entry = {"1234": "2026-01-02 03:04:05 UTC, keyCompromise", "Revoked certificates": "1", "Version": "2",
                  "Issuer": wanted["Subject"]}
         self.hold_rows(entry)
         self.open(f"{self.folder}/ec-request.der")
