@@ -233,7 +233,7 @@ class Tests:
         before = browser.value("document.querySelector('#tree .space').style.height")
         browser.press("ArrowLeft")
         see(browser.value("document.querySelector('#tree .space').style.height") != before, "ArrowLeft does not close")
-        see(browser.value("location.hash") == "#offset=8", browser.value("location.hash"))
+        browser.wait("location.hash === '#offset=8'", "the address has the offset", 5)
         marked = "[...document.querySelectorAll('#octets .digits .selected')].map(it => Number(it.dataset.at))"
         see(browser.value(marked) == [8, 9, 10, 11, 12], f"marked are {browser.value(marked)}")
         browser.press("ArrowRight")
@@ -328,6 +328,11 @@ class Tests:
         for key in ("PageUp", "ArrowUp", "ArrowDown", "Home"):
             self.browser.press(key)
         each = (time.monotonic() - started) / 5
+        self.browser.value("document.getElementById('fields').scrollTop = 1e9")
+        self.browser.settle()
+        self.browser.settle()
+        last = self.browser.value("[...document.querySelectorAll('#fields .name')].pop().textContent")
+        see(last == f"{0x10000000 + 290_000 - 1:X}", f"the last entry is {last}")
         see(seconds < 20 and each < 1, f"it took {seconds:.1f} s, and {each:.2f} s a key")
         return f"a list of {size:,} octets and {count:,} elements is shown in {seconds:.1f} s, and a key takes {each:.2f} s"
 
