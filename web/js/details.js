@@ -63,7 +63,7 @@ function showDetails(place, { library, tree, treeView, selected: at }) {
   const digits = () => hexadecimal(library.octets(start, finish)).replaceAll(' ', '');
   const buttons = element('p', 'buttons',
     button('Copy hexadecimal', it => copy(it, digits())),
-    button('Copy value', it => copy(it, text)),
+    ...(text ? [button('Copy value', it => copy(it, text))] : []),
     button('Save octets', () => save(library.octets(start, finish).slice(), `element-${start}.der`)));
   if (library.length <= MOST_LINKED)
     buttons.append(button('Copy link with the file', it => copy(it, linkTo(library, start))));

@@ -10,22 +10,15 @@ class Fields {
   row(index) { return this.rows[index] ?? this.many.row(index - this.rows.length); }
 
   // Adds a row: a label, a text, or an error that `text` throws, and the offset of the element.
-  add(label, offset, text) {
-    const row = { depth: this.depth, label, offset };
-    try {
-      row.text = text();
-    } catch (error) {
-      if (!(error instanceof DerError))
-        throw error;
-      Object.assign(row, { text: '', error });
-    }
-    this.rows.push(row);
-  }
+  add(label, offset, text) { this.rows.push(rowOf(this.depth, label, offset, text)); }
 
+  // Adds a row, and those of what is inside of it, up to the first that cannot be read.
   group(label, offset, text, inside) {
     this.add(label, offset, () => text);
     this.depth += 1;
-    inside();
+    const refused = errorOf(inside);
+    if (refused)
+      this.add('refused', refused.position, () => { throw refused; });
     this.depth -= 1;
   }
 
@@ -80,14 +73,15 @@ class Fields {
     });
   }
 
-  serialNumber(span) { this.add('Serial number', this.before(span), () => integerOf(this.library, span)); }
+  serialNumber(span) {
+    this.add('Serial number', this.before(span), () => `${serialText(this.octets(span))} (hexadecimal)`);
+  }
 
   extensions(label, list) {
     if (!list)
       return;
-    const items = readExtensions(this.library, list);
-    this.group(label, this.before(list), counted(items.length, 'extension'), () => {
-      for (const it of items) {
+    this.group(label, this.before(list), '', () => {
+      for (const it of readExtensions(this.library, list)) {
         const name = identifierText(this.library, it.identifier) + (it.isCritical ? ', critical' : '');
         this.add(name, this.around(it.identifier), () => extensionText(this.library, list, it));
       }
@@ -112,6 +106,24 @@ class Fields {
     else
       this.add(withName(dotted), this.around(type), () => octetsText(this.octets(values.element()), 192));
   }
+}
+
+// The error of the library that `act` throws, or null.
+function errorOf(act) {
+  try {
+    act();
+    return null;
+  } catch (error) {
+    if (!(error instanceof DerError))
+      throw error;
+    return error;
+  }
+}
+
+function rowOf(depth, label, offset, read) {
+  const row = { depth, label, offset, text: '' };
+  row.error = errorOf(() => { row.text = read(); });
+  return row;
 }
 
 // The label at an offset of a child of a node, if it is named so.
@@ -166,10 +178,13 @@ function revocationListFields(fields, it) {
 // The row of an entry of a revocation list, which is read when it is shown.
 function revokedRow({ library, tree }, at) {
   const offset = tree.start[at], entry = readRevoked(library, offset, tree.end[at] - offset);
-  const texts = [valueOf(library, tree, tree.children(at)[1], 96).text];
-  for (const it of entry.extensions ? readExtensions(library, entry.extensions) : [])
-    texts.push(extensionText(library, entry.extensions, it));
-  return { depth: 1, label: integerOf(library, entry.serialNumber), offset, text: texts.join(', ') };
+  const { start, length } = entry.serialNumber;
+  return rowOf(1, serialText(library.octets(start, start + length)), offset, () => {
+    const texts = [valueOf(library, tree, tree.children(at)[1], 96).text];
+    for (const it of entry.extensions ? readExtensions(library, entry.extensions) : [])
+      texts.push(extensionText(library, entry.extensions, it));
+    return texts.join(', ');
+  });
 }
 
 function privateKeyFields(fields, it) {

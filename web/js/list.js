@@ -6,15 +6,14 @@ const HIGHEST = 8_000_000;
 class RowList {
   // `draw` makes the element of the row of an index.
   constructor(place, rowHeight, draw) {
-    Object.assign(this, { place, rowHeight, draw, count: 0, top: 0, ours: -1 });
+    Object.assign(this, { place, rowHeight, draw, count: 0, top: 0, ours: -1, wanted: -1 });
     this.space = element('div', 'space');
     this.window = element('div', 'window');
     this.space.append(this.window);
     place.replaceChildren(this.space);
     place.addEventListener('scroll', () => this.scrolled(), { passive: true });
     place.addEventListener('wheel', event => this.wheel(event), { passive: false });
-    // a part that was hidden has lost where it was
-    new ResizeObserver(() => this.moveTo(this.top)).observe(place);
+    new ResizeObserver(() => this.settle()).observe(place);
   }
 
   get height() { return Math.min(HIGHEST, this.count * this.rowHeight); }
@@ -30,6 +29,7 @@ class RowList {
   resize(count) {
     this.count = count;
     this.space.style.height = `${this.height}px`;
+    this.wanted = -1;
     this.moveTo(this.top);
   }
 
@@ -38,6 +38,7 @@ class RowList {
     if (Math.abs(this.place.scrollTop - this.ours) < 1.5)
       return;
     this.ours = -1;
+    this.wanted = -1;
     this.top = Math.min(this.last, this.place.scrollTop * this.scale);
     this.redraw();
   }
@@ -46,6 +47,7 @@ class RowList {
     if (this.scale === 1 || event.ctrlKey || !event.deltaY)
       return;
     event.preventDefault();
+    this.wanted = -1;
     this.moveTo(this.top + (event.deltaMode === 1 ? event.deltaY * this.rowHeight : event.deltaY));
   }
 
@@ -60,6 +62,7 @@ class RowList {
 
   // Scrolls as little as possible so that the row is visible; if it was not, it is put into the middle.
   show(index) {
+    this.wanted = index;
     const from = index * this.rowHeight, height = this.place.clientHeight;
     if (from < this.top - this.rowHeight || from > this.top + height)
       this.moveTo(from - height / 2);
@@ -69,6 +72,15 @@ class RowList {
       this.moveTo(from + this.rowHeight - height);
     else
       this.redraw();
+  }
+
+  // After a change of size: a part that was hidden has lost where it was, and a row that was shown may
+  // be covered now.
+  settle() {
+    if (this.wanted >= 0 && this.wanted < this.count)
+      this.show(this.wanted);
+    else
+      this.moveTo(this.top);
   }
 
   redraw() {

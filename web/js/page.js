@@ -142,10 +142,16 @@ class Page {
     if (node < 0)
       return;
     const start = this.tree.start[node];
-    history.replaceState(null, '', `#offset=${start}`);
+    this.putLink(start);
     this.markOctets();
     this.octetView.show(start);
     showDetails(find('details'), this);
+  }
+
+  // Puts the offset into the address when the selection rests: browsers limit how often that is done.
+  putLink(offset) {
+    clearTimeout(this.linking);
+    this.linking = setTimeout(() => history.replaceState(null, '', `#offset=${offset}`), 250);
   }
 
   hover(node) {

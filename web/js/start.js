@@ -11,7 +11,8 @@ async function start() {
     return;
   }
   try {
-    const module = Uint8Array.from(atob(WASM), it => it.charCodeAt(0));
+    const packed = new Blob([Uint8Array.from(atob(WASM), it => it.charCodeAt(0))]).stream();
+    const module = await new Response(packed.pipeThrough(new DecompressionStream('gzip'))).arrayBuffer();
     const { instance } = await WebAssembly.instantiate(module, {});
     window.yotremul = new Page(new Library(instance.exports));
     told.remove();

@@ -38,6 +38,12 @@ function integerText(octets) {
   return octets.length > 8 ? `${number} (${hexadecimal(octets)})` : String(number);
 }
 
+// A serial number from its contents, in hexadecimal as certificates of openssl have it.
+function serialText(octets) {
+  const digits = hexadecimal(octets).replaceAll(' ', '').toUpperCase();
+  return octets[0] >= 0x80 ? integerText(octets) : digits.replace(/^(00)+(?=.)/, '');
+}
+
 function addressText(octets) {
   if (octets.length === 4)
     return octets.join('.');

@@ -139,7 +139,10 @@ class TreeView {
     const row = element('div', 'row');
     const part = element('span', 'part');
     part.style.paddingLeft = `${STEP * Math.min(DEEPEST, tree.depth[at])}px`;
-    part.append(element('span', 'expander', sign), element('span', 'tag', tagText(tree.tag[at])));
+    const expander = element('span', 'expander', sign);
+    if (sign === '▹')
+      expander.title = 'Show the elements in these octets';
+    part.append(expander, element('span', 'tag', tagText(tree.tag[at])));
     const label = this.labels.get(tree.start[at]);
     if (label)
       part.append(element('span', 'label', label));

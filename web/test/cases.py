@@ -14,6 +14,31 @@ ROWS = """[...document.querySelectorAll('#tree .row:not(.inner)')].map(row => [
 FIELDS = """Object.fromEntries([...document.querySelectorAll('#fields .row')].map(row =>
   [row.querySelector('.name').textContent, row.querySelector('.text').textContent]))"""
 
+# Opens copies of a file of which octets are changed, draws all parts, and opens what can be opened. It
+# returns the faults of the page's scripts, and how many copies were read with all fields.
+CHANGED = """(() => {
+  const octets = Uint8Array.from(atob('%s'), it => it.charCodeAt(0)), page = window.yotremul, faults = [];
+  let seed = 12345, read = 0;
+  const random = n => { seed ^= seed << 13; seed ^= seed >>> 17; seed ^= seed << 5; return (seed >>> 0) %% n; };
+  for (let round = 0; round < 40 && !faults.length; round += 1) {
+    const copy = octets.slice(0, random(8) ? octets.length : random(octets.length));
+    for (let count = random(3); count >= 0; count -= 1)
+      copy[random(copy.length)] = [random(256), random(4), 0x30, 0x80, 0xa0, 0xff][random(6)];
+    try {
+      page.openFiles('changed', [{ label: '', octets: copy }]);
+      for (const it of [page.treeView, page.fields, page.octetView])
+        it.list.drawRows();
+      page.select(random(page.tree.count) || -1);
+      page.treeView.toggle(random(page.tree.count));
+      page.treeView.list.drawRows();
+      read += document.getElementById('status').textContent.includes('with all fields');
+    } catch (error) {
+      faults.push(String(error.stack));
+    }
+  }
+  return [faults, read];
+})()"""
+
 
 def see(held, what):
     if not held:
@@ -65,12 +90,11 @@ class Tests:
         return f"the elements of {len(self.paths)} files are those that openssl prints"
 
     def see_fields(self):
-        """The fields of a certificate are those that openssl prints."""
+        """The fields of a certificate, a list and a request are those that openssl was given, and its dates."""
         self.browser.size(1400, 3000)
         self.open(f"{self.folder}/rsa-certificate.der")
-        shown = self.browser.value(FIELDS)
         serial = openssl(self.folder, "x509", "-in", "rsa.crt", "-noout", "-serial").strip().partition("=")[2]
-        wanted = {"Serial number": str(int(serial, 16)), "Version": "3", "Subject": "C=DE, O=Test & Söhne, CN=example.org",
+        wanted = {"Serial number": f"{serial} (hexadecimal)", "Version": "3", "Subject": "C=DE, O=Test & Söhne, CN=example.org",
                   "Signature algorithm": "sha256WithRSAEncryption (1.2.840.113549.1.1.11)", "Modulus": "2,048 bits, exponent 65537",
                   "subjectAltName (2.5.29.17)": "DNS:example.org, DNS:www.example.org, IP:127.0.0.1, email:a@example.org",
                   "keyUsage (2.5.29.15), critical": "keyCertSign, cRLSign",
@@ -79,10 +103,22 @@ class Tests:
         dates = openssl(self.folder, "x509", "-in", "rsa.crt", "-noout", "-dates", "-dateopt", "iso_8601")
         for name, label in (("notBefore", "Not before"), ("notAfter", "Not after")):
             wanted[label] = re.search(rf"{name}=(.*)Z", dates)[1] + " UTC"
+        self.hold_rows(wanted)
+        self.open(f"{self.folder}/rsa-list.der")
+        entry = {"1234": "2026-01-02 03:04:05 UTC, keyCompromise", "Revoked certificates": "1", "Version": "2",
+                 "Issuer": wanted["Subject"]}
+        self.hold_rows(entry)
+        self.open(f"{self.folder}/ec-request.der")
+        request = {"Subject": wanted["Subject"], "subjectAltName (2.5.29.17)": wanted["subjectAltName (2.5.29.17)"],
+                   "Algorithm": "ecPublicKey (1.2.840.10045.2.1), prime256v1 (1.2.840.10045.3.1.7)"}
+        self.hold_rows(request)
+        self.browser.size(1400, 900)
+        return f"{len(wanted) + len(entry) + len(request)} fields are those that openssl was given"
+
+    def hold_rows(self, wanted):
+        shown = self.browser.value(FIELDS)
         for label, text in wanted.items():
             see(shown.get(label) == text, f"{label}: {shown.get(label)}, and not {text}")
-        self.browser.size(1400, 900)
-        return f"{len(wanted)} fields of a certificate are those that openssl prints"
 
     def see_formats(self):
         """Each file has the title of its format, and rows of fields."""
@@ -197,7 +233,7 @@ class Tests:
         before = browser.value("document.querySelector('#tree .space').style.height")
         browser.press("ArrowLeft")
         see(browser.value("document.querySelector('#tree .space').style.height") != before, "ArrowLeft does not close")
-        see(browser.value("location.hash") == "#offset=8", browser.value("location.hash"))
+        browser.wait("location.hash === '#offset=8'", "the address has the offset", 5)
         marked = "[...document.querySelectorAll('#octets .digits .selected')].map(it => Number(it.dataset.at))"
         see(browser.value(marked) == [8, 9, 10, 11, 12], f"marked are {browser.value(marked)}")
         browser.press("ArrowRight")
@@ -292,8 +328,26 @@ class Tests:
         for key in ("PageUp", "ArrowUp", "ArrowDown", "Home"):
             self.browser.press(key)
         each = (time.monotonic() - started) / 5
+        self.browser.value("document.getElementById('fields').scrollTop = 1e9")
+        self.browser.settle()
+        self.browser.settle()
+        last = self.browser.value("[...document.querySelectorAll('#fields .name')].pop().textContent")
+        see(last == f"{0x10000000 + 290_000 - 1:X}", f"the last entry is {last}")
         see(seconds < 20 and each < 1, f"it took {seconds:.1f} s, and {each:.2f} s a key")
         return f"a list of {size:,} octets and {count:,} elements is shown in {seconds:.1f} s, and a key takes {each:.2f} s"
+
+    def see_changed(self):
+        """No change of octets makes a script of the page fail."""
+        self.browser.size(1400, 2000)
+        total = 0
+        for path in self.paths:
+            with open(path, "rb") as file:
+                faults, read = self.browser.value(CHANGED % base64.b64encode(file.read()).decode())
+            see(not faults, f"{os.path.basename(path)}: {faults}")
+            total += read
+        see(total > len(self.paths), f"only {total} of {40 * len(self.paths)} copies are read")
+        self.browser.size(1400, 900)
+        return f"{40 * len(self.paths)} files with changed octets are shown, {total} of them with all fields"
 
     def see_deep(self):
         """Elements are nested up to the limit, and no deeper ones break the page."""

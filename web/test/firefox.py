@@ -9,6 +9,10 @@ import time
 
 from chromium import Browser, Failure
 
+# The codes of keys in WebDriver.
+KEYS = {"ArrowLeft": "\ue012", "ArrowUp": "\ue013", "ArrowRight": "\ue014", "ArrowDown": "\ue015",
+        "End": "\ue010", "Home": "\ue011", "PageUp": "\ue00e", "PageDown": "\ue00f"}
+
 
 def firefox():
     """The path of the browser, or None."""
@@ -72,6 +76,11 @@ class Firefox(Browser):
     def choose(self, path):
         found = self.call("WebDriver:FindElement", using="css selector", value="#file")["value"]
         self.call("WebDriver:ElementSendKeys", id=next(iter(found.values())), text=path)
+
+    def press(self, key):
+        acts = [{"type": kind, "value": KEYS[key]} for kind in ("keyDown", "keyUp")]
+        self.call("WebDriver:PerformActions", actions=[{"type": "key", "id": "keys", "actions": acts}])
+        self.settle()
 
     def close(self):
         self.socket.close()
