@@ -1,4 +1,5 @@
 //! Elements in sequence.
+ghost use Rattle.std.specs.Iterator.{at_most};
 
 use crate::element::Element;
 use der::{EncodingRules, Error, Tag};
@@ -12,6 +13,8 @@ pub struct Elements<'a> {
     pub at: u32,
     /// The encoding rules.
     pub rules: EncodingRules,
+    // At least how many elements can be left.
+    left: usize,
 }
 
 impl<'a> Elements<'a> {
@@ -21,6 +24,7 @@ impl<'a> Elements<'a> {
             rest: octets,
             at,
             rules,
+            left: octets.len(),
         }
     }
 
@@ -44,7 +48,7 @@ impl<'a> Elements<'a> {
 
     /// The next element, which the walk moves past. `None` after the last one, or if the next one
     /// cannot be read; then the walk ends.
-    pub fn take(&mut self) -> Option<Element<'a>> {
+    pub fn take_first(&mut self) -> Option<Element<'a>> {
         if self.rest.is_empty() {
             return None;
         }
@@ -60,7 +64,7 @@ impl<'a> Elements<'a> {
     /// The next element, if it has this tag; then the walk moves past it.
     pub fn take_tagged(&mut self, tag: Tag) -> Option<Element<'a>> {
         let mut next = *self;
-        match next.take() {
+        match next.take_first() {
             Some(element) if element.tag == tag => {
                 *self = next;
                 Some(element)
@@ -72,8 +76,23 @@ impl<'a> Elements<'a> {
     /// The next element, if its first octet is `identifier`; then the walk moves past it.
     pub fn take_identified(&mut self, identifier: u8) -> Option<Element<'a>> {
         match self.rest {
-            [first, ..] if *first == identifier => self.take(),
+            [first, ..] if *first == identifier => self.take_first(),
             _ => None,
         }
+    }
+}
+
+/// The elements up to the end, or up to one that cannot be read.
+impl<'a> Iterator for Elements<'a> {
+    type Item = Element<'a>;
+
+    ghost remaining = { λ s. at_most s.left };
+
+    fn next(&mut self) -> Option<Element<'a>> {
+        if self.left == 0 {
+            return None;
+        }
+        self.left -= 1;
+        self.take_first()
     }
 }
