@@ -30,7 +30,8 @@ pub fn put_parameters(page: &mut Page, algorithm: &Element<'_>) {
     match oid.contents {
         [0x2a, 0x86, 0x48, 0x86, 0xf7, 0x0d, 0x01, 0x01, 0x0a] => put_pss(page, &parameters),
         // curves and keys of DSA have lines of their own
-        [0x2a, 0x86, 0x48, 0xce, 0x3d, 0x02, 0x01] | [0x2a, 0x86, 0x48, 0xce, 0x38, 0x04, 0x01] => {}
+        [0x2a, 0x86, 0x48, 0xce, 0x3d, 0x02, 0x01] | [0x2a, 0x86, 0x48, 0xce, 0x38, 0x04, 0x01] =>
+            {}
         _ if parameters.tag == Tag::Null => {}
         _ => {
             page.at(&parameters);
@@ -47,8 +48,18 @@ fn put_pss(page: &mut Page, parameters: &Element<'_>) {
     page.deeper();
     put_pss_algorithm(page, "Hash Algorithm: ", parts.take_identified(0xA0), false);
     put_pss_algorithm(page, "Mask Algorithm: ", parts.take_identified(0xA1), true);
-    put_pss_number(page, "Salt Length: ", parts.take_identified(0xA2), "20 (default)");
-    put_pss_number(page, "Trailer Field: ", parts.take_identified(0xA3), "1 (default)");
+    put_pss_number(
+        page,
+        "Salt Length: ",
+        parts.take_identified(0xA2),
+        "20 (default)",
+    );
+    put_pss_number(
+        page,
+        "Trailer Field: ",
+        parts.take_identified(0xA3),
+        "1 (default)",
+    );
     page.higher();
 }
 

@@ -66,7 +66,11 @@ pub fn put_issuing_point(page: &mut Page, element: &Element<'_>) {
         put_titled_reasons(page, "Only Some Reasons:", &reasons);
     }
     put_flag(page, "Indirect CRL", &parts.take_identified(0x84));
-    put_flag(page, "Only Attribute Certificates", &parts.take_identified(0x85));
+    put_flag(
+        page,
+        "Only Attribute Certificates",
+        &parts.take_identified(0x85),
+    );
 }
 
 fn put_flag(page: &mut Page, words: &str, flag: &Option<Element<'_>>) {

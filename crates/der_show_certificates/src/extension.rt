@@ -25,7 +25,13 @@ pub fn put_extension(page: &mut Page, oid: &[u8], value: &Element<'_>) {
     let mut inside = Elements::new(value.contents, value.contents_start, EncodingRules::Der);
     let start = value.contents_start;
     if let Some(offset) = open_type("x", oid) {
-        match find_fault_at(page.alloc, offset, value.contents, start, EncodingRules::Der) {
+        match find_fault_at(
+            page.alloc,
+            offset,
+            value.contents,
+            start,
+            EncodingRules::Der,
+        ) {
             Ok(None) => {}
             Ok(Some(fault)) => {
                 put_reason_and_octets(page, value, &fault);
@@ -49,7 +55,9 @@ fn put_known(page: &mut Page, oid: &[u8], element: &Element<'_>) -> bool {
         [0x55, 0x1d, last] => put_certificate_extension(page, *last, element),
         [0x2b, 0x06, 0x01, 0x05, 0x05, 0x07, 0x01, last] => put_pkix(page, *last, element),
         [0x2b, 0x06, 0x01, 0x05, 0x05, 0x07, 0x30, 0x01, last] => put_ocsp(page, *last, element),
-        [0x60, 0x86, 0x48, 0x01, 0x86, 0xf8, 0x42, 0x01, last] => put_netscape(page, *last, element),
+        [0x60, 0x86, 0x48, 0x01, 0x86, 0xf8, 0x42, 0x01, last] => put_netscape(
+            page, *last, element,
+        ),
         _ if oid == TIMESTAMPS => {
             put_timestamps(page, element);
             true

@@ -8,7 +8,8 @@ const USAGES: &str = "Digital Signature,Non Repudiation,Key Encipherment,Data En
     Agreement,Certificate Sign,CRL Sign,Encipher Only,Decipher Only";
 
 /// Reasons for a revocation, by their bits (RFC 5280, 4.2.1.13).
-const REASONS: &str = "Unused,Key Compromise,CA Compromise,Affiliation Changed,Superseded,Cessation \
+const REASONS: &str =
+    "Unused,Key Compromise,CA Compromise,Affiliation Changed,Superseded,Cessation \
     Of Operation,Certificate Hold,Privilege Withdrawn,AA Compromise";
 
 /// What Netscape has certificates for.

@@ -6,6 +6,7 @@ mod access;
 mod algorithm;
 mod certificate;
 mod constraints;
+mod curves;
 mod distribution;
 mod encryption;
 mod extension;

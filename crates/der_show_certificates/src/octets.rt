@@ -3,7 +3,9 @@
 use crate::page::Page;
 use der::{EncodingRules, Tag};
 use der_show_fields::Fault;
-use der_show_text::{Element, Elements, Style, put_arcs, put_octets, put_octets_with, put_value_text};
+use der_show_text::{
+    Element, Elements, Style, put_arcs, put_octets, put_octets_with, put_value_text,
+};
 use std::fmt::Write;
 
 /// Prints why a value is malformed, and its octets.
