@@ -23,6 +23,8 @@ mod ocsp;
 #[cfg(test)]
 mod parcels;
 #[cfg(test)]
+mod pem;
+#[cfg(test)]
 mod pkcs12;
 #[cfg(test)]
 mod readers;
