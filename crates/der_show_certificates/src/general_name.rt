@@ -66,7 +66,7 @@ pub fn put_name_of(page: &mut Page, oid: &[u8]) {
 fn put_string(page: &mut Page, kind: &str, name: &Element<'_>) {
     page.put(kind);
     if is_text(name.contents, Characters::Utf8) {
-        put_text(&mut page.out, name.contents, Characters::Utf8, Style::Line);
+        put_text(&mut page.out, name.contents, Characters::Utf8, Style::List);
     } else {
         page.put("#");
         put_octets(&mut page.out, name.contents);
@@ -92,7 +92,7 @@ fn put_other_name(page: &mut Page, name: &Element<'_>) {
     }
     page.put("::");
     if let Some(value) = page.inside(&around).take_first() {
-        if !put_value_text(&mut page.out, value.tag, value.contents, Style::Line) {
+        if !put_value_text(&mut page.out, value.tag, value.contents, Style::List) {
             page.put("#");
             put_octets(&mut page.out, value.octets);
         }

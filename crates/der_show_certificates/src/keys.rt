@@ -30,7 +30,8 @@ pub fn put_rsa_numbers(page: &mut Page, holder: &Element<'_>, key: &Element<'_>)
 
 /// Prints an RSAPublicKey.
 pub fn put_rsa_public_key(page: &mut Page, key: &Element<'_>) {
-    let _ = put_rsa_numbers(page, key, key);
+    let holder = *key;
+    let _ = put_rsa_numbers(page, &holder, key);
 }
 
 /// Prints a line with a number as octets in hexadecimal.

@@ -38,6 +38,11 @@ pub fn put_request(page: &mut Page, request: &Element<'_>) {
 /// Prints a heading, and the attributes with their values.
 pub fn put_attributes(page: &mut Page, attributes: &Element<'_>) {
     page.line(attributes, "Attributes:");
+    put_attribute_list(page, attributes);
+}
+
+/// Prints attributes with their values.
+pub fn put_attribute_list(page: &mut Page, attributes: &Element<'_>) {
     page.deeper();
     for attribute in page.inside(attributes) {
         put_attribute(page, &attribute);

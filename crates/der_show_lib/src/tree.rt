@@ -1,17 +1,18 @@
 //! The elements of octets, one line each.
 
-use crate::contents::write_contents;
-use crate::element::PlacedElement;
-use crate::failure::Failure;
-use crate::options::Options;
-use der::{Error, ErrorKind, Length};
-use std::alloc::{AllocError, Global};
+use crate::held::held_start;
+use der::{Error, ErrorKind, Length, Tag};
+use der_show_certificates::Page;
+use der_show_text::{Element, Style, put_identifier, put_some_octets, put_value_text};
 use std::fmt::Write;
 
 /// The greatest number of elements that may enclose another element.
 const MAX_DEPTH: usize = 64;
 
-/// A constructed element whose contents are being written.
+/// How many octets of a value a line shows.
+const SHOWN_OCTETS: usize = 32;
+
+/// An element whose contents are being printed.
 #[derive(Clone, Copy)]
 struct Part {
     // Where its contents end.
@@ -20,28 +21,26 @@ struct Part {
     end: u32,
 }
 
-/// Writes one line per element of the octets, each before the lines of the elements inside it.
-/// Stops at the first error and returns it; the lines written before stay in `text`.
-pub fn write_tree(
-    alloc: Global,
-    text: &mut String,
-    octets: &[u8],
-    options: Options,
-) -> Result<(), Failure> {
+/// Prints one line per element from the position `start` of the octets on, each before the lines of the
+/// elements inside it. An OCTET STRING or BIT STRING that holds an encoding is entered like a
+/// constructed element. Stops at the first error and returns it; the lines before it are printed.
+pub fn put_tree(page: &mut Page, octets: &[u8], start: u32) -> Result<(), Error> {
     let whole_end = u32::from(Length::try_from(octets.len())?);
-    let mut around: Vec<Part> = Vec::new(alloc);
-    let mut position = 0u32;
+    let mut around: Vec<Part> = Vec::new(page.alloc);
+    let mut position = start;
     for _ in 0..octets.len() {
         position = climb(&mut around, position);
         let end = around.last().map_or(whole_end, |part| part.contents_end);
         if position >= end {
             return Ok(());
         }
-        let element = PlacedElement::read(octets, position, end, options.rules)?;
-        write_line(text, &element, around.len(), options.has_offsets)?;
-        position = element.end;
-        if element.header.is_constructed() {
-            position = element.contents_start;
+        let part = octets.get(position as usize..end as usize).unwrap_or(&[]);
+        let element = Element::read(part, position, page.rules)?;
+        let held = held_start(page.alloc, &element);
+        put_line(page, &element, around.len(), held.is_some());
+        position = element.end();
+        if element.is_constructed || held.is_some() {
+            position = held.unwrap_or(element.contents_start);
             enter(&mut around, &element)?;
         }
     }
@@ -49,9 +48,7 @@ pub fn write_tree(
 }
 
 /// Leaves the elements whose contents end at `position`. `around` holds the elements that enclose
-/// `position`, the innermost last. While the contents of the last element in `around` end at
-/// `position`, removes this element and moves `position` past its end-of-contents octets, if it has
-/// any. Returns the final `position`, where the next element begins or the octets end.
+/// `position`, the innermost last. Returns the position after the elements that were left.
 fn climb(around: &mut Vec<Part>, mut position: u32) -> u32 {
     for _ in 0..=MAX_DEPTH {
         match around.last() {
@@ -65,57 +62,59 @@ fn climb(around: &mut Vec<Part>, mut position: u32) -> u32 {
     position
 }
 
-/// Adds `element`, which must be constructed, to `around`. `around` holds the elements that enclose
-/// the next element of the walk, the innermost last.
-///
-/// Fails with:
-///
-/// - `NestingDepth` at the start of `element`, if `around` already holds 64 elements;
-/// - `OutOfMemory`, if an allocation fails.
-fn enter(around: &mut Vec<Part>, element: &PlacedElement<'_>) -> Result<(), Failure> {
+/// Adds the element to `around`. Fails with `NestingDepth` if 64 elements are around it, and with
+/// `OutOfMemory` if an allocation fails.
+fn enter(around: &mut Vec<Part>, element: &Element<'_>) -> Result<(), Error> {
     if around.len() >= MAX_DEPTH {
-        let error: Error = ErrorKind::NestingDepth.at(Length::new(element.start));
-        return Err(Failure::Refused(error));
+        return Err(ErrorKind::NestingDepth.at(Length::new(element.start)));
     }
     let part = Part {
-        contents_end: element.contents_end,
-        end: element.end,
+        contents_end: element.contents_end(),
+        end: element.end(),
     };
     match around.push(part) {
         Ok(()) => Ok(()),
-        Err(_) => Err(Failure::OutOfMemory),
+        Err(_) => Err(ErrorKind::OutOfMemory.to_error()),
     }
 }
 
-/// Writes the line of `element` in the words of `openssl asn1parse`. `depth` is the number of
-/// elements that enclose `element`.
-fn write_line(
-    text: &mut String,
-    element: &PlacedElement<'_>,
-    depth: usize,
-    has_offsets: bool,
-) -> Result<(), AllocError> {
-    let tag = element.header.tag();
-    let is_constructed = element.header.is_constructed();
-    let form = if is_constructed { "cons" } else { "prim" };
+/// Prints the line of the element in the words of `openssl asn1parse`. `depth` is the number of elements
+/// around it.
+fn put_line(page: &mut Page, element: &Element<'_>, depth: usize, is_holder: bool) {
     let header_len = element.contents_start.saturating_sub(element.start);
-    if has_offsets {
-        write!(text, "{:>5}:", element.start)?;
+    if page.has_offsets {
+        let _ = write!(page.out, "{:>5}:", element.start);
     }
-    write!(text, "d={depth:<2} hl={header_len} l=")?;
-    if element.header.length().is_indefinite() {
-        text.push_str(" inf")?;
+    let _ = write!(page.out, "d={depth:<2} hl={header_len} l=");
+    if element.is_indefinite {
+        page.put(" inf");
     } else {
-        write!(text, "{:>4}", element.contents.len())?;
+        let _ = write!(page.out, "{:>4}", element.contents.len());
     }
-    write!(text, " {form}: ")?;
-    for _ in 0..depth {
-        text.push(' ')?;
+    page.put(if element.is_constructed {
+        " cons: "
+    } else {
+        " prim: "
+    });
+    page.out.put_spaces(depth);
+    let tag = element.tag;
+    let _ = write!(page.out, "{tag}");
+    if is_holder {
+        page.put(", encapsulates");
+    } else if !element.is_constructed && !element.contents.is_empty() {
+        page.put(" :");
+        put_contents(page, element);
     }
-    write!(text, "{tag}")?;
-    if !is_constructed && !element.contents.is_empty() {
-        text.push_str(" :")?;
-        write_contents(text, tag, element.contents)?;
+    page.end();
+}
+
+fn put_contents(page: &mut Page, element: &Element<'_>) {
+    let contents = element.contents;
+    if element.tag == Tag::ObjectIdentifier {
+        put_identifier(&mut page.out, contents);
+        return;
     }
-    text.push('\n')
+    if !put_value_text(&mut page.out, element.tag, contents, Style::Line) {
+        put_some_octets(&mut page.out, contents, SHOWN_OCTETS);
+    }
 }

@@ -60,6 +60,7 @@ pub fn put_escaped(out: &mut Output, c: char, style: Style) {
     }
     let is_special = match style {
         Style::Line => c == '\\',
+        Style::List => matches!(c, '\\' | ','),
         Style::Name => matches!(c, ',' | '+' | '"' | '\\' | '<' | '>' | ';'),
         Style::Json => matches!(c, '"' | '\\'),
     };

@@ -92,7 +92,9 @@ impl<'a> Iterator for Elements<'a> {
         if self.left == 0 {
             return None;
         }
-        self.left -= 1;
-        self.take_first()
+        let left = self.left - 1;
+        let found = self.take_first();
+        self.left = left;
+        found
     }
 }

@@ -15,7 +15,7 @@ mod style;
 mod times;
 
 pub use characters::is_hidden;
-pub use element::Element;
+pub use element::{Element, moved};
 pub use elements::Elements;
 pub use identifier::{long_name, put_arcs, put_identifier, put_short_name, short_name};
 pub use numbers::{
