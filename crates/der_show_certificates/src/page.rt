@@ -40,7 +40,8 @@ impl Page {
     /// Begins the line of what begins at this offset.
     pub fn at_offset(&mut self, start: u32) {
         if self.has_offsets {
-            let _ = write!(self.out, "{start:>5}: ");
+            self.out.put_padded(u64::from(start), 5);
+            self.out.put(": ");
         }
         self.out.put_spaces(self.indent);
     }

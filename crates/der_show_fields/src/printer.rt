@@ -2,6 +2,7 @@
 
 use crate::form::Form;
 use der_show_text::Output;
+use std::fmt::Write;
 
 /// An output, and how deep in it the next line is.
 #[derive(Drop)]
@@ -14,6 +15,8 @@ pub struct Printer {
     pub depth: usize,
     /// Whether nothing was printed yet in the innermost of them.
     pub is_first: bool,
+    /// Whether a line begins with the offset of its element.
+    pub has_offsets: bool,
 }
 
 impl Printer {
@@ -24,16 +27,17 @@ impl Printer {
             form,
             depth: 0,
             is_first: true,
+            has_offsets: false,
         }
     }
 
-    /// Prints the name of the next value, or its index if the name is `-`. The whole value has an empty
-    /// name.
-    pub fn key(&mut self, name: &str, index: u32) {
+    /// Prints the name of the next value, which begins at this offset, or its index if the name is `-`. The
+    /// whole value has an empty name.
+    pub fn key(&mut self, name: &str, index: u32, start: u32) {
         match self.form {
-            Form::Check => {}
+            Form::Check => return,
             Form::Json => self.json_key(name),
-            Form::Lines => self.line_key(name, index),
+            Form::Lines => self.line_key(name, index, start),
         }
         self.is_first = false;
     }
@@ -53,9 +57,12 @@ impl Printer {
         }
     }
 
-    fn line_key(&mut self, name: &str, index: u32) {
+    fn line_key(&mut self, name: &str, index: u32, start: u32) {
         if name.is_empty() {
             return;
+        }
+        if self.has_offsets {
+            let _ = write!(self.out, "{start:>5}: ");
         }
         self.out.put_spaces(self.depth.saturating_mul(4));
         if name == "-" {

@@ -240,7 +240,8 @@ impl<'a> Walk<'a> {
             );
             return None;
         };
-        self.printer.key(value.name, value.index);
+        self.printer
+            .key(value.name, value.index, value.element.start);
         self.printer.open("{", true);
         let element = self.unwrapped(&field, value.element)?;
         let mut next = *value;
@@ -274,7 +275,8 @@ impl<'a> Walk<'a> {
             self.refuse(value.name, value.element.start, error, rule_of(kind));
             return;
         }
-        self.printer.key(value.name, value.index);
+        self.printer
+            .key(value.name, value.index, value.element.start);
         put_value(&mut self.printer, kind, value.element.contents);
         self.close_wrappers(value.wrappers);
     }
@@ -328,7 +330,8 @@ impl<'a> Walk<'a> {
             self.refuse(value.name, value.element.start, error, "");
             return;
         }
-        self.printer.key(value.name, value.index);
+        self.printer
+            .key(value.name, value.index, value.element.start);
         let bracket = if kind == FrameKind::Fields { "{" } else { "[" };
         self.printer.open(bracket, !value.name.is_empty());
         self.push_value(value, kind, body);
@@ -352,7 +355,8 @@ impl<'a> Walk<'a> {
         if self.printer.form == Form::Check {
             return;
         }
-        self.printer.key(value.name, value.index);
+        self.printer
+            .key(value.name, value.index, value.element.start);
         let element = &value.element;
         if element.is_constructed && self.stack.len() < MAX_DEPTH {
             let mut inner = *value;
@@ -369,9 +373,9 @@ impl<'a> Walk<'a> {
         match self.printer.form {
             Form::Json => {
                 self.printer.open("{", true);
-                self.printer.key("tag", 0);
+                self.printer.key("tag", 0, 0);
                 let _ = write!(self.printer.out, "\"{tag}\"");
-                self.printer.key("value", 0);
+                self.printer.key("value", 0, 0);
             }
             _ => {
                 let _ = write!(self.printer.out, " {tag}");

@@ -1,8 +1,8 @@
 //! Whether a value decodes.
 
-use crate::kind::Kind;
 use cms::{ContentInfo, TimeStampReq, TimeStampResp};
 use der::{Decode, DecodeBytes, EncodingRules, Error, SliceReader};
+use der_show_kinds::Kind;
 use ocsp::{OcspRequest, OcspResponse};
 use pkcs1::{RsaPrivateKey, RsaPublicKey};
 use pkcs8::{EncryptedPrivateKeyInfo, PrivateKeyInfo};

@@ -1,11 +1,11 @@
 //! Values as JSON.
 
-use crate::kind::Kind;
 use crate::place::Place;
 use crate::print::take_output;
 use crate::show::Show;
 use der::DecodeBytes;
 use der_show_fields::{Form, Printer, print_element, print_value};
+use der_show_kinds::Kind;
 use der_show_text::{Characters, Element, Elements, Output, Style, put_text};
 use std::fmt::Write;
 use x509::Certificate;

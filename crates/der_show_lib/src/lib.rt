@@ -2,31 +2,21 @@
 //! of any other file. It says why a file is refused: the field, its offset, and what was found there.
 #![tactic(auto)]
 
-mod damaged;
 mod decode;
-mod guess;
-mod held;
 mod help;
 mod json;
-mod kind;
 mod lint;
-mod ocsp;
-mod options;
-mod pkcs12;
 mod place;
 mod print;
 mod program;
 mod refused_field;
 mod show;
 mod source;
-mod tree;
 mod values;
 
 pub use decode::decoding_error;
 pub use der_show_fields::Fault;
+pub use der_show_kinds::{Kind, Misuse, Options, ShowCommand, Shown, guess_kind};
 pub use der_show_text::{Output, Sink};
-pub use guess::guess_kind;
-pub use kind::Kind;
-pub use options::{Misuse, Options, ShowCommand, Shown};
 pub use program::{Finished, run_show};
 pub use refused_field::find_refused_field;

@@ -1,11 +1,7 @@
 //! Values of known kinds.
 
 use crate::json::{put_json_elements, put_json_value};
-use crate::kind::Kind;
 use crate::lint::{put_lint, put_warnings};
-use crate::ocsp::{put_ocsp_request, put_ocsp_response};
-use crate::options::Shown;
-use crate::pkcs12::put_pfx;
 use crate::place::Place;
 use crate::show::Show;
 use der_show_certificates::{
@@ -14,6 +10,7 @@ use der_show_certificates::{
     put_rsa_public_key,
 };
 use der_show_fields::{Form, Printer, print_value};
+use der_show_kinds::{Kind, Shown, put_ocsp_request, put_ocsp_response, put_pfx};
 use der_show_text::{Element, Elements, Output, Sink};
 use pem::BlockText;
 use std::fmt::Write;
@@ -59,7 +56,8 @@ fn put_text_value(show: &mut Show, kind: Kind, value: &Element<'_>) {
 fn put_fields(page: &mut Page, kind: Kind, value: &Element<'_>) {
     let rules = page.rules;
     let out = take_output(page);
-    let printer = Printer::new(out, Form::Lines);
+    let mut printer = Printer::new(out, Form::Lines);
+    printer.has_offsets = page.has_offsets;
     let (printer, is_whole) = print_value(page.alloc, printer, kind.offset(), *value, rules);
     page.out = printer.out;
     if !is_whole {

@@ -1,11 +1,11 @@
 //! The program as a function of its arguments, files and outputs.
 
 use crate::help::HELP;
-use crate::options::{Misuse, ShowCommand, Shown};
 use crate::place::Place;
 use crate::show::{Show, put_plain};
 use crate::source::show_octets;
 use der_show_certificates::Page;
+use der_show_kinds::{Misuse, ShowCommand, Shown};
 use der_show_text::Output;
 use std::alloc::AllocError;
 use std::env::Args;

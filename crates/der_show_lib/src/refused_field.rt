@@ -1,8 +1,8 @@
 //! The field at which a value fails to decode.
 
-use crate::kind::Kind;
 use der::{EncodingRules, Error};
 use der_show_fields::{Fault, find_fault};
+use der_show_kinds::Kind;
 use std::alloc::{AllocError, Global};
 
 /// Finds the innermost field at which `octets` fail to decode as a value of the kind; `error` is the error

@@ -1,11 +1,10 @@
 //! What the program prints and finds.
 
-use crate::kind::Kind;
-use crate::options::Options;
 use crate::place::Place;
 use der::{EncodingRules, ErrorKind};
 use der_show_certificates::Page;
 use der_show_fields::Fault;
+use der_show_kinds::{Kind, Options};
 use der_show_text::{Characters, Output, Style, put_octets_with, put_text};
 use std::fmt::Write;
 

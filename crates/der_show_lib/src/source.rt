@@ -1,10 +1,10 @@
 //! Files: PEM or DER.
 
 use crate::json::{begin_file, end_file, put_json_encrypted};
-use crate::options::Shown;
 use crate::place::Place;
 use crate::show::{Show, put_plain};
 use crate::values::show_values;
+use der_show_kinds::Shown;
 use der_show_text::{Characters, Style, put_text};
 use pem::{Block, Blocks};
 use std::fmt::Write;

@@ -1,17 +1,13 @@
 //! Values in sequence.
 
-use crate::damaged::damaged_kind;
 use crate::decode::decoding_error;
-use crate::guess::guess_kind;
-use crate::kind::Kind;
-use crate::options::Shown;
 use crate::place::Place;
 use crate::print::put_value;
 use crate::show::Show;
-use crate::tree::put_tree;
 use der::{EncodingRules, Error};
 use der_show_certificates::{Page, put_trusted_certificate};
 use der_show_fields::{Fault, find_fault_at};
+use der_show_kinds::{Kind, Shown, damaged_kind, guess_kind, put_tree};
 use der_show_text::{Element, Elements, Output, Sink, moved};
 
 /// Shows the values that the octets are, one after another: those of known kinds by their fields, and

@@ -68,7 +68,24 @@ impl Output {
 
     /// Prints a number in decimal.
     pub fn put_number(&mut self, number: u64) {
-        let _ = fmt::Write::write_fmt(self, format_args!("{number}"));
+        self.put_padded(number, 1);
+    }
+
+    /// Prints a number in decimal, with spaces before it up to this width, which is 1 to 20.
+    pub fn put_padded(&mut self, number: u64, width: usize) {
+        let mut digits = [b' '; 20];
+        let mut rest = number;
+        let mut count = 0usize;
+        for place in digits.iter_mut().rev() {
+            if rest == 0 && count > 0 {
+                break;
+            }
+            *place = b'0'.wrapping_add((rest % 10) as u8);
+            rest /= 10;
+            count = count.saturating_add(1);
+        }
+        let start = 20usize.saturating_sub(count.max(width));
+        self.put_bytes(digits.get(start..).unwrap_or(&[]));
     }
 
     /// Prints two hexadecimal digits.

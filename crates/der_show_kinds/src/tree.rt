@@ -83,13 +83,18 @@ fn enter(around: &mut Vec<Part>, element: &Element<'_>) -> Result<(), Error> {
 fn put_line(page: &mut Page, element: &Element<'_>, depth: usize, is_holder: bool) {
     let header_len = element.contents_start.saturating_sub(element.start);
     if page.has_offsets {
-        let _ = write!(page.out, "{:>5}:", element.start);
+        page.out.put_padded(u64::from(element.start), 5);
+        page.put(":");
     }
-    let _ = write!(page.out, "d={depth:<2} hl={header_len} l=");
+    page.put("d=");
+    page.number(depth as u64);
+    page.put(if depth < 10 { "  hl=" } else { " hl=" });
+    page.number(u64::from(header_len));
+    page.put(" l=");
     if element.is_indefinite {
         page.put(" inf");
     } else {
-        let _ = write!(page.out, "{:>4}", element.contents.len());
+        page.out.put_padded(element.contents.len() as u64, 4);
     }
     page.put(if element.is_constructed {
         " cons: "
