@@ -13,7 +13,7 @@ use crate::policies::{put_mappings, put_policies};
 use crate::timestamps::put_timestamps;
 use der::{EncodingRules, Tag};
 use der_show_fields::{find_fault_at, open_type};
-use der_show_text::{Element, Elements, put_octets_with};
+use der_show_text::{Element, Elements, put_octets_with, put_time};
 
 /// The extension of RFC 6962, 3.3: timestamps of a log.
 const TIMESTAMPS: &[u8] = &[0x2b, 0x06, 0x01, 0x04, 0x01, 0xd6, 0x79, 0x02, 0x04, 0x02];
@@ -70,6 +70,7 @@ fn put_certificate_extension(page: &mut Page, last: u8, element: &Element<'_>) -
     match last {
         14 => put_hex_line(page, element),
         15 => put_key_usage(page, element),
+        16 => put_usage_period(page, element),
         17 | 18 | 29 => {
             page.at(element);
             put_general_names(page, element);
@@ -165,6 +166,33 @@ fn put_authority_key(page: &mut Page, element: &Element<'_>) {
         };
         put_octets_with(&mut page.out, digits, true);
         page.end();
+    }
+}
+
+// When a private key may be used (RFC 3280, 4.2.1.4).
+fn put_usage_period(page: &mut Page, element: &Element<'_>) {
+    let mut parts = page.inside(element);
+    page.at(element);
+    let first = parts.take_identified(0x80);
+    if let Some(time) = &first {
+        page.put("Not Before: ");
+        put_general_time(page, time);
+    }
+    if let Some(time) = parts.take_identified(0x81) {
+        page.put(if first.is_some() {
+            ", Not After: "
+        } else {
+            "Not After: "
+        });
+        put_general_time(page, &time);
+    }
+    page.end();
+}
+
+// The contents of a GeneralizedTime under another tag.
+fn put_general_time(page: &mut Page, time: &Element<'_>) {
+    if !put_time(&mut page.out, Tag::GeneralizedTime, time.contents) {
+        put_octets_with(&mut page.out, time.contents, true);
     }
 }
 

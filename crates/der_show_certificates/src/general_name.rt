@@ -86,16 +86,25 @@ fn put_other_name(page: &mut Page, name: &Element<'_>) {
     let (Some(kind), Some(around)) = (parts.take_first(), parts.take_first()) else {
         return;
     };
-    match der_show_text::short_name(kind.contents) {
-        Some(word) => page.put(word),
-        None => put_arcs(&mut page.out, kind.contents),
-    }
+    put_form(page, kind.contents);
     page.put("::");
     if let Some(value) = page.inside(&around).take_first() {
         if !put_value_text(&mut page.out, value.tag, value.contents, Style::List) {
             page.put("#");
             put_octets(&mut page.out, value.octets);
         }
+    }
+}
+
+// The words of openssl for the form of a name.
+fn put_form(page: &mut Page, oid: &[u8]) {
+    match oid {
+        [0x2b, 0x06, 0x01, 0x04, 0x01, 0x82, 0x37, 0x14, 0x02, 0x03] => page.put("UPN"),
+        [0x2b, 0x06, 0x01, 0x05, 0x05, 0x07, 0x08, 0x05] => page.put("XmppAddr"),
+        [0x2b, 0x06, 0x01, 0x05, 0x05, 0x07, 0x08, 0x07] => page.put("SRVName"),
+        [0x2b, 0x06, 0x01, 0x05, 0x05, 0x07, 0x08, 0x08] => page.put("NAIRealm"),
+        [0x2b, 0x06, 0x01, 0x05, 0x05, 0x07, 0x08, 0x09] => page.put("SmtpUTF8Mailbox"),
+        _ => put_name_of(page, oid),
     }
 }
 

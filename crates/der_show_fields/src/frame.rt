@@ -22,6 +22,8 @@ pub struct Frame<'a> {
     pub kind: FrameKind,
     /// The name of the field that it is, `-` for an item, or empty for the whole value.
     pub name: &'static str,
+    /// The name of the field that it is an alternative of, or empty.
+    pub field: &'static str,
     /// The lines of the fields that are left, or the line of the item.
     pub body: &'static str,
     /// The elements that are left.

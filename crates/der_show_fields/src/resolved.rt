@@ -12,6 +12,8 @@ pub struct Value<'a> {
     pub offset: usize,
     /// Its name, `-` for an item, or empty for the whole value.
     pub name: &'static str,
+    /// The name of the field that it is an alternative of, or empty.
+    pub field: &'static str,
     /// Its index, if it is an item.
     pub index: u32,
     /// Its element, without explicit tags around it.

@@ -86,7 +86,12 @@ impl<'a> Walk<'a> {
         self.push(frame);
         if !field.is_optional {
             let error = missing_error(&frame, &field);
-            self.refuse(field.name, frame.elements.at, error, choices_of(&field));
+            self.refuse(
+                ("", field.name),
+                frame.elements.at,
+                error,
+                choices_of(&field),
+            );
         }
     }
 
@@ -109,7 +114,7 @@ impl<'a> Walk<'a> {
         } else {
             self.push(frame);
             let error = missing_error(&frame, &field);
-            self.refuse("-", frame.elements.at, error, choices_of(&field));
+            self.refuse(("", "-"), frame.elements.at, error, choices_of(&field));
         }
     }
 
@@ -129,13 +134,19 @@ impl<'a> Walk<'a> {
         match read {
             Ok(element) if is_set && element.octets < before => {
                 let error = ErrorKind::SetOrdering.at(Length::new(start));
-                self.refuse("-", start, error, "items in the order of their encodings");
+                self.refuse(
+                    ("", "-"),
+                    start,
+                    error,
+                    "items in the order of their encodings",
+                );
             }
             Ok(element) => {
                 if let Some(inner) = self.unwrapped(field, element) {
                     self.pending = Some(Value {
                         offset: field.offset,
                         name: field.name,
+                        field: "",
                         index: frame.index.saturating_sub(1),
                         element: inner,
                         oid: frame.oid,
@@ -144,7 +155,7 @@ impl<'a> Walk<'a> {
                 }
             }
             Err(error) => {
-                self.refuse(field.name, start, error, "");
+                self.refuse(("", field.name), start, error, "");
             }
         }
     }
@@ -158,17 +169,17 @@ impl<'a> Walk<'a> {
             inner = match inside.read() {
                 Ok(found) => found,
                 Err(error) => {
-                    self.refuse(field.name, start, error, "");
+                    self.refuse(("", field.name), start, error, "");
                     return None;
                 }
             };
             if !inside.is_finished() {
-                self.refuse(field.name, inside.at, trailing_error(&inside), "");
+                self.refuse(("", field.name), inside.at, trailing_error(&inside), "");
                 return None;
             }
             if !can_be(field.offset, inner.identifier(), self.rules) {
                 let error = unexpected_error(type_tag(field.offset), inner.tag);
-                self.refuse(field.name, start, error, "");
+                self.refuse(("", field.name), start, error, "");
                 return None;
             }
         }
@@ -176,7 +187,7 @@ impl<'a> Walk<'a> {
             let error = inner.tag.non_canonical_error();
             let at = Length::new(inner.contents_end());
             self.refuse(
-                field.name,
+                ("", field.name),
                 element.start,
                 error.at(at),
                 "no value, for the default",
@@ -191,7 +202,7 @@ impl<'a> Walk<'a> {
         if !frame.elements.is_finished() {
             let error = trailing_error(&frame.elements);
             self.push(frame);
-            self.refuse("", frame.elements.at, error, "");
+            self.refuse(("", ""), frame.elements.at, error, "");
             return;
         }
         let bracket = if frame.kind == FrameKind::Fields {
@@ -233,7 +244,7 @@ impl<'a> Walk<'a> {
         let Some(field) = alternative(value.offset, value.element.identifier()) else {
             let error = unexpected_error(None, value.element.tag);
             self.refuse(
-                value.name,
+                (value.field, value.name),
                 value.element.start,
                 error,
                 "an alternative of the CHOICE",
@@ -247,6 +258,7 @@ impl<'a> Walk<'a> {
         let mut next = *value;
         next.offset = field.offset;
         next.name = field.name;
+        next.field = value.name;
         next.element = element;
         next.wrappers = next.wrappers.saturating_add(1);
         Some(next)
@@ -272,7 +284,12 @@ impl<'a> Walk<'a> {
             let tag = tag_of_type(kind).unwrap_or(value.element.tag);
             let at = Length::new(value.element.contents_end());
             let error = tag.value_error().at(at);
-            self.refuse(value.name, value.element.start, error, rule_of(kind));
+            self.refuse(
+                (value.field, value.name),
+                value.element.start,
+                error,
+                rule_of(kind),
+            );
             return;
         }
         self.printer
@@ -327,7 +344,7 @@ impl<'a> Walk<'a> {
         if self.stack.len() >= MAX_DEPTH {
             let at = Length::new(value.element.start);
             let error = ErrorKind::NestingDepth.at(at);
-            self.refuse(value.name, value.element.start, error, "");
+            self.refuse((value.field, value.name), value.element.start, error, "");
             return;
         }
         self.printer
@@ -341,6 +358,7 @@ impl<'a> Walk<'a> {
         self.push(Frame {
             kind,
             name: value.name,
+            field: value.field,
             body,
             elements: Elements::inside(&value.element, self.rules),
             index: 0,
@@ -391,6 +409,7 @@ impl<'a> Walk<'a> {
                 let value = Value {
                     offset: usize::MAX,
                     name: "-",
+                    field: "",
                     index: frame.index,
                     element,
                     oid: &[],

@@ -78,15 +78,22 @@ impl<'a> Walk<'a> {
         }
     }
 
-    /// Notes a fault of the field with this name inside the innermost value.
-    pub fn refuse(&mut self, name: &str, start: u32, error: Error, expected: &'static str) -> bool {
+    /// Notes a fault of the field with this name inside the innermost value. `field` is the name of the
+    /// field that it is an alternative of, or empty.
+    pub fn refuse(
+        &mut self,
+        (field, name): (&str, &str),
+        start: u32,
+        error: Error,
+        expected: &'static str,
+    ) {
         let mut path = String::new(self.alloc);
         for frame in &self.stack {
-            if add_name(&mut path, frame.name).is_err() || add_index(&mut path, frame).is_err() {
+            if add_frame(&mut path, frame).is_err() {
                 self.lacks_memory = true;
             }
         }
-        if add_name(&mut path, name).is_err() {
+        if add_name(&mut path, field).is_err() || add_name(&mut path, name).is_err() {
             self.lacks_memory = true;
         }
         self.fault = Some(Fault {
@@ -95,7 +102,6 @@ impl<'a> Walk<'a> {
             error,
             expected,
         });
-        false
     }
 }
 
@@ -107,6 +113,12 @@ fn add_name(path: &mut String, name: &str) -> Result<(), AllocError> {
         path.push('.')?;
     }
     path.push_str(name)
+}
+
+fn add_frame(path: &mut String, frame: &Frame<'_>) -> Result<(), AllocError> {
+    add_name(path, frame.field)?;
+    add_name(path, frame.name)?;
+    add_index(path, frame)
 }
 
 fn add_index(path: &mut String, frame: &Frame<'_>) -> Result<(), AllocError> {
@@ -123,6 +135,7 @@ fn whole(offset: usize, element: Element<'_>) -> Value<'_> {
     Value {
         offset,
         name: "",
+        field: "",
         index: 0,
         element,
         oid: &[],

@@ -19,15 +19,17 @@ impl Tags {
 
 // The first octets of the first ten elements inside.
 fn tags_inside(element: &Element<'_>, rules: EncodingRules) -> Tags {
-    let mut tags = Tags {
-        octets: [0; 10],
-        count: 0,
-    };
-    for (part, place) in Elements::inside(element, rules).zip(tags.octets.iter_mut()) {
+    let mut octets = [0u8; 10];
+    let mut count = 0usize;
+    let mut parts = Elements::inside(element, rules);
+    for place in octets.iter_mut() {
+        let Some(part) = parts.take_first() else {
+            break;
+        };
         *place = part.identifier();
-        tags.count = tags.count.saturating_add(1);
+        count = count.saturating_add(1);
     }
-    tags
+    Tags { octets, count }
 }
 
 /// The kind that the value seems to have. Nothing is checked but the tags of outer elements, so it may

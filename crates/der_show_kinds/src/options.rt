@@ -33,6 +33,20 @@ pub struct Options {
     pub kind: Option<Kind>,
 }
 
+impl Options {
+    /// The options of a command line that has none.
+    pub fn new() -> Self {
+        Options {
+            rules: EncodingRules::Der,
+            has_offsets: false,
+            is_tree: false,
+            is_lint: false,
+            shown: Shown::Text,
+            kind: None,
+        }
+    }
+}
+
 /// A parsed command line.
 #[derive(Clone, Copy)]
 pub struct ShowCommand<'a> {
@@ -58,14 +72,7 @@ impl<'a> ShowCommand<'a> {
     /// word `--` ends the options.
     pub fn parse(words: &'a [String]) -> Result<Self, Misuse<'a>> {
         let mut command = ShowCommand {
-            options: Options {
-                rules: EncodingRules::Der,
-                has_offsets: false,
-                is_tree: false,
-                is_lint: false,
-                shown: Shown::Text,
-                kind: None,
-            },
+            options: Options::new(),
             files: words,
             wants_help: false,
         };

@@ -18,5 +18,5 @@ pub use decode::decoding_error;
 pub use der_show_fields::Fault;
 pub use der_show_kinds::{Kind, Misuse, Options, ShowCommand, Shown, guess_kind};
 pub use der_show_text::{Output, Sink};
-pub use program::{Finished, run_show};
+pub use program::{Finished, run_show, show_in_memory};
 pub use refused_field::find_refused_field;

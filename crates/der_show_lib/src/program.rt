@@ -5,9 +5,9 @@ use crate::place::Place;
 use crate::show::{Show, put_plain};
 use crate::source::show_octets;
 use der_show_certificates::Page;
-use der_show_kinds::{Misuse, ShowCommand, Shown};
-use der_show_text::Output;
-use std::alloc::AllocError;
+use der_show_kinds::{Misuse, Options, ShowCommand, Shown};
+use der_show_text::{Output, Sink};
+use std::alloc::{AllocError, Global};
 use std::env::Args;
 use std::fmt::Write;
 use std::io::Read;
@@ -94,20 +94,34 @@ fn run<R: Files + Input + AllocGlobal>(
         out.put(HELP);
         return finished(0, out, errors);
     }
-    let mut page = Page::new(rt.alloc(), out, command.options.has_offsets);
-    page.rules = command.options.rules;
-    let mut show = Show {
-        page,
-        errors,
-        options: command.options,
-        status: 0,
-        is_dry: false,
-        count: 0,
-    };
+    let mut show = new_show(rt.alloc(), command.options, out, errors);
     match command.files {
         [] => show_file(rt, &mut show, "-"),
         files => show_files(rt, &mut show, files),
     }
+    finished(show.status, show.page.out, show.errors)
+}
+
+fn new_show(alloc: Global, options: Options, out: Output, errors: Output) -> Show {
+    let mut page = Page::new(alloc, out, options.has_offsets);
+    page.rules = options.rules;
+    Show {
+        page,
+        errors,
+        options,
+        status: 0,
+        is_dry: false,
+        count: 0,
+    }
+}
+
+/// Shows the octets of one file, as the program does for a file of this name, and keeps what it prints in
+/// memory.
+pub fn show_in_memory(alloc: Global, options: Options, file: &str, octets: &[u8]) -> Finished {
+    let out = Output::new(alloc, Sink::Memory);
+    let errors = Output::new(alloc, Sink::Memory);
+    let mut show = new_show(alloc, options, out, errors);
+    show_octets(&mut show, file, octets);
     finished(show.status, show.page.out, show.errors)
 }
 
