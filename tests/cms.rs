@@ -14,6 +14,6 @@ mod refused_timestamps;
 mod signed;
 mod signed_octets;
 mod streamed;
-mod streamed_octets;
+pub mod streamed_octets;
 mod timestamp_octets;
 mod timestamps;
