@@ -33,6 +33,8 @@ mod scans;
 #[cfg(test)]
 mod segments;
 #[cfg(test)]
+mod show;
+#[cfg(test)]
 mod strings;
 #[cfg(test)]
 mod values;
