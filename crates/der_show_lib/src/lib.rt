@@ -6,6 +6,7 @@ mod decode;
 mod help;
 mod json;
 mod lint;
+mod message;
 mod place;
 mod print;
 mod program;

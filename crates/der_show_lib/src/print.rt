@@ -2,8 +2,10 @@
 
 use crate::json::{put_json_elements, put_json_value};
 use crate::lint::{put_lint, put_warnings};
+use crate::message::message_der;
 use crate::place::Place;
 use crate::show::Show;
+use der::EncodingRules;
 use der_show_certificates::{
     Page, put_certificate, put_ec_parameters, put_ec_private_key, put_encrypted_key,
     put_private_key, put_public_key, put_request, put_revocation_list, put_rsa_private_key,
@@ -21,8 +23,23 @@ pub fn put_value(show: &mut Show, place: &Place<'_>, kind: Kind, value: &Element
     match show.options.shown {
         Shown::Text => put_text_value(show, kind, value),
         Shown::Json => put_json_value(show, place, kind, value),
+        Shown::Der | Shown::Pem if is_rewritten(show, kind) => put_rewritten(show, place, value),
         Shown::Der => show.page.out.put_bytes(value.octets),
         Shown::Pem => put_block(show, place, kind.label(), value.octets),
+    }
+}
+
+// Whether a value is written in DER: a message under BER.
+fn is_rewritten(show: &Show, kind: Kind) -> bool {
+    kind == Kind::Message && show.options.rules == EncodingRules::Ber
+}
+
+// Prints the DER of a message that was read under BER.
+fn put_rewritten(show: &mut Show, place: &Place<'_>, value: &Element<'_>) {
+    match message_der(show.page.alloc, value.octets) {
+        Ok(octets) if show.options.shown == Shown::Der => show.page.out.put_bytes(&octets),
+        Ok(octets) => put_block(show, place, Kind::Message.label(), &octets),
+        Err(_) => show.error(place, "the message cannot be written in DER"),
     }
 }
 
