@@ -45,6 +45,11 @@ def make_files(folder):
     openssl(folder, "cms", "-sign", "-in", "text", "-signer", "rsa.crt", "-inkey", "rsa.pem", "-nodetach", "-binary",
             "-outform", "DER", "-out", "message.der")
     openssl(folder, "pkcs12", "-export", "-inkey", "ec.pem", "-in", "ec.crt", "-passout", "pass:secret", "-out", "both.der")
+    openssl(folder, "rsa", "-in", "rsa.pem", "-traditional", "-outform", "DER", "-out", "key-pkcs1.der")
+    openssl(folder, "ec", "-in", "ec.pem", "-outform", "DER", "-out", "key-sec1.der")
+    openssl(folder, "pkcs8", "-topk8", "-in", "ec.pem", "-passout", "pass:secret", "-outform", "DER", "-out", "key-encrypted.der")
+    openssl(folder, "ts", "-query", "-data", "text", "-sha256", "-cert", "-out", "time.der")
+    openssl(folder, "ocsp", "-issuer", "rsa.crt", "-cert", "rsa.crt", "-reqout", "status.der")
     openssl(folder, "req", "-x509", "-key", "ec.pem", "-utf8", "-subj", HOSTILE,
             "-outform", "DER", "-out", "hostile.cer")
     return sorted(glob.glob(f"{folder}/*.der"))
