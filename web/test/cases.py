@@ -126,6 +126,7 @@ class Tests:
                   "public": "Public key", "private": "Private key", "message": "Message (CMS)",
                   "both": "File of keys and certificates (PKCS #12)", "pkcs1": "RSA private key", "sec1": "Elliptic curve private key",
                   "encrypted": "Encrypted private key", "time": "Timestamp request", "status": "OCSP request"}
+        self.browser.size(1400, 3000)
         for path in self.paths:
             self.open(path)
             kind = os.path.basename(path)[:-4].split("-")[-1]
@@ -134,6 +135,7 @@ class Tests:
         self.open(f"{self.folder}/message.der")
         shown = self.browser.value(FIELDS)
         see(shown.get("certificate") == "C=DE, O=Test & Söhne, CN=example.org", f"the signer's certificate: {shown}")
+        self.browser.size(1400, 900)
         return f"{len(titles)} formats have their titles and fields"
 
     def see_hostile(self):
