@@ -1,7 +1,7 @@
 /* Certificates in sequence, read with OpenSSL and with mbedTLS, and walked: each function returns
  * their number. One certificate, written |times| times with OpenSSL. And a revocation list, of which
  * the number of entries is returned. */
-#include <openssl/x509.h>
+#include <openssl/x509v3.h>
 #include <stdint.h>
 
 uint64_t openssl_certificates(const uint8_t *octets, size_t len)
@@ -16,6 +16,26 @@ uint64_t openssl_certificates(const uint8_t *octets, size_t len)
         count += 1;
     }
     return count;
+}
+
+/* The DNS names of each certificate are counted; the result is the number of certificates. */
+uint64_t openssl_dns_names(const uint8_t *octets, size_t len)
+{
+    const unsigned char *upcoming = octets;
+    uint64_t count = 0, hosts = 0;
+    while (upcoming < octets + len) {
+        X509 *certificate = d2i_X509(NULL, &upcoming, octets + len - upcoming);
+        if (certificate == NULL)
+            break;
+        GENERAL_NAMES *names = X509_get_ext_d2i(certificate, NID_subject_alt_name, NULL, NULL);
+        for (int at = 0; at < sk_GENERAL_NAME_num(names); at += 1)
+            if (sk_GENERAL_NAME_value(names, at)->type == GEN_DNS)
+                hosts += 1;
+        GENERAL_NAMES_free(names);
+        X509_free(certificate);
+        count += 1;
+    }
+    return hosts == 0 ? 0 : count;
 }
 
 /* OpenSSL keeps the octets that it read, and writes the certificate's contents from them. */

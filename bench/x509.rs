@@ -100,6 +100,20 @@ fn print_row_reading(name: &str, file: &[u8]) {
     }
 }
 
+/// Prints the row of a certificate that is read, and whose subjectAltName is found and decoded.
+fn print_row_finding(name: &str, file: &[u8]) {
+    for size in &SIZES[..2] {
+        let count = size / file.len();
+        let bytes = file.repeat(count);
+        let bytes = &bytes[..];
+        let ways: Vec<Way<'_>> = vec![
+            ("library", Box::new(|| ways::read_dns_names(black_box(bytes)))),
+            ("OpenSSL", Box::new(|| ways::read_dns_names_by_openssl(bytes))),
+        ];
+        print_row(&format!("{name} read, with its DNS names"), *size, count as u64, &ways);
+    }
+}
+
 fn print_row_writing(name: &str, file: &[u8]) {
     let (mut out, mut other) = (vec![0; file.len()], vec![0; file.len()]);
     ways::to_slice(file, 1, &mut out);
@@ -201,6 +215,7 @@ fn main() {
         if is_measured {
             let name = format!("{name}, {} octets,", file.len());
             print_row_reading(&name, &file);
+            print_row_finding(&name, &file);
             print_row_writing(&name, &file);
             print_row_writing_key(&name, &file);
         }

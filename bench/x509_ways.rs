@@ -11,6 +11,7 @@ mod other {
     // Slices are passed as pointers and then lengths; the allocator has size 0 and is not passed.
     unsafe extern "C" {
         pub fn der_bench_certificates(_: *const u8, _: usize) -> Totals;
+        pub fn der_bench_dns_names(_: *const u8, _: usize) -> Totals;
         pub fn der_bench_revocation_list(_: *const u8, _: usize) -> Totals;
         pub fn der_bench_certificate_to_slice(
             _: *const u8,
@@ -29,6 +30,7 @@ mod other {
         ) -> Totals;
         pub fn der_bench_public_key_to_der(_: *const u8, _: usize, _: u64) -> Totals;
         pub fn openssl_certificates(_: *const u8, _: usize) -> u64;
+        pub fn openssl_dns_names(_: *const u8, _: usize) -> u64;
         pub fn openssl_revocation_list(_: *const u8, _: usize) -> u64;
         pub fn openssl_written(_: *const u8, _: usize, _: u64) -> u64;
         #[cfg(mbedtls)]
@@ -57,6 +59,11 @@ pub fn read_by_hand(bytes: &[u8]) -> Totals {
         black_box(&one);
     }
     totals
+}
+
+pub fn read_dns_names(bytes: &[u8]) -> Totals {
+    // SAFETY: the pointer and the length are those of a slice, which the call only reads.
+    unsafe { other::der_bench_dns_names(bytes.as_ptr(), bytes.len()) }
 }
 
 pub fn read_list(bytes: &[u8]) -> Totals {
@@ -96,6 +103,7 @@ counting!(read_by_openssl, openssl_certificates);
 #[cfg(mbedtls)]
 counting!(read_by_mbedtls, mbedtls_certificates);
 counting!(walked, walked_certificates);
+counting!(read_dns_names_by_openssl, openssl_dns_names);
 counting!(read_list_by_openssl, openssl_revocation_list);
 counting!(written_by_openssl, openssl_written, times);
 

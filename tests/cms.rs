@@ -16,6 +16,6 @@ mod signed;
 mod signed_octets;
 mod streamed;
 mod streamed_encrypted;
-mod streamed_octets;
+pub mod streamed_octets;
 mod timestamp_octets;
 mod timestamps;

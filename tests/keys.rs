@@ -3,7 +3,7 @@
 
 mod assembly;
 mod attribute_texts;
-mod certificates;
+pub mod certificates;
 mod checks;
 mod curves;
 mod dsa;
@@ -27,7 +27,7 @@ mod requests;
 mod revocation_lists;
 mod rsa_identifiers;
 mod rsa_keys;
-mod rsa_octets;
+pub mod rsa_octets;
 mod rsa_parameter_octets;
 mod rsa_parameters;
 mod tags;

@@ -23,6 +23,8 @@ mod ocsp;
 #[cfg(test)]
 mod parcels;
 #[cfg(test)]
+mod pem;
+#[cfg(test)]
 mod pkcs12;
 #[cfg(test)]
 mod readers;
@@ -30,6 +32,8 @@ mod readers;
 mod scans;
 #[cfg(test)]
 mod segments;
+#[cfg(test)]
+mod show;
 #[cfg(test)]
 mod strings;
 #[cfg(test)]

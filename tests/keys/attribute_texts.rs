@@ -56,6 +56,17 @@ static COMPONENTS: [u8; 58] = [
     0x16, 0x03, 0x62, 0x62, 0x62,
 ];
 
+// The number of attributes in all levels of the name.
+fn attribute_count(alloc: Global, name: &Name<'_>) -> usize {
+    let mut count = 0;
+    for level in name.levels.iter(alloc) {
+        for _attribute in level.attributes.iter(alloc) {
+            count += 1;
+        }
+    }
+    count
+}
+
 #[test]
 fn attributes_that_occur_twice_are_found_in_their_levels(rt: HostRuntime) {
     let alloc = rt.alloc();
@@ -79,6 +90,7 @@ fn attributes_that_occur_twice_are_found_in_their_levels(rt: HostRuntime) {
         at += 1;
     }
     same_at(&rt, "levels", at, 2);
+    same_at(&rt, "attributes", attribute_count(alloc, &name), 3);
 }
 
 // The first component, the common name and the second component, in this order.

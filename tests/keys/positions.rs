@@ -2,7 +2,7 @@
 use crate::checks::holds_at;
 use crate::keys::certificates::SELF_SIGNED;
 use der::{DecodeBytes, Error, ErrorKind};
-use der_show_lib::{Shape, find_refused_field};
+use der_show_lib::{Kind, find_refused_field};
 use std::alloc::Global;
 use x509::Certificate;
 
@@ -41,7 +41,7 @@ fn has_place(alloc: Global, octets: &[u8], error: Error, place: u32) -> bool {
         let at = u32::from(position);
         return start <= at && at <= end;
     }
-    match find_refused_field(alloc, octets, Shape::Certificate, error) {
+    match find_refused_field(alloc, octets, Kind::Certificate, error) {
         Ok(field) => {
             let found = !field.path.is_empty() && start <= field.start && field.start < end;
             may_lack_position(&error) && (found || place == 0)

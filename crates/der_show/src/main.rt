@@ -1,14 +1,16 @@
-//! Prints what a file of DER or BER holds. For a certificate, a request or a key, it prints the
-//! fields, one per line, or the field that failed to decode. For anything else it prints one line
-//! per element.
+//! Prints what files of DER, BER or PEM hold: the fields of files of known kinds, and the elements of any
+//! other file.
 #![tactic(auto)]
 
-use der_show_lib::run_show;
+use der_show_lib::{Output, Sink, run_show};
 use std::env;
 use std::process::ExitCode;
 
 // No clause can name the arguments that the system passes; the recorded run checks that they reach
 // the program.
 fn main(rt: HostRuntime) -> ExitCode {
-    ExitCode::from(run_show(&rt, env::args(&rt), &mut rt.stdout()))
+    let out = Output::new(rt.alloc(), Sink::Output(rt.stdout()));
+    let errors = Output::new(rt.alloc(), Sink::Errors(rt.stderr()));
+    let finished = run_show(&rt, env::args(&rt), out, errors);
+    ExitCode::from(finished.status)
 }

@@ -1,38 +1,22 @@
-//! What the program `der_show` prints for a file. For a certificate, a request or a key, it prints
-//! the fields, one per line, or the field that failed to decode. For any other DER or BER it prints
-//! one line per element.
+//! The program `der_show`: it prints the fields of files of known kinds, in DER, BER or PEM, and the elements
+//! of any other file. It says why a file is refused: the field, its offset, and what was found there.
 #![tactic(auto)]
 
-mod certificate;
-mod contents;
-mod element;
-mod failure;
-mod fields;
-mod identifier;
-mod name;
-mod names;
-mod offsets;
-mod options;
-mod private_key;
+mod decode;
+mod help;
+mod json;
+mod lint;
+mod place;
+mod print;
 mod program;
-mod public_key;
-mod refused;
-mod refused_certificate;
 mod refused_field;
-mod refused_fields;
-mod refused_private_key;
-mod refused_request;
-mod request;
-mod search;
-mod shape;
-mod time;
-mod tree;
-mod version;
-mod view;
+mod show;
+mod source;
+mod values;
 
-pub use failure::Failure;
-pub use options::Options;
-pub use program::run_show;
-pub use refused_field::{RefusedField, find_refused_field};
-pub use shape::Shape;
-pub use view::write_view;
+pub use decode::decoding_error;
+pub use der_show_fields::Fault;
+pub use der_show_kinds::{Kind, Misuse, Options, ShowCommand, Shown, guess_kind};
+pub use der_show_text::{Output, Sink};
+pub use program::{Finished, run_show, show_in_memory};
+pub use refused_field::find_refused_field;

@@ -1,0 +1,105 @@
+//! Object identifiers, and their names.
+
+use crate::output::Output;
+use crate::rows::{NAMES_ISO, NAMES_OTHER, NAMES_PKIX, NAMES_RSA, NAMES_X500};
+use der_asn1::ObjectIdentifierRef;
+use std::fmt::Write;
+
+/// The names of the object identifier with these contents: a line of the table, without the digits
+/// that it begins with.
+fn names_of(octets: &[u8]) -> Option<&'static str> {
+    let table = match octets {
+        [0x55, ..] => NAMES_X500,
+        [0x2a, 0x86, 0x48, 0x86, 0xf7, 0x0d, ..] => NAMES_RSA,
+        [0x2b, 0x06, 0x01, 0x05, ..] => NAMES_PKIX,
+        [0x2a, ..] => NAMES_ISO,
+        _ => NAMES_OTHER,
+    };
+    find_line(table, octets)
+}
+
+fn find_line(table: &'static str, octets: &[u8]) -> Option<&'static str> {
+    for line in table.lines() {
+        if let Some((digits, names)) = line.split_once(' ') {
+            if is_hexadecimal_of(digits.as_bytes(), octets) {
+                return Some(names);
+            }
+        }
+    }
+    None
+}
+
+// Whether these are the lower-case hexadecimal digits of the octets.
+fn is_hexadecimal_of(digits: &[u8], octets: &[u8]) -> bool {
+    if digits.len() / 2 != octets.len() {
+        return false;
+    }
+    let mut rest = digits;
+    for octet in octets {
+        match rest {
+            [high, low, after @ ..] => {
+                if digit_value(*high) != *octet >> 4 || digit_value(*low) != *octet & 15 {
+                    return false;
+                }
+                rest = after;
+            }
+            _ => return false,
+        }
+    }
+    true
+}
+
+fn digit_value(digit: u8) -> u8 {
+    match digit {
+        b'0'..=b'9' => digit.wrapping_sub(b'0'),
+        _ => digit.wrapping_sub(b'a').wrapping_add(10),
+    }
+}
+
+/// The short name that openssl gives the object identifier with these contents, as `CN`.
+pub fn short_name(octets: &[u8]) -> Option<&'static str> {
+    let (short, _) = names_of(octets)?.split_once('=')?;
+    Some(short)
+}
+
+/// The long name that openssl gives the object identifier with these contents, as `commonName`.
+pub fn long_name(octets: &[u8]) -> Option<&'static str> {
+    let (short, long) = names_of(octets)?.split_once('=')?;
+    Some(if long.is_empty() { short } else { long })
+}
+
+/// Prints the arcs of the object identifier with these contents, separated by dots, or the octets in
+/// hexadecimal after `#` if they are none.
+pub fn put_arcs(out: &mut Output, octets: &[u8]) {
+    match ObjectIdentifierRef::new(octets) {
+        Some(oid) => {
+            let _ = write!(out, "{oid}");
+        }
+        None => {
+            out.put("#");
+            crate::numbers::put_octets(out, octets);
+        }
+    }
+}
+
+/// Prints the long name of the object identifier with these contents, and its arcs in parentheses,
+/// or its arcs alone if it has no name.
+pub fn put_identifier(out: &mut Output, octets: &[u8]) {
+    match long_name(octets) {
+        Some(name) => {
+            out.put(name);
+            out.put(" (");
+            put_arcs(out, octets);
+            out.put(")");
+        }
+        None => put_arcs(out, octets),
+    }
+}
+
+/// Prints the short name of the object identifier with these contents, or its arcs if it has none.
+pub fn put_short_name(out: &mut Output, octets: &[u8]) {
+    match short_name(octets) {
+        Some(name) => out.put(name),
+        None => put_arcs(out, octets),
+    }
+}

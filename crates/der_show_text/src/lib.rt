@@ -1,0 +1,27 @@
+//! What the program `der_show` prints with: an output with a buffer of fixed size, text whose control
+//! and invisible characters are escaped, the names of object identifiers, numbers, times, and
+//! elements with their offsets.
+#![tactic(auto)]
+
+mod characters;
+mod element;
+mod elements;
+mod identifier;
+mod numbers;
+mod output;
+mod rows;
+mod strings;
+mod style;
+mod times;
+
+pub use characters::is_hidden;
+pub use element::{Element, moved};
+pub use elements::Elements;
+pub use identifier::{long_name, put_arcs, put_identifier, put_short_name, short_name};
+pub use numbers::{
+    bit_count, put_integer, put_octets, put_octets_with, put_some_octets, small_number,
+};
+pub use output::{Output, Sink};
+pub use strings::{Characters, is_text, put_text, put_value_text};
+pub use style::Style;
+pub use times::{put_iso_time, put_time};

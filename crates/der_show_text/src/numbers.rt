@@ -1,0 +1,106 @@
+//! Octets and numbers.
+
+use crate::output::Output;
+
+/// Prints octets in upper-case hexadecimal.
+pub fn put_octets(out: &mut Output, octets: &[u8]) {
+    for octet in octets {
+        out.put_hex(*octet, true);
+    }
+}
+
+/// Prints octets in hexadecimal, with `:` between two of them.
+pub fn put_octets_with(out: &mut Output, octets: &[u8], is_upper: bool) {
+    let mut is_first = true;
+    for octet in octets {
+        if !is_first {
+            out.put(":");
+        }
+        is_first = false;
+        out.put_hex(*octet, is_upper);
+    }
+}
+
+/// Prints the first `most` octets in upper-case hexadecimal, and `..` if there are more.
+pub fn put_some_octets(out: &mut Output, octets: &[u8], most: usize) {
+    match octets.get(..most) {
+        Some(first) if octets.len() > most => {
+            put_octets(out, first);
+            out.put("..");
+        }
+        _ => put_octets(out, octets),
+    }
+}
+
+/// The value of an INTEGER with these contents, if it is not negative and below 2^53.
+pub fn small_number(octets: &[u8]) -> Option<u64> {
+    match octets {
+        [] | [0x80..=0xFF, ..] => None,
+        _ if octets.len() > 7 => None,
+        _ => below_limit(octets),
+    }
+}
+
+fn below_limit(octets: &[u8]) -> Option<u64> {
+    let mut number = 0u64;
+    for octet in octets {
+        number = number.checked_mul(256)?.checked_add(u64::from(*octet))?;
+    }
+    if number < 0x20_0000_0000_0000 {
+        Some(number)
+    } else {
+        None
+    }
+}
+
+/// Prints the value of an INTEGER with these contents in hexadecimal, with `-` before the magnitude
+/// of a negative number. At least two digits are printed, and no zero octets before others.
+pub fn put_integer(out: &mut Output, octets: &[u8]) {
+    match octets {
+        [0, rest @ ..] if !rest.is_empty() => put_octets(out, rest),
+        [0x80..=0xFF, ..] => {
+            out.put("-");
+            put_magnitude(out, octets);
+        }
+        _ => put_octets(out, octets),
+    }
+}
+
+// The magnitude of a negative number in two's complement: the octets after the last one that is not
+// zero stay zero, that one is negated, and the ones before it are inverted.
+fn put_magnitude(out: &mut Output, octets: &[u8]) {
+    let last = octets.iter().rposition(|octet| *octet != 0).unwrap_or(0);
+    let mut is_first = true;
+    for (at, octet) in octets.iter().enumerate() {
+        let digit = if at < last {
+            !*octet
+        } else {
+            octet.wrapping_neg()
+        };
+        if digit != 0 || !is_first {
+            out.put_hex(digit, true);
+        }
+        is_first = is_first && digit == 0;
+    }
+}
+
+/// The number of bits, without leading zero bits, of the natural number whose digits in base 256 are
+/// `octets`.
+pub fn bit_count(octets: &[u8]) -> u64 {
+    let mut rest = octets;
+    for _ in 0..octets.len() {
+        match rest {
+            [0, after @ ..] => rest = after,
+            _ => break,
+        }
+    }
+    match rest {
+        [] => 0,
+        [first, others @ ..] => {
+            let first_bits = 8u32.saturating_sub(first.leading_zeros());
+            (others.len() as u64)
+                .saturating_mul(8)
+                .saturating_add(u64::from(first_bits))
+        }
+    }
+}

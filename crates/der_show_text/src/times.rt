@@ -1,0 +1,61 @@
+//! Times.
+
+use crate::output::Output;
+use der::Tag;
+use der_asn1::{DateTime, GeneralizedTimeFormat, TimeFormat, UtcTimeFormat};
+use std::fmt::Write;
+
+// The time of an element with this tag and these contents.
+fn time_of(tag: Tag, contents: &[u8]) -> Option<DateTime> {
+    match tag {
+        Tag::UtcTime => UtcTimeFormat::from_contents(contents),
+        Tag::GeneralizedTime => GeneralizedTimeFormat::from_contents(contents),
+        _ => None,
+    }
+}
+
+/// Prints a time in the form of `Jan  2 03:04:05 2006 GMT`, or returns false and prints nothing if the
+/// element is no time in the form of DER.
+pub fn put_time(out: &mut Output, tag: Tag, contents: &[u8]) -> bool {
+    let Some(at) = time_of(tag, contents) else {
+        return false;
+    };
+    let month = month_name(at.month);
+    let _ = write!(
+        out,
+        "{month} {:>2} {:02}:{:02}:{:02} {} GMT",
+        at.day, at.hour, at.minute, at.second, at.year
+    );
+    true
+}
+
+/// Prints a time in the form of `2006-01-02T03:04:05Z`, or returns false and prints nothing if the
+/// element is no time in the form of DER.
+pub fn put_iso_time(out: &mut Output, tag: Tag, contents: &[u8]) -> bool {
+    let Some(at) = time_of(tag, contents) else {
+        return false;
+    };
+    let _ = write!(
+        out,
+        "{:04}-{:02}-{:02}T{:02}:{:02}:{:02}Z",
+        at.year, at.month, at.day, at.hour, at.minute, at.second
+    );
+    true
+}
+
+fn month_name(month: u8) -> &'static str {
+    match month {
+        1 => "Jan",
+        2 => "Feb",
+        3 => "Mar",
+        4 => "Apr",
+        5 => "May",
+        6 => "Jun",
+        7 => "Jul",
+        8 => "Aug",
+        9 => "Sep",
+        10 => "Oct",
+        11 => "Nov",
+        _ => "Dec",
+    }
+}

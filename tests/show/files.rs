@@ -1,0 +1,51 @@
+//! Files in PEM, with labels that hold, and with one that does not.
+use crate::checks::{same, same_octets};
+use der_show_lib::{Options, Shown, show_in_memory};
+
+// Made by `openssl genpkey -algorithm ed25519 | openssl pkey -pubout`, with text before it.
+const KEY: &str = "Text before the key\n\
+    -----BEGIN PUBLIC KEY-----\n\
+    MCowBQYDK2VwAyEACJvbHlAZkiIWueUjoc+uqPKIiywVzO63SXh/JRvJsFQ=\n\
+    -----END PUBLIC KEY-----\n";
+
+// The same under another label.
+const MISLABELLED: &str = "-----BEGIN CERTIFICATE-----\n\
+    MCowBQYDK2VwAyEACJvbHlAZkiIWueUjoc+uqPKIiywVzO63SXh/JRvJsFQ=\n\
+    -----END CERTIFICATE-----\n";
+
+// What `openssl pkey -pubin -text` says of the key, on a line for each part.
+const FIELDS: &str = "Public Key Algorithm: ED25519 (1.3.101.112)\n\
+    Public-Key: 32 octets\n\
+    pub: 08:9b:db:1e:50:19:92:22:16:b9:e5:23:a1:cf:ae:a8:f2:88:8b:2c:15:cc:ee:b7:49:78:7f:25:\
+    1b:c9:b0:54\n";
+
+#[test]
+fn a_block_is_shown_under_its_label(rt: HostRuntime) {
+    let finished = show_in_memory(rt.alloc(), Options::new(), "f", KEY.as_bytes());
+    let printed = finished.out.buffer.as_slice();
+    let heading = b"PUBLIC KEY (line 2):\n";
+    same_octets(&rt, printed.get(..heading.len()).unwrap_or(&[]), heading);
+    same_octets(&rt, printed.get(heading.len()..).unwrap_or(&[]), FIELDS.as_bytes());
+    same(&rt, finished.status, 0);
+}
+
+#[test]
+fn a_label_that_does_not_match_is_reported(rt: HostRuntime) {
+    let finished = show_in_memory(rt.alloc(), Options::new(), "f", MISLABELLED.as_bytes());
+    let line = "error: f: CERTIFICATE at line 1: the label does not match the contents, which are of \
+                the kind public-key\n";
+    same_octets(&rt, finished.errors.buffer.as_slice(), line.as_bytes());
+    same(&rt, finished.status, 1);
+}
+
+#[test]
+fn der_and_pem_are_converted(rt: HostRuntime) {
+    let mut options = Options::new();
+    options.shown = Shown::Der;
+    let der = show_in_memory(rt.alloc(), options, "f", KEY.as_bytes());
+    same(&rt, der.out.buffer.len(), 44);
+    options.shown = Shown::Pem;
+    let pem = show_in_memory(rt.alloc(), options, "f", der.out.buffer.as_slice());
+    let expected = KEY.as_bytes().get(20..).unwrap_or(&[]);
+    same_octets(&rt, pem.out.buffer.as_slice(), expected);
+}
