@@ -99,6 +99,8 @@ class Tests:
                   "subjectAltName (2.5.29.17)": "DNS:example.org, DNS:www.example.org, IP:127.0.0.1, email:a@example.org",
                   "keyUsage (2.5.29.15), critical": "keyCertSign, cRLSign",
                   "basicConstraints (2.5.29.19), critical": "certificate authority",
+                  "cRLDistributionPoints (2.5.29.31)": "URI:http://example.org/a.crl", "certificatePolicies (2.5.29.32)": "1.2.3.4",
+                  "authorityInfoAccess (1.3.6.1.5.5.7.1.1)": "ocsp (1.3.6.1.5.5.7.48.1): URI:http://example.org/b",
                   "extKeyUsage (2.5.29.37)": "serverAuth (1.3.6.1.5.5.7.3.1), clientAuth (1.3.6.1.5.5.7.3.2)"}
         dates = openssl(self.folder, "x509", "-in", "rsa.crt", "-noout", "-dates", "-dateopt", "iso_8601")
         for name, label in (("notBefore", "Not before"), ("notAfter", "Not after")):

@@ -22,7 +22,9 @@ def make_keys(folder):
     for name, key in {"rsa": ["rsa:2048"], "ec": ["ec", "-pkeyopt", "ec_paramgen_curve:P-256"]}.items():
         subject = ["-subj", "/C=DE/O=Test & Söhne/CN=example.org", "-utf8"]
         names = ["-addext", "subjectAltName=DNS:example.org,DNS:www.example.org,IP:127.0.0.1,email:a@example.org"]
-        more = ["-addext", "keyUsage=critical,keyCertSign,cRLSign", "-addext", "extendedKeyUsage=serverAuth,clientAuth"]
+        more = ["-addext", "keyUsage=critical,keyCertSign,cRLSign", "-addext", "extendedKeyUsage=serverAuth,clientAuth",
+                "-addext", "crlDistributionPoints=URI:http://example.org/a.crl", "-addext", "certificatePolicies=1.2.3.4",
+                "-addext", "authorityInfoAccess=OCSP;URI:http://example.org/b"]
         openssl(folder, "req", "-x509", "-newkey", *key, "-nodes", "-keyout", f"{name}.pem", "-out", f"{name}.crt",
                 "-set_serial", "0x123456789abcdef0", *subject, *names, *more)
         openssl(folder, "x509", "-in", f"{name}.crt", "-outform", "DER", "-out", f"{name}-certificate.der")
