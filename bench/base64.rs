@@ -20,7 +20,13 @@ unsafe extern "C" {
     fn EVP_ENCODE_CTX_new() -> *mut c_void;
     fn EVP_ENCODE_CTX_free(context: *mut c_void);
     fn EVP_DecodeInit(context: *mut c_void);
-    fn EVP_DecodeUpdate(context: *mut c_void, to: *mut u8, len: *mut c_int, from: *const u8, from_len: c_int) -> c_int;
+    fn EVP_DecodeUpdate(
+        context: *mut c_void,
+        to: *mut u8,
+        len: *mut c_int,
+        from: *const u8,
+        from_len: c_int,
+    ) -> c_int;
     fn EVP_DecodeFinal(context: *mut c_void, to: *mut u8, len: *mut c_int) -> c_int;
     fn BIO_new_mem_buf(text: *const c_void, len: c_int) -> *mut c_void;
     fn BIO_free(bio: *mut c_void) -> c_int;
@@ -51,7 +57,11 @@ fn block(text: &[u8], buffer: &mut [u8]) -> usize {
 
 /// OpenSSL counts the octets of `=` too.
 fn decode_block(text: &[u8], buffer: &mut [u8]) -> usize {
-    let padding = text.iter().rev().take_while(|octet| **octet == b'=').count();
+    let padding = text
+        .iter()
+        .rev()
+        .take_while(|octet| **octet == b'=')
+        .count();
     let count = unsafe { EVP_DecodeBlock(buffer.as_mut_ptr(), text.as_ptr(), text.len() as c_int) };
     usize::try_from(count).unwrap_or(0) - padding
 }
@@ -65,7 +75,13 @@ fn decode_update(text: &[u8], buffer: &mut [u8]) -> usize {
     unsafe {
         let context = EVP_ENCODE_CTX_new();
         EVP_DecodeInit(context);
-        EVP_DecodeUpdate(context, buffer.as_mut_ptr(), &mut first, text.as_ptr(), text.len() as c_int);
+        EVP_DecodeUpdate(
+            context,
+            buffer.as_mut_ptr(),
+            &mut first,
+            text.as_ptr(),
+            text.len() as c_int,
+        );
         EVP_DecodeFinal(context, buffer.as_mut_ptr().add(first as usize), &mut last);
         EVP_ENCODE_CTX_free(context);
     }
@@ -74,8 +90,12 @@ fn decode_update(text: &[u8], buffer: &mut [u8]) -> usize {
 
 /// OpenSSL allocates what it reads; so the octets are copied for the comparison.
 fn read_bio(text: &[u8], buffer: &mut [u8]) -> usize {
-    let (mut name, mut header, mut data, mut len) =
-        (std::ptr::null_mut(), std::ptr::null_mut(), std::ptr::null_mut(), 0);
+    let (mut name, mut header, mut data, mut len) = (
+        std::ptr::null_mut(),
+        std::ptr::null_mut(),
+        std::ptr::null_mut(),
+        0,
+    );
     unsafe {
         let bio = BIO_new_mem_buf(text.as_ptr().cast(), text.len() as c_int);
         PEM_read_bio(bio, &mut name, &mut header, &mut data, &mut len);
@@ -92,7 +112,10 @@ fn read_bio(text: &[u8], buffer: &mut [u8]) -> usize {
 fn row(name: &str, count: usize, from: &[u8], library: Way, openssl: Way) {
     let (mut ours, mut theirs) = (vec![0; 2 * from.len() + 64], vec![0; 2 * from.len() + 64]);
     let (len, same) = (library(from, &mut ours), openssl(from, &mut theirs));
-    assert!(len > 0 && len == same && ours[..len] == theirs[..len], "{name}");
+    assert!(
+        len > 0 && len == same && ours[..len] == theirs[..len],
+        "{name}"
+    );
     let mut least = [Duration::MAX; 2];
     let (began, mut rounds) = (Instant::now(), 0);
     while rounds < ROUNDS || began.elapsed() < WHILE {
@@ -104,7 +127,10 @@ fn row(name: &str, count: usize, from: &[u8], library: Way, openssl: Way) {
         rounds += 1;
     }
     let [library, openssl] = least.map(|time| time.as_nanos() as f64 / count as f64);
-    println!("{name}: library {library:.3} ns, OpenSSL {openssl:.3} ns, ratio {:.2}", library / openssl);
+    println!(
+        "{name}: library {library:.3} ns, OpenSSL {openssl:.3} ns, ratio {:.2}",
+        library / openssl
+    );
 }
 
 fn main() {
@@ -119,11 +145,43 @@ fn main() {
         let mut buffer = vec![0; 2 * size];
         let len = encode(&octets, &mut buffer);
         let text = &buffer[..len];
-        let lines: Vec<u8> = text.chunks(64).flat_map(|line| [line, b"\n"].concat()).collect();
-        let pem = [b"-----BEGIN A-----\n".as_slice(), &lines, b"-----END A-----\n"].concat();
-        row(&format!("{size} octets, decoded from one line"), len, text, decode, decode_block);
-        row(&format!("{size} octets, decoded from lines of 64"), len, &lines, decode, decode_update);
-        row(&format!("{size} octets, read from a block"), len, &pem, block, read_bio);
-        row(&format!("{size} octets, encoded"), len, &octets, encode, encode_block);
+        let lines: Vec<u8> = text
+            .chunks(64)
+            .flat_map(|line| [line, b"\n"].concat())
+            .collect();
+        let pem = [
+            b"-----BEGIN A-----\n".as_slice(),
+            &lines,
+            b"-----END A-----\n",
+        ]
+        .concat();
+        row(
+            &format!("{size} octets, decoded from one line"),
+            len,
+            text,
+            decode,
+            decode_block,
+        );
+        row(
+            &format!("{size} octets, decoded from lines of 64"),
+            len,
+            &lines,
+            decode,
+            decode_update,
+        );
+        row(
+            &format!("{size} octets, read from a block"),
+            len,
+            &pem,
+            block,
+            read_bio,
+        );
+        row(
+            &format!("{size} octets, encoded"),
+            len,
+            &octets,
+            encode,
+            encode_block,
+        );
     }
 }

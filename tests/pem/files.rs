@@ -65,8 +65,20 @@ fn headers_of_an_encrypted_key(rt: HostRuntime) {
     };
     same(&rt, block.label(), "EC PRIVATE KEY");
     holds(&rt, block.is_encrypted());
-    same(&rt, block.header(b"Proc-Type"), Some(b"4,ENCRYPTED".as_slice()));
-    same(&rt, block.start(), Position { offset: 110, line: 5, column: 1 });
+    same(
+        &rt,
+        block.header(b"Proc-Type"),
+        Some(b"4,ENCRYPTED".as_slice()),
+    );
+    same(
+        &rt,
+        block.start(),
+        Position {
+            offset: 110,
+            line: 5,
+            column: 1,
+        },
+    );
     same(&rt, block.decoded_len(), 128);
     let mut buffer = [0u8; 128];
     same(&rt, block.decode_into(&mut buffer), Ok(128));
@@ -99,6 +111,10 @@ fn lines_ended_by_cr_and_lf(rt: HostRuntime) {
         holds(&rt, false);
         return;
     };
-    same(&rt, block.header(b"Proc-Type"), Some(b"4,ENCRYPTED".as_slice()));
+    same(
+        &rt,
+        block.header(b"Proc-Type"),
+        Some(b"4,ENCRYPTED".as_slice()),
+    );
     same(&rt, block.decoded_len(), 128);
 }

@@ -53,7 +53,8 @@ fn the_least_blocks(rt: HostRuntime) {
 
 #[test]
 fn labels_and_places(rt: HostRuntime) {
-    let text = b"a\nb\n-----BEGIN X509 CRL----- \t\r\nZm9v\r\nZg==\r\n-----END X509 CRL-----  \nc\n\
+    let text =
+        b"a\nb\n-----BEGIN X509 CRL----- \t\r\nZm9v\r\nZg==\r\n-----END X509 CRL-----  \nc\n\
 -----BEGIN a.b-c d-----\nZm8=\n-----END a.b-c d-----\nd";
     let mut blocks = Blocks::new(text);
     let Some(Ok(first)) = blocks.next_block() else {
@@ -62,15 +63,47 @@ fn labels_and_places(rt: HostRuntime) {
     };
     same(&rt, first.label(), "X509 CRL");
     same_octets(&rt, first.body(), b"Zm9v\r\nZg==\r\n");
-    same(&rt, first.begin(), Position { offset: 4, line: 3, column: 1 });
-    same(&rt, first.start(), Position { offset: 32, line: 4, column: 1 });
-    same(&rt, first.end(), Position { offset: 44, line: 6, column: 1 });
+    same(
+        &rt,
+        first.begin(),
+        Position {
+            offset: 4,
+            line: 3,
+            column: 1,
+        },
+    );
+    same(
+        &rt,
+        first.start(),
+        Position {
+            offset: 32,
+            line: 4,
+            column: 1,
+        },
+    );
+    same(
+        &rt,
+        first.end(),
+        Position {
+            offset: 44,
+            line: 6,
+            column: 1,
+        },
+    );
     let Some(Ok(second)) = blocks.next_block() else {
         holds(&rt, false);
         return;
     };
     same(&rt, second.label(), "a.b-c d");
-    same(&rt, second.begin(), Position { offset: 71, line: 8, column: 1 });
+    same(
+        &rt,
+        second.begin(),
+        Position {
+            offset: 71,
+            line: 8,
+            column: 1,
+        },
+    );
     holds(&rt, blocks.next_block().is_none());
 }
 
@@ -87,22 +120,70 @@ fn errors_inside_a_block_have_places_in_the_file(rt: HostRuntime) {
         return;
     };
     same(&rt, error.kind, ErrorKind::InvalidCharacter);
-    same(&rt, error.position, Position { offset: 30, line: 4, column: 3 });
+    same(
+        &rt,
+        error.position,
+        Position {
+            offset: 30,
+            line: 4,
+            column: 3,
+        },
+    );
 }
 
 #[test]
 fn lines_that_are_malformed(rt: HostRuntime) {
     let begin = ErrorKind::MalformedBegin;
-    refuses(&rt, "-----BEGIN A----\nZg==\n-----END A-----\n", begin, (0, 1, 1));
-    refuses(&rt, "\n-----BEGIN A-----x\n-----END A-----\n", begin, (1, 2, 1));
-    refuses(&rt, "-----BEGIN  A-----\n-----END  A-----\n", begin, (0, 1, 1));
-    refuses(&rt, "-----BEGIN A -----\n-----END A -----\n", begin, (0, 1, 1));
-    refuses(&rt, "-----BEGIN A--B-----\n-----END A--B-----\n", begin, (0, 1, 1));
-    refuses(&rt, "-----BEGIN \u{e9}-----\n-----END \u{e9}-----\n", begin, (0, 1, 1));
+    refuses(
+        &rt,
+        "-----BEGIN A----\nZg==\n-----END A-----\n",
+        begin,
+        (0, 1, 1),
+    );
+    refuses(
+        &rt,
+        "\n-----BEGIN A-----x\n-----END A-----\n",
+        begin,
+        (1, 2, 1),
+    );
+    refuses(
+        &rt,
+        "-----BEGIN  A-----\n-----END  A-----\n",
+        begin,
+        (0, 1, 1),
+    );
+    refuses(
+        &rt,
+        "-----BEGIN A -----\n-----END A -----\n",
+        begin,
+        (0, 1, 1),
+    );
+    refuses(
+        &rt,
+        "-----BEGIN A--B-----\n-----END A--B-----\n",
+        begin,
+        (0, 1, 1),
+    );
+    refuses(
+        &rt,
+        "-----BEGIN \u{e9}-----\n-----END \u{e9}-----\n",
+        begin,
+        (0, 1, 1),
+    );
     refuses(&rt, "-----BEGIN ----\n", begin, (0, 1, 1));
     let end = ErrorKind::MalformedEnd;
-    refuses(&rt, "-----BEGIN A-----\nZg==\n-----END A----\n", end, (23, 3, 1));
-    refuses(&rt, "-----BEGIN A-----\nZg==\n-----END A-----B\n", end, (23, 3, 1));
+    refuses(
+        &rt,
+        "-----BEGIN A-----\nZg==\n-----END A----\n",
+        end,
+        (23, 3, 1),
+    );
+    refuses(
+        &rt,
+        "-----BEGIN A-----\nZg==\n-----END A-----B\n",
+        end,
+        (23, 3, 1),
+    );
 }
 
 #[test]
@@ -110,9 +191,29 @@ fn ends_that_are_missing_or_differ(rt: HostRuntime) {
     let missing = ErrorKind::MissingEnd;
     refuses(&rt, "-----BEGIN A-----", missing, (17, 1, 18));
     refuses(&rt, "-----BEGIN A-----\nZg==\n", missing, (23, 3, 1));
-    refuses(&rt, "-----BEGIN A-----\nZg==\n-----BEGIN A-----\n", missing, (23, 3, 1));
-    refuses(&rt, "-----BEGIN A-----\nZg==\n -----END A-----", missing, (39, 3, 17));
+    refuses(
+        &rt,
+        "-----BEGIN A-----\nZg==\n-----BEGIN A-----\n",
+        missing,
+        (23, 3, 1),
+    );
+    refuses(
+        &rt,
+        "-----BEGIN A-----\nZg==\n -----END A-----",
+        missing,
+        (39, 3, 17),
+    );
     let differs = ErrorKind::LabelMismatch;
-    refuses(&rt, "-----BEGIN A-----\nZg==\n-----END B-----\n", differs, (32, 3, 10));
-    refuses(&rt, "-----BEGIN A-----\nZg==\n-----END a-----\n", differs, (32, 3, 10));
+    refuses(
+        &rt,
+        "-----BEGIN A-----\nZg==\n-----END B-----\n",
+        differs,
+        (32, 3, 10),
+    );
+    refuses(
+        &rt,
+        "-----BEGIN A-----\nZg==\n-----END a-----\n",
+        differs,
+        (32, 3, 10),
+    );
 }

@@ -17,15 +17,31 @@ fn values_of_headers(rt: HostRuntime) {
         holds(&rt, false);
         return;
     };
-    same(&rt, block.header(b"Proc-Type"), Some(b"4,ENCRYPTED".as_slice()));
-    same(&rt, block.header(b"DEK-Info"), Some(b"DES-EDE3-CBC,00FF".as_slice()));
+    same(
+        &rt,
+        block.header(b"Proc-Type"),
+        Some(b"4,ENCRYPTED".as_slice()),
+    );
+    same(
+        &rt,
+        block.header(b"DEK-Info"),
+        Some(b"DES-EDE3-CBC,00FF".as_slice()),
+    );
     same(&rt, block.header(b"X"), Some(b"".as_slice()));
     same(&rt, block.header(b"DEK"), None);
     same(&rt, block.header(b"dek-info"), None);
     holds(&rt, block.is_encrypted());
     same_octets(&rt, block.headers(), &text[18..76]);
     same_octets(&rt, block.body(), b"Zg==\n");
-    same(&rt, block.start(), Position { offset: 78, line: 6, column: 1 });
+    same(
+        &rt,
+        block.start(),
+        Position {
+            offset: 78,
+            line: 6,
+            column: 1,
+        },
+    );
 }
 
 #[test]
@@ -42,7 +58,8 @@ fn blocks_without_headers(rt: HostRuntime) {
 
 #[test]
 fn headers_that_say_something_else(rt: HostRuntime) {
-    let Some(block) = block_of(b"-----BEGIN A-----\nProc-Type: 4,MIC-CLEAR\n\n-----END A-----") else {
+    let Some(block) = block_of(b"-----BEGIN A-----\nProc-Type: 4,MIC-CLEAR\n\n-----END A-----")
+    else {
         holds(&rt, false);
         return;
     };
@@ -58,5 +75,13 @@ fn headers_that_no_empty_line_ends(rt: HostRuntime) {
         return;
     };
     same(&rt, error.kind, ErrorKind::UnterminatedHeaders);
-    same(&rt, error.position, Position { offset: 46, line: 4, column: 1 });
+    same(
+        &rt,
+        error.position,
+        Position {
+            offset: 46,
+            line: 4,
+            column: 1,
+        },
+    );
 }

@@ -28,7 +28,8 @@ fn contents_of(alloc: Global, text: &[u8], label: &str) -> Result<Vec<u8>, ReadE
         if block.is_encrypted() {
             return Err(ReadError::Encrypted);
         }
-        let mut octets = vec![in alloc; 0u8; block.decoded_len()].map_err(|_| ReadError::OutOfMemory)?;
+        let mut octets =
+            vec![in alloc; 0u8; block.decoded_len()].map_err(|_| ReadError::OutOfMemory)?;
         block.decode_into(&mut octets).map_err(ReadError::Pem)?;
         return Ok(octets);
     }
@@ -39,20 +40,38 @@ fn contents_of(alloc: Global, text: &[u8], label: &str) -> Result<Vec<u8>, ReadE
 fn contents_of_files(rt: HostRuntime) {
     for (text, label, octets) in [
         (KEY.as_slice(), "PRIVATE KEY", KEY_DER.as_slice()),
-        (CERTIFICATE.as_slice(), "CERTIFICATE", CERTIFICATE_DER.as_slice()),
+        (
+            CERTIFICATE.as_slice(),
+            "CERTIFICATE",
+            CERTIFICATE_DER.as_slice(),
+        ),
     ] {
         match contents_of(rt.alloc(), text, label) {
             Ok(contents) => same_octets(&rt, &contents, octets),
             Err(_) => holds(&rt, false),
         }
     }
-    holds(&rt, matches!(contents_of(rt.alloc(), TWO_BLOCKS, "PRIVATE KEY"), Err(ReadError::NoBlock)));
+    holds(
+        &rt,
+        matches!(
+            contents_of(rt.alloc(), TWO_BLOCKS, "PRIVATE KEY"),
+            Err(ReadError::NoBlock)
+        ),
+    );
     let encrypted = contents_of(rt.alloc(), ENCRYPTED, "EC PRIVATE KEY");
     holds(&rt, matches!(encrypted, Err(ReadError::Encrypted)));
     match contents_of(rt.alloc(), b"-----BEGIN A-----\n?\n-----END A-----", "A") {
         Err(ReadError::Pem(error)) => {
             same(&rt, error.kind, ErrorKind::InvalidCharacter);
-            same(&rt, error.position, Position { offset: 18, line: 2, column: 1 });
+            same(
+                &rt,
+                error.position,
+                Position {
+                    offset: 18,
+                    line: 2,
+                    column: 1,
+                },
+            );
         }
         _ => holds(&rt, false),
     }
@@ -72,6 +91,9 @@ fn texts_of_blocks(rt: HostRuntime) -> Result<(), AllocError> {
         Some(text) => same_octets(&rt, text.as_bytes(), KEY),
         None => holds(&rt, false),
     }
-    holds(&rt, text_of(rt.alloc(), "PRIVATE\nKEY", &KEY_DER)?.is_none());
+    holds(
+        &rt,
+        text_of(rt.alloc(), "PRIVATE\nKEY", &KEY_DER)?.is_none(),
+    );
     Ok(())
 }

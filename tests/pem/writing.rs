@@ -22,13 +22,23 @@ fn blocks_of_openssl(rt: HostRuntime) {
         holds(&rt, false);
         return;
     };
-    writes(&rt, "CERTIFICATE", &CERTIFICATE_DER, &CERTIFICATE[block.begin().offset..]);
+    writes(
+        &rt,
+        "CERTIFICATE",
+        &CERTIFICATE_DER,
+        &CERTIFICATE[block.begin().offset..],
+    );
 }
 
 #[test]
 fn lines_of_64_characters(rt: HostRuntime) {
     writes(&rt, "", &[], b"-----BEGIN -----\n-----END -----\n");
-    writes(&rt, "A", &[0], b"-----BEGIN A-----\nAA==\n-----END A-----\n");
+    writes(
+        &rt,
+        "A",
+        &[0],
+        b"-----BEGIN A-----\nAA==\n-----END A-----\n",
+    );
     let full = b"-----BEGIN A-----\nAAAAAAAAAAAAAAAAAAAAAAAAAAAAAAAAAAAAAAAAAAAAAAAAAAAAAAAAAAAAAAAA\n-----END A-----\n";
     writes(&rt, "A", &[0; 48], full);
     let more = b"-----BEGIN A-----\nAAAAAAAAAAAAAAAAAAAAAAAAAAAAAAAAAAAAAAAAAAAAAAAAAAAAAAAAAAAAAAAA\nAA==\n-----END A-----\n";
@@ -62,17 +72,33 @@ fn refusals(rt: HostRuntime) {
     let mut buffer = [7u8; 38];
     let refused = Err(ErrorKind::BufferTooSmall { needed: 39 });
     same(&rt, write_block("A", &[0], &mut buffer), refused);
-    same(&rt, write_block("A ", &[0], &mut buffer), Err(ErrorKind::InvalidLabel));
+    same(
+        &rt,
+        write_block("A ", &[0], &mut buffer),
+        Err(ErrorKind::InvalidLabel),
+    );
     same_octets(&rt, &buffer, &[7; 38]);
 }
 
 #[test]
 fn labels(rt: HostRuntime) {
-    for label in ["", "A", "X509 CRL", "a-b", "~", "!", "a.b_c", "TRUSTED CERTIFICATE"] {
+    for label in [
+        "",
+        "A",
+        "X509 CRL",
+        "a-b",
+        "~",
+        "!",
+        "a.b_c",
+        "TRUSTED CERTIFICATE",
+    ] {
         holds(&rt, is_label(label.as_bytes()));
         holds(&rt, BlockText::new(label, &[]).is_some());
     }
-    for label in [" ", "-", " A", "A ", "-A", "A-", "A  B", "A- B", "A--B", "A\tB", "A\u{7f}", "\u{e9}", "A\n"] {
+    for label in [
+        " ", "-", " A", "A ", "-A", "A-", "A  B", "A- B", "A--B", "A\tB", "A\u{7f}", "\u{e9}",
+        "A\n",
+    ] {
         holds(&rt, !is_label(label.as_bytes()));
         holds(&rt, BlockText::new(label, &[]).is_none());
     }

@@ -2,6 +2,7 @@
 
 const MOST_TEXT = 20000;
 const MOST_LINKED = 16384;
+const MOST_COPIED = 1 << 20;
 const MOST_DIGESTED = 1 << 24;
 
 function button(label, act) {
@@ -62,7 +63,7 @@ function showDetails(place, { library, tree, treeView, selected: at }) {
     list.append(element('dt', '', 'Value'), element('dd', error ? 'whole wrong' : 'whole', error ? `${errorText(error)}${text && `: ${text}`}` : text));
   const digits = () => hexadecimal(library.octets(start, finish)).replaceAll(' ', '');
   const buttons = element('p', 'buttons',
-    button('Copy hexadecimal', it => copy(it, digits())),
+    ...(finish - start <= MOST_COPIED ? [button('Copy hexadecimal', it => copy(it, digits()))] : []),
     ...(text ? [button('Copy value', it => copy(it, text))] : []),
     button('Save octets', () => save(library.octets(start, finish).slice(), `element-${start}.der`)));
   if (library.length <= MOST_LINKED)

@@ -101,21 +101,28 @@ function numberText(library, list, reader) { return integerOf(library, reader.in
 function reasonText(library, list, reader) { const it = reader.number(0x0a); return REASONS[it] ?? String(it); }
 function dateText(library, list, reader) { return timeText(reader.time(0x18, 0x18)); }
 
-const EXTENSIONS = {
-  '2.5.29.14': stringText, '2.5.29.15': usageText, '2.5.29.17': subjectNamesText, '2.5.29.18': sequenceText(nextNameText),
-  '2.5.29.19': constraintsText, '2.5.29.20': numberText, '2.5.29.21': reasonText, '2.5.29.24': dateText,
-  '2.5.29.27': numberText, '2.5.29.29': sequenceText(nextNameText), '2.5.29.31': sequenceText(pointText),
+// Extensions that calls of the library find and read, in the contents of the list.
+const FOUND = { '2.5.29.15': usageText, '2.5.29.17': subjectNamesText, '2.5.29.19': constraintsText };
+
+// Extensions that are read here, element by element.
+const READ_HERE = {
+  '2.5.29.14': stringText, '2.5.29.18': sequenceText(nextNameText), '2.5.29.20': numberText, '2.5.29.21': reasonText,
+  '2.5.29.24': dateText, '2.5.29.27': numberText, '2.5.29.29': sequenceText(nextNameText), '2.5.29.31': sequenceText(pointText),
   '2.5.29.32': sequenceText(policyText), '2.5.29.35': keyIdentifierText,
   '2.5.29.37': sequenceText((reader, library) => identifierText(library, reader.identifier(0x06))),
   '2.5.29.46': sequenceText(pointText), '1.3.6.1.5.5.7.1.1': sequenceText(accessText),
-  '1.3.6.1.5.5.7.1.11': sequenceText(accessText), '1.3.6.1.5.5.7.48.1.5': () => 'no check of this responder',
+  '1.3.6.1.5.5.7.1.11': sequenceText(accessText),
+  '1.3.6.1.5.5.7.48.1.5': (library, list, reader) => { reader.none(0x05); return 'no check of this responder'; },
 };
 
 // The text of the value of an extension of the list: of one that has no text of its own, the octets.
-function extensionText(library, list, extension) {
-  const { value } = extension, end = value.start + value.length;
-  const dotted = library.dotted(extension.identifier.start, extension.identifier.length);
-  if (!EXTENSIONS[dotted])
+function extensionText(library, list, { identifier, value }) {
+  const dotted = library.dotted(identifier.start, identifier.length), end = value.start + value.length;
+  if (FOUND[dotted])
+    return FOUND[dotted](library, list);
+  if (!READ_HERE[dotted])
     return octetsText(library.octets(value.start, end), 192);
-  return EXTENSIONS[dotted](library, list, new Reader(library, value.start, end));
+  const reader = new Reader(library, value.start, end), text = READ_HERE[dotted](library, list, reader);
+  reader.call('der_finish');
+  return text;
 }

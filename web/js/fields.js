@@ -68,7 +68,7 @@ class Fields {
       const inside = new Reader(this.library, bits.start, bits.start + bits.length).enter(0x30);
       const modulus = this.octets(inside.integer(0x02));
       const first = modulus[0] === 0 ? 1 : 0;
-      const size = 8 * (modulus.length - first) - Math.clz32(modulus[first]) + 24;
+      const size = Math.max(0, 8 * (modulus.length - first) - Math.clz32(modulus[first]) + 24);
       return `${counted(size, 'bit')}, exponent ${integerOf(this.library, inside.integer(0x02))}`;
     });
   }

@@ -9,13 +9,19 @@ const FORMATS = [
   { name: 'Private key', type: 'PrivateKey', read: readPrivateKey, fields: privateKeyFields },
 ];
 
-// Formats that are recognised by the tags of the elements at the first levels.
+// Formats that are recognised by the tags of the elements inside of the outermost, and by the first
+// OBJECT IDENTIFIER of the file.
+const MESSAGE = /^1\.2\.840\.113549\.1\.(7|9\.16\.1)\./;
+const DIGEST = /^(1\.3\.14\.3\.2\.26|2\.16\.840\.1\.101\.3\.4\.2\.\d+)$/;
 const SHAPES = [
-  { name: 'Message (CMS)', type: 'ContentInfo', fits: (tags, first) => /^06( a0)?$/.test(tags) && /^1\.2\.840\.113549\.1\.(7|9\.16\.1)\./.test(first) },
-  { name: 'File of keys and certificates (PKCS #12)', type: 'Pfx', fits: tags => /^02 30( 30)?$/.test(tags) },
+  { name: 'Message (CMS)', type: 'ContentInfo', fits: (tags, first) => /^06( a0)?$/.test(tags) && MESSAGE.test(first) },
+  { name: 'File of keys and certificates (PKCS #12)', type: 'Pfx', fits: (tags, first) => /^02 30( 30)?$/.test(tags) && MESSAGE.test(first) },
   { name: 'Encrypted private key', type: 'EncryptedPrivateKey', fits: (tags, first) => tags === '30 04' && /^1\.2\.840\.113549\.1\.(5|12\.1)\./.test(first) },
   { name: 'RSA private key', type: 'RsaPrivateKey', fits: tags => tags === Array(9).fill('02').join(' ') },
   { name: 'Elliptic curve private key', type: 'EcPrivateKey', fits: tags => /^02 04( a0)?( a1)?$/.test(tags) },
+  { name: 'OCSP request', type: 'OcspRequest', fits: (tags, first) => /^30( a0)?$/.test(tags) && DIGEST.test(first) },
+  { name: 'Timestamp request', type: 'TimestampRequest', fits: (tags, first) => /^02 30( 06)?( 02)?( 01)?( 80)?$/.test(tags) && DIGEST.test(first) },
+  { name: 'Timestamp response', type: 'TimestampResponse', fits: (tags, first) => tags === '30 30' && MESSAGE.test(first) },
   { name: 'OCSP response', type: 'OcspResponse', fits: tags => /^0a( a0)?$/.test(tags) },
 ];
 
@@ -47,9 +53,9 @@ function childTags(tree) {
     ? tree.children(0).slice(0, 12).map(it => tree.tag[it].toString(16).padStart(2, '0')).join(' ') : '';
 }
 
-// The first OBJECT IDENTIFIER of the tree, in dotted notation.
+// The first OBJECT IDENTIFIER of the tree, in dotted notation, if it is near the start.
 function firstIdentifier(library, tree) {
-  for (let at = 0; at < Math.min(tree.count, 4); at += 1)
+  for (let at = 0; at < Math.min(tree.count, 9); at += 1)
     if (tree.tag[at] === 0x06) {
       try {
         return library.dotted(tree.body[at], tree.end[at] - tree.body[at]);
@@ -67,7 +73,7 @@ function shapeFields(fields, type) {
     labels.set(tree.start[at], label);
     if (!label || depth >= fields.hidden)
       return;
-    const text = partText(library, tree, at, inside);
+    const text = SECRET.has(label) ? `${counted(tree.end[at] - tree.body[at], 'octet')}, in the tree` : partText(library, tree, at, inside);
     fields.hidden = text === null ? Infinity : depth + 1;
     fields.rows.push({ depth, label, offset: tree.start[at], text: text ?? '' });
   });

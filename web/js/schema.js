@@ -49,7 +49,18 @@ const TYPES = {
   OcspResponse: 'responseStatus responseBytes@a0?:WrappedResponse',
   WrappedResponse: '_:ResponseBytes',
   ResponseBytes: 'responseType response',
+  OcspRequest: 'tbsRequest:TbsRequest optionalSignature@a0?',
+  TbsRequest: 'version@a0? requestorName@a1? requestList@30:Requests requestExtensions@a2?:Wrapped',
+  Requests: '*request:StatusRequest',
+  StatusRequest: 'reqCert:CertId singleRequestExtensions@a0?:Wrapped',
+  CertId: 'hashAlgorithm:Algorithm issuerNameHash issuerKeyHash serialNumber',
+  TimestampRequest: 'version messageImprint:DigestInfo reqPolicy@06? nonce@02? certReq@01? extensions@80?',
+  TimestampResponse: 'status:StatusInfo timeStampToken@30?:ContentInfo',
+  StatusInfo: 'status statusString@30? failInfo@03?',
 };
+
+// Parts of keys that are secret: the rows above the tree do not show them.
+const SECRET = new Set(['privateExponent', 'prime1', 'prime2', 'exponent1', 'exponent2', 'coefficient', 'privateKey']);
 
 const CONTENTS = {
   '1.2.840.113549.1.7.2': 'SignedData', '1.2.840.113549.1.7.3': 'EnvelopedData',

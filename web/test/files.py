@@ -22,7 +22,9 @@ def make_keys(folder):
     for name, key in {"rsa": ["rsa:2048"], "ec": ["ec", "-pkeyopt", "ec_paramgen_curve:P-256"]}.items():
         subject = ["-subj", "/C=DE/O=Test & Söhne/CN=example.org", "-utf8"]
         names = ["-addext", "subjectAltName=DNS:example.org,DNS:www.example.org,IP:127.0.0.1,email:a@example.org"]
-        more = ["-addext", "keyUsage=critical,keyCertSign,cRLSign", "-addext", "extendedKeyUsage=serverAuth,clientAuth"]
+        more = ["-addext", "keyUsage=critical,keyCertSign,cRLSign", "-addext", "extendedKeyUsage=serverAuth,clientAuth",
+                "-addext", "crlDistributionPoints=URI:http://example.org/a.crl", "-addext", "certificatePolicies=1.2.3.4",
+                "-addext", "authorityInfoAccess=OCSP;URI:http://example.org/b"]
         openssl(folder, "req", "-x509", "-newkey", *key, "-nodes", "-keyout", f"{name}.pem", "-out", f"{name}.crt",
                 "-set_serial", "0x123456789abcdef0", *subject, *names, *more)
         openssl(folder, "x509", "-in", f"{name}.crt", "-outform", "DER", "-out", f"{name}-certificate.der")
@@ -45,6 +47,11 @@ def make_files(folder):
     openssl(folder, "cms", "-sign", "-in", "text", "-signer", "rsa.crt", "-inkey", "rsa.pem", "-nodetach", "-binary",
             "-outform", "DER", "-out", "message.der")
     openssl(folder, "pkcs12", "-export", "-inkey", "ec.pem", "-in", "ec.crt", "-passout", "pass:secret", "-out", "both.der")
+    openssl(folder, "rsa", "-in", "rsa.pem", "-traditional", "-outform", "DER", "-out", "key-pkcs1.der")
+    openssl(folder, "ec", "-in", "ec.pem", "-outform", "DER", "-out", "key-sec1.der")
+    openssl(folder, "pkcs8", "-topk8", "-in", "ec.pem", "-passout", "pass:secret", "-outform", "DER", "-out", "key-encrypted.der")
+    openssl(folder, "ts", "-query", "-data", "text", "-sha256", "-cert", "-out", "time.der")
+    openssl(folder, "ocsp", "-issuer", "rsa.crt", "-cert", "rsa.crt", "-reqout", "status.der")
     openssl(folder, "req", "-x509", "-key", "ec.pem", "-utf8", "-subj", HOSTILE,
             "-outform", "DER", "-out", "hostile.cer")
     return sorted(glob.glob(f"{folder}/*.der"))
