@@ -17,7 +17,7 @@ mod walk;
 
 pub use fault::Fault;
 pub use form::Form;
-pub use lines::{is_octets, open_type};
+pub use lines::open_type;
 pub use printer::Printer;
 pub use schema::{
     CERTIFICATE, DSA_PARAMETERS, EC_PARAMETERS, EC_PRIVATE_KEY, ENCRYPTED_PRIVATE_KEY, MESSAGE,
