@@ -2,11 +2,13 @@
 //! that does not fit its type, and prints fields with their names, as JSON or as lines.
 #![tactic(auto)]
 
+mod errors;
 mod fault;
 mod field;
 mod form;
 mod frame;
 mod lines;
+mod passes;
 mod primitive;
 mod printer;
 mod resolved;
