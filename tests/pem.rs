@@ -6,6 +6,7 @@ mod files;
 mod finding;
 mod headers;
 mod messages;
+mod reading;
 mod refusals;
 mod texts;
 mod writing;

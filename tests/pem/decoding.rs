@@ -17,7 +17,12 @@ pub const VECTORS: [(&[u8], &[u8]); 7] = [
 // Decodes the text into a buffer of 64 octets, and compares.
 fn decodes(rt: &impl Abort, text: &[u8], octets: &[u8]) {
     let mut buffer = [0xA5u8; 64];
-    same_at(rt, octets.len(), decode_into(text, &mut buffer), Ok(octets.len()));
+    same_at(
+        rt,
+        octets.len(),
+        decode_into(text, &mut buffer),
+        Ok(octets.len()),
+    );
     same_octets(rt, &buffer[..octets.len()], octets);
     for rest in &buffer[octets.len()..] {
         same(rt, *rest, 0xA5);
@@ -65,7 +70,15 @@ fn a_buffer_of_the_exact_length(rt: HostRuntime) {
         return;
     };
     same(&rt, error.kind, ErrorKind::BufferTooSmall { needed: 6 });
-    same(&rt, (error.position.offset, error.position.line, error.position.column), (0, 1, 1));
+    same(
+        &rt,
+        (
+            error.position.offset,
+            error.position.line,
+            error.position.column,
+        ),
+        (0, 1, 1),
+    );
     same_octets(&rt, &buffer, &[7; 5]);
     let mut empty = [0u8; 0];
     same(&rt, decode_into(b" \n", &mut empty), Ok(0));

@@ -28,8 +28,8 @@ fn decodes(rt: &impl Abort, block: &Block<'_>, octets: &[u8]) {
 fn one_block(rt: HostRuntime) {
     let mut blocks = Blocks::new(KEY);
     next_is(&rt, &mut blocks, "PRIVATE KEY", &KEY_DER);
-    same(&rt, blocks.next_block(), None);
-    same(&rt, blocks.next_block(), None);
+    holds(&rt, blocks.next_block().is_none());
+    holds(&rt, blocks.next_block().is_none());
 }
 
 #[test]
@@ -37,7 +37,7 @@ fn two_blocks(rt: HostRuntime) {
     let mut blocks = Blocks::new(TWO_BLOCKS);
     next_is(&rt, &mut blocks, "EC PARAMETERS", &PARAMETERS_DER);
     next_is(&rt, &mut blocks, "EC PRIVATE KEY", &EC_KEY_DER);
-    same(&rt, blocks.next_block(), None);
+    holds(&rt, blocks.next_block().is_none());
 }
 
 #[test]
@@ -65,8 +65,20 @@ fn headers_of_an_encrypted_key(rt: HostRuntime) {
     };
     same(&rt, block.label(), "EC PRIVATE KEY");
     holds(&rt, block.is_encrypted());
-    same(&rt, block.header(b"Proc-Type"), Some(b"4,ENCRYPTED".as_slice()));
-    same(&rt, block.start(), Position { offset: 110, line: 5, column: 1 });
+    same(
+        &rt,
+        block.header(b"Proc-Type"),
+        Some(b"4,ENCRYPTED".as_slice()),
+    );
+    same(
+        &rt,
+        block.start(),
+        Position {
+            offset: 110,
+            line: 5,
+            column: 1,
+        },
+    );
     same(&rt, block.decoded_len(), 128);
     let mut buffer = [0u8; 128];
     same(&rt, block.decode_into(&mut buffer), Ok(128));
@@ -93,12 +105,16 @@ fn lines_ended_by_cr_and_lf(rt: HostRuntime) {
     let mut blocks = Blocks::new(&buffer[..len]);
     next_is(&rt, &mut blocks, "EC PARAMETERS", &PARAMETERS_DER);
     next_is(&rt, &mut blocks, "EC PRIVATE KEY", &EC_KEY_DER);
-    same(&rt, blocks.next_block(), None);
+    holds(&rt, blocks.next_block().is_none());
     let len = with_cr(ENCRYPTED, &mut buffer);
     let Some(Ok(block)) = Blocks::new(&buffer[..len]).next_block() else {
         holds(&rt, false);
         return;
     };
-    same(&rt, block.header(b"Proc-Type"), Some(b"4,ENCRYPTED".as_slice()));
+    same(
+        &rt,
+        block.header(b"Proc-Type"),
+        Some(b"4,ENCRYPTED".as_slice()),
+    );
     same(&rt, block.decoded_len(), 128);
 }
