@@ -40,7 +40,11 @@ fn attributes_of_a_name_print_as_openssl_prints_them(rt: HostRuntime) {
         (values::id_email_address(), "a@example.org"),
     ];
     for (oid, expected) in cases {
-        holds_at(&rt, expected, is_printed(alloc, subject_text(alloc, &oid), expected));
+        holds_at(
+            &rt,
+            expected,
+            is_printed(alloc, subject_text(alloc, &oid), expected),
+        );
     }
     holds(&rt, subject_text(alloc, &values::id_at_title()).is_none());
 }
@@ -75,9 +79,21 @@ fn attributes_that_occur_twice_are_found_in_their_levels(rt: HostRuntime) {
         return;
     };
     let component = values::id_domain_component();
-    holds(&rt, matches!(name.get(alloc, &component), Occurrence::Several));
-    holds(&rt, matches!(name.get(alloc, &values::id_at_common_name()), Occurrence::Once(_)));
-    holds(&rt, matches!(name.get(alloc, &values::id_at_title()), Occurrence::Absent));
+    holds(
+        &rt,
+        matches!(name.get(alloc, &component), Occurrence::Several),
+    );
+    holds(
+        &rt,
+        matches!(
+            name.get(alloc, &values::id_at_common_name()),
+            Occurrence::Once(_)
+        ),
+    );
+    holds(
+        &rt,
+        matches!(name.get(alloc, &values::id_at_title()), Occurrence::Absent),
+    );
     let mut at = 0;
     for level in name.levels.iter(alloc) {
         let expected = if at == 0 { "aaa" } else { "bbb" };

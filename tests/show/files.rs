@@ -25,14 +25,19 @@ fn a_block_is_shown_under_its_label(rt: HostRuntime) {
     let printed = finished.out.buffer.as_slice();
     let heading = b"PUBLIC KEY (line 2):\n";
     same_octets(&rt, printed.get(..heading.len()).unwrap_or(&[]), heading);
-    same_octets(&rt, printed.get(heading.len()..).unwrap_or(&[]), FIELDS.as_bytes());
+    same_octets(
+        &rt,
+        printed.get(heading.len()..).unwrap_or(&[]),
+        FIELDS.as_bytes(),
+    );
     same(&rt, finished.status, 0);
 }
 
 #[test]
 fn a_label_that_does_not_match_is_reported(rt: HostRuntime) {
     let finished = show_in_memory(rt.alloc(), Options::new(), "f", MISLABELLED.as_bytes());
-    let line = "error: f: CERTIFICATE at line 1: the label does not match the contents, which are of \
+    let line =
+        "error: f: CERTIFICATE at line 1: the label does not match the contents, which are of \
                 the kind public-key\n";
     same_octets(&rt, finished.errors.buffer.as_slice(), line.as_bytes());
     same(&rt, finished.status, 1);

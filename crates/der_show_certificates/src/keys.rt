@@ -4,7 +4,8 @@ use crate::curves::CURVES;
 use crate::page::Page;
 use der::Tag;
 use der_show_text::{
-    Element, bit_count, put_arcs, put_identifier, put_integer, put_octets_with, small_number,
+    Element, bit_count, is_hexadecimal_of, put_arcs, put_identifier, put_integer, put_octets_with,
+    small_number,
 };
 use std::fmt::Write;
 
@@ -60,16 +61,12 @@ pub fn put_exponent(page: &mut Page, title: &str, number: &Element<'_>) {
 fn curve_of(oid: &[u8]) -> Option<(&'static str, &'static str)> {
     for line in CURVES.lines() {
         if let Some((digits, words)) = line.split_once(' ') {
-            if is_hexadecimal(digits.as_bytes(), oid) {
+            if is_hexadecimal_of(digits.as_bytes(), oid) {
                 return words.split_once(' ');
             }
         }
     }
     None
-}
-
-fn is_hexadecimal(digits: &[u8], octets: &[u8]) -> bool {
-    der_show_fields::is_octets(digits, octets)
 }
 
 /// The number of bits of the order of a curve: of one with a name from a table, and of one whose numbers

@@ -1,6 +1,6 @@
 //! Lines with the offsets of their elements.
 
-use der::{EncodingRules, Tag};
+use der::EncodingRules;
 use der_show_text::{Element, Elements, Output, put_integer, put_octets, put_time, small_number};
 use std::alloc::Global;
 use std::fmt::Write;
@@ -128,10 +128,5 @@ impl Page {
                 put_integer(&mut self.out, element.contents);
             }
         }
-    }
-
-    /// Whether the element has this tag.
-    pub fn is_tagged(element: &Element<'_>, tag: Tag) -> bool {
-        element.tag == tag
     }
 }

@@ -2,11 +2,13 @@
 //! that does not fit its type, and prints fields with their names, as JSON or as lines.
 #![tactic(auto)]
 
+mod errors;
 mod fault;
 mod field;
 mod form;
 mod frame;
 mod lines;
+mod passes;
 mod primitive;
 mod printer;
 mod resolved;
@@ -17,7 +19,7 @@ mod walk;
 
 pub use fault::Fault;
 pub use form::Form;
-pub use lines::{is_octets, open_type};
+pub use lines::open_type;
 pub use printer::Printer;
 pub use schema::{
     CERTIFICATE, DSA_PARAMETERS, EC_PARAMETERS, EC_PRIVATE_KEY, ENCRYPTED_PRIVATE_KEY, MESSAGE,

@@ -1,7 +1,7 @@
 //! The lines of the schema.
 
 use crate::schema::{OPEN, TYPES};
-use der_show_text::Output;
+use der_show_text::{Output, is_hexadecimal_of};
 
 /// The first line of the text, and the text after it. `None` at an empty line, which ends a type.
 pub fn next_line(text: &'static str) -> Option<(&'static str, &'static str)> {
@@ -49,31 +49,13 @@ pub fn open_type(context: &str, oid: &[u8]) -> Option<usize> {
     for line in OPEN.lines() {
         if let Some((key, offset)) = line.split_once(' ') {
             if let Some(digits) = key.strip_prefix(context) {
-                if is_octets(digits.as_bytes(), oid) {
+                if is_hexadecimal_of(digits.as_bytes(), oid) {
                     return offset.parse::<usize>().ok();
                 }
             }
         }
     }
     None
-}
-
-/// Whether the lower-case hexadecimal digits are those of the octets.
-pub fn is_octets(digits: &[u8], octets: &[u8]) -> bool {
-    if digits.len() / 2 != octets.len() {
-        return false;
-    }
-    let mut rest = digits;
-    for octet in octets {
-        let [high, low, after @ ..] = rest else {
-            return false;
-        };
-        if octet_of(*high, *low) != *octet {
-            return false;
-        }
-        rest = after;
-    }
-    rest.is_empty()
 }
 
 /// The octet that two lower-case hexadecimal digits stand for.

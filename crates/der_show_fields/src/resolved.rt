@@ -3,7 +3,7 @@
 use crate::field::{Field, alternative, fits_digits};
 use crate::lines::type_at;
 use der::EncodingRules;
-use der_show_text::Element;
+use der_show_text::{Element, is_hexadecimal_of};
 
 /// A value that a walk is about to pass.
 #[derive(Clone, Copy)]
@@ -36,7 +36,7 @@ pub fn can_be(offset: usize, first: u8, rules: EncodingRules) -> bool {
     }
 }
 
-/// The contents of the field's default, if it has one of a primitive type.
+/// Whether the contents are those of the field's default. False if it has none of a primitive type.
 pub fn is_default(field: &Field, contents: &[u8]) -> bool {
-    field.default != "-" && crate::lines::is_octets(field.default.as_bytes(), contents)
+    field.default != "-" && is_hexadecimal_of(field.default.as_bytes(), contents)
 }

@@ -40,7 +40,7 @@ pub enum Kind {
 }
 
 /// All kinds.
-pub static KINDS: [Kind; 16] = [
+static KINDS: [Kind; 16] = [
     Kind::Certificate,
     Kind::Request,
     Kind::RevocationList,

@@ -14,7 +14,7 @@ mod tree;
 pub use damaged::damaged_kind;
 pub use guess::guess_kind;
 pub use held::held_start;
-pub use kind::{KINDS, Kind};
+pub use kind::Kind;
 pub use ocsp::{put_ocsp_request, put_ocsp_response};
 pub use options::{Misuse, Options, ShowCommand, Shown};
 pub use pkcs12::put_pfx;

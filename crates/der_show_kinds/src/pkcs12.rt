@@ -89,6 +89,10 @@ fn opened<'a>(
 
 fn checked<'a>(page: &mut Page, offset: usize, octets: &Element<'a>) -> Option<Element<'a>> {
     let start = octets.contents_start;
+    if octets.is_constructed {
+        page.line(octets, "Octets in segments, which are not looked into");
+        return None;
+    }
     match find_fault_at(page.alloc, offset, octets.contents, start, page.rules) {
         Ok(None) => Elements::new(octets.contents, start, page.rules).take_first(),
         Ok(Some(fault)) => {

@@ -102,8 +102,7 @@ fn put_line(page: &mut Page, element: &Element<'_>, depth: usize, is_holder: boo
         " prim: "
     });
     page.out.put_spaces(depth);
-    let tag = element.tag;
-    let _ = write!(page.out, "{tag}");
+    put_tag(page, element.tag);
     if is_holder {
         page.put(", encapsulates");
     } else if !element.is_constructed && !element.contents.is_empty() {
@@ -111,6 +110,25 @@ fn put_line(page: &mut Page, element: &Element<'_>, depth: usize, is_holder: boo
         put_contents(page, element);
     }
     page.end();
+}
+
+// The name of the tag. Those of most elements are printed at once, without formatting.
+fn put_tag(page: &mut Page, tag: Tag) {
+    match tag {
+        Tag::Boolean => page.put("BOOLEAN"),
+        Tag::Integer => page.put("INTEGER"),
+        Tag::BitString => page.put("BIT STRING"),
+        Tag::OctetString => page.put("OCTET STRING"),
+        Tag::Null => page.put("NULL"),
+        Tag::ObjectIdentifier => page.put("OBJECT IDENTIFIER"),
+        Tag::Utf8String => page.put("UTF8String"),
+        Tag::PrintableString => page.put("PrintableString"),
+        Tag::Sequence => page.put("SEQUENCE"),
+        Tag::Set => page.put("SET"),
+        other => {
+            let _ = write!(page.out, "{other}");
+        }
+    }
 }
 
 fn put_contents(page: &mut Page, element: &Element<'_>) {

@@ -44,24 +44,24 @@ pub fn run_show<R: Files + Input + AllocGlobal>(
     let Ok(mut arguments) = given else {
         errors.put("error: an argument is not UTF-8 and cannot be read; pass the file by ");
         errors.put("standard input: der_show < FILE\n");
-        return finished(1, out, errors);
+        return finish_run(1, out, errors);
     };
     let _name = arguments.next();
     let words: Result<Vec<String>, AllocError> = arguments.collect(rt.alloc());
     let Ok(words) = words else {
         errors.put("error: out of memory\n");
-        return finished(1, out, errors);
+        return finish_run(1, out, errors);
     };
     match ShowCommand::parse(&words) {
         Ok(command) => run(rt, command, out, errors),
         Err(misuse) => {
             put_misuse(&mut errors, &misuse);
-            finished(2, out, errors)
+            finish_run(2, out, errors)
         }
     }
 }
 
-fn finished(status: u8, mut out: Output, mut errors: Output) -> Finished {
+fn finish_run(status: u8, mut out: Output, mut errors: Output) -> Finished {
     out.flush();
     errors.flush();
     let status = if out.has_failed && status == 0 {
@@ -92,14 +92,14 @@ fn run<R: Files + Input + AllocGlobal>(
 ) -> Finished {
     if command.wants_help {
         out.put(HELP);
-        return finished(0, out, errors);
+        return finish_run(0, out, errors);
     }
     let mut show = new_show(rt.alloc(), command.options, out, errors);
     match command.files {
         [] => show_file(rt, &mut show, "-"),
         files => show_files(rt, &mut show, files),
     }
-    finished(show.status, show.page.out, show.errors)
+    finish_run(show.status, show.page.out, show.errors)
 }
 
 fn new_show(alloc: Global, options: Options, out: Output, errors: Output) -> Show {
@@ -122,7 +122,7 @@ pub fn show_in_memory(alloc: Global, options: Options, file: &str, octets: &[u8]
     let errors = Output::new(alloc, Sink::Memory);
     let mut show = new_show(alloc, options, out, errors);
     show_octets(&mut show, file, octets);
-    finished(show.status, show.page.out, show.errors)
+    finish_run(show.status, show.page.out, show.errors)
 }
 
 // Shows each file, under its name if there are several.

@@ -59,7 +59,8 @@ fn is_pem(octets: &[u8]) -> bool {
     }
 }
 
-fn is_plain(octets: &[u8]) -> bool {
+/// Whether the octets are text without control characters but those of white space.
+pub fn is_plain(octets: &[u8]) -> bool {
     match str::from_utf8(octets) {
         Ok(text) => text.chars().all(|c| !c.is_control()
             || matches!(c, '\t' | '\n' | '\r' | '\u{c}')),

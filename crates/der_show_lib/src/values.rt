@@ -4,6 +4,7 @@ use crate::decode::decoding_error;
 use crate::place::Place;
 use crate::print::put_value;
 use crate::show::Show;
+use crate::source::is_plain;
 use der::{EncodingRules, Error};
 use der_show_certificates::{Page, put_trusted_certificate};
 use der_show_fields::{Fault, find_fault_at};
@@ -47,7 +48,7 @@ fn show_next<'a>(
             Some(kind) => {
                 show_value(show, place, kind, octets, &value);
                 if kind == Kind::Certificate {
-                    show_trust(show, place, values);
+                    show_trust(show, values);
                 }
                 true
             }
@@ -123,7 +124,7 @@ fn show_value(show: &mut Show, place: &Place<'_>, kind: Kind, octets: &[u8], val
 }
 
 // What openssl appends to a certificate that it trusts, if it is next.
-fn show_trust(show: &mut Show, place: &Place<'_>, values: &mut Elements<'_>) {
+fn show_trust(show: &mut Show, values: &mut Elements<'_>) {
     let mut next = *values;
     let Some(trust) = next.take_first() else {
         return;
@@ -137,7 +138,6 @@ fn show_trust(show: &mut Show, place: &Place<'_>, values: &mut Elements<'_>) {
     if !show.is_dry && show.options.shown == Shown::Text {
         put_trusted_certificate(&mut show.page, &trust);
     }
-    let _ = place;
 }
 
 fn is_trust_part(part: &Element<'_>) -> bool {
@@ -211,7 +211,10 @@ fn show_unreadable(
     if kind.is_none() {
         kind = recovered_kind(show, place, rest);
     }
-    let fault = fault_of(show, error, start);
+    let mut fault = fault_of(show, error, start);
+    if place.label.is_none() && is_plain(rest) {
+        fault.expected = "DER, or a PEM block, of which the text has none";
+    }
     show.refuse(place, kind, octets, &fault);
 }
 

@@ -29,9 +29,9 @@ fn find_line(table: &'static str, octets: &[u8]) -> Option<&'static str> {
     None
 }
 
-// Whether these are the lower-case hexadecimal digits of the octets.
-fn is_hexadecimal_of(digits: &[u8], octets: &[u8]) -> bool {
-    if digits.len() / 2 != octets.len() {
+/// Whether these are the lower-case hexadecimal digits of the octets.
+pub fn is_hexadecimal_of(digits: &[u8], octets: &[u8]) -> bool {
+    if digits.len() / 2 != octets.len() || digits.len() % 2 != 0 {
         return false;
     }
     let mut rest = digits;
@@ -92,14 +92,6 @@ pub fn put_identifier(out: &mut Output, octets: &[u8]) {
             put_arcs(out, octets);
             out.put(")");
         }
-        None => put_arcs(out, octets),
-    }
-}
-
-/// Prints the short name of the object identifier with these contents, or its arcs if it has none.
-pub fn put_short_name(out: &mut Output, octets: &[u8]) {
-    match short_name(octets) {
-        Some(name) => out.put(name),
         None => put_arcs(out, octets),
     }
 }

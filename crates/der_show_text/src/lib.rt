@@ -17,7 +17,7 @@ mod times;
 pub use characters::is_hidden;
 pub use element::{Element, moved};
 pub use elements::Elements;
-pub use identifier::{long_name, put_arcs, put_identifier, put_short_name, short_name};
+pub use identifier::{is_hexadecimal_of, long_name, put_arcs, put_identifier, short_name};
 pub use numbers::{
     bit_count, put_integer, put_octets, put_octets_with, put_some_octets, small_number,
 };
