@@ -649,19 +649,16 @@ ori a4 i . 125 -\n\
 M 31 RecipientInfos\n\
 - ** - . 10405 -\n\
 \n\
-C ** EncryptedContent\n\
-octets 80 i . 1834 -\n\
-\n\
 S 30 EncryptedContentInfo\n\
 contentType 06 - . 3280 -\n\
 contentEncryptionAlgorithm 30 - . 54 -\n\
-encryptedContent ** - ? 10559 -\n\
+encryptedContent 80 i ? 1834 -\n\
 \n\
 S 30 EnvelopedData\n\
 version 02 - . 8324 -\n\
 originatorInfo a0 i ? 9353 -\n\
 recipientInfos 31 - . 10521 -\n\
-encryptedContentInfo 30 - . 10603 -\n\
+encryptedContentInfo 30 - . 10559 -\n\
 unprotectedAttrs a1 i ? 1090 -\n\
 \n\
 S 30 DigestedData\n\
@@ -672,7 +669,7 @@ digest 04 - . 1834 -\n\
 \n\
 S 30 EncryptedData\n\
 version 02 - . 8324 -\n\
-encryptedContentInfo 30 - . 10603 -\n\
+encryptedContentInfo 30 - . 10559 -\n\
 unprotectedAttrs a1 i ? 1090 -\n\
 \n\
 M 31 AuthAttributes\n\
@@ -685,9 +682,9 @@ recipientInfos 31 - . 10521 -\n\
 macAlgorithm 30 - . 54 -\n\
 digestAlgorithm a1 i ? 54 -\n\
 encapContentInfo 30 - . 8407 -\n\
-authAttrs a2 i ? 11125 -\n\
+authAttrs a2 i ? 11080 -\n\
 mac 04 - . 1834 -\n\
-unauthAttrs a3 i ? 11125 -\n\
+unauthAttrs a3 i ? 11080 -\n\
 \n\
 S 30 CompressedData\n\
 version 02 - . 8324 -\n\
@@ -698,10 +695,10 @@ S 30 AuthEnvelopedData\n\
 version 02 - . 8324 -\n\
 originatorInfo a0 i ? 9353 -\n\
 recipientInfos 31 - . 10521 -\n\
-authEncryptedContentInfo 30 - . 10603 -\n\
-authAttrs a1 i ? 11125 -\n\
+authEncryptedContentInfo 30 - . 10559 -\n\
+authAttrs a1 i ? 11080 -\n\
 mac 04 - . 1834 -\n\
-unauthAttrs a2 i ? 11125 -\n\
+unauthAttrs a2 i ? 11080 -\n\
 \n\
 P 04 - -\n\
 \n\
@@ -715,29 +712,29 @@ serialNumber 02 - . 26 -\n\
 \n\
 S 30 ESSCertID\n\
 certHash 04 - . 1834 -\n\
-issuerSerial 30 - ? 11773 -\n\
+issuerSerial 30 - ? 11728 -\n\
 \n\
 L 30 certs\n\
-- 30 - . 11838 -\n\
+- 30 - . 11793 -\n\
 \n\
 L 30 policies\n\
 - 30 - . 7266 -\n\
 \n\
 S 30 SigningCertificate\n\
-certs 30 - . 11905 -\n\
-policies 30 - ? 11934 -\n\
+certs 30 - . 11860 -\n\
+policies 30 - ? 11889 -\n\
 \n\
 S 30 ESSCertIDv2\n\
 hashAlgorithm 30 - ? 54 -\n\
 certHash 04 - . 1834 -\n\
-issuerSerial 30 - ? 11773 -\n\
+issuerSerial 30 - ? 11728 -\n\
 \n\
 L 30 certs\n\
-- 30 - . 12035 -\n\
+- 30 - . 11990 -\n\
 \n\
 S 30 SigningCertificateV2\n\
-certs 30 - . 12130 -\n\
-policies 30 - ? 11934 -\n\
+certs 30 - . 12085 -\n\
+policies 30 - ? 11889 -\n\
 \n\
 S 30 RSAES-OAEP-params\n\
 hashAlgorithm a0 e ? 54 -\n\
@@ -750,14 +747,14 @@ S 30 RSASSA-PSS-params\n\
 hashAlgorithm a0 e ? 54 -\n\
 maskGenAlgorithm a1 e ? 54 -\n\
 saltLength a2 e ? 2208 14\n\
-trailerField a3 e ? 12339 01\n\
+trailerField a3 e ? 12294 01\n\
 \n\
 C ** PBKDF2-Salt\n\
 specified 04 - . 1834 -\n\
 otherSource 30 - . 54 -\n\
 \n\
 S 30 PBKDF2-params\n\
-salt ** - . 12498 -\n\
+salt ** - . 12453 -\n\
 iterationCount 02 - . 2208 -\n\
 keyLength 02 - ? 2208 -\n\
 prf 30 - ? 54 -\n\
@@ -783,7 +780,7 @@ P 1a - -\n\
 \n\
 C ** DisplayText\n\
 ia5String 16 - . 3740 -\n\
-visibleString 1a - . 12982 -\n\
+visibleString 1a - . 12937 -\n\
 bmpString 1e - . 3786 -\n\
 utf8String 0c - . 3776 -\n\
 \n\
@@ -791,18 +788,18 @@ L 30 noticeNumbers\n\
 - 02 - . 2208 -\n\
 \n\
 S 30 NoticeReference\n\
-organization ** - . 12992 -\n\
-noticeNumbers 30 - . 13112 -\n\
+organization ** - . 12947 -\n\
+noticeNumbers 30 - . 13067 -\n\
 \n\
 S 30 UserNotice\n\
-noticeRef 30 - ? 13148 -\n\
-explicitText ** - ? 12992 -\n\
+noticeRef 30 - ? 13103 -\n\
+explicitText ** - ? 12947 -\n\
 \n\
 A ?? b\n\
 \n\
 S 30 CertBag\n\
 certId 06 - . 36 -\n\
-certValue a0 e . 13297 -\n\
+certValue a0 e . 13252 -\n\
 \n\
 S 30 SafeBag\n\
 bagId 06 - . 36 -\n\
@@ -810,13 +807,13 @@ bagValue a0 e . 46 -\n\
 bagAttributes 31 - ? 1090 -\n\
 \n\
 L 30 SafeContents\n\
-- 30 - . 13363 -\n\
+- 30 - . 13318 -\n\
 \n\
 P 04 - -\n\
 \n\
 C ** ResponderID\n\
 byName a1 e . 235 -\n\
-byKey a2 e . 13480 -\n\
+byKey a2 e . 13435 -\n\
 \n\
 S 30 RevokedInfo\n\
 revocationTime 18 - . 271 -\n\
@@ -826,28 +823,28 @@ P 05 - -\n\
 \n\
 C ** CertStatus\n\
 good 80 i . 2685 -\n\
-revoked a1 i . 13549 -\n\
-unknown 82 i . 13626 -\n\
+revoked a1 i . 13504 -\n\
+unknown 82 i . 13581 -\n\
 \n\
 S 30 SingleResponse\n\
 certID 30 - . 4253 -\n\
-certStatus ** - . 13636 -\n\
+certStatus ** - . 13591 -\n\
 thisUpdate 18 - . 271 -\n\
 nextUpdate a0 e ? 271 -\n\
 singleExtensions a1 e ? 586 -\n\
 \n\
 L 30 responses\n\
-- 30 - . 13718 -\n\
+- 30 - . 13673 -\n\
 \n\
 S 30 ResponseData\n\
 version a0 e ? 3673 00\n\
-responderID ** - . 13490 -\n\
+responderID ** - . 13445 -\n\
 producedAt 18 - . 271 -\n\
-responses 30 - . 13864 -\n\
+responses 30 - . 13819 -\n\
 responseExtensions a1 e ? 586 -\n\
 \n\
 S 30 BasicOCSPResponse\n\
-tbsResponseData 30 - . 13897 -\n\
+tbsResponseData 30 - . 13852 -\n\
 signatureAlgorithm 30 - . 54 -\n\
 signature 03 - . 398 -\n\
 certs a0 e ? 4606 -\n\
@@ -856,8 +853,8 @@ P 02 1..999 -\n\
 \n\
 S 30 Accuracy\n\
 seconds 02 - ? 2208 -\n\
-millis 80 i ? 14176 -\n\
-micros 81 i ? 14176 -\n\
+millis 80 i ? 14131 -\n\
+micros 81 i ? 14131 -\n\
 \n\
 S 30 TSTInfo\n\
 version 02 - . 5063 -\n\
@@ -865,7 +862,7 @@ policy 06 - . 5151 -\n\
 messageImprint 30 - . 5076 -\n\
 serialNumber 02 - . 2208 -\n\
 genTime 18 - . 271 -\n\
-accuracy 30 - ? 14191 -\n\
+accuracy 30 - ? 14146 -\n\
 ordering 01 - ? 487 00\n\
 nonce 02 - ? 2208 -\n\
 tsa a0 e ? 3995 -\n\
@@ -883,10 +880,10 @@ A ?? s\n\
 \n\
 S 30 SafeContent\n\
 contentType 06 - . 3367 -\n\
-content a0 e . 14547 -\n\
+content a0 e . 14502 -\n\
 \n\
 L 30 AuthenticatedSafe\n\
-- 30 - . 14555 -\n\
+- 30 - . 14510 -\n\
 \n\
 ";
 
@@ -925,59 +922,59 @@ x2b0601050507300107 8113\n\
 x2b0601050507300108 8263\n\
 a2a864886f70d010701 8314\n\
 a2a864886f70d010702 9180\n\
-a2a864886f70d010703 10727\n\
-a2a864886f70d010705 10895\n\
-a2a864886f70d010706 11016\n\
-a2a864886f70d0109100102 11162\n\
-a2a864886f70d0109100109 11421\n\
-a2a864886f70d0109100117 11528\n\
-a2a864886f70d010904 11743\n\
+a2a864886f70d010703 10682\n\
+a2a864886f70d010705 10850\n\
+a2a864886f70d010706 10971\n\
+a2a864886f70d0109100102 11117\n\
+a2a864886f70d0109100109 11376\n\
+a2a864886f70d0109100117 11483\n\
+a2a864886f70d010904 11698\n\
 a2a864886f70d010905 281\n\
 a2a864886f70d010906 8952\n\
 a2a864886f70d01090e 586\n\
-a2a864886f70d010914 11753\n\
-a2a864886f70d010915 11763\n\
-a2a864886f70d010910020c 11965\n\
+a2a864886f70d010914 11708\n\
+a2a864886f70d010915 11718\n\
+a2a864886f70d010910020c 11920\n\
 a2a864886f70d010910020e 3290\n\
-a2a864886f70d010910022f 12159\n\
-a2a864886f70d010107 12231\n\
+a2a864886f70d010910022f 12114\n\
+a2a864886f70d010107 12186\n\
 a2a864886f70d010108 54\n\
-a2a864886f70d01010a 12364\n\
-a2a864886f70d01050c 12564\n\
-a2a864886f70d01050d 12673\n\
-a2b06010401da47040b 12751\n\
+a2a864886f70d01010a 12319\n\
+a2a864886f70d01050c 12519\n\
+a2a864886f70d01050d 12628\n\
+a2b06010401da47040b 12706\n\
 a2a8648ce3d0201 3003\n\
 a2a8648ce380401 3216\n\
-a2a864886f70d010501 12905\n\
-a2a864886f70d010503 12905\n\
-a2a864886f70d010504 12905\n\
-a2a864886f70d010506 12905\n\
-a2a864886f70d01050a 12905\n\
-a2a864886f70d01050b 12905\n\
-a2a864886f70d010c0101 12905\n\
-a2a864886f70d010c0102 12905\n\
-a2a864886f70d010c0103 12905\n\
-a2a864886f70d010c0104 12905\n\
-a2a864886f70d010c0105 12905\n\
-a2a864886f70d010c0106 12905\n\
-a2b06010505070201 12972\n\
-a2b06010505070202 13227\n\
+a2a864886f70d010501 12860\n\
+a2a864886f70d010503 12860\n\
+a2a864886f70d010504 12860\n\
+a2a864886f70d010506 12860\n\
+a2a864886f70d01050a 12860\n\
+a2a864886f70d01050b 12860\n\
+a2a864886f70d010c0101 12860\n\
+a2a864886f70d010c0102 12860\n\
+a2a864886f70d010c0103 12860\n\
+a2a864886f70d010c0104 12860\n\
+a2a864886f70d010c0105 12860\n\
+a2a864886f70d010c0106 12860\n\
+a2b06010505070201 12927\n\
+a2b06010505070202 13182\n\
 a2a864886f70d010c0a0101 1970\n\
 a2a864886f70d010c0a0102 2118\n\
-a2a864886f70d010c0a0103 13305\n\
-a2a864886f70d010c0a0104 13305\n\
-a2a864886f70d010c0a0105 13305\n\
-a2a864886f70d010c0a0106 13444\n\
-o2b0601050507300101 14047\n\
-c2a864886f70d0109100104 14272\n\
-b2a864886f70d01091601 14515\n\
-b2a864886f70d01091701 14523\n\
-p2a864886f70d010701 14531\n\
-s2a864886f70d010701 14539\n\
-s2a864886f70d010703 10727\n\
-s2a864886f70d010706 11016\n\
+a2a864886f70d010c0a0103 13260\n\
+a2a864886f70d010c0a0104 13260\n\
+a2a864886f70d010c0a0105 13260\n\
+a2a864886f70d010c0a0106 13399\n\
+o2b0601050507300101 14002\n\
+c2a864886f70d0109100104 14227\n\
+b2a864886f70d01091601 14470\n\
+b2a864886f70d01091701 14478\n\
+p2a864886f70d010701 14486\n\
+s2a864886f70d010701 14494\n\
+s2a864886f70d010703 10682\n\
+s2a864886f70d010706 10971\n\
 v2a864886f70d01091601 884\n\
 l2a864886f70d01091701 1711\n\
-q2a864886f70d010701 14622\n\
-t2a864886f70d010701 13444\n\
+q2a864886f70d010701 14577\n\
+t2a864886f70d010701 13399\n\
 ";
