@@ -1,5 +1,5 @@
 //! Reads signed messages under BER, as `openssl cms -sign -stream` writes them, with the proved library
-//! and with OpenSSL, and prints the time for each octet of the content. The message is a file, whose
+//! and with OpenSSL, and prints the time for each KiB of the content. The message is a file, whose
 //! content is replaced by segments of 4 KiB: `messages FILE PLACE`, where `PLACE` is the offset of the
 //! first segment. A message grows in octets, and in levels of segments around its segments.
 #[allow(dead_code, reason = "other drivers use the rest")]
@@ -44,7 +44,7 @@ fn grown(message: &[u8], place: usize, size: usize, levels: usize) -> Vec<u8> {
     out
 }
 
-/// The minimum time of each way, in nanoseconds for each octet of the content.
+/// The minimum time of each way, in nanoseconds for each KiB of the content.
 fn print_row(name: &str, size: usize, message: &[u8], ways: &[(&str, fn(&[u8]) -> u64)]) {
     let mut least = vec![f64::INFINITY; ways.len()];
     for (way, run) in ways {
@@ -56,7 +56,7 @@ fn print_row(name: &str, size: usize, message: &[u8], ways: &[(&str, fn(&[u8]) -
         for ((_, run), least) in ways.iter().zip(&mut least) {
             let start = Instant::now();
             black_box(run(black_box(message)));
-            *least = least.min(start.elapsed().as_nanos() as f64 / size as f64);
+            *least = least.min(start.elapsed().as_nanos() as f64 / (size >> 10) as f64);
         }
         rounds += 1;
     }
