@@ -55,6 +55,10 @@ fn put_secret(
         (KeyKind::Ec, Some(key)) if key.tag == Tag::Sequence => {
             put_ec_secret(page, parameters, key);
         }
+        // RFC 8410, 7: the octets of the key are those of an OCTET STRING inside
+        (KeyKind::Other, Some(key)) if key.tag == Tag::OctetString => {
+            put_hidden(page, kind, parameters, key);
+        }
         _ => {
             put_hidden(page, kind, parameters, secret);
             put_key_parameters(page, kind, parameters);

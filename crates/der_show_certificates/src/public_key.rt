@@ -1,6 +1,6 @@
 //! Public keys.
 
-use crate::keys::{put_curve, put_dsa_parameters, put_rsa_numbers};
+use crate::keys::{put_curve, put_dsa_parameters, put_number, put_rsa_numbers};
 use crate::page::Page;
 use der::EncodingRules;
 use der_show_text::{Element, Elements, bit_count, put_identifier, put_octets_with};
@@ -56,7 +56,10 @@ pub fn put_public_key(page: &mut Page, key: &Element<'_>) {
         return;
     }
     put_size(page, "Public-Key", kind, &parameters, &bits);
-    put_key_octets(page, &bits);
+    match (kind, element_of(&bits)) {
+        (KeyKind::Dsa | KeyKind::Dh, Some(number)) => put_number(page, "pub: ", &number),
+        _ => put_key_octets(page, &bits),
+    }
     put_key_parameters(page, kind, &parameters);
 }
 
@@ -121,12 +124,16 @@ fn put_key_octets(page: &mut Page, bits: &Element<'_>) {
     page.end();
 }
 
-// The numbers of an RSAPublicKey in a BIT STRING, or the octets if it holds none.
-fn put_rsa_bits(page: &mut Page, bits: &Element<'_>) {
+// The first element of the octets of a BIT STRING.
+fn element_of<'a>(bits: &Element<'a>) -> Option<Element<'a>> {
     let octets = bits.contents.get(1..).unwrap_or(&[]);
     let start = bits.contents_start.saturating_add(1);
-    let mut inside = Elements::new(octets, start, EncodingRules::Der);
-    match inside.take_first() {
+    Elements::new(octets, start, EncodingRules::Der).take_first()
+}
+
+// The numbers of an RSAPublicKey in a BIT STRING, or the octets if it holds none.
+fn put_rsa_bits(page: &mut Page, bits: &Element<'_>) {
+    match element_of(bits) {
         Some(key) if put_rsa_numbers(page, bits, &key) => {}
         _ => {
             put_size(page, "Public-Key", KeyKind::Other, &None, bits);

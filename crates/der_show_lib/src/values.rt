@@ -90,6 +90,8 @@ fn kind_of(show: &mut Show, place: &Place<'_>, value: &Element<'_>) -> Option<Ki
             promised
         }
         (Some(_), _) => promised,
+        // two numbers under a label of something else, as DH PARAMETERS, are no key of RSA
+        (None, Some(Kind::RsaPublicKey)) if place.label.is_some() => None,
         _ => guessed,
     }
 }
@@ -166,7 +168,14 @@ fn show_unknown(show: &mut Show, place: &Place<'_>, octets: &[u8], start: u32) {
     show_elements(show, place, octets, 0);
 }
 
+// `None` also for a value whose label is that of no known kind.
 fn recovered_kind(show: &mut Show, place: &Place<'_>, octets: &[u8]) -> Option<Kind> {
+    if place
+        .label
+        .is_some_and(|label| Kind::of_label(label).is_none())
+    {
+        return None;
+    }
     match damaged_kind(show.page.alloc, octets) {
         Ok(kind) => kind,
         Err(_) => {
@@ -177,10 +186,12 @@ fn recovered_kind(show: &mut Show, place: &Place<'_>, octets: &[u8]) -> Option<K
 }
 
 fn refuse_rest(show: &mut Show, place: &Place<'_>, octets: &[u8], start: u32) {
+    let count = octets.len().saturating_sub(start as usize);
     show.begin_error(place);
+    show.errors.put_number(count as u64);
     show.errors
-        .put_number(octets.len().saturating_sub(start as usize) as u64);
-    show.errors.put(" octets after the last value, at offset ");
+        .put(if count == 1 { " octet" } else { " octets" });
+    show.errors.put(" after the last value, at offset ");
     show.errors.put_number(u64::from(start));
     show.errors.put("\n");
     show.errors.flush();
