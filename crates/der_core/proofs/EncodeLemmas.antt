@@ -203,7 +203,7 @@ pub has_space : (n : ℕ) (s : WriterState) → HasSpace s n → (s.failed ≡ f
 has_space n s a = (grind (rules, nat_tests), grind (arith, nat_tests), grind (arith, nat_tests))
 
 -- n octets for which there is space succeed, whatever the state after it
-space_suffices : (n : ℕ) (s g : WriterState) → s.failed ≡ false → length s.octets + n ≤ s.stop → written_count s + n < 2 ^ 32 → space_outcome n s g ≡ success_outcome g
+pub space_suffices : (n : ℕ) (s g : WriterState) → s.failed ≡ false → length s.octets + n ≤ s.stop → written_count s + n < 2 ^ 32 → space_outcome n s g ≡ success_outcome g
 space_suffices n s g alive space few = rw (alive, lt-ltb (written_count s + n) (2 ^ 32) few, le-ltb s.stop (length s.octets + n) space)
 
 -- a piece for which there is space, and what follows it
@@ -229,7 +229,7 @@ others_with_space (o ∷ p ∷ l) s alive space few =
     ∙ piece_with_space (p ∷ l) (appended_state s (o ∷ [])) success_outcome alive (omega (arith, more, space)) (omega (arith, more, few)) ∙ ap success_outcome (appended_both s (o ∷ []) (p ∷ l))
 
 -- a header for which there is space is written as if by one write
-header_with_space : (t : Tag) (n : ℕ) (s : WriterState) → HasSpace s (length (header_octets t n)) → header_outcome t n s ≡ success_outcome (appended_state s (header_octets t n))
+pub header_with_space : (t : Tag) (n : ℕ) (s : WriterState) → HasSpace s (length (header_octets t n)) → header_outcome t n s ≡ success_outcome (appended_state s (header_octets t n))
 header_with_space t n s has =
     let facts = has_space (length (header_octets t n)) s has in
     let sum : length (header_octets t n) ≡ length (tag_octets t) + length (length_octets n) = length-append (tag_octets t) (length_octets n) in

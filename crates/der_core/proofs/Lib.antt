@@ -2,6 +2,7 @@ pub mod StateLemmas
 pub mod TagReadLemmas
 pub mod LengthReadLemmas
 pub mod EncodeLemmas
+pub mod BeforeLemmas
 pub mod WriterLemmas
 pub mod HeaderReadLemmas
 pub mod TurnLemmas

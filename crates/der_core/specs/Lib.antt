@@ -17,6 +17,7 @@ pub mod Boxed
 pub mod Writer
 pub mod SliceWriter
 pub mod Encode
+pub mod Before
 pub mod WrittenSequence
 pub mod Lawful
 pub mod ElementSpec

@@ -3,21 +3,25 @@ ghost use Rattle.std.specs.Prelude.{◌≡◌, ◌++◌, ℕ, true, List, length
 ghost use Rattle.der_base.specs.Length.{definite_length};
 ghost use Rattle.der_base.specs.declared.error.Error.{Error as AnError};
 ghost use Rattle.der_base.specs.declared.length.Length.{Length as ALength};
+ghost use Rattle.der_core.specs.Before.{CertainIfSome, PlacedIfSpace};
 ghost use Rattle.der_core.specs.Outcome.{map_ok};
 ghost use Rattle.der_core.specs.Writer.{WriterState, Keeps, Appends};
 ghost use Rattle.der_core.specs.Encode.{Counts, HasSize, FitsCounted, FitsInto, GrowsBy, element_octets, element_size, ElementWritten, SliceAnswer, VecAnswer};
 
+mod before;
 mod boxed;
 mod fields;
 mod phantom;
 mod value;
 mod vec;
 
+use crate::encode::before::{element_len, header_before, len_within};
 use crate::header::encode_header;
 use crate::tag::fixed::Tagged;
 use crate::writer::{SliceWriter, Writer};
 use der_base::{Error, Length};
 use std::alloc::Global;
+pub use before::place_before;
 pub use value::{EncodeValue, WrittenValue, encode_value_to_slice};
 pub use vec::{encode_to_vec_in, to_der_in};
 
@@ -68,6 +72,42 @@ pub trait Encode {
         ensures exact { W.reliable ≡ true
             → encode_answers self.now (W.state writer.old) result (W.state writer.new) };
 
+    /// The number of octets of the value's encoding, if it is certain that the value can be written.
+    /// Then [`Encode::encode_to_slice`], [`Encode::to_der`], [`Encode::encode_to_vec`] and
+    /// [`SliceWriter::encode`] write the value by [`Encode::encode_before`]. The result `None`
+    /// states nothing: the value may still be written by [`Encode::encode`]. The default
+    /// implementation always returns `None`.
+    fn len_before(&self) -> Option<u32>
+        ensures { CertainIfSome (encodable self.now) (size self.now) (encode_answers self.now)
+            (encoding self.now) result }
+    {
+        None
+    }
+
+    /// Writes the value's encoding so that it ends before index `end` of the buffer, and returns
+    /// the index at which it starts. The octets from `end` on are unchanged. A header is written
+    /// after the contents that follow it, when their number is known, so no length is computed. The
+    /// default implementation computes the length and writes by [`Encode::encode`].
+    ///
+    /// If the value cannot be written, or does not fit before `end`, the result and the contents of
+    /// the buffer are unspecified.
+    fn encode_before(&self, buf: &mut [u8], end: u32) -> u32
+        ensures { encodable self.now
+            → PlacedIfSpace (encoding self.now) result end buf.old buf.new }
+    {
+        let Ok(len) = self.encoded_len() else {
+            return end;
+        };
+        let count = u32::from(len);
+        if count > end || end as usize > buf.len() {
+            return end;
+        }
+        let start = end - count;
+        let mut writer = SliceWriter::within(buf, start as usize, count as usize);
+        let _ = self.encode(&mut writer);
+        start
+    }
+
     /// Writes the value's encoding to the start of the buffer, and returns the octets written.
     /// Allocates nothing.
     ///
@@ -88,6 +128,10 @@ pub trait Encode {
         ensures exact { SliceAnswer (Self.encode_answers self.now) buf.old
             (map_ok (λ r. r.now) result) }
     {
+        if let Some(count) = len_within(self, buf.len()) {
+            let _ = self.encode_before(buf, count);
+            return Ok(&buf[..count as usize]);
+        }
         let mut writer = SliceWriter::new(buf);
         self.encode(&mut writer)?;
         writer.finish()
@@ -173,6 +217,20 @@ impl<T: EncodeValue + Tagged> Encode for T {
             return Err(error);
         }
         Ok(())
+    }
+
+    #[inline(always)]
+    fn len_before(&self) -> Option<u32> {
+        match self.value_len_before() {
+            Some(count) => element_len(self.tag(), count),
+            None => None,
+        }
+    }
+
+    #[inline(always)]
+    fn encode_before(&self, buf: &mut [u8], end: u32) -> u32 {
+        let start = self.encode_value_before(buf, end);
+        header_before(self.tag(), end.wrapping_sub(start), buf, start)
     }
 }
 

@@ -49,6 +49,16 @@ impl<'a, T: Encode> Encode for EncodeRef<'a, T> {
         }
         Ok(())
     }
+
+    #[inline(always)]
+    fn len_before(&self) -> Option<u32> {
+        self.0.len_before()
+    }
+
+    #[inline(always)]
+    fn encode_before(&self, buf: &mut [u8], end: u32) -> u32 {
+        self.0.encode_before(buf, end)
+    }
 }
 
 /// References to fields of a value, as the nested pairs in which the fields are encoded: with the

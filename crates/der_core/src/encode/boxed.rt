@@ -27,4 +27,12 @@ impl<T: EncodeValue> EncodeValue for Box<T> {
     fn encode_value<W: Writer>(&self, writer: &mut W) -> Result<(), Error> {
         (**self).encode_value(writer)
     }
+
+    fn value_len_before(&self) -> Option<u32> {
+        (**self).value_len_before()
+    }
+
+    fn encode_value_before(&self, buf: &mut [u8], end: u32) -> u32 {
+        (**self).encode_value_before(buf, end)
+    }
 }

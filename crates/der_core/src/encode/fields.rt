@@ -39,4 +39,18 @@ impl<A: Encode, B: Encode> Encode for (A, B) {
         }
         Ok(())
     }
+
+    #[inline(always)]
+    fn len_before(&self) -> Option<u32> {
+        match (self.0.len_before(), self.1.len_before()) {
+            (Some(first), Some(second)) => first.checked_add(second),
+            _ => None,
+        }
+    }
+
+    #[inline(always)]
+    fn encode_before(&self, buf: &mut [u8], end: u32) -> u32 {
+        let middle = self.1.encode_before(buf, end);
+        self.0.encode_before(buf, middle)
+    }
 }

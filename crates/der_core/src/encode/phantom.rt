@@ -24,4 +24,12 @@ impl<T> Encode for PhantomData<T> {
     fn encode<W: Writer>(&self, _writer: &mut W) -> Result<(), Error> {
         Ok(())
     }
+
+    fn len_before(&self) -> Option<u32> {
+        Some(0)
+    }
+
+    fn encode_before(&self, _buf: &mut [u8], end: u32) -> u32 {
+        end
+    }
 }

@@ -2,6 +2,7 @@
 ghost use Rattle.std.specs.Prelude.{◌≡◌, ℕ, true, List, length, IfOk, Result as AResult};
 ghost use Rattle.der_base.specs.declared.error.Error.{Error as AnError};
 ghost use Rattle.der_base.specs.declared.length.Length.{Length as ALength};
+ghost use Rattle.der_core.specs.Before.{CertainIfSome, PlacedIfSpace};
 ghost use Rattle.der_core.specs.Outcome.{map_ok};
 ghost use Rattle.der_core.specs.Writer.{WriterState, Keeps, Appends};
 ghost use Rattle.der_core.specs.Encode.{Counts, HasSize, FitsCounted, FitsInto, HeaderOf, HeaderAnswer, SliceAnswer};
@@ -136,6 +137,40 @@ pub trait EncodeValue: WrittenValue {
             → FitsCounted (W.state writer.old) (Self.contents self.now) result }
         ensures exact { W.reliable ≡ true
             → encode_value_answers self.now (W.state writer.old) result (W.state writer.new) };
+
+    /// The number of the value's contents octets, if it is certain that they can be written. Then
+    /// they are written by [`EncodeValue::encode_value_before`], as
+    /// [`Encode::len_before`](crate::Encode::len_before) describes. The result `None` states
+    /// nothing. The default implementation always returns `None`.
+    fn value_len_before(&self) -> Option<u32>
+        ensures { CertainIfSome (Self.writable self.now) (value_size self.now)
+            (encode_value_answers self.now) (Self.contents self.now) result }
+    {
+        None
+    }
+
+    /// Writes the value's contents octets so that they end before index `end` of the buffer, and
+    /// returns the index at which they start. The octets from `end` on are unchanged. The default
+    /// implementation computes the length and writes by [`EncodeValue::encode_value`].
+    ///
+    /// If the value cannot be written, or does not fit before `end`, the result and the contents of
+    /// the buffer are unspecified.
+    fn encode_value_before(&self, buf: &mut [u8], end: u32) -> u32
+        ensures { Self.writable self.now
+            → PlacedIfSpace (Self.contents self.now) result end buf.old buf.new }
+    {
+        let Ok(len) = self.value_len() else {
+            return end;
+        };
+        let count = u32::from(len);
+        if count > end || end as usize > buf.len() {
+            return end;
+        }
+        let start = end - count;
+        let mut writer = SliceWriter::within(buf, start as usize, count as usize);
+        let _ = self.encode_value(&mut writer);
+        start
+    }
 }
 
 /// Writes the value's contents octets to the start of the buffer, and returns them. Allocates

@@ -68,7 +68,7 @@ pub fn encode_to_vec_in<T: Encode, A: Allocator>(
         Ok(()) => {}
         Err(_) => return Err(ErrorKind::OutOfMemory.to_error()),
     }
-    match fill(value, &mut out[before..]) {
+    match write_front(value, &mut out[before..]) {
         Ok(()) => Ok(Length::new(count)),
         Err(error) => {
             out.truncate(before);
@@ -79,7 +79,7 @@ pub fn encode_to_vec_in<T: Encode, A: Allocator>(
 
 // Writes the encoding to the start of the buffer.
 #[inline(always)]
-fn fill<T: Encode>(value: &T, buf: &mut [u8]) -> Result<(), Error>
+fn write_front<T: Encode>(value: &T, buf: &mut [u8]) -> Result<(), Error>
     ensures ok { Begins (T.encoding value.now) result buf.new }
     ensures succeeds { T.encodable value.now
         → FitsInto (T.encoding value.now) (length buf.old) result }

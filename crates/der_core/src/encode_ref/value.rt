@@ -43,6 +43,14 @@ impl<'a, T: EncodeValue> EncodeValue for EncodeValueRef<'a, T> {
     fn encode_value<W: Writer>(&self, writer: &mut W) -> Result<(), Error> {
         self.0.encode_value(writer)
     }
+
+    fn value_len_before(&self) -> Option<u32> {
+        self.0.value_len_before()
+    }
+
+    fn encode_value_before(&self, buf: &mut [u8], end: u32) -> u32 {
+        self.0.encode_value_before(buf, end)
+    }
 }
 
 impl<'a, T: Tagged> Tagged for EncodeValueRef<'a, T> {

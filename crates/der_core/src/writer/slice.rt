@@ -35,6 +35,7 @@ impl<'a> SliceWriter<'a> {
     ghost use Rattle.der_core.specs.Outcome.{map_ok};
     ghost use Rattle.der_core.specs.Writer.{Keeps, Appends, Writes, fresh_state, writer_position, failed_state, space_outcome};
     ghost use Rattle.der_core.specs.Encode.{FitsCounted, RefusesFailed, PlacesErrors, finished_answer};
+    ghost use Rattle.der_core.specs.Before.{inner_state};
     ghost use Rattle.der_core.specs.SliceWriter.{slice_writer_state};
     ghost use Rattle.der_core.specs.WrittenSequence.{RestoresWriter, ClosesPart, Fills, RunsIfSpace, PartAnswer, SequenceAnswer, headed_state, part_state, outer_state};
 
@@ -47,6 +48,22 @@ impl<'a> SliceWriter<'a> {
             bytes,
             start: 0,
             stop,
+            position: 0,
+            failed: false,
+        }
+    }
+
+    // A writer into `count` octets of `bytes`, from index `start` on.
+    pub(crate) fn within(bytes: &'a mut [u8], start: usize, count: usize) -> Self
+        requires inside { start + count ≤ length bytes.now }
+        requires countable { count < 2 ^ 32 }
+        ensures { slice_writer_state result ≡ inner_state bytes.old bytes.entry.ghost_name start
+            count }
+    {
+        SliceWriter {
+            bytes,
+            start,
+            stop: start + count,
             position: 0,
             failed: false,
         }

@@ -17,9 +17,9 @@ returns-in-Err-clause-exact g c =
     let b = c.len-before.ensures in
     no_memory c.in_ok-encoded_len.field-0 (sym c.in_ok-encoded_len.ensures.exact) (omega (arith, s.0, f, b)) (ap Err c.to_error-in-Err.ensures)
 
-pub returns-in-Err-fill-clause-exact : goal.returns-in-Err-fill-clause-exact
-returns-in-Err-fill-clause-exact g c =
-    let x = c.in-Err-fill.ensures.exact in
+pub returns-in-Err-write_front-clause-exact : goal.returns-in-Err-write_front-clause-exact
+returns-in-Err-write_front-clause-exact g c =
+    let x = c.in-Err-write_front.ensures.exact in
     let f = c.from-count.ensures in
     let s = c.in-Some.ensures in
     let b = c.len-before.ensures in
@@ -27,11 +27,11 @@ returns-in-Err-fill-clause-exact g c =
     let len = c.deref_mut.ensures.len in
     let size = c.in-Ok.ensures.len in
     let space : length (take (length d - c.len-before.result) (drop c.len-before.result d)) ≡ number c.in_ok-encoded_len.field-0 = ap length (take_rest d c.len-before.result) ∙ length-drop c.len-before.result d ∙ omega (arith, len, size, s.1, f) in
-    written c.in_ok-encoded_len.field-0 _ x.0 (Err c.in-Err-fill.error) x.1 (sym c.in_ok-encoded_len.ensures.exact) (omega (arith, s.0, f, b)) space x.2 refl
+    written c.in_ok-encoded_len.field-0 _ x.0 (Err c.in-Err-write_front.error) x.1 (sym c.in_ok-encoded_len.ensures.exact) (omega (arith, s.0, f, b)) space x.2 refl
 
-pub returns-in-Ok-fill-clause-exact : goal.returns-in-Ok-fill-clause-exact
-returns-in-Ok-fill-clause-exact g c =
-    let x = c.in-Ok-fill.ensures.exact in
+pub returns-in-Ok-write_front-clause-exact : goal.returns-in-Ok-write_front-clause-exact
+returns-in-Ok-write_front-clause-exact g c =
+    let x = c.in-Ok-write_front.ensures.exact in
     let f = c.from-count.ensures in
     let s = c.in-Some.ensures in
     let b = c.len-before.ensures in
