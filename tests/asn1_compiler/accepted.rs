@@ -115,3 +115,26 @@ fn one_struct_stands_for_a_choice_inside_tags(rt: HostRuntime) -> Result<(), Fai
     }
     Ok(())
 }
+
+#[test]
+fn values_are_written_from_the_end_of_a_buffer(rt: HostRuntime) -> Result<(), Fail> {
+    let alloc = rt.alloc();
+    let body = "A ::= SEQUENCE { a NULL, b BOOLEAN }\nC ::= CHOICE { a NULL, b BOOLEAN }\n-- Rust field: all\nL ::= SET OF A";
+    let text = module(alloc, "EXPLICIT", body)?;
+    match compiled(alloc, &Vec::new(alloc), text.as_str()) {
+        Ok(files) => {
+            let (a, c, l) = ("src/asn1/a.rt", "src/asn1/c.rt", "src/asn1/l.rt");
+            has_text(&rt, &files, a, "field_refs!(self, (a, b)).len_before()");
+            has_text(&rt, &files, a, "field_refs!(self, (a, b)).encode_before(buf, end)");
+            has_text(&rt, &files, c, "C::B(value) => value.len_before(),");
+            has_text(&rt, &files, c, "C::B(value) => value.encode_before(buf, end),");
+            has_text(&rt, &files, l, "self.all.value_len_before()");
+            has_text(&rt, &files, l, "self.all.encode_value_before(buf, end)");
+            let proof = "proofs/asn1/c/CEncode/len_before/Answers.antt";
+            has_text(&rt, &files, proof, "returns-in-A c = rw c.in-A.is c.len_before.ensures");
+            has_text(&rt, &files, proof, "returns-in-B c = rw c.in-B.is c.len_before-in-B.ensures");
+        }
+        Err(place) => same(&rt, Some(place), None),
+    }
+    Ok(())
+}

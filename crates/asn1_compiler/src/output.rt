@@ -43,7 +43,7 @@ use crate::output::file::file_of;
 use crate::output::naming::names_of;
 use crate::output::piece::Piece;
 use crate::output::pieces::Written;
-use crate::output::root::{library_of, proof_of, root_of};
+use crate::output::root::{library_of, proof_file, root_of};
 use crate::output::summary::external_of;
 use crate::output::types::types_in_order;
 use crate::output::values::{values_file, values_name};
@@ -52,7 +52,7 @@ use crate::refusal::Refusal;
 pub use file::OutputFile;
 pub use rust_names::{pascal_name, snake_name};
 pub use rust_type::{RustKind, RustType};
-use std::alloc::Global;
+use std::alloc::{AllocError, Global};
 
 /// Parses a module, looks up its names, and checks it. It imports from modules of other crates.
 pub fn checked_module<'a>(
@@ -134,11 +134,22 @@ fn files_of<'a>(
     add_root(alloc, &mut files, module, &pieces)?;
     for piece in pieces.iter() {
         files.push(file_of(alloc, module, krate, piece, &pieces)?)?;
-        if !piece.proof.is_empty() {
-            files.push(proof_of(alloc, krate, piece)?)?;
-        }
+        add_proofs(alloc, &mut files, krate, piece)?;
     }
     Ok(files)
+}
+
+// Adds the files of the proofs of a piece.
+fn add_proofs(
+    alloc: Global,
+    files: &mut Vec<OutputFile>,
+    krate: &str,
+    piece: &Piece,
+) -> Result<(), AllocError> {
+    for proof in piece.proofs.iter() {
+        files.push(proof_file(alloc, krate, piece, proof)?)?;
+    }
+    Ok(())
 }
 
 fn pieces_of<'a>(

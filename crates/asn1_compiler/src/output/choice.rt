@@ -5,8 +5,9 @@ use super::alternatives::Alternative;
 use super::choice_line::Line;
 use super::choice_part::ChoicePart;
 use super::nest::{MEANING, Nest, TYPES, lifetime_of, push_meaning, push_types};
+use super::piece::Proof;
 use super::template::{Places, fill};
-use std::alloc::AllocError;
+use std::alloc::{AllocError, Global};
 
 /// A CHOICE.
 #[derive(Drop)]
@@ -95,6 +96,16 @@ impl@L Encode for @N@L {
         match self {
 @B        }
     }
+
+    fn len_before(&self) -> Option<u32> {
+        match self {
+@C        }
+    }
+
+    fn encode_before(&self, buf: &mut [u8], end: u32) -> u32 {
+        match self {
+@E        }
+    }
 }
 
 impl@L Item for @N@L {
@@ -112,12 +123,19 @@ impl<'a> BorrowedItem for @N@L {
 }
 ";
 
-const PROOF: &str = "
+// The proof that `encode` writes the alternative that the value has.
+const ENCODE_PROOF: &str = "
 pub returns-in-@V-clause-ok : goal.returns-in-@V-clause-ok
-returns-in-@V-clause-ok g c = rw c.in-@V.is c.@E.ensures.ok
+returns-in-@V-clause-ok g c = rw c.in-@V.is c.encode@E.ensures.ok
 
 pub returns-in-@V-clause-succeeds : goal.returns-in-@V-clause-succeeds
-returns-in-@V-clause-succeeds g c = rw c.in-@V.is c.@E.ensures.succeeds
+returns-in-@V-clause-succeeds g c = rw c.in-@V.is c.encode@E.ensures.succeeds
+";
+
+// The proof that `len_before` counts the octets of the alternative that the value has.
+const LEN_BEFORE_PROOF: &str = "
+pub returns-in-@V : goal.returns-in-@V
+returns-in-@V c = rw c.in-@V.is c.len_before@E.ensures
 ";
 
 // The line of an alternative of a part, as a term.
@@ -125,6 +143,9 @@ const PART_VALUE: &str = "      | variant.@V v ↦ @G(record { choice = @Hv@J })
 
 // The line of an alternative of a part, with its pattern.
 const PART_PATTERN: &str = "            @X@NPart@Q { choice: @Yvalue@J }@K => @N::@V(value),\n";
+
+// The arm that writes an alternative so that it ends before an index of a buffer.
+const ENCODED_BEFORE: &str = "            @N::@V(value) => value.encode_before(buf, end),\n";
 
 /// The most parts of a CHOICE: more of them take the checker's bound too far.
 const PARTS: usize = 3;
@@ -137,9 +158,23 @@ impl ChoiceText {
         fill(out, ENCODE, self)
     }
 
-    /// Adds the text of the proof that `encode` writes the alternative that the value has.
-    pub fn push_proof(&self, out: &mut String) -> Result<(), AllocError> {
-        self.push_lines(out, PROOF)
+    /// The proofs of its functions.
+    pub fn proofs(&self, alloc: Global) -> Result<Vec<Proof>, AllocError> {
+        let encode = self.proof_of(alloc, "encode", ENCODE_PROOF)?;
+        let len_before = self.proof_of(alloc, "len_before", LEN_BEFORE_PROOF)?;
+        Ok(vec![in alloc; encode, len_before]?)
+    }
+
+    // The proof of a function, from a template for each alternative.
+    fn proof_of(
+        &self,
+        alloc: Global,
+        function: &'static str,
+        template: &str,
+    ) -> Result<Proof, AllocError> {
+        let mut text = String::new(alloc);
+        self.push_lines(&mut text, template)?;
+        Ok(Proof { function, text })
     }
 
     // How the type of the alternatives begins: it is public unless it has private parts.
@@ -240,6 +275,8 @@ impl Places for ChoiceText {
             'M' => self.push_meaning(out),
             'A' => self.push_lines(out, "            @N::@V(value) => value.encoded_len(),\n"),
             'B' => self.push_lines(out, "            @N::@V(value) => value.encode(writer),\n"),
+            'C' => self.push_lines(out, "            @N::@V(value) => value.len_before(),\n"),
+            'E' => self.push_lines(out, ENCODED_BEFORE),
             'O' => out.push_str(self.visibility()),
             _ => Ok(()),
         }

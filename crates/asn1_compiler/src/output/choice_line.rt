@@ -41,13 +41,14 @@ impl<'c> Line<'c> {
         }
     }
 
-    // Adds the call of `encode` for the alternative, in a name of the proof.
-    fn push_call(&self, out: &mut String) -> Result<(), AllocError> {
+    // Adds what a proof has behind the name of a function that is called for each alternative, to
+    // name the call for this one.
+    fn push_place_of_call(&self, out: &mut String) -> Result<(), AllocError> {
         if self.index == 0 {
-            return out.push_str("encode");
+            return Ok(());
         }
         let name = self.alternative.name.as_str();
-        write!(out, "encode-in-{name}")
+        write!(out, "-in-{name}")
     }
 }
 
@@ -58,7 +59,7 @@ impl<'c> Places for Line<'c> {
             'V' => out.push_str(self.alternative.name.as_str()),
             'D' => out.push_str(self.alternative.doc.as_str()),
             'T' => out.push_str(self.alternative.of.text.as_str()),
-            'E' => self.push_call(out),
+            'E' => self.push_place_of_call(out),
             'G' => self.outer().push_open(out, "First (", "Second ("),
             'H' => self.inner().push_open(out, "First (", "Second ("),
             'X' => self

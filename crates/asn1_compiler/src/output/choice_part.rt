@@ -6,6 +6,7 @@ use super::template::{Places, fill, filled};
 use std::alloc::{AllocError, Global};
 use std::fmt::Write;
 
+// A part has no `len_before` and `encode_before`: a CHOICE writes its alternatives, and no part.
 const PART: &str = "// Some alternatives of a @W.
 #[derive(Drop)]
 pub(crate) struct @N@L {

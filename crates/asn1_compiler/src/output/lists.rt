@@ -105,6 +105,14 @@ impl<'a> EncodeValue for @N<'a> {
     fn encode_value<W: Writer>(&self, writer: &mut W) -> Result<(), Error> {
         self.@F.encode_value(writer)
     }
+
+    fn value_len_before(&self) -> Option<u32> {
+        self.@F.value_len_before()
+    }
+
+    fn encode_value_before(&self, buf: &mut [u8], end: u32) -> u32 {
+        self.@F.encode_value_before(buf, end)
+    }
 }
 ";
 

@@ -30,8 +30,17 @@ pub struct Piece {
     pub kind: PieceKind,
     /// The text.
     pub body: String,
-    /// The text of a proof of `encode`; empty if the checker needs none.
-    pub proof: String,
+    /// The proofs of those of its functions for which the checker finds none.
+    pub proofs: Vec<Proof>,
+}
+
+/// The proof of a function.
+#[derive(Drop)]
+pub struct Proof {
+    /// The name of the function.
+    pub function: &'static str,
+    /// The text without its imports.
+    pub text: String,
 }
 
 impl Piece {
@@ -45,7 +54,7 @@ impl Piece {
             is_public: kind != PieceKind::SequencePart && kind != PieceKind::ChoicePart,
             kind,
             body: String::new(alloc),
-            proof: String::new(alloc),
+            proofs: Vec::new(alloc),
         })
     }
 }

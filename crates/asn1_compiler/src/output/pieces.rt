@@ -349,7 +349,7 @@ fn choice_piece(alloc: Global, text: &ChoiceText) -> Result<Piece, AllocError> {
     let end = if text.has_parts() { "" } else { "Alternatives" };
     let mut piece = Piece::new(alloc, text.name.as_str(), end, PieceKind::Choice)?;
     text.push_body(&mut piece.body)?;
-    text.push_proof(&mut piece.proof)?;
+    piece.proofs = text.proofs(alloc)?;
     Ok(piece)
 }
 

@@ -2,7 +2,7 @@
 
 use super::file::OutputFile;
 use super::imports::{push_names, push_use};
-use super::piece::Piece;
+use super::piece::{Piece, Proof};
 use std::alloc::{AllocError, Global};
 use std::fmt::Write;
 
@@ -64,21 +64,21 @@ fn push_export(alloc: Global, out: &mut String, piece: &Piece) -> Result<(), All
     push_use(alloc, out, body, file, piece.names.as_str())
 }
 
-/// The proof of a piece that has one.
-pub fn proof_of(alloc: Global, krate: &str, piece: &Piece) -> Result<OutputFile, AllocError> {
+/// The file of a proof of a function that a piece implements for `Encode`.
+pub fn proof_file(
+    alloc: Global,
+    krate: &str,
+    piece: &Piece,
+    proof: &Proof,
+) -> Result<OutputFile, AllocError> {
     let (name, file) = (piece.name.as_str(), piece.file.as_str());
+    let (function, text) = (proof.function, proof.text.as_str());
     Ok(OutputFile {
-        path: format!(in alloc; "proofs/asn1/{file}/{name}Encode/encode/Answers.antt")?,
-        text: proof_text(alloc, krate, piece)?,
+        path: format!(in alloc; "proofs/asn1/{file}/{name}Encode/{function}/Answers.antt")?,
+        text: format!(in alloc;
+            "-- Written by asn1_compile: change the module instead.\nuse Rattle.{krate}.proofs.asn1.{file}.{name}Encode.{function}.Goals as goal\n{text}"
+        )?,
     })
-}
-
-fn proof_text(alloc: Global, krate: &str, piece: &Piece) -> Result<String, AllocError> {
-    let (name, file) = (piece.name.as_str(), piece.file.as_str());
-    let proof = piece.proof.as_str();
-    format!(in alloc;
-        "-- Written by asn1_compile: change the module instead.\nuse Rattle.{krate}.proofs.asn1.{file}.{name}Encode.encode.Goals as goal\n{proof}"
-    )
 }
 
 /// The root of a crate that holds the module and nothing else.

@@ -73,6 +73,14 @@ impl@L EncodeValue for @N@L {
     fn encode_value<W: Writer>(&self, writer: &mut W) -> Result<(), Error> {
         field_refs!(self, @R).encode(writer)
     }
+
+    fn value_len_before(&self) -> Option<u32> {
+        field_refs!(self, @R).len_before()
+    }
+
+    fn encode_value_before(&self, buf: &mut [u8], end: u32) -> u32 {
+        field_refs!(self, @R).encode_before(buf, end)
+    }
 }
 ";
 

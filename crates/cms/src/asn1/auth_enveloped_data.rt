@@ -172,6 +172,34 @@ impl<'a> EncodeValue for AuthEnvelopedData<'a> {
         )
         .encode(writer)
     }
+
+    fn value_len_before(&self) -> Option<u32> {
+        field_refs!(
+            self,
+            (
+                (
+                    (version, originator_info),
+                    (recipient_infos, auth_encrypted_content_info)
+                ),
+                (auth_attrs, (mac, unauth_attrs))
+            )
+        )
+        .len_before()
+    }
+
+    fn encode_value_before(&self, buf: &mut [u8], end: u32) -> u32 {
+        field_refs!(
+            self,
+            (
+                (
+                    (version, originator_info),
+                    (recipient_infos, auth_encrypted_content_info)
+                ),
+                (auth_attrs, (mac, unauth_attrs))
+            )
+        )
+        .encode_before(buf, end)
+    }
 }
 
 impl<'a> Item for AuthEnvelopedData<'a> {

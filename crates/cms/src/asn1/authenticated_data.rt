@@ -224,6 +224,34 @@ impl<'a> EncodeValue for AuthenticatedData<'a> {
         )
         .encode(writer)
     }
+
+    fn value_len_before(&self) -> Option<u32> {
+        field_refs!(
+            self,
+            (
+                (version, (originator_info, recipient_infos)),
+                (
+                    (mac_algorithm, (digest_algorithm, encap_content_info)),
+                    (auth_attrs, (mac, unauth_attrs))
+                )
+            )
+        )
+        .len_before()
+    }
+
+    fn encode_value_before(&self, buf: &mut [u8], end: u32) -> u32 {
+        field_refs!(
+            self,
+            (
+                (version, (originator_info, recipient_infos)),
+                (
+                    (mac_algorithm, (digest_algorithm, encap_content_info)),
+                    (auth_attrs, (mac, unauth_attrs))
+                )
+            )
+        )
+        .encode_before(buf, end)
+    }
 }
 
 impl<'a> Item for AuthenticatedData<'a> {

@@ -155,6 +155,26 @@ impl<'a> Encode for CertificateChoices<'a> {
             CertificateChoices::Other(value) => value.encode(writer),
         }
     }
+
+    fn len_before(&self) -> Option<u32> {
+        match self {
+            CertificateChoices::Certificate(value) => value.len_before(),
+            CertificateChoices::ExtendedCertificate(value) => value.len_before(),
+            CertificateChoices::V1AttrCert(value) => value.len_before(),
+            CertificateChoices::V2AttrCert(value) => value.len_before(),
+            CertificateChoices::Other(value) => value.len_before(),
+        }
+    }
+
+    fn encode_before(&self, buf: &mut [u8], end: u32) -> u32 {
+        match self {
+            CertificateChoices::Certificate(value) => value.encode_before(buf, end),
+            CertificateChoices::ExtendedCertificate(value) => value.encode_before(buf, end),
+            CertificateChoices::V1AttrCert(value) => value.encode_before(buf, end),
+            CertificateChoices::V2AttrCert(value) => value.encode_before(buf, end),
+            CertificateChoices::Other(value) => value.encode_before(buf, end),
+        }
+    }
 }
 
 impl<'a> Item for CertificateChoices<'a> {

@@ -101,6 +101,14 @@ impl<'a> EncodeValue for CertificateSet<'a> {
     fn encode_value<W: Writer>(&self, writer: &mut W) -> Result<(), Error> {
         self.items.encode_value(writer)
     }
+
+    fn value_len_before(&self) -> Option<u32> {
+        self.items.value_len_before()
+    }
+
+    fn encode_value_before(&self, buf: &mut [u8], end: u32) -> u32 {
+        self.items.encode_value_before(buf, end)
+    }
 }
 
 impl<'a> Item for CertificateSet<'a> {

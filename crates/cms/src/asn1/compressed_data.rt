@@ -91,6 +91,16 @@ impl<'a> EncodeValue for CompressedData<'a> {
     fn encode_value<W: Writer>(&self, writer: &mut W) -> Result<(), Error> {
         field_refs!(self, (version, (compression_algorithm, encap_content_info))).encode(writer)
     }
+
+    fn value_len_before(&self) -> Option<u32> {
+        field_refs!(self, (version, (compression_algorithm, encap_content_info))).len_before()
+    }
+
+    fn encode_value_before(&self, buf: &mut [u8], end: u32) -> u32 {
+        field_refs!(self, (version, (compression_algorithm, encap_content_info))).encode_before(
+            buf, end,
+        )
+    }
 }
 
 impl<'a> Item for CompressedData<'a> {

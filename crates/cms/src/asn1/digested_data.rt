@@ -105,6 +105,22 @@ impl<'a> EncodeValue for DigestedData<'a> {
         )
         .encode(writer)
     }
+
+    fn value_len_before(&self) -> Option<u32> {
+        field_refs!(
+            self,
+            ((version, digest_algorithm), (encap_content_info, digest))
+        )
+        .len_before()
+    }
+
+    fn encode_value_before(&self, buf: &mut [u8], end: u32) -> u32 {
+        field_refs!(
+            self,
+            ((version, digest_algorithm), (encap_content_info, digest))
+        )
+        .encode_before(buf, end)
+    }
 }
 
 impl<'a> Item for DigestedData<'a> {

@@ -91,6 +91,14 @@ impl<'a> EncodeValue for EncapsulatedContentInfo<'a> {
     fn encode_value<W: Writer>(&self, writer: &mut W) -> Result<(), Error> {
         field_refs!(self, (e_content_type, e_content)).encode(writer)
     }
+
+    fn value_len_before(&self) -> Option<u32> {
+        field_refs!(self, (e_content_type, e_content)).len_before()
+    }
+
+    fn encode_value_before(&self, buf: &mut [u8], end: u32) -> u32 {
+        field_refs!(self, (e_content_type, e_content)).encode_before(buf, end)
+    }
 }
 
 impl<'a> Item for EncapsulatedContentInfo<'a> {

@@ -109,6 +109,28 @@ impl<'a> EncodeValue for EncryptedContentInfo<'a> {
         )
         .encode(writer)
     }
+
+    fn value_len_before(&self) -> Option<u32> {
+        field_refs!(
+            self,
+            (
+                content_type,
+                (content_encryption_algorithm, encrypted_content)
+            )
+        )
+        .len_before()
+    }
+
+    fn encode_value_before(&self, buf: &mut [u8], end: u32) -> u32 {
+        field_refs!(
+            self,
+            (
+                content_type,
+                (content_encryption_algorithm, encrypted_content)
+            )
+        )
+        .encode_before(buf, end)
+    }
 }
 
 impl<'a> Item for EncryptedContentInfo<'a> {

@@ -97,6 +97,16 @@ impl<'a> EncodeValue for EncryptedData<'a> {
     fn encode_value<W: Writer>(&self, writer: &mut W) -> Result<(), Error> {
         field_refs!(self, (version, (encrypted_content_info, unprotected_attrs))).encode(writer)
     }
+
+    fn value_len_before(&self) -> Option<u32> {
+        field_refs!(self, (version, (encrypted_content_info, unprotected_attrs))).len_before()
+    }
+
+    fn encode_value_before(&self, buf: &mut [u8], end: u32) -> u32 {
+        field_refs!(self, (version, (encrypted_content_info, unprotected_attrs))).encode_before(
+            buf, end,
+        )
+    }
 }
 
 impl<'a> Item for EncryptedData<'a> {

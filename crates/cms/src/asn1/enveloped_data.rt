@@ -144,6 +144,28 @@ impl<'a> EncodeValue for EnvelopedData<'a> {
         )
         .encode(writer)
     }
+
+    fn value_len_before(&self) -> Option<u32> {
+        field_refs!(
+            self,
+            (
+                (version, (originator_info, recipient_infos)),
+                (encrypted_content_info, unprotected_attrs)
+            )
+        )
+        .len_before()
+    }
+
+    fn encode_value_before(&self, buf: &mut [u8], end: u32) -> u32 {
+        field_refs!(
+            self,
+            (
+                (version, (originator_info, recipient_infos)),
+                (encrypted_content_info, unprotected_attrs)
+            )
+        )
+        .encode_before(buf, end)
+    }
 }
 
 impl<'a> Item for EnvelopedData<'a> {

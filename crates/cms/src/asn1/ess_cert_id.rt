@@ -83,6 +83,14 @@ impl<'a> EncodeValue for EssCertId<'a> {
     fn encode_value<W: Writer>(&self, writer: &mut W) -> Result<(), Error> {
         field_refs!(self, (cert_hash, issuer_serial)).encode(writer)
     }
+
+    fn value_len_before(&self) -> Option<u32> {
+        field_refs!(self, (cert_hash, issuer_serial)).len_before()
+    }
+
+    fn encode_value_before(&self, buf: &mut [u8], end: u32) -> u32 {
+        field_refs!(self, (cert_hash, issuer_serial)).encode_before(buf, end)
+    }
 }
 
 impl<'a> Item for EssCertId<'a> {

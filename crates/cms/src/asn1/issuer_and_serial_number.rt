@@ -80,6 +80,14 @@ impl<'a> EncodeValue for IssuerAndSerialNumber<'a> {
     fn encode_value<W: Writer>(&self, writer: &mut W) -> Result<(), Error> {
         field_refs!(self, (issuer, serial_number)).encode(writer)
     }
+
+    fn value_len_before(&self) -> Option<u32> {
+        field_refs!(self, (issuer, serial_number)).len_before()
+    }
+
+    fn encode_value_before(&self, buf: &mut [u8], end: u32) -> u32 {
+        field_refs!(self, (issuer, serial_number)).encode_before(buf, end)
+    }
 }
 
 impl<'a> Item for IssuerAndSerialNumber<'a> {

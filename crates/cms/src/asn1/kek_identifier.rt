@@ -95,6 +95,14 @@ impl<'a> EncodeValue for KekIdentifier<'a> {
     fn encode_value<W: Writer>(&self, writer: &mut W) -> Result<(), Error> {
         field_refs!(self, (key_identifier, (date, other))).encode(writer)
     }
+
+    fn value_len_before(&self) -> Option<u32> {
+        field_refs!(self, (key_identifier, (date, other))).len_before()
+    }
+
+    fn encode_value_before(&self, buf: &mut [u8], end: u32) -> u32 {
+        field_refs!(self, (key_identifier, (date, other))).encode_before(buf, end)
+    }
 }
 
 impl<'a> Item for KekIdentifier<'a> {

@@ -113,6 +113,22 @@ impl<'a> Encode for KeyAgreeRecipientIdentifier<'a> {
             KeyAgreeRecipientIdentifier::RKeyId(value) => value.encode(writer),
         }
     }
+
+    fn len_before(&self) -> Option<u32> {
+        match self {
+            KeyAgreeRecipientIdentifier::IssuerAndSerialNumber(value) => value.len_before(),
+            KeyAgreeRecipientIdentifier::RKeyId(value) => value.len_before(),
+        }
+    }
+
+    fn encode_before(&self, buf: &mut [u8], end: u32) -> u32 {
+        match self {
+            KeyAgreeRecipientIdentifier::IssuerAndSerialNumber(value) => value.encode_before(
+                buf, end,
+            ),
+            KeyAgreeRecipientIdentifier::RKeyId(value) => value.encode_before(buf, end),
+        }
+    }
 }
 
 impl<'a> Item for KeyAgreeRecipientIdentifier<'a> {

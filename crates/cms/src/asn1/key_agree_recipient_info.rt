@@ -170,6 +170,28 @@ impl<'a> EncodeValue for KeyAgreeRecipientInfo<'a> {
         )
         .encode(writer)
     }
+
+    fn value_len_before(&self) -> Option<u32> {
+        field_refs!(
+            self,
+            (
+                (version, (originator, ukm)),
+                (key_encryption_algorithm, recipient_encrypted_keys)
+            )
+        )
+        .len_before()
+    }
+
+    fn encode_value_before(&self, buf: &mut [u8], end: u32) -> u32 {
+        field_refs!(
+            self,
+            (
+                (version, (originator, ukm)),
+                (key_encryption_algorithm, recipient_encrypted_keys)
+            )
+        )
+        .encode_before(buf, end)
+    }
 }
 
 impl<'a> Item for KeyAgreeRecipientInfo<'a> {

@@ -119,6 +119,22 @@ impl<'a> EncodeValue for KeyTransRecipientInfo<'a> {
         )
         .encode(writer)
     }
+
+    fn value_len_before(&self) -> Option<u32> {
+        field_refs!(
+            self,
+            ((version, rid), (key_encryption_algorithm, encrypted_key))
+        )
+        .len_before()
+    }
+
+    fn encode_value_before(&self, buf: &mut [u8], end: u32) -> u32 {
+        field_refs!(
+            self,
+            ((version, rid), (key_encryption_algorithm, encrypted_key))
+        )
+        .encode_before(buf, end)
+    }
 }
 
 impl<'a> Item for KeyTransRecipientInfo<'a> {

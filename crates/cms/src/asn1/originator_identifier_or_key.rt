@@ -129,6 +129,24 @@ impl<'a> Encode for OriginatorIdentifierOrKey<'a> {
             OriginatorIdentifierOrKey::OriginatorKey(value) => value.encode(writer),
         }
     }
+
+    fn len_before(&self) -> Option<u32> {
+        match self {
+            OriginatorIdentifierOrKey::IssuerAndSerialNumber(value) => value.len_before(),
+            OriginatorIdentifierOrKey::SubjectKeyIdentifier(value) => value.len_before(),
+            OriginatorIdentifierOrKey::OriginatorKey(value) => value.len_before(),
+        }
+    }
+
+    fn encode_before(&self, buf: &mut [u8], end: u32) -> u32 {
+        match self {
+            OriginatorIdentifierOrKey::IssuerAndSerialNumber(value) => value.encode_before(
+                buf, end,
+            ),
+            OriginatorIdentifierOrKey::SubjectKeyIdentifier(value) => value.encode_before(buf, end),
+            OriginatorIdentifierOrKey::OriginatorKey(value) => value.encode_before(buf, end),
+        }
+    }
 }
 
 impl<'a> Item for OriginatorIdentifierOrKey<'a> {

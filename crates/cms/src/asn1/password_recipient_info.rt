@@ -117,6 +117,28 @@ impl<'a> EncodeValue for PasswordRecipientInfo<'a> {
         )
         .encode(writer)
     }
+
+    fn value_len_before(&self) -> Option<u32> {
+        field_refs!(
+            self,
+            (
+                (version, key_derivation_algorithm),
+                (key_encryption_algorithm, encrypted_key)
+            )
+        )
+        .len_before()
+    }
+
+    fn encode_value_before(&self, buf: &mut [u8], end: u32) -> u32 {
+        field_refs!(
+            self,
+            (
+                (version, key_derivation_algorithm),
+                (key_encryption_algorithm, encrypted_key)
+            )
+        )
+        .encode_before(buf, end)
+    }
 }
 
 impl<'a> Item for PasswordRecipientInfo<'a> {

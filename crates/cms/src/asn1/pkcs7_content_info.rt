@@ -84,6 +84,14 @@ impl<'a> EncodeValue for Pkcs7ContentInfo<'a> {
     fn encode_value<W: Writer>(&self, writer: &mut W) -> Result<(), Error> {
         field_refs!(self, (content_type, content)).encode(writer)
     }
+
+    fn value_len_before(&self) -> Option<u32> {
+        field_refs!(self, (content_type, content)).len_before()
+    }
+
+    fn encode_value_before(&self, buf: &mut [u8], end: u32) -> u32 {
+        field_refs!(self, (content_type, content)).encode_before(buf, end)
+    }
 }
 
 impl<'a> Item for Pkcs7ContentInfo<'a> {

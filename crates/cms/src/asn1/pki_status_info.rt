@@ -100,6 +100,14 @@ impl<'a> EncodeValue for PkiStatusInfo<'a> {
     fn encode_value<W: Writer>(&self, writer: &mut W) -> Result<(), Error> {
         field_refs!(self, (status, (status_string, fail_info))).encode(writer)
     }
+
+    fn value_len_before(&self) -> Option<u32> {
+        field_refs!(self, (status, (status_string, fail_info))).len_before()
+    }
+
+    fn encode_value_before(&self, buf: &mut [u8], end: u32) -> u32 {
+        field_refs!(self, (status, (status_string, fail_info))).encode_before(buf, end)
+    }
 }
 
 impl<'a> Item for PkiStatusInfo<'a> {

@@ -156,6 +156,26 @@ impl<'a> Encode for RecipientInfo<'a> {
             RecipientInfo::Ori(value) => value.encode(writer),
         }
     }
+
+    fn len_before(&self) -> Option<u32> {
+        match self {
+            RecipientInfo::Ktri(value) => value.len_before(),
+            RecipientInfo::Kari(value) => value.len_before(),
+            RecipientInfo::Kekri(value) => value.len_before(),
+            RecipientInfo::Pwri(value) => value.len_before(),
+            RecipientInfo::Ori(value) => value.len_before(),
+        }
+    }
+
+    fn encode_before(&self, buf: &mut [u8], end: u32) -> u32 {
+        match self {
+            RecipientInfo::Ktri(value) => value.encode_before(buf, end),
+            RecipientInfo::Kari(value) => value.encode_before(buf, end),
+            RecipientInfo::Kekri(value) => value.encode_before(buf, end),
+            RecipientInfo::Pwri(value) => value.encode_before(buf, end),
+            RecipientInfo::Ori(value) => value.encode_before(buf, end),
+        }
+    }
 }
 
 impl<'a> Item for RecipientInfo<'a> {

@@ -111,6 +111,20 @@ impl<'a> Encode for RevocationInfoChoice<'a> {
             RevocationInfoChoice::Other(value) => value.encode(writer),
         }
     }
+
+    fn len_before(&self) -> Option<u32> {
+        match self {
+            RevocationInfoChoice::Crl(value) => value.len_before(),
+            RevocationInfoChoice::Other(value) => value.len_before(),
+        }
+    }
+
+    fn encode_before(&self, buf: &mut [u8], end: u32) -> u32 {
+        match self {
+            RevocationInfoChoice::Crl(value) => value.encode_before(buf, end),
+            RevocationInfoChoice::Other(value) => value.encode_before(buf, end),
+        }
+    }
 }
 
 impl<'a> Item for RevocationInfoChoice<'a> {

@@ -152,6 +152,28 @@ impl<'a> EncodeValue for SignedData<'a> {
         )
         .encode(writer)
     }
+
+    fn value_len_before(&self) -> Option<u32> {
+        field_refs!(
+            self,
+            (
+                (version, (digest_algorithms, encap_content_info)),
+                (certificates, (crls, signer_infos))
+            )
+        )
+        .len_before()
+    }
+
+    fn encode_value_before(&self, buf: &mut [u8], end: u32) -> u32 {
+        field_refs!(
+            self,
+            (
+                (version, (digest_algorithms, encap_content_info)),
+                (certificates, (crls, signer_infos))
+            )
+        )
+        .encode_before(buf, end)
+    }
 }
 
 impl<'a> Item for SignedData<'a> {

@@ -110,6 +110,20 @@ impl<'a> Encode for SignerIdentifier<'a> {
             SignerIdentifier::SubjectKeyIdentifier(value) => value.encode(writer),
         }
     }
+
+    fn len_before(&self) -> Option<u32> {
+        match self {
+            SignerIdentifier::IssuerAndSerialNumber(value) => value.len_before(),
+            SignerIdentifier::SubjectKeyIdentifier(value) => value.len_before(),
+        }
+    }
+
+    fn encode_before(&self, buf: &mut [u8], end: u32) -> u32 {
+        match self {
+            SignerIdentifier::IssuerAndSerialNumber(value) => value.encode_before(buf, end),
+            SignerIdentifier::SubjectKeyIdentifier(value) => value.encode_before(buf, end),
+        }
+    }
 }
 
 impl<'a> Item for SignerIdentifier<'a> {

@@ -167,6 +167,28 @@ impl<'a> EncodeValue for SignerInfo<'a> {
         )
         .encode(writer)
     }
+
+    fn value_len_before(&self) -> Option<u32> {
+        field_refs!(
+            self,
+            (
+                ((version, sid), (digest_algorithm, signed_attrs)),
+                (signature_algorithm, (signature, unsigned_attrs))
+            )
+        )
+        .len_before()
+    }
+
+    fn encode_value_before(&self, buf: &mut [u8], end: u32) -> u32 {
+        field_refs!(
+            self,
+            (
+                ((version, sid), (digest_algorithm, signed_attrs)),
+                (signature_algorithm, (signature, unsigned_attrs))
+            )
+        )
+        .encode_before(buf, end)
+    }
 }
 
 impl<'a> Item for SignerInfo<'a> {

@@ -86,6 +86,14 @@ impl<'a> EncodeValue for SigningCertificateV2<'a> {
     fn encode_value<W: Writer>(&self, writer: &mut W) -> Result<(), Error> {
         field_refs!(self, (certs, policies)).encode(writer)
     }
+
+    fn value_len_before(&self) -> Option<u32> {
+        field_refs!(self, (certs, policies)).len_before()
+    }
+
+    fn encode_value_before(&self, buf: &mut [u8], end: u32) -> u32 {
+        field_refs!(self, (certs, policies)).encode_before(buf, end)
+    }
 }
 
 impl<'a> Item for SigningCertificateV2<'a> {

@@ -187,6 +187,28 @@ impl<'a> EncodeValue for TimeStampReq<'a> {
         )
         .encode(writer)
     }
+
+    fn value_len_before(&self) -> Option<u32> {
+        field_refs!(
+            self,
+            (
+                (version, message_imprint),
+                ((req_policy, nonce), (cert_req, extensions))
+            )
+        )
+        .len_before()
+    }
+
+    fn encode_value_before(&self, buf: &mut [u8], end: u32) -> u32 {
+        field_refs!(
+            self,
+            (
+                (version, message_imprint),
+                ((req_policy, nonce), (cert_req, extensions))
+            )
+        )
+        .encode_before(buf, end)
+    }
 }
 
 impl<'a> Item for TimeStampReq<'a> {

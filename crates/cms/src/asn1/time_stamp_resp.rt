@@ -85,6 +85,14 @@ impl<'a> EncodeValue for TimeStampResp<'a> {
     fn encode_value<W: Writer>(&self, writer: &mut W) -> Result<(), Error> {
         field_refs!(self, (status, time_stamp_token)).encode(writer)
     }
+
+    fn value_len_before(&self) -> Option<u32> {
+        field_refs!(self, (status, time_stamp_token)).len_before()
+    }
+
+    fn encode_value_before(&self, buf: &mut [u8], end: u32) -> u32 {
+        field_refs!(self, (status, time_stamp_token)).encode_before(buf, end)
+    }
 }
 
 impl<'a> Item for TimeStampResp<'a> {

@@ -248,6 +248,28 @@ impl<'a> EncodeValue for TstInfo<'a> {
         )
         .encode(writer)
     }
+
+    fn value_len_before(&self) -> Option<u32> {
+        field_refs!(
+            self,
+            (
+                ((version, policy), (message_imprint, serial_number)),
+                ((gen_time, accuracy), ((ordering, nonce), (tsa, extensions)))
+            )
+        )
+        .len_before()
+    }
+
+    fn encode_value_before(&self, buf: &mut [u8], end: u32) -> u32 {
+        field_refs!(
+            self,
+            (
+                ((version, policy), (message_imprint, serial_number)),
+                ((gen_time, accuracy), ((ordering, nonce), (tsa, extensions)))
+            )
+        )
+        .encode_before(buf, end)
+    }
 }
 
 impl<'a> Item for TstInfo<'a> {

@@ -108,6 +108,22 @@ impl<'a> EncodeValue for BasicOcspResponse<'a> {
         )
         .encode(writer)
     }
+
+    fn value_len_before(&self) -> Option<u32> {
+        field_refs!(
+            self,
+            ((tbs_response_data, signature_algorithm), (signature, certs))
+        )
+        .len_before()
+    }
+
+    fn encode_value_before(&self, buf: &mut [u8], end: u32) -> u32 {
+        field_refs!(
+            self,
+            ((tbs_response_data, signature_algorithm), (signature, certs))
+        )
+        .encode_before(buf, end)
+    }
 }
 
 impl<'a> Item for BasicOcspResponse<'a> {

@@ -109,6 +109,28 @@ impl<'a> EncodeValue for CertId<'a> {
         )
         .encode(writer)
     }
+
+    fn value_len_before(&self) -> Option<u32> {
+        field_refs!(
+            self,
+            (
+                (hash_algorithm, issuer_name_hash),
+                (issuer_key_hash, serial_number)
+            )
+        )
+        .len_before()
+    }
+
+    fn encode_value_before(&self, buf: &mut [u8], end: u32) -> u32 {
+        field_refs!(
+            self,
+            (
+                (hash_algorithm, issuer_name_hash),
+                (issuer_key_hash, serial_number)
+            )
+        )
+        .encode_before(buf, end)
+    }
 }
 
 impl<'a> Item for CertId<'a> {

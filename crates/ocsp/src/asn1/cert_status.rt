@@ -121,6 +121,22 @@ impl<'a> Encode for CertStatus<'a> {
             CertStatus::Unknown(value) => value.encode(writer),
         }
     }
+
+    fn len_before(&self) -> Option<u32> {
+        match self {
+            CertStatus::Good(value) => value.len_before(),
+            CertStatus::Revoked(value) => value.len_before(),
+            CertStatus::Unknown(value) => value.len_before(),
+        }
+    }
+
+    fn encode_before(&self, buf: &mut [u8], end: u32) -> u32 {
+        match self {
+            CertStatus::Good(value) => value.encode_before(buf, end),
+            CertStatus::Revoked(value) => value.encode_before(buf, end),
+            CertStatus::Unknown(value) => value.encode_before(buf, end),
+        }
+    }
 }
 
 impl<'a> Item for CertStatus<'a> {

@@ -100,6 +100,14 @@ impl<'a> EncodeValue for CrlId<'a> {
     fn encode_value<W: Writer>(&self, writer: &mut W) -> Result<(), Error> {
         field_refs!(self, (crl_url, (crl_num, crl_time))).encode(writer)
     }
+
+    fn value_len_before(&self) -> Option<u32> {
+        field_refs!(self, (crl_url, (crl_num, crl_time))).len_before()
+    }
+
+    fn encode_value_before(&self, buf: &mut [u8], end: u32) -> u32 {
+        field_refs!(self, (crl_url, (crl_num, crl_time))).encode_before(buf, end)
+    }
 }
 
 impl<'a> Item for CrlId<'a> {

@@ -84,6 +84,14 @@ impl<'a> EncodeValue for OcspRequest<'a> {
     fn encode_value<W: Writer>(&self, writer: &mut W) -> Result<(), Error> {
         field_refs!(self, (tbs_request, optional_signature)).encode(writer)
     }
+
+    fn value_len_before(&self) -> Option<u32> {
+        field_refs!(self, (tbs_request, optional_signature)).len_before()
+    }
+
+    fn encode_value_before(&self, buf: &mut [u8], end: u32) -> u32 {
+        field_refs!(self, (tbs_request, optional_signature)).encode_before(buf, end)
+    }
 }
 
 impl<'a> Item for OcspRequest<'a> {

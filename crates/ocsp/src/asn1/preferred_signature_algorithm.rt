@@ -88,6 +88,14 @@ impl<'a> EncodeValue for PreferredSignatureAlgorithm<'a> {
     fn encode_value<W: Writer>(&self, writer: &mut W) -> Result<(), Error> {
         field_refs!(self, (sig_identifier, cert_identifier)).encode(writer)
     }
+
+    fn value_len_before(&self) -> Option<u32> {
+        field_refs!(self, (sig_identifier, cert_identifier)).len_before()
+    }
+
+    fn encode_value_before(&self, buf: &mut [u8], end: u32) -> u32 {
+        field_refs!(self, (sig_identifier, cert_identifier)).encode_before(buf, end)
+    }
 }
 
 impl<'a> Item for PreferredSignatureAlgorithm<'a> {

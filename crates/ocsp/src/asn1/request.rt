@@ -83,6 +83,14 @@ impl<'a> EncodeValue for Request<'a> {
     fn encode_value<W: Writer>(&self, writer: &mut W) -> Result<(), Error> {
         field_refs!(self, (req_cert, single_request_extensions)).encode(writer)
     }
+
+    fn value_len_before(&self) -> Option<u32> {
+        field_refs!(self, (req_cert, single_request_extensions)).len_before()
+    }
+
+    fn encode_value_before(&self, buf: &mut [u8], end: u32) -> u32 {
+        field_refs!(self, (req_cert, single_request_extensions)).encode_before(buf, end)
+    }
 }
 
 impl<'a> Item for Request<'a> {

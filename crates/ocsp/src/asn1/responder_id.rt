@@ -107,6 +107,20 @@ impl<'a> Encode for ResponderId<'a> {
             ResponderId::ByKey(value) => value.encode(writer),
         }
     }
+
+    fn len_before(&self) -> Option<u32> {
+        match self {
+            ResponderId::ByName(value) => value.len_before(),
+            ResponderId::ByKey(value) => value.len_before(),
+        }
+    }
+
+    fn encode_before(&self, buf: &mut [u8], end: u32) -> u32 {
+        match self {
+            ResponderId::ByName(value) => value.encode_before(buf, end),
+            ResponderId::ByKey(value) => value.encode_before(buf, end),
+        }
+    }
 }
 
 impl<'a> Item for ResponderId<'a> {

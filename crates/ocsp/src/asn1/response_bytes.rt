@@ -83,6 +83,14 @@ impl<'a> EncodeValue for ResponseBytes<'a> {
     fn encode_value<W: Writer>(&self, writer: &mut W) -> Result<(), Error> {
         field_refs!(self, (response_type, response)).encode(writer)
     }
+
+    fn value_len_before(&self) -> Option<u32> {
+        field_refs!(self, (response_type, response)).len_before()
+    }
+
+    fn encode_value_before(&self, buf: &mut [u8], end: u32) -> u32 {
+        field_refs!(self, (response_type, response)).encode_before(buf, end)
+    }
 }
 
 impl<'a> Item for ResponseBytes<'a> {

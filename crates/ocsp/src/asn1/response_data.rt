@@ -191,6 +191,28 @@ impl<'a> EncodeValue for ResponseData<'a> {
         )
         .encode(writer)
     }
+
+    fn value_len_before(&self) -> Option<u32> {
+        field_refs!(
+            self,
+            (
+                (version, responder_id),
+                ((produced_at, responses), response_extensions)
+            )
+        )
+        .len_before()
+    }
+
+    fn encode_value_before(&self, buf: &mut [u8], end: u32) -> u32 {
+        field_refs!(
+            self,
+            (
+                (version, responder_id),
+                ((produced_at, responses), response_extensions)
+            )
+        )
+        .encode_before(buf, end)
+    }
 }
 
 impl<'a> Item for ResponseData<'a> {

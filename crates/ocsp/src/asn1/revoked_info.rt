@@ -89,6 +89,14 @@ impl EncodeValue for RevokedInfo {
     fn encode_value<W: Writer>(&self, writer: &mut W) -> Result<(), Error> {
         field_refs!(self, (revocation_time, revocation_reason)).encode(writer)
     }
+
+    fn value_len_before(&self) -> Option<u32> {
+        field_refs!(self, (revocation_time, revocation_reason)).len_before()
+    }
+
+    fn encode_value_before(&self, buf: &mut [u8], end: u32) -> u32 {
+        field_refs!(self, (revocation_time, revocation_reason)).encode_before(buf, end)
+    }
 }
 
 impl Item for RevokedInfo {

@@ -80,6 +80,14 @@ impl<'a> EncodeValue for ServiceLocator<'a> {
     fn encode_value<W: Writer>(&self, writer: &mut W) -> Result<(), Error> {
         field_refs!(self, (issuer, locator)).encode(writer)
     }
+
+    fn value_len_before(&self) -> Option<u32> {
+        field_refs!(self, (issuer, locator)).len_before()
+    }
+
+    fn encode_value_before(&self, buf: &mut [u8], end: u32) -> u32 {
+        field_refs!(self, (issuer, locator)).encode_before(buf, end)
+    }
 }
 
 impl<'a> Item for ServiceLocator<'a> {

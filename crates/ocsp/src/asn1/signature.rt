@@ -94,6 +94,14 @@ impl<'a> EncodeValue for Signature<'a> {
     fn encode_value<W: Writer>(&self, writer: &mut W) -> Result<(), Error> {
         field_refs!(self, (signature_algorithm, (signature, certs))).encode(writer)
     }
+
+    fn value_len_before(&self) -> Option<u32> {
+        field_refs!(self, (signature_algorithm, (signature, certs))).len_before()
+    }
+
+    fn encode_value_before(&self, buf: &mut [u8], end: u32) -> u32 {
+        field_refs!(self, (signature_algorithm, (signature, certs))).encode_before(buf, end)
+    }
 }
 
 impl<'a> Item for Signature<'a> {

@@ -154,6 +154,28 @@ impl<'a> EncodeValue for SingleResponse<'a> {
         )
         .encode(writer)
     }
+
+    fn value_len_before(&self) -> Option<u32> {
+        field_refs!(
+            self,
+            (
+                (cert_id, (cert_status, this_update)),
+                (next_update, single_extensions)
+            )
+        )
+        .len_before()
+    }
+
+    fn encode_value_before(&self, buf: &mut [u8], end: u32) -> u32 {
+        field_refs!(
+            self,
+            (
+                (cert_id, (cert_status, this_update)),
+                (next_update, single_extensions)
+            )
+        )
+        .encode_before(buf, end)
+    }
 }
 
 impl<'a> Item for SingleResponse<'a> {

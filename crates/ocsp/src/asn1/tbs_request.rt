@@ -195,6 +195,28 @@ impl<'a> EncodeValue for TbsRequest<'a> {
         )
         .encode(writer)
     }
+
+    fn value_len_before(&self) -> Option<u32> {
+        field_refs!(
+            self,
+            (
+                (version, requestor_name),
+                (request_list, request_extensions)
+            )
+        )
+        .len_before()
+    }
+
+    fn encode_value_before(&self, buf: &mut [u8], end: u32) -> u32 {
+        field_refs!(
+            self,
+            (
+                (version, requestor_name),
+                (request_list, request_extensions)
+            )
+        )
+        .encode_before(buf, end)
+    }
 }
 
 impl<'a> Item for TbsRequest<'a> {

@@ -123,6 +123,14 @@ impl<'a> EncodeValue for Address<'a> {
     fn encode_value<W: Writer>(&self, writer: &mut W) -> Result<(), Error> {
         field_refs!(self, ((name, (street, code)), (type_, note))).encode(writer)
     }
+
+    fn value_len_before(&self) -> Option<u32> {
+        field_refs!(self, ((name, (street, code)), (type_, note))).len_before()
+    }
+
+    fn encode_value_before(&self, buf: &mut [u8], end: u32) -> u32 {
+        field_refs!(self, ((name, (street, code)), (type_, note))).encode_before(buf, end)
+    }
 }
 
 impl<'a> Item for Address<'a> {

@@ -144,6 +144,16 @@ impl<'a> EncodeValue for Journey<'a> {
     fn encode_value<W: Writer>(&self, writer: &mut W) -> Result<(), Error> {
         field_refs!(self, ((sender, receiver), ((stops, properties), attempts))).encode(writer)
     }
+
+    fn value_len_before(&self) -> Option<u32> {
+        field_refs!(self, ((sender, receiver), ((stops, properties), attempts))).len_before()
+    }
+
+    fn encode_value_before(&self, buf: &mut [u8], end: u32) -> u32 {
+        field_refs!(self, ((sender, receiver), ((stops, properties), attempts))).encode_before(
+            buf, end,
+        )
+    }
 }
 
 impl<'a> Item for Journey<'a> {

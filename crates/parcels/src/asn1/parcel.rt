@@ -226,6 +226,28 @@ impl<'a> EncodeValue for Parcel<'a> {
         )
         .encode(writer)
     }
+
+    fn value_len_before(&self) -> Option<u32> {
+        field_refs!(
+            self,
+            (
+                ((version, number), (weight, packing)),
+                ((handling, opened), (journey, label))
+            )
+        )
+        .len_before()
+    }
+
+    fn encode_value_before(&self, buf: &mut [u8], end: u32) -> u32 {
+        field_refs!(
+            self,
+            (
+                ((version, number), (weight, packing)),
+                ((handling, opened), (journey, label))
+            )
+        )
+        .encode_before(buf, end)
+    }
 }
 
 impl<'a> Item for Parcel<'a> {

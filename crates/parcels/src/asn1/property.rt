@@ -79,6 +79,14 @@ impl<'a> EncodeValue for Property<'a> {
     fn encode_value<W: Writer>(&self, writer: &mut W) -> Result<(), Error> {
         field_refs!(self, (kind, value)).encode(writer)
     }
+
+    fn value_len_before(&self) -> Option<u32> {
+        field_refs!(self, (kind, value)).len_before()
+    }
+
+    fn encode_value_before(&self, buf: &mut [u8], end: u32) -> u32 {
+        field_refs!(self, (kind, value)).encode_before(buf, end)
+    }
 }
 
 impl<'a> Item for Property<'a> {

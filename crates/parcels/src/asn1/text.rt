@@ -134,6 +134,24 @@ impl<'a> Encode for Text<'a> {
             Text::Visible(value) => value.encode(writer),
         }
     }
+
+    fn len_before(&self) -> Option<u32> {
+        match self {
+            Text::Printable(value) => value.len_before(),
+            Text::Utf8(value) => value.len_before(),
+            Text::Teletex(value) => value.len_before(),
+            Text::Visible(value) => value.len_before(),
+        }
+    }
+
+    fn encode_before(&self, buf: &mut [u8], end: u32) -> u32 {
+        match self {
+            Text::Printable(value) => value.encode_before(buf, end),
+            Text::Utf8(value) => value.encode_before(buf, end),
+            Text::Teletex(value) => value.encode_before(buf, end),
+            Text::Visible(value) => value.encode_before(buf, end),
+        }
+    }
 }
 
 impl<'a> Item for Text<'a> {

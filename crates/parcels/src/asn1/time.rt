@@ -120,6 +120,22 @@ impl<'a> Encode for Time<'a> {
             Time::Unknown(value) => value.encode(writer),
         }
     }
+
+    fn len_before(&self) -> Option<u32> {
+        match self {
+            Time::Utc(value) => value.len_before(),
+            Time::General(value) => value.len_before(),
+            Time::Unknown(value) => value.len_before(),
+        }
+    }
+
+    fn encode_before(&self, buf: &mut [u8], end: u32) -> u32 {
+        match self {
+            Time::Utc(value) => value.encode_before(buf, end),
+            Time::General(value) => value.encode_before(buf, end),
+            Time::Unknown(value) => value.encode_before(buf, end),
+        }
+    }
 }
 
 impl<'a> Item for Time<'a> {

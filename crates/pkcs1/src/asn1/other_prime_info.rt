@@ -85,6 +85,14 @@ impl<'a> EncodeValue for OtherPrimeInfo<'a> {
     fn encode_value<W: Writer>(&self, writer: &mut W) -> Result<(), Error> {
         field_refs!(self, (prime, (exponent, coefficient))).encode(writer)
     }
+
+    fn value_len_before(&self) -> Option<u32> {
+        field_refs!(self, (prime, (exponent, coefficient))).len_before()
+    }
+
+    fn encode_value_before(&self, buf: &mut [u8], end: u32) -> u32 {
+        field_refs!(self, (prime, (exponent, coefficient))).encode_before(buf, end)
+    }
 }
 
 impl<'a> Item for OtherPrimeInfo<'a> {

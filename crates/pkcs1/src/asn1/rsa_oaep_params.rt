@@ -115,6 +115,14 @@ impl<'a> EncodeValue for RsaOaepParams<'a> {
     fn encode_value<W: Writer>(&self, writer: &mut W) -> Result<(), Error> {
         field_refs!(self, ((hash, mask_gen), p_source)).encode(writer)
     }
+
+    fn value_len_before(&self) -> Option<u32> {
+        field_refs!(self, ((hash, mask_gen), p_source)).len_before()
+    }
+
+    fn encode_value_before(&self, buf: &mut [u8], end: u32) -> u32 {
+        field_refs!(self, ((hash, mask_gen), p_source)).encode_before(buf, end)
+    }
 }
 
 impl<'a> Item for RsaOaepParams<'a> {

@@ -214,6 +214,34 @@ impl<'a> EncodeValue for RsaPrivateKey<'a> {
         )
         .encode(writer)
     }
+
+    fn value_len_before(&self) -> Option<u32> {
+        field_refs!(
+            self,
+            (
+                ((version, modulus), (public_exponent, private_exponent)),
+                (
+                    ((prime1, prime2), (exponent1, exponent2)),
+                    (coefficient, other_prime_infos)
+                )
+            )
+        )
+        .len_before()
+    }
+
+    fn encode_value_before(&self, buf: &mut [u8], end: u32) -> u32 {
+        field_refs!(
+            self,
+            (
+                ((version, modulus), (public_exponent, private_exponent)),
+                (
+                    ((prime1, prime2), (exponent1, exponent2)),
+                    (coefficient, other_prime_infos)
+                )
+            )
+        )
+        .encode_before(buf, end)
+    }
 }
 
 impl<'a> Item for RsaPrivateKey<'a> {

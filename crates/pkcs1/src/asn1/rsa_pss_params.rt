@@ -174,6 +174,14 @@ impl<'a> EncodeValue for RsaPssParams<'a> {
     fn encode_value<W: Writer>(&self, writer: &mut W) -> Result<(), Error> {
         field_refs!(self, ((hash, mask_gen), (salt_len, trailer_field))).encode(writer)
     }
+
+    fn value_len_before(&self) -> Option<u32> {
+        field_refs!(self, ((hash, mask_gen), (salt_len, trailer_field))).len_before()
+    }
+
+    fn encode_value_before(&self, buf: &mut [u8], end: u32) -> u32 {
+        field_refs!(self, ((hash, mask_gen), (salt_len, trailer_field))).encode_before(buf, end)
+    }
 }
 
 impl<'a> Item for RsaPssParams<'a> {

@@ -79,6 +79,14 @@ impl<'a> EncodeValue for RsaPublicKey<'a> {
     fn encode_value<W: Writer>(&self, writer: &mut W) -> Result<(), Error> {
         field_refs!(self, (modulus, public_exponent)).encode(writer)
     }
+
+    fn value_len_before(&self) -> Option<u32> {
+        field_refs!(self, (modulus, public_exponent)).len_before()
+    }
+
+    fn encode_value_before(&self, buf: &mut [u8], end: u32) -> u32 {
+        field_refs!(self, (modulus, public_exponent)).encode_before(buf, end)
+    }
 }
 
 impl<'a> Item for RsaPublicKey<'a> {

@@ -110,6 +110,14 @@ impl<'a> EncodeValue for MacData<'a> {
     fn encode_value<W: Writer>(&self, writer: &mut W) -> Result<(), Error> {
         field_refs!(self, ((mac, mac_salt), iterations)).encode(writer)
     }
+
+    fn value_len_before(&self) -> Option<u32> {
+        field_refs!(self, ((mac, mac_salt), iterations)).len_before()
+    }
+
+    fn encode_value_before(&self, buf: &mut [u8], end: u32) -> u32 {
+        field_refs!(self, ((mac, mac_salt), iterations)).encode_before(buf, end)
+    }
 }
 
 impl<'a> Item for MacData<'a> {

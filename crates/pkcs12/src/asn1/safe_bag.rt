@@ -93,6 +93,14 @@ impl<'a> EncodeValue for SafeBag<'a> {
     fn encode_value<W: Writer>(&self, writer: &mut W) -> Result<(), Error> {
         field_refs!(self, (bag_id, (bag_value, bag_attributes))).encode(writer)
     }
+
+    fn value_len_before(&self) -> Option<u32> {
+        field_refs!(self, (bag_id, (bag_value, bag_attributes))).len_before()
+    }
+
+    fn encode_value_before(&self, buf: &mut [u8], end: u32) -> u32 {
+        field_refs!(self, (bag_id, (bag_value, bag_attributes))).encode_before(buf, end)
+    }
 }
 
 impl<'a> Item for SafeBag<'a> {

@@ -83,6 +83,14 @@ impl<'a> EncodeValue for EncryptedPrivateKeyInfo<'a> {
     fn encode_value<W: Writer>(&self, writer: &mut W) -> Result<(), Error> {
         field_refs!(self, (encryption_algorithm, encrypted_data)).encode(writer)
     }
+
+    fn value_len_before(&self) -> Option<u32> {
+        field_refs!(self, (encryption_algorithm, encrypted_data)).len_before()
+    }
+
+    fn encode_value_before(&self, buf: &mut [u8], end: u32) -> u32 {
+        field_refs!(self, (encryption_algorithm, encrypted_data)).encode_before(buf, end)
+    }
 }
 
 impl<'a> Item for EncryptedPrivateKeyInfo<'a> {

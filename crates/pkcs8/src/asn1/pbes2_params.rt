@@ -81,6 +81,14 @@ impl<'a> EncodeValue for Pbes2Params<'a> {
     fn encode_value<W: Writer>(&self, writer: &mut W) -> Result<(), Error> {
         field_refs!(self, (key_derivation_func, encryption_scheme)).encode(writer)
     }
+
+    fn value_len_before(&self) -> Option<u32> {
+        field_refs!(self, (key_derivation_func, encryption_scheme)).len_before()
+    }
+
+    fn encode_value_before(&self, buf: &mut [u8], end: u32) -> u32 {
+        field_refs!(self, (key_derivation_func, encryption_scheme)).encode_before(buf, end)
+    }
 }
 
 impl<'a> Item for Pbes2Params<'a> {

@@ -127,6 +127,14 @@ impl<'a> EncodeValue for Pbkdf2Params<'a> {
     fn encode_value<W: Writer>(&self, writer: &mut W) -> Result<(), Error> {
         field_refs!(self, ((salt, iteration_count), (key_length, prf))).encode(writer)
     }
+
+    fn value_len_before(&self) -> Option<u32> {
+        field_refs!(self, ((salt, iteration_count), (key_length, prf))).len_before()
+    }
+
+    fn encode_value_before(&self, buf: &mut [u8], end: u32) -> u32 {
+        field_refs!(self, ((salt, iteration_count), (key_length, prf))).encode_before(buf, end)
+    }
 }
 
 impl<'a> Item for Pbkdf2Params<'a> {

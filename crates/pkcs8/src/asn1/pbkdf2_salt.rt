@@ -106,6 +106,20 @@ impl<'a> Encode for Pbkdf2Salt<'a> {
             Pbkdf2Salt::OtherSource(value) => value.encode(writer),
         }
     }
+
+    fn len_before(&self) -> Option<u32> {
+        match self {
+            Pbkdf2Salt::Specified(value) => value.len_before(),
+            Pbkdf2Salt::OtherSource(value) => value.len_before(),
+        }
+    }
+
+    fn encode_before(&self, buf: &mut [u8], end: u32) -> u32 {
+        match self {
+            Pbkdf2Salt::Specified(value) => value.encode_before(buf, end),
+            Pbkdf2Salt::OtherSource(value) => value.encode_before(buf, end),
+        }
+    }
 }
 
 impl<'a> Item for Pbkdf2Salt<'a> {

@@ -80,6 +80,14 @@ impl<'a> EncodeValue for PrivateKeyAttribute<'a> {
     fn encode_value<W: Writer>(&self, writer: &mut W) -> Result<(), Error> {
         field_refs!(self, (oid, attr_values)).encode(writer)
     }
+
+    fn value_len_before(&self) -> Option<u32> {
+        field_refs!(self, (oid, attr_values)).len_before()
+    }
+
+    fn encode_value_before(&self, buf: &mut [u8], end: u32) -> u32 {
+        field_refs!(self, (oid, attr_values)).encode_before(buf, end)
+    }
 }
 
 impl<'a> Item for PrivateKeyAttribute<'a> {

@@ -144,6 +144,28 @@ impl<'a> EncodeValue for PrivateKeyInfo<'a> {
         )
         .encode(writer)
     }
+
+    fn value_len_before(&self) -> Option<u32> {
+        field_refs!(
+            self,
+            (
+                (version, (private_key_algorithm, private_key)),
+                (attributes, public_key)
+            )
+        )
+        .len_before()
+    }
+
+    fn encode_value_before(&self, buf: &mut [u8], end: u32) -> u32 {
+        field_refs!(
+            self,
+            (
+                (version, (private_key_algorithm, private_key)),
+                (attributes, public_key)
+            )
+        )
+        .encode_before(buf, end)
+    }
 }
 
 impl<'a> Item for PrivateKeyInfo<'a> {

@@ -139,6 +139,28 @@ impl<'a> EncodeValue for ScryptParams<'a> {
         )
         .encode(writer)
     }
+
+    fn value_len_before(&self) -> Option<u32> {
+        field_refs!(
+            self,
+            (
+                (salt, (cost_parameter, block_size)),
+                (parallelization, key_length)
+            )
+        )
+        .len_before()
+    }
+
+    fn encode_value_before(&self, buf: &mut [u8], end: u32) -> u32 {
+        field_refs!(
+            self,
+            (
+                (salt, (cost_parameter, block_size)),
+                (parallelization, key_length)
+            )
+        )
+        .encode_before(buf, end)
+    }
 }
 
 impl<'a> Item for ScryptParams<'a> {

@@ -87,6 +87,14 @@ impl<'a> EncodeValue for Curve<'a> {
     fn encode_value<W: Writer>(&self, writer: &mut W) -> Result<(), Error> {
         field_refs!(self, (a, (b, seed))).encode(writer)
     }
+
+    fn value_len_before(&self) -> Option<u32> {
+        field_refs!(self, (a, (b, seed))).len_before()
+    }
+
+    fn encode_value_before(&self, buf: &mut [u8], end: u32) -> u32 {
+        field_refs!(self, (a, (b, seed))).encode_before(buf, end)
+    }
 }
 
 impl<'a> Item for Curve<'a> {

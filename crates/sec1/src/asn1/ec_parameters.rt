@@ -124,6 +124,22 @@ impl<'a> Encode for EcParameters<'a> {
             EcParameters::SpecifiedCurve(value) => value.encode(writer),
         }
     }
+
+    fn len_before(&self) -> Option<u32> {
+        match self {
+            EcParameters::NamedCurve(value) => value.len_before(),
+            EcParameters::ImplicitCurve(value) => value.len_before(),
+            EcParameters::SpecifiedCurve(value) => value.len_before(),
+        }
+    }
+
+    fn encode_before(&self, buf: &mut [u8], end: u32) -> u32 {
+        match self {
+            EcParameters::NamedCurve(value) => value.encode_before(buf, end),
+            EcParameters::ImplicitCurve(value) => value.encode_before(buf, end),
+            EcParameters::SpecifiedCurve(value) => value.encode_before(buf, end),
+        }
+    }
 }
 
 impl<'a> Item for EcParameters<'a> {

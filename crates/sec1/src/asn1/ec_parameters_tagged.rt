@@ -84,6 +84,14 @@ impl<'a> EncodeValue for EcParametersTagged<'a> {
     fn encode_value<W: Writer>(&self, writer: &mut W) -> Result<(), Error> {
         field_refs!(self, value).encode(writer)
     }
+
+    fn value_len_before(&self) -> Option<u32> {
+        field_refs!(self, value).len_before()
+    }
+
+    fn encode_value_before(&self, buf: &mut [u8], end: u32) -> u32 {
+        field_refs!(self, value).encode_before(buf, end)
+    }
 }
 
 impl<'a> Item for EcParametersTagged<'a> {

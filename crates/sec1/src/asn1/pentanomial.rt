@@ -80,6 +80,14 @@ impl<'a> EncodeValue for Pentanomial<'a> {
     fn encode_value<W: Writer>(&self, writer: &mut W) -> Result<(), Error> {
         field_refs!(self, (k1, (k2, k3))).encode(writer)
     }
+
+    fn value_len_before(&self) -> Option<u32> {
+        field_refs!(self, (k1, (k2, k3))).len_before()
+    }
+
+    fn encode_value_before(&self, buf: &mut [u8], end: u32) -> u32 {
+        field_refs!(self, (k1, (k2, k3))).encode_before(buf, end)
+    }
 }
 
 impl<'a> Item for Pentanomial<'a> {

@@ -159,6 +159,28 @@ impl<'a> EncodeValue for SpecifiedEcDomain<'a> {
         )
         .encode(writer)
     }
+
+    fn value_len_before(&self) -> Option<u32> {
+        field_refs!(
+            self,
+            (
+                ((version, field_id), (curve, base)),
+                (order, (cofactor, hash))
+            )
+        )
+        .len_before()
+    }
+
+    fn encode_value_before(&self, buf: &mut [u8], end: u32) -> u32 {
+        field_refs!(
+            self,
+            (
+                ((version, field_id), (curve, base)),
+                (order, (cofactor, hash))
+            )
+        )
+        .encode_before(buf, end)
+    }
 }
 
 impl<'a> Item for SpecifiedEcDomain<'a> {

@@ -117,6 +117,14 @@ impl<'a> EncodeValue for Visit<'a> {
     fn encode_value<W: Writer>(&self, writer: &mut W) -> Result<(), Error> {
         field_refs!(self, ((ticket, (visitor, arrival)), (rooms, member))).encode(writer)
     }
+
+    fn value_len_before(&self) -> Option<u32> {
+        field_refs!(self, ((ticket, (visitor, arrival)), (rooms, member))).len_before()
+    }
+
+    fn encode_value_before(&self, buf: &mut [u8], end: u32) -> u32 {
+        field_refs!(self, ((ticket, (visitor, arrival)), (rooms, member))).encode_before(buf, end)
+    }
 }
 
 impl<'a> Item for Visit<'a> {

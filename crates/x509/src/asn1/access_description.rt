@@ -117,6 +117,14 @@ impl<'a> EncodeValue for AccessDescription<'a> {
     fn encode_value<W: Writer>(&self, writer: &mut W) -> Result<(), Error> {
         field_refs!(self, (access_method, access_location)).encode(writer)
     }
+
+    fn value_len_before(&self) -> Option<u32> {
+        field_refs!(self, (access_method, access_location)).len_before()
+    }
+
+    fn encode_value_before(&self, buf: &mut [u8], end: u32) -> u32 {
+        field_refs!(self, (access_method, access_location)).encode_before(buf, end)
+    }
 }
 
 impl<'a> Item for AccessDescription<'a> {

@@ -117,6 +117,28 @@ impl<'a> EncodeValue for AuthorityKeyIdentifier<'a> {
         )
         .encode(writer)
     }
+
+    fn value_len_before(&self) -> Option<u32> {
+        field_refs!(
+            self,
+            (
+                key_identifier,
+                (authority_cert_issuer, authority_cert_serial_number)
+            )
+        )
+        .len_before()
+    }
+
+    fn encode_value_before(&self, buf: &mut [u8], end: u32) -> u32 {
+        field_refs!(
+            self,
+            (
+                key_identifier,
+                (authority_cert_issuer, authority_cert_serial_number)
+            )
+        )
+        .encode_before(buf, end)
+    }
 }
 
 impl<'a> Item for AuthorityKeyIdentifier<'a> {

@@ -87,6 +87,14 @@ impl<'a> EncodeValue for BasicConstraints<'a> {
     fn encode_value<W: Writer>(&self, writer: &mut W) -> Result<(), Error> {
         field_refs!(self, (ca, path_len_constraint)).encode(writer)
     }
+
+    fn value_len_before(&self) -> Option<u32> {
+        field_refs!(self, (ca, path_len_constraint)).len_before()
+    }
+
+    fn encode_value_before(&self, buf: &mut [u8], end: u32) -> u32 {
+        field_refs!(self, (ca, path_len_constraint)).encode_before(buf, end)
+    }
 }
 
 impl<'a> Item for BasicConstraints<'a> {

@@ -99,6 +99,14 @@ impl<'a> EncodeValue for CertReqInfo<'a> {
     fn encode_value<W: Writer>(&self, writer: &mut W) -> Result<(), Error> {
         field_refs!(self, ((version, subject), (public_key, attributes))).encode(writer)
     }
+
+    fn value_len_before(&self) -> Option<u32> {
+        field_refs!(self, ((version, subject), (public_key, attributes))).len_before()
+    }
+
+    fn encode_value_before(&self, buf: &mut [u8], end: u32) -> u32 {
+        field_refs!(self, ((version, subject), (public_key, attributes))).encode_before(buf, end)
+    }
 }
 
 impl<'a> Item for CertReqInfo<'a> {

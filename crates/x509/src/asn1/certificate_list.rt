@@ -90,6 +90,14 @@ impl<'a> EncodeValue for CertificateList<'a> {
     fn encode_value<W: Writer>(&self, writer: &mut W) -> Result<(), Error> {
         field_refs!(self, (tbs_cert_list, (signature_algorithm, signature))).encode(writer)
     }
+
+    fn value_len_before(&self) -> Option<u32> {
+        field_refs!(self, (tbs_cert_list, (signature_algorithm, signature))).len_before()
+    }
+
+    fn encode_value_before(&self, buf: &mut [u8], end: u32) -> u32 {
+        field_refs!(self, (tbs_cert_list, (signature_algorithm, signature))).encode_before(buf, end)
+    }
 }
 
 impl<'a> Item for CertificateList<'a> {

@@ -139,6 +139,24 @@ impl<'a> Encode for DirectoryString<'a> {
             DirectoryString::BmpString(value) => value.encode(writer),
         }
     }
+
+    fn len_before(&self) -> Option<u32> {
+        match self {
+            DirectoryString::TeletexString(value) => value.len_before(),
+            DirectoryString::PrintableString(value) => value.len_before(),
+            DirectoryString::Utf8String(value) => value.len_before(),
+            DirectoryString::BmpString(value) => value.len_before(),
+        }
+    }
+
+    fn encode_before(&self, buf: &mut [u8], end: u32) -> u32 {
+        match self {
+            DirectoryString::TeletexString(value) => value.encode_before(buf, end),
+            DirectoryString::PrintableString(value) => value.encode_before(buf, end),
+            DirectoryString::Utf8String(value) => value.encode_before(buf, end),
+            DirectoryString::BmpString(value) => value.encode_before(buf, end),
+        }
+    }
 }
 
 impl<'a> Item for DirectoryString<'a> {

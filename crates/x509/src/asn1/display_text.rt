@@ -135,6 +135,24 @@ impl<'a> Encode for DisplayText<'a> {
             DisplayText::Utf8String(value) => value.encode(writer),
         }
     }
+
+    fn len_before(&self) -> Option<u32> {
+        match self {
+            DisplayText::Ia5String(value) => value.len_before(),
+            DisplayText::VisibleString(value) => value.len_before(),
+            DisplayText::BmpString(value) => value.len_before(),
+            DisplayText::Utf8String(value) => value.len_before(),
+        }
+    }
+
+    fn encode_before(&self, buf: &mut [u8], end: u32) -> u32 {
+        match self {
+            DisplayText::Ia5String(value) => value.encode_before(buf, end),
+            DisplayText::VisibleString(value) => value.encode_before(buf, end),
+            DisplayText::BmpString(value) => value.encode_before(buf, end),
+            DisplayText::Utf8String(value) => value.encode_before(buf, end),
+        }
+    }
 }
 
 impl<'a> Item for DisplayText<'a> {

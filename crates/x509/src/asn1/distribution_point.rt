@@ -120,6 +120,14 @@ impl<'a> EncodeValue for DistributionPoint<'a> {
     fn encode_value<W: Writer>(&self, writer: &mut W) -> Result<(), Error> {
         field_refs!(self, ((distribution_point, reasons), crl_issuer)).encode(writer)
     }
+
+    fn value_len_before(&self) -> Option<u32> {
+        field_refs!(self, ((distribution_point, reasons), crl_issuer)).len_before()
+    }
+
+    fn encode_value_before(&self, buf: &mut [u8], end: u32) -> u32 {
+        field_refs!(self, ((distribution_point, reasons), crl_issuer)).encode_before(buf, end)
+    }
 }
 
 impl<'a> Item for DistributionPoint<'a> {

@@ -112,6 +112,20 @@ impl<'a> Encode for DistributionPointName<'a> {
             DistributionPointName::NameRelativeToCrlIssuer(value) => value.encode(writer),
         }
     }
+
+    fn len_before(&self) -> Option<u32> {
+        match self {
+            DistributionPointName::FullName(value) => value.len_before(),
+            DistributionPointName::NameRelativeToCrlIssuer(value) => value.len_before(),
+        }
+    }
+
+    fn encode_before(&self, buf: &mut [u8], end: u32) -> u32 {
+        match self {
+            DistributionPointName::FullName(value) => value.encode_before(buf, end),
+            DistributionPointName::NameRelativeToCrlIssuer(value) => value.encode_before(buf, end),
+        }
+    }
 }
 
 impl<'a> Item for DistributionPointName<'a> {

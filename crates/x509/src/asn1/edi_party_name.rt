@@ -87,6 +87,14 @@ impl<'a> EncodeValue for EdiPartyName<'a> {
     fn encode_value<W: Writer>(&self, writer: &mut W) -> Result<(), Error> {
         field_refs!(self, (name_assigner, party_name)).encode(writer)
     }
+
+    fn value_len_before(&self) -> Option<u32> {
+        field_refs!(self, (name_assigner, party_name)).len_before()
+    }
+
+    fn encode_value_before(&self, buf: &mut [u8], end: u32) -> u32 {
+        field_refs!(self, (name_assigner, party_name)).encode_before(buf, end)
+    }
 }
 
 impl<'a> Item for EdiPartyName<'a> {

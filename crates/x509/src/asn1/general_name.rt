@@ -205,6 +205,34 @@ impl<'a> Encode for GeneralName<'a> {
             GeneralName::RegisteredId(value) => value.encode(writer),
         }
     }
+
+    fn len_before(&self) -> Option<u32> {
+        match self {
+            GeneralName::OtherName(value) => value.len_before(),
+            GeneralName::Rfc822Name(value) => value.len_before(),
+            GeneralName::DnsName(value) => value.len_before(),
+            GeneralName::X400Address(value) => value.len_before(),
+            GeneralName::DirectoryName(value) => value.len_before(),
+            GeneralName::EdiPartyName(value) => value.len_before(),
+            GeneralName::UniformResourceIdentifier(value) => value.len_before(),
+            GeneralName::IpAddress(value) => value.len_before(),
+            GeneralName::RegisteredId(value) => value.len_before(),
+        }
+    }
+
+    fn encode_before(&self, buf: &mut [u8], end: u32) -> u32 {
+        match self {
+            GeneralName::OtherName(value) => value.encode_before(buf, end),
+            GeneralName::Rfc822Name(value) => value.encode_before(buf, end),
+            GeneralName::DnsName(value) => value.encode_before(buf, end),
+            GeneralName::X400Address(value) => value.encode_before(buf, end),
+            GeneralName::DirectoryName(value) => value.encode_before(buf, end),
+            GeneralName::EdiPartyName(value) => value.encode_before(buf, end),
+            GeneralName::UniformResourceIdentifier(value) => value.encode_before(buf, end),
+            GeneralName::IpAddress(value) => value.encode_before(buf, end),
+            GeneralName::RegisteredId(value) => value.encode_before(buf, end),
+        }
+    }
 }
 
 impl<'a> Item for GeneralName<'a> {

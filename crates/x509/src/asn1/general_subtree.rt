@@ -153,6 +153,14 @@ impl<'a> EncodeValue for GeneralSubtree<'a> {
     fn encode_value<W: Writer>(&self, writer: &mut W) -> Result<(), Error> {
         field_refs!(self, ((base, minimum), maximum)).encode(writer)
     }
+
+    fn value_len_before(&self) -> Option<u32> {
+        field_refs!(self, ((base, minimum), maximum)).len_before()
+    }
+
+    fn encode_value_before(&self, buf: &mut [u8], end: u32) -> u32 {
+        field_refs!(self, ((base, minimum), maximum)).encode_before(buf, end)
+    }
 }
 
 impl<'a> Item for GeneralSubtree<'a> {

@@ -222,6 +222,34 @@ impl<'a> EncodeValue for IssuingDistributionPoint<'a> {
         )
         .encode(writer)
     }
+
+    fn value_len_before(&self) -> Option<u32> {
+        field_refs!(
+            self,
+            (
+                (distribution_point, only_contains_user_certs),
+                (
+                    (only_contains_ca_certs, only_some_reasons),
+                    (indirect_crl, only_contains_attribute_certs)
+                )
+            )
+        )
+        .len_before()
+    }
+
+    fn encode_value_before(&self, buf: &mut [u8], end: u32) -> u32 {
+        field_refs!(
+            self,
+            (
+                (distribution_point, only_contains_user_certs),
+                (
+                    (only_contains_ca_certs, only_some_reasons),
+                    (indirect_crl, only_contains_attribute_certs)
+                )
+            )
+        )
+        .encode_before(buf, end)
+    }
 }
 
 impl<'a> Item for IssuingDistributionPoint<'a> {

@@ -70,6 +70,14 @@ impl<'a> EncodeValue for Name<'a> {
     fn encode_value<W: Writer>(&self, writer: &mut W) -> Result<(), Error> {
         self.levels.encode_value(writer)
     }
+
+    fn value_len_before(&self) -> Option<u32> {
+        self.levels.value_len_before()
+    }
+
+    fn encode_value_before(&self, buf: &mut [u8], end: u32) -> u32 {
+        self.levels.encode_value_before(buf, end)
+    }
 }
 
 impl<'a> Item for Name<'a> {

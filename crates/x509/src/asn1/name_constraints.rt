@@ -89,6 +89,14 @@ impl<'a> EncodeValue for NameConstraints<'a> {
     fn encode_value<W: Writer>(&self, writer: &mut W) -> Result<(), Error> {
         field_refs!(self, (permitted_subtrees, excluded_subtrees)).encode(writer)
     }
+
+    fn value_len_before(&self) -> Option<u32> {
+        field_refs!(self, (permitted_subtrees, excluded_subtrees)).len_before()
+    }
+
+    fn encode_value_before(&self, buf: &mut [u8], end: u32) -> u32 {
+        field_refs!(self, (permitted_subtrees, excluded_subtrees)).encode_before(buf, end)
+    }
 }
 
 impl<'a> Item for NameConstraints<'a> {

@@ -89,6 +89,14 @@ impl<'a> EncodeValue for PolicyConstraints<'a> {
     fn encode_value<W: Writer>(&self, writer: &mut W) -> Result<(), Error> {
         field_refs!(self, (require_explicit_policy, inhibit_policy_mapping)).encode(writer)
     }
+
+    fn value_len_before(&self) -> Option<u32> {
+        field_refs!(self, (require_explicit_policy, inhibit_policy_mapping)).len_before()
+    }
+
+    fn encode_value_before(&self, buf: &mut [u8], end: u32) -> u32 {
+        field_refs!(self, (require_explicit_policy, inhibit_policy_mapping)).encode_before(buf, end)
+    }
 }
 
 impl<'a> Item for PolicyConstraints<'a> {

@@ -88,6 +88,14 @@ impl<'a> EncodeValue for PolicyInformation<'a> {
     fn encode_value<W: Writer>(&self, writer: &mut W) -> Result<(), Error> {
         field_refs!(self, (policy_identifier, policy_qualifiers)).encode(writer)
     }
+
+    fn value_len_before(&self) -> Option<u32> {
+        field_refs!(self, (policy_identifier, policy_qualifiers)).len_before()
+    }
+
+    fn encode_value_before(&self, buf: &mut [u8], end: u32) -> u32 {
+        field_refs!(self, (policy_identifier, policy_qualifiers)).encode_before(buf, end)
+    }
 }
 
 impl<'a> Item for PolicyInformation<'a> {

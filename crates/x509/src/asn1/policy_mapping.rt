@@ -81,6 +81,14 @@ impl<'a> EncodeValue for PolicyMapping<'a> {
     fn encode_value<W: Writer>(&self, writer: &mut W) -> Result<(), Error> {
         field_refs!(self, (issuer_domain_policy, subject_domain_policy)).encode(writer)
     }
+
+    fn value_len_before(&self) -> Option<u32> {
+        field_refs!(self, (issuer_domain_policy, subject_domain_policy)).len_before()
+    }
+
+    fn encode_value_before(&self, buf: &mut [u8], end: u32) -> u32 {
+        field_refs!(self, (issuer_domain_policy, subject_domain_policy)).encode_before(buf, end)
+    }
 }
 
 impl<'a> Item for PolicyMapping<'a> {

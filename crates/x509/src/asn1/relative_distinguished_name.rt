@@ -102,6 +102,14 @@ impl<'a> EncodeValue for RelativeDistinguishedName<'a> {
     fn encode_value<W: Writer>(&self, writer: &mut W) -> Result<(), Error> {
         self.attributes.encode_value(writer)
     }
+
+    fn value_len_before(&self) -> Option<u32> {
+        self.attributes.value_len_before()
+    }
+
+    fn encode_value_before(&self, buf: &mut [u8], end: u32) -> u32 {
+        self.attributes.encode_value_before(buf, end)
+    }
 }
 
 impl<'a> Item for RelativeDistinguishedName<'a> {

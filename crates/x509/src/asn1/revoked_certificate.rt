@@ -108,6 +108,22 @@ impl<'a> EncodeValue for RevokedCertificate<'a> {
         )
         .encode(writer)
     }
+
+    fn value_len_before(&self) -> Option<u32> {
+        field_refs!(
+            self,
+            (user_certificate, (revocation_date, crl_entry_extensions))
+        )
+        .len_before()
+    }
+
+    fn encode_value_before(&self, buf: &mut [u8], end: u32) -> u32 {
+        field_refs!(
+            self,
+            (user_certificate, (revocation_date, crl_entry_extensions))
+        )
+        .encode_before(buf, end)
+    }
 }
 
 impl<'a> Item for RevokedCertificate<'a> {

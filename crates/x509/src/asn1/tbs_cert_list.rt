@@ -171,6 +171,28 @@ impl<'a> EncodeValue for TbsCertList<'a> {
         )
         .encode(writer)
     }
+
+    fn value_len_before(&self) -> Option<u32> {
+        field_refs!(
+            self,
+            (
+                ((version, signature), (issuer, this_update)),
+                (next_update, (revoked_certificates, crl_extensions))
+            )
+        )
+        .len_before()
+    }
+
+    fn encode_value_before(&self, buf: &mut [u8], end: u32) -> u32 {
+        field_refs!(
+            self,
+            (
+                ((version, signature), (issuer, this_update)),
+                (next_update, (revoked_certificates, crl_extensions))
+            )
+        )
+        .encode_before(buf, end)
+    }
 }
 
 impl<'a> Item for TbsCertList<'a> {

@@ -234,6 +234,40 @@ impl<'a> EncodeValue for TbsCertificate<'a> {
         )
         .encode(writer)
     }
+
+    fn value_len_before(&self) -> Option<u32> {
+        field_refs!(
+            self,
+            (
+                ((version, serial_number), (signature, issuer)),
+                (
+                    (
+                        (validity, subject),
+                        (subject_public_key_info, issuer_unique_id)
+                    ),
+                    (subject_unique_id, extensions)
+                )
+            )
+        )
+        .len_before()
+    }
+
+    fn encode_value_before(&self, buf: &mut [u8], end: u32) -> u32 {
+        field_refs!(
+            self,
+            (
+                ((version, serial_number), (signature, issuer)),
+                (
+                    (
+                        (validity, subject),
+                        (subject_public_key_info, issuer_unique_id)
+                    ),
+                    (subject_unique_id, extensions)
+                )
+            )
+        )
+        .encode_before(buf, end)
+    }
 }
 
 impl<'a> Item for TbsCertificate<'a> {

@@ -105,6 +105,20 @@ impl Encode for Time {
             Time::GeneralTime(value) => value.encode(writer),
         }
     }
+
+    fn len_before(&self) -> Option<u32> {
+        match self {
+            Time::UtcTime(value) => value.len_before(),
+            Time::GeneralTime(value) => value.len_before(),
+        }
+    }
+
+    fn encode_before(&self, buf: &mut [u8], end: u32) -> u32 {
+        match self {
+            Time::UtcTime(value) => value.encode_before(buf, end),
+            Time::GeneralTime(value) => value.encode_before(buf, end),
+        }
+    }
 }
 
 impl Item for Time {

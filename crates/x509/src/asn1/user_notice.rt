@@ -102,6 +102,14 @@ impl<'a> EncodeValue for UserNotice<'a> {
     fn encode_value<W: Writer>(&self, writer: &mut W) -> Result<(), Error> {
         field_refs!(self, (notice_ref, explicit_text)).encode(writer)
     }
+
+    fn value_len_before(&self) -> Option<u32> {
+        field_refs!(self, (notice_ref, explicit_text)).len_before()
+    }
+
+    fn encode_value_before(&self, buf: &mut [u8], end: u32) -> u32 {
+        field_refs!(self, (notice_ref, explicit_text)).encode_before(buf, end)
+    }
 }
 
 impl<'a> Item for UserNotice<'a> {

@@ -89,6 +89,14 @@ impl EncodeValue for Validity {
     fn encode_value<W: Writer>(&self, writer: &mut W) -> Result<(), Error> {
         field_refs!(self, (not_before, not_after)).encode(writer)
     }
+
+    fn value_len_before(&self) -> Option<u32> {
+        field_refs!(self, (not_before, not_after)).len_before()
+    }
+
+    fn encode_value_before(&self, buf: &mut [u8], end: u32) -> u32 {
+        field_refs!(self, (not_before, not_after)).encode_before(buf, end)
+    }
 }
 
 impl Item for Validity {
