@@ -151,6 +151,12 @@ placed_by_writer octets old new start n stop reference (Err e) s w ends begun ap
     let wrong = fits (omega (arith, count, few)) (ap (λ (t : WriterState). t.failed) begun) (omega (arith, before, limit, count)) in
     cc
 
+-- a new writer over a buffer that is long enough accepts the octets
+pub fresh_accepted : (e : Type 0) (size : Result Length Error) (answers : WriterAnswer) (octets old : List ℕ) (n : ℕ) → Certain e size answers octets n → n ≤ length old → n < 2 ^ 32
+    → answers (fresh_state old 0) (Ok tt) (appended_state (fresh_state old 0) octets)
+fresh_accepted e size answers octets old n p within few =
+    p.accepted (fresh_state old 0) (space_for (length octets) (fresh_state old 0) refl (le-min (omega (arith, p.counted, within)) (omega (arith, p.counted, few))) (omega (arith, p.counted, few)))
+
 -- a buffer whose start is a whole encoding
 pub written_whole : (e : Type 0) (size : Result Length Error) (answers : WriterAnswer) (octets old new : List ℕ) (n start : ℕ)
     → Certain e size answers octets n → n ≤ length old → n < 2 ^ 32 → (e → PlacedIfSpace octets start n old new) → SliceAnswer answers old (Ok (take n new))
@@ -159,4 +165,4 @@ written_whole e size answers octets old new n start p within few places =
     let none : start ≡ 0 = omega (arith, done.ends, p.counted) in
     let all : new ≡ octets ++ drop n old = ap (λ k. drop k new) (sym none) ∙ done.placed in
     let front : take n new ≡ octets = ap (λ k. take k new) p.counted ∙ ap (take (length octets)) all ∙ take-append_seam octets (drop n old) in
-    (0, Ok tt, appended_state (fresh_state old 0) octets, p.accepted (fresh_state old 0) (space_for (length octets) (fresh_state old 0) refl (le-min (omega (arith, p.counted, within)) (omega (arith, p.counted, few))) (omega (arith, p.counted, few))), ap Ok front)
+    (0, Ok tt, appended_state (fresh_state old 0) octets, fresh_accepted e size answers octets old n p within few, ap Ok front)
