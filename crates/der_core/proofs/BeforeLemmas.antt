@@ -69,6 +69,22 @@ element_accepted t l answers contents same accepted s has =
 pub counted_length : (n : ℕ) → n < 2 ^ 32 → checked_length n ≡ Ok (definite_length n)
 counted_length n few = rw (lt-ltb n (2 ^ 32) few)
 
+-- octets that a length can count are certain
+pub octets_certain : (octets : List ℕ) (n : ℕ) → n ≡ length octets → n < 2 ^ 32
+    → Certain (Unit {0}) (checked_length (length octets)) (λ s r t. Writes (write_outcome octets s) r t) octets n
+octets_certain octets n count few = record {
+  encodable = tt;
+  counted = count;
+  sized = subst (λ m. checked_length m ≡ Ok (definite_length n)) count (counted_length n few);
+  accepted = write_accepted octets;
+}
+
+-- what is certain without a condition is certain under one that holds
+pub certain_under : (e : Type 0) (size : Result Length Error) (answers : WriterAnswer) (octets : List ℕ) (result : Option ℕ) → e → CertainIfSome (Unit {0}) size answers octets result
+    → CertainIfSome e size answers octets result
+certain_under e size answers octets None holds p = tt
+certain_under e size answers octets (Some n) holds p = record { encodable = holds; counted = p.counted; sized = p.sized; accepted = p.accepted }
+
 -- two fields are certain
 pub fields_certain : (e f : Type 0) (m n : Result Length Error) (first second : WriterAnswer) (xs ys : List ℕ) (j k : ℕ) → j + k < 2 ^ 32
     → Certain e m first xs j → Certain f n second ys k → Certain (e × f) (fields_size m n) (FieldsWritten first second) (xs ++ ys) (j + k)
