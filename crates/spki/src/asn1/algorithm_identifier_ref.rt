@@ -81,6 +81,14 @@ impl<'a> EncodeValue for AlgorithmIdentifierRef<'a> {
     fn encode_value<W: Writer>(&self, writer: &mut W) -> Result<(), Error> {
         field_refs!(self, (oid, parameters)).encode(writer)
     }
+
+    fn value_len_before(&self) -> Option<u32> {
+        field_refs!(self, (oid, parameters)).len_before()
+    }
+
+    fn encode_value_before(&self, buf: &mut [u8], end: u32) -> u32 {
+        field_refs!(self, (oid, parameters)).encode_before(buf, end)
+    }
 }
 
 impl<'a> Item for AlgorithmIdentifierRef<'a> {

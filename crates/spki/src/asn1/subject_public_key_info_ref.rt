@@ -82,6 +82,14 @@ impl<'a> EncodeValue for SubjectPublicKeyInfoRef<'a> {
     fn encode_value<W: Writer>(&self, writer: &mut W) -> Result<(), Error> {
         field_refs!(self, (algorithm, subject_public_key)).encode(writer)
     }
+
+    fn value_len_before(&self) -> Option<u32> {
+        field_refs!(self, (algorithm, subject_public_key)).len_before()
+    }
+
+    fn encode_value_before(&self, buf: &mut [u8], end: u32) -> u32 {
+        field_refs!(self, (algorithm, subject_public_key)).encode_before(buf, end)
+    }
 }
 
 impl<'a> Item for SubjectPublicKeyInfoRef<'a> {
