@@ -8,7 +8,7 @@ ghost use Rattle.der_asn1.specs.AnyElement.{AnyElementNext, AnyElementRead};
 use crate::element::decode_element;
 use der::{
     Decode, DecodeValue, EncodeValue, Error, Header, Length, ReadValue, Reader, Tag, Tagged,
-    Writer, WrittenValue,
+    Writer, WrittenValue, octets_len, place_before,
 };
 use std::alloc::Global;
 
@@ -117,5 +117,17 @@ impl<'a> EncodeValue for AnyRef<'a> {
     #[inline(always)]
     fn encode_value<W: Writer>(&self, writer: &mut W) -> Result<(), Error> {
         writer.write(self.contents)
+    }
+
+    #[inline(always)]
+    fn value_len_before(&self) -> Option<u32> {
+        // read for its range alone
+        let _number = self.tag.number().value();
+        octets_len(self.contents)
+    }
+
+    #[inline(always)]
+    fn encode_value_before(&self, buf: &mut [u8], end: u32) -> u32 {
+        place_before(self.contents, buf, end)
     }
 }

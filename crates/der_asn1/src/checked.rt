@@ -10,7 +10,7 @@ use crate::explicit::Nestable;
 use crate::grammar::ContentsGrammar;
 use der::{
     DecodeValue, EncodeValue, Error, FixedTag, Header, Lawful, Length, ReadValue, Reader, Tag,
-    Writer, WrittenValue,
+    Writer, WrittenValue, octets_len, place_before,
 };
 use std::alloc::{AllocError, Global};
 use std::marker::PhantomData;
@@ -155,6 +155,16 @@ impl<'a, F: ContentsGrammar> EncodeValue for Checked<'a, F> {
     #[inline(always)]
     fn encode_value<W: Writer>(&self, writer: &mut W) -> Result<(), Error> {
         writer.write(self.octets)
+    }
+
+    #[inline(always)]
+    fn value_len_before(&self) -> Option<u32> {
+        octets_len(self.octets)
+    }
+
+    #[inline(always)]
+    fn encode_value_before(&self, buf: &mut [u8], end: u32) -> u32 {
+        place_before(self.octets, buf, end)
     }
 }
 

@@ -116,4 +116,20 @@ impl<T: Encode + DefaultValue> Encode for Defaulted<T> {
         }
         self.0.encode(writer)
     }
+
+    #[inline(always)]
+    fn len_before(&self) -> Option<u32> {
+        if self.0.has_default() {
+            return Some(0);
+        }
+        self.0.len_before()
+    }
+
+    #[inline(always)]
+    fn encode_before(&self, buf: &mut [u8], end: u32) -> u32 {
+        if self.0.has_default() {
+            return end;
+        }
+        self.0.encode_before(buf, end)
+    }
 }

@@ -148,4 +148,20 @@ impl<T: Encode + WrittenValue, D: DefaultEncoding<T>> Encode for DefaultedTo<T, 
         }
         self.0.encode(writer)
     }
+
+    #[inline(always)]
+    fn len_before(&self) -> Option<u32> {
+        if D::is_default(&self.0) {
+            return Some(0);
+        }
+        self.0.len_before()
+    }
+
+    #[inline(always)]
+    fn encode_before(&self, buf: &mut [u8], end: u32) -> u32 {
+        if D::is_default(&self.0) {
+            return end;
+        }
+        self.0.encode_before(buf, end)
+    }
 }

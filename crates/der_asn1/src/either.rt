@@ -91,6 +91,22 @@ impl<A: Encode, B: Encode> Encode for Either<A, B> {
             Either::Second(value) => value.encode(writer),
         }
     }
+
+    #[inline(always)]
+    fn len_before(&self) -> Option<u32> {
+        match self {
+            Either::First(value) => value.len_before(),
+            Either::Second(value) => value.len_before(),
+        }
+    }
+
+    #[inline(always)]
+    fn encode_before(&self, buf: &mut [u8], end: u32) -> u32 {
+        match self {
+            Either::First(value) => value.encode_before(buf, end),
+            Either::Second(value) => value.encode_before(buf, end),
+        }
+    }
 }
 
 impl<R: Reader, A: Choice<R>, B: Choice<R> + Decode<R, Error = <A as Decode<R>>::Error>> Choice<R>

@@ -14,7 +14,7 @@ use crate::item::{DecodeItem, Item};
 use crate::iter::BorrowedItem;
 use der::{
     DecodeValue, EncodeValue, Error, FixedTag, Header, Lawful, Length, ReadValue, Reader, Tag,
-    Writer, WrittenValue,
+    Writer, WrittenValue, octets_len, place_before,
 };
 use std::alloc::Global;
 
@@ -100,6 +100,14 @@ impl<N: IntegerNumber> EncodeValue for EnumeratedOf<N> {
 
     fn encode_value<W: Writer>(&self, writer: &mut W) -> Result<(), Error> {
         writer.write(self.number.to_contents().as_slice())
+    }
+
+    fn value_len_before(&self) -> Option<u32> {
+        octets_len(self.number.to_contents().as_slice())
+    }
+
+    fn encode_value_before(&self, buf: &mut [u8], end: u32) -> u32 {
+        place_before(self.number.to_contents().as_slice(), buf, end)
     }
 }
 

@@ -109,6 +109,16 @@ impl<'a, const N: u32> EncodeValue for ExplicitAny<'a, N> {
     fn encode_value<W: Writer>(&self, writer: &mut W) -> Result<(), Error> {
         self.0.encode(writer)
     }
+
+    #[inline(always)]
+    fn value_len_before(&self) -> Option<u32> {
+        self.0.len_before()
+    }
+
+    #[inline(always)]
+    fn encode_value_before(&self, buf: &mut [u8], end: u32) -> u32 {
+        self.0.encode_before(buf, end)
+    }
 }
 
 impl<'a, const N: u32> Lawful for ExplicitAny<'a, N> {

@@ -103,6 +103,16 @@ impl<T: EncodeValue, const N: u32> EncodeValue for Implicit<T, N> {
     fn encode_value<W: Writer>(&self, writer: &mut W) -> Result<(), Error> {
         self.0.encode_value(writer)
     }
+
+    #[inline(always)]
+    fn value_len_before(&self) -> Option<u32> {
+        self.0.value_len_before()
+    }
+
+    #[inline(always)]
+    fn encode_value_before(&self, buf: &mut [u8], end: u32) -> u32 {
+        self.0.encode_value_before(buf, end)
+    }
 }
 
 impl<T: Lawful, const N: u32> Lawful for Implicit<T, N> {

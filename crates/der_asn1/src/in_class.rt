@@ -121,6 +121,16 @@ impl<T: EncodeValue, const PRIVATE: bool> EncodeValue for InClass<T, PRIVATE> {
     fn encode_value<W: Writer>(&self, writer: &mut W) -> Result<(), Error> {
         self.0.encode_value(writer)
     }
+
+    #[inline(always)]
+    fn value_len_before(&self) -> Option<u32> {
+        self.0.value_len_before()
+    }
+
+    #[inline(always)]
+    fn encode_value_before(&self, buf: &mut [u8], end: u32) -> u32 {
+        self.0.encode_value_before(buf, end)
+    }
 }
 
 impl<T: Lawful, const PRIVATE: bool> Lawful for InClass<T, PRIVATE> {

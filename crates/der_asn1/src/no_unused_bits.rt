@@ -3,7 +3,7 @@ ghost use Rattle.std.specs.Prelude.{◌≡◌, ◌∷◌, [], false, Ok as AnOk,
 ghost use Rattle.der.specs.Prelude.{Gives, Writes, definite_length, map_ok, write_outcome};
 ghost use Rattle.der_asn1.specs.ZeroOctet.{ZeroNext, zero_octet_outcome};
 
-use der::{Decode, Encode, Error, Length, Reader, ReaderExt, Tag, Writer};
+use der::{Decode, Encode, Error, Length, Reader, ReaderExt, Tag, Writer, place_before};
 use std::alloc::Global;
 
 /// The first contents octet of a BIT STRING without unused bits, which is zero (X.690 8.6.2.2).
@@ -62,5 +62,15 @@ impl Encode for NoUnusedBits {
     #[inline(always)]
     fn encode<W: Writer>(&self, writer: &mut W) -> Result<(), Error> {
         writer.write_byte(0)
+    }
+
+    #[inline(always)]
+    fn len_before(&self) -> Option<u32> {
+        Some(1)
+    }
+
+    #[inline(always)]
+    fn encode_before(&self, buf: &mut [u8], end: u32) -> u32 {
+        place_before(&[0], buf, end)
     }
 }

@@ -75,4 +75,20 @@ impl<T: Encode> Encode for Optional<T> {
             None => Ok(()),
         }
     }
+
+    #[inline(always)]
+    fn len_before(&self) -> Option<u32> {
+        match &self.0 {
+            Some(value) => value.len_before(),
+            None => Some(0),
+        }
+    }
+
+    #[inline(always)]
+    fn encode_before(&self, buf: &mut [u8], end: u32) -> u32 {
+        match &self.0 {
+            Some(value) => value.encode_before(buf, end),
+            None => end,
+        }
+    }
 }

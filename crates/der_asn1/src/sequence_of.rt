@@ -21,7 +21,7 @@ use crate::items::Items;
 use crate::iter::Iter;
 use der::{
     Decode, DecodeValue, EncodeValue, Error, FixedTag, Header, Lawful, Length, ReadValue, Reader,
-    SliceReader, Tag, Writer, WrittenValue,
+    SliceReader, Tag, Writer, WrittenValue, octets_len, place_before,
 };
 use std::alloc::{AllocError, Global};
 use std::marker::PhantomData;
@@ -141,6 +141,16 @@ impl<'a, T: Item> EncodeValue for SequenceOf<'a, T> {
     #[inline(always)]
     fn encode_value<W: Writer>(&self, writer: &mut W) -> Result<(), Error> {
         writer.write(self.octets)
+    }
+
+    #[inline(always)]
+    fn value_len_before(&self) -> Option<u32> {
+        octets_len(self.octets)
+    }
+
+    #[inline(always)]
+    fn encode_value_before(&self, buf: &mut [u8], end: u32) -> u32 {
+        place_before(self.octets, buf, end)
     }
 }
 

@@ -22,7 +22,7 @@ use crate::sequence_of::SequenceOf;
 use crate::set_walk::{check_set, read_set};
 use der::{
     Decode, DecodeValue, EncodeValue, Error, FixedTag, Header, Lawful, Length, ReadValue, Reader,
-    SliceReader, Tag, Writer, WrittenValue,
+    SliceReader, Tag, Writer, WrittenValue, octets_len, place_before,
 };
 use std::alloc::{AllocError, Global};
 
@@ -144,6 +144,16 @@ impl<'a, T: Item> EncodeValue for SetOf<'a, T> {
     #[inline(always)]
     fn encode_value<W: Writer>(&self, writer: &mut W) -> Result<(), Error> {
         writer.write(self.octets())
+    }
+
+    #[inline(always)]
+    fn value_len_before(&self) -> Option<u32> {
+        octets_len(self.octets())
+    }
+
+    #[inline(always)]
+    fn encode_value_before(&self, buf: &mut [u8], end: u32) -> u32 {
+        place_before(self.octets(), buf, end)
     }
 }
 

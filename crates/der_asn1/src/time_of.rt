@@ -11,7 +11,7 @@ use crate::explicit::Nestable;
 use crate::time_format::TimeFormat;
 use der::{
     DecodeValue, EncodeValue, Error, FixedTag, Header, Lawful, Length, ReadValue, Reader, Tag,
-    Writer, WrittenValue,
+    Writer, WrittenValue, octets_len, place_before,
 };
 use std::alloc::{AllocError, Global};
 use std::marker::PhantomData;
@@ -141,6 +141,16 @@ impl<F: TimeFormat> EncodeValue for TimeOf<F> {
     #[inline(always)]
     fn encode_value<W: Writer>(&self, writer: &mut W) -> Result<(), Error> {
         writer.write(F::to_contents(&self.time).as_slice())
+    }
+
+    #[inline(always)]
+    fn value_len_before(&self) -> Option<u32> {
+        octets_len(F::to_contents(&self.time).as_slice())
+    }
+
+    #[inline(always)]
+    fn encode_value_before(&self, buf: &mut [u8], end: u32) -> u32 {
+        place_before(F::to_contents(&self.time).as_slice(), buf, end)
     }
 }
 

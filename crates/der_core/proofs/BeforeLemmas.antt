@@ -69,6 +69,22 @@ element_accepted t l answers contents same accepted s has =
 pub counted_length : (n : ℕ) → n < 2 ^ 32 → checked_length n ≡ Ok (definite_length n)
 counted_length n few = rw (lt-ltb n (2 ^ 32) few)
 
+-- octets that a length can count are certain
+pub octets_certain : (octets : List ℕ) (n : ℕ) → n ≡ length octets → n < 2 ^ 32
+    → Certain (Unit {0}) (checked_length (length octets)) (λ s r t. Writes (write_outcome octets s) r t) octets n
+octets_certain octets n count few = record {
+  encodable = tt;
+  counted = count;
+  sized = subst (λ m. checked_length m ≡ Ok (definite_length n)) count (counted_length n few);
+  accepted = write_accepted octets;
+}
+
+-- what is certain without a condition is certain under one that holds
+pub certain_under : (e : Type 0) (size : Result Length Error) (answers : WriterAnswer) (octets : List ℕ) (result : Option ℕ) → e → CertainIfSome (Unit {0}) size answers octets result
+    → CertainIfSome e size answers octets result
+certain_under e size answers octets None holds p = tt
+certain_under e size answers octets (Some n) holds p = record { encodable = holds; counted = p.counted; sized = p.sized; accepted = p.accepted }
+
 -- two fields are certain
 pub fields_certain : (e f : Type 0) (m n : Result Length Error) (first second : WriterAnswer) (xs ys : List ℕ) (j k : ℕ) → j + k < 2 ^ 32
     → Certain e m first xs j → Certain f n second ys k → Certain (e × f) (fields_size m n) (FieldsWritten first second) (xs ++ ys) (j + k)
@@ -151,6 +167,12 @@ placed_by_writer octets old new start n stop reference (Err e) s w ends begun ap
     let wrong = fits (omega (arith, count, few)) (ap (λ (t : WriterState). t.failed) begun) (omega (arith, before, limit, count)) in
     cc
 
+-- a new writer over a buffer that is long enough accepts the octets
+pub fresh_accepted : (e : Type 0) (size : Result Length Error) (answers : WriterAnswer) (octets old : List ℕ) (n : ℕ) → Certain e size answers octets n → n ≤ length old → n < 2 ^ 32
+    → answers (fresh_state old 0) (Ok tt) (appended_state (fresh_state old 0) octets)
+fresh_accepted e size answers octets old n p within few =
+    p.accepted (fresh_state old 0) (space_for (length octets) (fresh_state old 0) refl (le-min (omega (arith, p.counted, within)) (omega (arith, p.counted, few))) (omega (arith, p.counted, few)))
+
 -- a buffer whose start is a whole encoding
 pub written_whole : (e : Type 0) (size : Result Length Error) (answers : WriterAnswer) (octets old new : List ℕ) (n start : ℕ)
     → Certain e size answers octets n → n ≤ length old → n < 2 ^ 32 → (e → PlacedIfSpace octets start n old new) → SliceAnswer answers old (Ok (take n new))
@@ -159,4 +181,4 @@ written_whole e size answers octets old new n start p within few places =
     let none : start ≡ 0 = omega (arith, done.ends, p.counted) in
     let all : new ≡ octets ++ drop n old = ap (λ k. drop k new) (sym none) ∙ done.placed in
     let front : take n new ≡ octets = ap (λ k. take k new) p.counted ∙ ap (take (length octets)) all ∙ take-append_seam octets (drop n old) in
-    (0, Ok tt, appended_state (fresh_state old 0) octets, p.accepted (fresh_state old 0) (space_for (length octets) (fresh_state old 0) refl (le-min (omega (arith, p.counted, within)) (omega (arith, p.counted, few))) (omega (arith, p.counted, few))), ap Ok front)
+    (0, Ok tt, appended_state (fresh_state old 0) octets, fresh_accepted e size answers octets old n p within few, ap Ok front)

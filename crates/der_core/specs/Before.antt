@@ -1,7 +1,7 @@
 -- Octets that end before an index of a buffer. A value is written from the end of a buffer, so that
 -- the length of its contents is known when its header is written in front of them (X.690 8.1.1).
-use Rattle.std.specs.Prelude.{◌≡◌, ℕ, ◌+◌, ◌≤◌, List, ◌++◌, length, take, drop, false, Option, Result, Ok, IfSome}
-use Rattle.der_base.specs.Length.{definite_length}
+use Rattle.std.specs.Prelude.{◌≡◌, ℕ, ◌+◌, ◌^◌, ◌<◌, ◌≤◌, List, ◌++◌, length, take, drop, false, Option, Result, Ok, IfSome}
+use Rattle.der_base.specs.Length.{number, definite_length}
 use Rattle.der_base.specs.declared.length.Length.{Length}
 use Rattle.der_base.specs.declared.error.Error.{Error}
 use Rattle.der_core.specs.Writer.{WriterState, HasSpace, appended_state}
@@ -24,6 +24,14 @@ pub record Certain (condition : Type 0) (size : Result Length Error) (answers : 
 abbrev pub CertainIfSome : Type 0 → Result Length Error → WriterAnswer → List ℕ → Option ℕ → Type 0
 CertainIfSome condition size answers octets result =
     IfSome result (Certain condition size answers octets)
+
+-- the number of the octets is known, and is that of the size
+pub record HasCount (size : Result Length Error) (octets : List ℕ) (n : ℕ) : Type 0 where
+  pub len : Length
+  pub sized : size ≡ Ok len
+  pub same : number len ≡ n
+  pub counted : n ≡ length octets
+  pub countable : n < 2 ^ 32
 
 -- the buffer has the octets from `start` to `stop`, and is unchanged from `stop` on
 pub record Placed (octets : List ℕ) (start stop : ℕ) (old new : List ℕ) : Type 0 where

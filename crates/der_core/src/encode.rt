@@ -21,7 +21,7 @@ use crate::tag::fixed::Tagged;
 use crate::writer::{SliceWriter, Writer};
 use der_base::{Error, Length};
 use std::alloc::Global;
-pub use before::place_before;
+pub use before::{octets_len, place_before};
 pub use value::{EncodeValue, WrittenValue, encode_value_to_slice};
 pub use vec::{encode_to_vec_in, to_der_in};
 

@@ -27,7 +27,7 @@ pub use decode::{
 pub use described::Described;
 pub use encode::{
     Encode, EncodeValue, WrittenValue, encode_tlv, encode_to_vec_in, encode_value_to_slice,
-    encoded_len_tlv, place_before, to_der_in,
+    encoded_len_tlv, octets_len, place_before, to_der_in,
 };
 pub use encode_ref::{EncodeRef, EncodeValueRef};
 pub use from_fields::{FromFields, decode_fields, decode_sequence, decode_wrapped};

@@ -60,4 +60,14 @@ impl<'a> EncodeValue for AlgorithmIdentifier<'a> {
     fn encode_value<W: Writer>(&self, writer: &mut W) -> Result<(), Error> {
         (EncodeRef(&self.algorithm), EncodeRef(&self.month)).encode(writer)
     }
+
+    #[inline(always)]
+    fn value_len_before(&self) -> Option<u32> {
+        (EncodeRef(&self.algorithm), EncodeRef(&self.month)).len_before()
+    }
+
+    #[inline(always)]
+    fn encode_value_before(&self, buf: &mut [u8], end: u32) -> u32 {
+        (EncodeRef(&self.algorithm), EncodeRef(&self.month)).encode_before(buf, end)
+    }
 }

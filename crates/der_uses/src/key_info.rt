@@ -61,6 +61,16 @@ impl<'a> EncodeValue for KeyInfo<'a> {
     fn encode_value<W: Writer>(&self, writer: &mut W) -> Result<(), Error> {
         (EncodeRef(&self.algorithm), EncodeRef(&self.key)).encode(writer)
     }
+
+    #[inline(always)]
+    fn value_len_before(&self) -> Option<u32> {
+        (EncodeRef(&self.algorithm), EncodeRef(&self.key)).len_before()
+    }
+
+    #[inline(always)]
+    fn encode_value_before(&self, buf: &mut [u8], end: u32) -> u32 {
+        (EncodeRef(&self.algorithm), EncodeRef(&self.key)).encode_before(buf, end)
+    }
 }
 
 /// Reads the octets as exactly one [`KeyInfo`] under DER.

@@ -6,7 +6,7 @@ ghost use Rattle.der_uses.specs.MyOctets.{IsMyOctets, AcceptsMyOctets, MyOctetsR
 
 use der::{
     DecodeValue, EncodeValue, Error, FixedTag, Header, Lawful, Length, Orderly, ReadValue, Reader,
-    Tag, ValueOrd, Writer, WrittenValue,
+    Tag, ValueOrd, Writer, WrittenValue, octets_len, place_before,
 };
 use std::alloc::Global;
 use std::cmp::Ordering;
@@ -78,6 +78,16 @@ impl<'a> EncodeValue for MyOctets<'a> {
     #[inline(always)]
     fn encode_value<W: Writer>(&self, writer: &mut W) -> Result<(), Error> {
         writer.write(self.octets)
+    }
+
+    #[inline(always)]
+    fn value_len_before(&self) -> Option<u32> {
+        octets_len(self.octets)
+    }
+
+    #[inline(always)]
+    fn encode_value_before(&self, buf: &mut [u8], end: u32) -> u32 {
+        place_before(self.octets, buf, end)
     }
 }
 

@@ -5,7 +5,7 @@ ghost use Rattle.der_uses.specs.VersionOctet.{IsVersion, TakesVersion, VersionRe
 
 use der::{
     DecodeValue, EncodeValue, Error, FixedTag, Header, Lawful, Length, ReadValue, Reader,
-    ReaderExt, Tag, Writer, WrittenValue,
+    ReaderExt, Tag, Writer, WrittenValue, place_before,
 };
 use std::alloc::Global;
 
@@ -100,5 +100,13 @@ impl EncodeValue for Version {
 
     fn encode_value<W: Writer>(&self, writer: &mut W) -> Result<(), Error> {
         writer.write_byte(self.number())
+    }
+
+    fn value_len_before(&self) -> Option<u32> {
+        Some(1)
+    }
+
+    fn encode_value_before(&self, buf: &mut [u8], end: u32) -> u32 {
+        place_before(&[self.number()], buf, end)
     }
 }

@@ -106,4 +106,12 @@ impl<'a> EncodeValue for BytesCow<'a> {
     fn encode_value<W: Writer>(&self, writer: &mut W) -> Result<(), Error> {
         self.as_bytes_ref().encode_value(writer)
     }
+
+    fn value_len_before(&self) -> Option<u32> {
+        self.as_bytes_ref().value_len_before()
+    }
+
+    fn encode_value_before(&self, buf: &mut [u8], end: u32) -> u32 {
+        self.as_bytes_ref().encode_value_before(buf, end)
+    }
 }

@@ -90,6 +90,16 @@ impl<'a> EncodeValue for BorrowedOctets<'a> {
     fn encode_value<W: Writer>(&self, writer: &mut W) -> Result<(), Error> {
         self.octets.encode_value(writer)
     }
+
+    #[inline(always)]
+    fn value_len_before(&self) -> Option<u32> {
+        self.octets.value_len_before()
+    }
+
+    #[inline(always)]
+    fn encode_value_before(&self, buf: &mut [u8], end: u32) -> u32 {
+        self.octets.encode_value_before(buf, end)
+    }
 }
 
 impl<'a> Lawful for BorrowedOctets<'a> {

@@ -89,6 +89,14 @@ impl EncodeValue for JoinedOctets {
     fn encode_value<W: Writer>(&self, writer: &mut W) -> Result<(), Error> {
         self.octets.encode_value(writer)
     }
+
+    fn value_len_before(&self) -> Option<u32> {
+        self.octets.value_len_before()
+    }
+
+    fn encode_value_before(&self, buf: &mut [u8], end: u32) -> u32 {
+        self.octets.encode_value_before(buf, end)
+    }
 }
 
 impl Lawful for JoinedOctets {

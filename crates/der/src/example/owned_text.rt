@@ -86,6 +86,14 @@ impl EncodeValue for OwnedText {
     fn encode_value<W: Writer>(&self, writer: &mut W) -> Result<(), Error> {
         self.text.encode_value(writer)
     }
+
+    fn value_len_before(&self) -> Option<u32> {
+        self.text.value_len_before()
+    }
+
+    fn encode_value_before(&self, buf: &mut [u8], end: u32) -> u32 {
+        self.text.encode_value_before(buf, end)
+    }
 }
 
 impl Lawful for OwnedText {

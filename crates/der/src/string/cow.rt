@@ -110,4 +110,12 @@ impl<'a> EncodeValue for StringCow<'a> {
     fn encode_value<W: Writer>(&self, writer: &mut W) -> Result<(), Error> {
         self.as_string_ref().encode_value(writer)
     }
+
+    fn value_len_before(&self) -> Option<u32> {
+        self.as_string_ref().value_len_before()
+    }
+
+    fn encode_value_before(&self, buf: &mut [u8], end: u32) -> u32 {
+        self.as_string_ref().encode_value_before(buf, end)
+    }
 }

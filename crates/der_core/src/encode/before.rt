@@ -1,8 +1,9 @@
 //! Writing of values from the end of a buffer.
-ghost use Rattle.std.specs.Prelude.{◌≡◌, ◌^◌, ◌<◌, ◌≤◌, IfSome};
-ghost use Rattle.der_base.specs.Arithmetic.{element_count};
+ghost use Rattle.std.specs.Prelude.{◌≡◌, ◌^◌, ◌<◌, ◌≤◌, length, IfSome};
+ghost use Rattle.der_base.specs.Arithmetic.{checked_length, element_count};
 ghost use Rattle.der_base.specs.HeaderGrammar.{header_octets};
-ghost use Rattle.der_core.specs.Before.{Certain, PlacedIfSpace};
+ghost use Rattle.der_core.specs.Before.{Certain, CertainIfSome, PlacedIfSpace};
+ghost use Rattle.der_core.specs.Writer.{Writes, write_outcome};
 
 use crate::encode::Encode;
 use crate::header::Header;
@@ -23,6 +24,20 @@ pub fn place_before(octets: &[u8], buf: &mut [u8], end: u32) -> u32
     let start = stop - octets.len();
     buf[start..stop].copy_from_slice(octets);
     start as u32
+}
+
+/// The number of octets, if a length can count them. A type whose contents are octets that are
+/// always written returns it from
+/// [`EncodeValue::value_len_before`](crate::EncodeValue::value_len_before).
+#[inline(always)]
+pub fn octets_len(octets: &[u8]) -> Option<u32>
+    ensures { CertainIfSome (Unit {0}) (checked_length (length octets.now))
+        (λ s r t. Writes (write_outcome octets.now s) r t) octets.now result }
+{
+    if octets.len() > u32::MAX as usize {
+        return None;
+    }
+    Some(octets.len() as u32)
 }
 
 // The number of octets of the encoding, if it is certain that the value can be written, and if they

@@ -1,8 +1,9 @@
 //! Encoding into memory of any allocator; [`Encode::to_der`] and [`Encode::encode_to_vec`] use the
 //! global one.
-ghost use Rattle.std.specs.Prelude.{◌≡◌, ◌++◌, length, OnOk, OnErr, IfOk};
+ghost use Rattle.std.specs.Prelude.{◌≡◌, ◌^◌, ◌<◌, ◌++◌, true, length, Err, OnOk, OnErr, IfOk, IfErr};
 ghost use Rattle.der_base.specs.Length.{definite_length};
-ghost use Rattle.der_core.specs.Encode.{Begins, FitsInto, FreshAnswer, GrowsBy, VecAnswer};
+ghost use Rattle.der_core.specs.Before.{Certain, HasCount};
+ghost use Rattle.der_core.specs.Encode.{Begins, FitsInto, FreshAnswer, GrowsBy, HasSize, VecAnswer};
 ghost use Rattle.der_core.specs.Outcome.{map_ok};
 
 use crate::encode::Encode;
@@ -60,7 +61,7 @@ pub fn encode_to_vec_in<T: Encode, A: Allocator>(
         result }
 {
     let before = out.len();
-    let count = u32::from(value.encoded_len()?);
+    let (count, is_certain) = count_octets(value)?;
     let Some(end) = before.checked_add(count as usize) else {
         return Err(ErrorKind::Overflow.to_error());
     };
@@ -68,7 +69,7 @@ pub fn encode_to_vec_in<T: Encode, A: Allocator>(
         Ok(()) => {}
         Err(_) => return Err(ErrorKind::OutOfMemory.to_error()),
     }
-    match write_front(value, &mut out[before..]) {
+    match fill(value, is_certain, &mut out[before..]) {
         Ok(()) => Ok(Length::new(count)),
         Err(error) => {
             out.truncate(before);
@@ -77,14 +78,40 @@ pub fn encode_to_vec_in<T: Encode, A: Allocator>(
     }
 }
 
-// Writes the encoding to the start of the buffer.
+// The number of octets of the encoding, and whether it is certain that the value can be written.
 #[inline(always)]
-fn write_front<T: Encode>(value: &T, buf: &mut [u8]) -> Result<(), Error>
+fn count_octets<T: Encode>(value: &T) -> Result<(u32, bool), Error>
+    ensures ok { IfOk result (λ p. HasCount (T.size value.now) (T.encoding value.now) p.0) }
+    ensures certain { IfOk result (λ p. p.1 ≡ true → Certain (T.encodable value.now)
+        (T.size value.now) (T.encode_answers value.now) (T.encoding value.now) p.0) }
+    ensures refused { IfErr result (λ e. T.size value.now ≡ Err e) }
+    ensures succeeds { T.encodable value.now → HasSize (T.encoding value.now) result }
+{
+    if let Some(count) = value.len_before() {
+        return Ok((count, true));
+    }
+    match value.encoded_len() {
+        Ok(len) => Ok((u32::from(len), false)),
+        Err(error) => Err(error),
+    }
+}
+
+// Writes the encoding into a buffer of the same length, from the end if it is certain that the
+// value can be written.
+#[inline(always)]
+fn fill<T: Encode>(value: &T, is_certain: bool, buf: &mut [u8]) -> Result<(), Error>
+    requires certain { is_certain ≡ true → Certain (T.encodable value.now) (T.size value.now)
+        (T.encode_answers value.now) (T.encoding value.now) (length buf.now) }
+    requires countable { length buf.now < 2 ^ 32 }
     ensures ok { Begins (T.encoding value.now) result buf.new }
     ensures succeeds { T.encodable value.now
         → FitsInto (T.encoding value.now) (length buf.old) result }
     ensures exact { FreshAnswer (T.encode_answers value.now) buf.old result }
 {
+    if is_certain {
+        let _ = value.encode_before(buf, buf.len() as u32);
+        return Ok(());
+    }
     let mut writer = SliceWriter::new(buf);
     value.encode(&mut writer)
 }

@@ -33,9 +33,9 @@ pub struct SliceWriter<'a> {
 impl<'a> SliceWriter<'a> {
     ghost use Rattle.der_base.specs.Length.{number};
     ghost use Rattle.der_core.specs.Outcome.{map_ok};
-    ghost use Rattle.der_core.specs.Writer.{Keeps, Appends, Writes, fresh_state, writer_position, failed_state, space_outcome};
+    ghost use Rattle.der_core.specs.Writer.{Keeps, Appends, HasSpace, appended_state, Writes, fresh_state, writer_position, failed_state, space_outcome};
     ghost use Rattle.der_core.specs.Encode.{FitsCounted, RefusesFailed, PlacesErrors, finished_answer};
-    ghost use Rattle.der_core.specs.Before.{inner_state};
+    ghost use Rattle.der_core.specs.Before.{Certain, inner_state};
     ghost use Rattle.der_core.specs.SliceWriter.{slice_writer_state};
     ghost use Rattle.der_core.specs.WrittenSequence.{RestoresWriter, ClosesPart, Fills, RunsIfSpace, PartAnswer, SequenceAnswer, headed_state, part_state, outer_state};
 
@@ -137,11 +137,31 @@ impl<'a> SliceWriter<'a> {
         if self.failed {
             return Err(failed_at(self.position));
         }
+        if let Some(count) = value.len_before()
+            && self.has_space(count as usize)
+        {
+            self.append_before(value, count);
+            return Ok(());
+        }
         if let Err(error) = value.encode(self) {
             self.failed = true;
             return Err(placed(error, self.position));
         }
         Ok(())
+    }
+
+    // Writes a value of `count` octets from the end of these octets.
+    #[inline(always)]
+    fn append_before<T: Encode>(&mut self, value: &T, count: u32)
+        requires certain { Certain (T.encodable value.now) (T.size value.now)
+            (T.encode_answers value.now) (T.encoding value.now) count }
+        requires space { HasSpace (slice_writer_state self.old) count }
+        ensures { slice_writer_state self.new
+            ≡ appended_state (slice_writer_state self.old) (T.encoding value.now) }
+    {
+        let from = self.start + self.position as usize;
+        let _ = value.encode_before(&mut self.bytes[from..], count);
+        self.position += count;
     }
 
     /// Writes the header of a SEQUENCE (X.690 8.9) and lets `f` write the contents. `f` gets this

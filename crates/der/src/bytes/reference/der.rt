@@ -10,7 +10,10 @@ ghost use Rattle.der.specs.BytesRef.{reference_octets};
 
 use crate::bytes::BytesRef;
 use der_base::{Error, Length};
-use der_core::{DecodeValue, DerOrd, EncodeValue, Header, ReadValue, Reader, Writer, WrittenValue};
+use der_core::{
+    DecodeValue, DerOrd, EncodeValue, Header, ReadValue, Reader, Writer, WrittenValue, octets_len,
+    place_before,
+};
 use std::alloc::Global;
 use std::cmp::Ordering;
 
@@ -81,6 +84,14 @@ impl<'a> EncodeValue for BytesRef<'a> {
 
     fn encode_value<W: Writer>(&self, writer: &mut W) -> Result<(), Error> {
         writer.write(self.as_slice())
+    }
+
+    fn value_len_before(&self) -> Option<u32> {
+        octets_len(self.as_slice())
+    }
+
+    fn encode_value_before(&self, buf: &mut [u8], end: u32) -> u32 {
+        place_before(self.as_slice(), buf, end)
     }
 }
 

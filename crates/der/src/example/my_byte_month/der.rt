@@ -9,7 +9,7 @@ use crate::example::MyByteMonth;
 use der_base::{Error, ErrorKind, Length, Tag};
 use der_core::{
     DecodeValue, EncodeValue, FixedTag, Header, Lawful, Orderly, ReadValue, Reader, ReaderExt,
-    ValueOrd, Writer, WrittenValue,
+    ValueOrd, Writer, WrittenValue, place_before,
 };
 use std::alloc::Global;
 use std::cmp::Ordering;
@@ -83,6 +83,16 @@ impl EncodeValue for MyByteMonth {
     #[inline(always)]
     fn encode_value<W: Writer>(&self, writer: &mut W) -> Result<(), Error> {
         writer.write_byte(self.number)
+    }
+
+    #[inline(always)]
+    fn value_len_before(&self) -> Option<u32> {
+        Some(1)
+    }
+
+    #[inline(always)]
+    fn encode_value_before(&self, buf: &mut [u8], end: u32) -> u32 {
+        place_before(&[self.number], buf, end)
     }
 }
 

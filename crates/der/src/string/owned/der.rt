@@ -8,7 +8,10 @@ ghost use Rattle.der.specs.StringOwned.{owned_text};
 
 use crate::string::StringOwned;
 use der_base::{Error, Length};
-use der_core::{DecodeValue, EncodeValue, Header, Octets, ReadValue, Reader, Writer, WrittenValue};
+use der_core::{
+    DecodeValue, EncodeValue, Header, Octets, ReadValue, Reader, Writer, WrittenValue, octets_len,
+    place_before,
+};
 use std::alloc::Global;
 
 impl ReadValue for StringOwned {
@@ -77,5 +80,13 @@ impl EncodeValue for StringOwned {
 
     fn encode_value<W: Writer>(&self, writer: &mut W) -> Result<(), Error> {
         writer.write(self.as_bytes())
+    }
+
+    fn value_len_before(&self) -> Option<u32> {
+        octets_len(self.as_bytes())
+    }
+
+    fn encode_value_before(&self, buf: &mut [u8], end: u32) -> u32 {
+        place_before(self.as_bytes(), buf, end)
     }
 }

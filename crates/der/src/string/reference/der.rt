@@ -9,7 +9,10 @@ ghost use Rattle.der.specs.StringRef.{reference_text};
 
 use crate::string::StringRef;
 use der_base::{Error, Length};
-use der_core::{DecodeValue, EncodeValue, Header, ReadValue, Reader, Writer, WrittenValue};
+use der_core::{
+    DecodeValue, EncodeValue, Header, ReadValue, Reader, Writer, WrittenValue, octets_len,
+    place_before,
+};
 use std::alloc::Global;
 
 impl<'a> ReadValue for StringRef<'a> {
@@ -81,5 +84,13 @@ impl<'a> EncodeValue for StringRef<'a> {
 
     fn encode_value<W: Writer>(&self, writer: &mut W) -> Result<(), Error> {
         writer.write(self.as_bytes())
+    }
+
+    fn value_len_before(&self) -> Option<u32> {
+        octets_len(self.as_bytes())
+    }
+
+    fn encode_value_before(&self, buf: &mut [u8], end: u32) -> u32 {
+        place_before(self.as_bytes(), buf, end)
     }
 }
