@@ -4,6 +4,7 @@ use der::{Error, ErrorKind, Header, Length, Tag, TagNumber};
 use std::alloc::Global;
 use std::test::Fail;
 
+mod before;
 mod counter;
 mod encoding;
 mod memory;
