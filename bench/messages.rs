@@ -1,7 +1,8 @@
 //! Reads signed messages under BER, as `openssl cms -sign -stream` writes them, with the proved
-//! library and with OpenSSL, and prints the time for each KiB of the content. The message is a file,
-//! whose content is replaced by segments of 4 KiB: `messages FILE PLACE`, where `PLACE` is the offset
-//! of the first segment. A message grows in octets, and in levels of segments around its segments.
+//! library and with OpenSSL, and prints the time for each KiB of the content. The message is a
+//! file, whose content is replaced by segments of 4 KiB: `messages FILE PLACE`, where `PLACE` is
+//! the offset of the first segment. A message grows in octets, and in levels of segments around
+//! its segments.
 #[allow(dead_code, reason = "other drivers use the rest")]
 mod common;
 #[allow(dead_code, reason = "as above")]

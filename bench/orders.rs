@@ -114,8 +114,8 @@ fn set_of(elements: &[&[u8]]) -> Vec<u8> {
     out
 }
 
-/// Appends an element with fewer than `bound` octets of contents. Most of equal length differ in the
-/// last octet alone.
+/// Appends an element with fewer than `bound` octets of contents. Most of equal length differ in
+/// the last octet alone.
 fn push_element(out: &mut Vec<u8>, numbers: &mut Numbers, bound: u64) {
     let len = numbers.below(bound) as usize;
     out.push(OCTET_STRING);

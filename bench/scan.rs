@@ -1,5 +1,5 @@
-//! Reads messages with indefinite lengths with the proved reader, by its scan octet by octet, and by
-//! hand. Prints the time for one item each.
+//! Reads messages with indefinite lengths with the proved reader, by its scan octet by octet, and
+//! by hand. Prints the time for one item each.
 mod common;
 #[allow(dead_code, reason = "other drivers use the rest")]
 mod elements;

@@ -1,7 +1,7 @@
-//! Reads and writes certificates, and reads revocation lists, with the proved library, by hand, with
-//! OpenSSL and with mbedTLS, and prints the time for one certificate or one entry each. First each
-//! certificate is read with each octet in turn changed to each other value, by the library and by
-//! hand, which must reject the same. Files after `--` are used for that alone.
+//! Reads and writes certificates, and reads revocation lists, with the proved library, by hand,
+//! with OpenSSL and with mbedTLS, and prints the time for one certificate or one entry each. First
+//! each certificate is read with each octet in turn changed to each other value, by the library and
+//! by hand, which must reject the same. Files after `--` are used for that alone.
 #[allow(dead_code, reason = "other drivers use the rest")]
 mod common;
 #[allow(dead_code, reason = "as above")]
@@ -32,8 +32,8 @@ use std::time::{Duration, Instant};
 /// 16 MiB.
 const WHILE: Duration = Duration::from_secs(1);
 const ROUNDS: usize = 3;
-/// How many times a row of writing writes: often enough that reading, which is done once, is a small
-/// part for OpenSSL too.
+/// How many times a row of writing writes: often enough that reading, which is done once, is a
+/// small part for OpenSSL too.
 const TIMES: u64 = 1000;
 
 /// A way to do the work. All ways return how many were read or written; those of one row that
