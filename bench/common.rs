@@ -1,9 +1,4 @@
 //! What all drivers share.
-use std::hint::black_box;
-use std::time::Instant;
-
-pub const INPUT_LEN: usize = 16 << 20;
-const ROUNDS: usize = 31;
 
 /// What was read or written, with the layout of the library.
 #[repr(C)]
@@ -70,23 +65,4 @@ pub fn push_length(out: &mut Vec<u8>, len: usize) {
     let zeros = octets.iter().take_while(|octet| **octet == 0).count();
     out.push(0x80 | (octets.len() - zeros) as u8);
     out.extend_from_slice(&octets[zeros..]);
-}
-
-/// A walk, its input, and the number of elements in it.
-pub type Timed<'a> = (fn(&[u8]) -> Totals, &'a [u8], u64);
-
-/// The minimum time of each walk, in nanoseconds per element. The rounds alternate between the
-/// walks, so that all see the same machine.
-pub fn measure<const N: usize>(walks: [Timed<'_>; N]) -> [f64; N] {
-    let mut least = [f64::INFINITY; N];
-    for _ in 0..ROUNDS {
-        for ((walk, bytes, count), least) in walks.iter().zip(&mut least) {
-            let start = Instant::now();
-            let totals = walk(black_box(bytes));
-            let elapsed = start.elapsed().as_nanos() as f64 / *count as f64;
-            assert_eq!(black_box(totals).elements, *count);
-            *least = least.min(elapsed);
-        }
-    }
-    least
 }

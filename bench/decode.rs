@@ -1,22 +1,26 @@
-//! Decodes 16 MiB of keys with the proved reader and by hand, and prints the time for one key each.
+//! Decodes keys with the proved reader and by hand, and prints the time for one key each.
 mod common;
 mod keys;
+mod rounds;
 
-use common::{INPUT_LEN, measure};
 use keys::{decode_by_hand, keys, proved_decode};
+use rounds::{By, Row, SIZES, print_row, way};
 
 fn main() {
-    for bound in [33, 513] {
-        let (bytes, count) = keys(bound, INPUT_LEN);
-        let name = format!("keys of 0 to {} octets", bound - 1);
-        assert_eq!(proved_decode(&bytes), decode_by_hand(&bytes), "{name}");
-        let [proved, by_hand] =
-            measure([(proved_decode, &bytes, count), (decode_by_hand, &bytes, count)]);
-        println!(
-            "{name}: {count} keys of {:.1} octets; \
-             library {proved:.2} ns, by hand {by_hand:.2} ns a key, ratio {:.2}",
-            bytes.len() as f64 / count as f64,
-            proved / by_hand,
-        );
+    for size in SIZES {
+        for bound in [33, 513] {
+            let (bytes, count) = keys(bound, size);
+            let row = Row {
+                name: format!("keys of 0 to {} octets, decoded", bound - 1),
+                size,
+                octets: bytes.len(),
+                count,
+            };
+            let ways = [
+                way(By::Library, |()| proved_decode(&bytes)),
+                way(By::Hand, |()| decode_by_hand(&bytes)),
+            ];
+            print_row(&row, &ways, &mut ());
+        }
     }
 }

@@ -1,11 +1,15 @@
-//! Reads signed messages under BER, as `openssl cms -sign -stream` writes them, with the proved library
-//! and with OpenSSL, and prints the time for each KiB of the content. The message is a file, whose
-//! content is replaced by segments of 4 KiB: `messages FILE PLACE`, where `PLACE` is the offset of the
-//! first segment. A message grows in octets, and in levels of segments around its segments.
+//! Reads signed messages under BER, as `openssl cms -sign -stream` writes them, with the proved
+//! library and with OpenSSL, and prints the time for each KiB of the content. The message is a
+//! file, whose content is replaced by segments of 4 KiB: `messages FILE PLACE`, where `PLACE` is
+//! the offset of the first segment. A message grows in octets, and in levels of segments around
+//! its segments.
 #[allow(dead_code, reason = "other drivers use the rest")]
 mod common;
+#[allow(dead_code, reason = "as above")]
+mod rounds;
 
 use common::Totals;
+use rounds::counted_row;
 use std::hint::black_box;
 use std::time::{Duration, Instant};
 
@@ -46,6 +50,15 @@ fn grown(message: &[u8], place: usize, size: usize, levels: usize) -> Vec<u8> {
 
 /// The minimum time of each way, in nanoseconds for each KiB of the content.
 fn print_row(name: &str, size: usize, message: &[u8], ways: &[(&str, fn(&[u8]) -> u64)]) {
+    if let Some(counted) = counted_row() {
+        if counted == format!("{name}|{size}") {
+            ways.iter().for_each(|(_, run)| {
+                black_box(run(black_box(message)));
+            });
+            println!("{}", size >> 10);
+        }
+        return;
+    }
     let mut least = vec![f64::INFINITY; ways.len()];
     for (way, run) in ways {
         assert_eq!(run(message), size as u64, "{name} by {way}");

@@ -1,12 +1,18 @@
-//! Compares the OCTET STRINGs of 16 MiB, each with the preceding one, reads them as a SET OF, and
-//! sorts some for one, with the proved library and by hand. Prints the time for one element.
+//! Compares OCTET STRINGs, each with the preceding one, reads them as a SET OF, and sorts them for
+//! sets, with the proved library and by hand. Prints the time for one element.
 mod common;
+mod rounds;
 
-use common::{INPUT_LEN, Numbers, Totals, measure, push_length, split_contents};
+use common::{Numbers, Totals, push_length, split_contents};
+use rounds::{By, Row, SIZES, print_row, way};
 use std::hint::black_box;
 
 const OCTET_STRING: u8 = 0x04;
 const SET: u8 = 0x31;
+/// How many elements a set has that is sorted.
+const SET_SIZES: [usize; 3] = [17, 500, 15_000];
+/// The mean number of octets of an element with 0 to 32 octets of contents.
+const ELEMENT_LEN: usize = 18;
 
 unsafe extern "C" {
     // A slice is passed as a pointer and then a length; the allocator has size 0 and is not passed.
@@ -108,49 +114,83 @@ fn set_of(elements: &[&[u8]]) -> Vec<u8> {
     out
 }
 
-/// Elements with at most `bound` octets of contents, `wanted` octets together, and their number.
-/// Most of equal length differ in the last octet alone.
+/// Appends an element with fewer than `bound` octets of contents. Most of equal length differ in
+/// the last octet alone.
+fn push_element(out: &mut Vec<u8>, numbers: &mut Numbers, bound: u64) {
+    let len = numbers.below(bound) as usize;
+    out.push(OCTET_STRING);
+    push_length(out, len);
+    let mut octet = |at| {
+        if at + 1 < len {
+            0x2A
+        } else {
+            numbers.below(256) as u8
+        }
+    };
+    out.extend((0..len).map(&mut octet));
+}
+
+/// Such elements until they are `wanted` octets long, and their number.
 fn elements(bound: u64, wanted: usize) -> (Vec<u8>, u64) {
     let mut numbers = Numbers(0x9E37_79B9_7F4A_7C15);
     let mut out = Vec::with_capacity(wanted + (1 << 12));
     let mut count = 0;
     while out.len() < wanted {
-        let len = numbers.below(bound) as usize;
-        out.push(OCTET_STRING);
-        push_length(&mut out, len);
-        let mut octet = |at| if at + 1 < len { 0x2A } else { numbers.below(256) as u8 };
-        out.extend((0..len).map(&mut octet));
+        push_element(&mut out, &mut numbers, bound);
         count += 1;
     }
     (out, count)
 }
 
-fn print_row(
-    name: &str,
-    (bytes, counted): (&[u8], u64),
-    count: u64,
-    proved: fn(&[u8]) -> Totals,
-    by_hand: fn(&[u8]) -> Totals,
-) {
-    assert_eq!(proved(bytes), by_hand(bytes), "{name}");
-    let [library, hand] = measure([(proved, bytes, counted), (by_hand, bytes, counted)])
-        .map(|it| it * counted as f64 / count as f64);
-    println!(
-        "{name}: {count} elements of {:.1} octets; \
-         library {library:.2} ns, by hand {hand:.2} ns an element, ratio {:.2}",
-        bytes.len() as f64 / count as f64,
-        library / hand,
-    );
+/// The elements of sets, about `wanted` octets together, and where each set ends.
+fn sets(set_size: usize, wanted: usize) -> (Vec<u8>, Vec<usize>) {
+    let mut numbers = Numbers(0x9E37_79B9_7F4A_7C15);
+    let (mut out, mut ends) = (Vec::with_capacity(2 * wanted), Vec::new());
+    while out.len() < wanted {
+        for _ in 0..set_size {
+            push_element(&mut out, &mut numbers, 33);
+        }
+        ends.push(out.len());
+    }
+    (out, ends)
 }
 
-fn main() {
-    for bound in [5, 33, 513] {
-        let (bytes, count) = elements(bound, INPUT_LEN);
-        let following = count - 1;
-        let name = format!("compared, 0 to {} octets", bound - 1);
-        print_row(&name, (&bytes, following), following, compare_proved, compare_by_hand);
+/// Sorts and writes each set, and adds up what is reported of each.
+#[inline(always)]
+fn sort_each(bytes: &[u8], ends: &[usize], sort: impl Fn(&[u8]) -> Totals) -> Totals {
+    let mut totals = Totals::default();
+    let mut start = 0;
+    for &end in ends {
+        let one = sort(&bytes[start..end]);
+        totals.elements = totals.elements.wrapping_add(one.elements);
+        totals.contents = totals.contents.wrapping_add(one.contents);
+        totals.octet_sum = totals.octet_sum.wrapping_add(one.octet_sum);
+        start = end;
     }
-    let (bytes, count) = elements(33, INPUT_LEN);
+    totals
+}
+
+fn row(name: String, size: usize, bytes: &[u8], count: u64) -> Row {
+    Row {
+        name,
+        size,
+        octets: bytes.len(),
+        count,
+    }
+}
+
+fn print_row_compared(size: usize, bound: u64) {
+    let (bytes, count) = elements(bound, size);
+    let name = format!("compared, 0 to {} octets", bound - 1);
+    let ways = [
+        way(By::Library, |()| compare_proved(&bytes)),
+        way(By::Hand, |()| compare_by_hand(&bytes)),
+    ];
+    print_row(&row(name, size, &bytes, count - 1), &ways, &mut ());
+}
+
+fn print_row_read(size: usize) {
+    let (bytes, count) = elements(33, size);
     let mut parts = Vec::new();
     let mut rest = &bytes[..];
     while let Some((element, _, following)) = split_element(OCTET_STRING, rest) {
@@ -158,9 +198,37 @@ fn main() {
         rest = following;
     }
     parts.sort_unstable();
-    print_row("read in order", (&set_of(&parts), 1), count, read_proved, read_by_hand);
-    for wanted in [1 << 8, 1 << 16] {
-        let (bytes, count) = elements(33, wanted);
-        print_row("sorted and written", (&bytes, count), count, sort_proved, sort_by_hand);
+    let set = set_of(&parts);
+    let ways = [
+        way(By::Library, |()| read_proved(&set)),
+        way(By::Hand, |()| read_by_hand(&set)),
+    ];
+    print_row(
+        &row("read in order".to_owned(), size, &set, count),
+        &ways,
+        &mut (),
+    );
+}
+
+fn print_row_sorted(size: usize, set_size: usize) {
+    let (bytes, ends) = sets(set_size, size);
+    let count = (ends.len() * set_size) as u64;
+    let name = format!("sorted and written, sets of {set_size}");
+    let ways = [
+        way(By::Library, |()| sort_each(&bytes, &ends, sort_proved)),
+        way(By::Hand, |()| sort_each(&bytes, &ends, sort_by_hand)),
+    ];
+    print_row(&row(name, size, &bytes, count), &ways, &mut ());
+}
+
+fn main() {
+    for size in SIZES {
+        for bound in [5, 33, 513] {
+            print_row_compared(size, bound);
+        }
+        print_row_read(size);
+        // an input has at least one set
+        let fitting = SET_SIZES.into_iter().filter(|it| it * ELEMENT_LEN <= size);
+        fitting.for_each(|set_size| print_row_sorted(size, set_size));
     }
 }

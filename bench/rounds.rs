@@ -27,7 +27,21 @@ pub enum By {
     Crate,
     #[allow(dead_code, reason = "only where its headers are there")]
     Mbedtls,
+    /// The library's scan for readers that return no slices.
+    #[allow(dead_code, reason = "only the driver `scan` has it")]
+    Octets,
+    /// The library, with types that are written by hand.
+    #[allow(dead_code, reason = "only the driver `generated` has it")]
+    Handwritten,
 }
+
+/// The ways that only some rows have, with their names in a line.
+const OTHERS: [(By, &str); 4] = [
+    (By::Crate, "the crate"),
+    (By::Mbedtls, "mbedTLS"),
+    (By::Octets, "octet by octet"),
+    (By::Handwritten, "handwritten types"),
+];
 
 /// A way to do the work; `S` is what it works on in addition to its input, such as octets to write
 /// to.
@@ -54,27 +68,32 @@ pub struct Row {
     pub count: u64,
 }
 
+/// The row whose instructions are counted, by its name and its size. No other row runs then.
+pub fn counted_row() -> Option<String> {
+    std::env::var("COUNTED_ROW").ok()
+}
+
 /// Measures the ways, which must all return and write the same, and prints their times and ratios.
 /// Of several ways by hand the fastest counts.
 pub fn print_row<S: Clone + PartialEq>(row: &Row, ways: &[Way<'_, S>], scratch: &mut S) {
-    let clean = scratch.clone();
-    let reported = (ways[0].run)(scratch);
-    assert_ne!(reported.elements, 0, "{}", row.name);
-    for way in ways {
-        let mut again = clean.clone();
-        assert_eq!((way.run)(&mut again), reported, "{}", row.name);
-        assert!(again == *scratch, "{}", row.name);
+    let name = format!("{}, {}", row.name, size(row.size));
+    if let Some(counted) = counted_row() {
+        if counted == name {
+            run_once(row, ways, scratch);
+        }
+        return;
     }
-    let [library, by_hand, by_crate, by_mbedtls] = least_times(row, ways, scratch);
+    check(row, ways, scratch);
+    let least = least_times(row, ways, scratch);
+    let [library, by_hand] = [By::Library, By::Hand].map(|by| least[by as usize]);
     print!(
-        "{}, {}: {} of {:.1} octets; library {library:.2} ns, by hand {by_hand:.2} ns, ratio {:.2}",
-        row.name,
-        size(row.size),
+        "{name}: {} of {:.1} octets; library {library:.2} ns, by hand {by_hand:.2} ns, ratio {:.2}",
         row.count,
         row.octets as f64 / row.count as f64,
         library / by_hand,
     );
-    for (name, time) in [("the crate", by_crate), ("mbedTLS", by_mbedtls)] {
+    for (by, name) in OTHERS {
+        let time = least[by as usize];
         if time.is_finite() {
             print!("; {name} {time:.2} ns, ratio {:.2}", library / time);
         }
@@ -82,10 +101,32 @@ pub fn print_row<S: Clone + PartialEq>(row: &Row, ways: &[Way<'_, S>], scratch: 
     println!();
 }
 
-/// The minimum times of the library, by hand, of the crate and of mbedTLS, in nanoseconds, infinite
-/// without such a way. The rounds alternate, so that all see the same machine.
-fn least_times<S>(row: &Row, ways: &[Way<'_, S>], scratch: &mut S) -> [f64; 4] {
-    let mut least = [f64::INFINITY; 4];
+/// Runs each way once, and prints the number of what their instructions are counted for.
+fn run_once<S>(row: &Row, ways: &[Way<'_, S>], scratch: &mut S) {
+    for way in ways {
+        black_box((way.run)(black_box(scratch)));
+    }
+    println!("{}", row.count);
+}
+
+/// All ways must return and write the same.
+fn check<S: Clone + PartialEq>(row: &Row, ways: &[Way<'_, S>], scratch: &mut S) {
+    let clean = scratch.clone();
+    let reported = (ways[0].run)(scratch);
+    assert_ne!(reported.elements, 0, "{}", row.name);
+    // what is reported is what is counted, or groups of equally many
+    assert_eq!(row.count % reported.elements, 0, "{}", row.name);
+    for way in ways {
+        let mut again = clean.clone();
+        assert_eq!((way.run)(&mut again), reported, "{}", row.name);
+        assert!(again == *scratch, "{}", row.name);
+    }
+}
+
+/// The minimum time of each way in nanoseconds, infinite without such a way. The rounds alternate,
+/// so that all see the same machine.
+fn least_times<S>(row: &Row, ways: &[Way<'_, S>], scratch: &mut S) -> [f64; 2 + OTHERS.len()] {
+    let mut least = [f64::INFINITY; 2 + OTHERS.len()];
     let begun = Instant::now();
     let mut rounds = 0;
     while rounds < ROUNDS || begun.elapsed() < WHILE {

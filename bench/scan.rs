@@ -1,14 +1,19 @@
-//! Reads 16 MiB of messages with indefinite lengths with the proved reader and by hand, and walks
-//! over their items alone. Prints the time for one item each.
+//! Reads messages with indefinite lengths with the proved reader, by its scan octet by octet, and
+//! by hand. Prints the time for one item each.
 mod common;
+#[allow(dead_code, reason = "other drivers use the rest")]
 mod elements;
+mod rounds;
 
-use common::{INPUT_LEN, Numbers, Totals, measure, split_contents};
-use elements::{UNIVERSAL, count_contents, proved_walk, push_element, short_len, skip_identifier};
+use common::{Numbers, Totals, split_contents};
+use elements::{UNIVERSAL, count_contents, push_element, short_len, skip_identifier};
+use rounds::{By, Row, SIZES, print_row, way};
 
 const INDEFINITE: u8 = 0x80;
 const MAX_LEVEL: usize = 64;
-// How many levels of a message are open, and how many items it has, equally many on each level.
+/// The number of octets of an item, at most on average.
+const ITEM_LEN: usize = 12;
+/// How deep a message is, and how many items it has, equally many on each level.
 const MESSAGES: [(usize, usize); 6] = [
     (1, 256),
     (4, 256),
@@ -17,7 +22,7 @@ const MESSAGES: [(usize, usize); 6] = [
     (1, 1 << 14),
     (1, 1 << 20),
 ];
-// Under BER, 0x24 is an identifier too.
+/// Under BER, 0x24 is an identifier too.
 const BER_IDENTIFIERS: u64 = UNIVERSAL | 1 << 0x24;
 
 unsafe extern "C" {
@@ -91,62 +96,50 @@ fn body_len(bytes: &[u8]) -> Option<usize> {
     }
 }
 
-/// Messages until the input is as long as requested, and their items alone.
-struct Input {
-    messages: Vec<u8>,
-    message_count: u64,
-    items: Vec<u8>,
-}
-
-/// Messages of `items` items, with `levels` levels open in them.
-fn input(levels: usize, items: usize) -> Input {
+/// Messages of `items` items, with `levels` levels open in them, until they are `wanted` octets
+/// long, and the number of all items.
+fn messages(levels: usize, items: usize, wanted: usize) -> (Vec<u8>, u64) {
     let mut numbers = Numbers(0x9E37_79B9_7F4A_7C15);
-    let mut input = Input {
-        messages: Vec::with_capacity(INPUT_LEN + (1 << 17)),
-        message_count: 0,
-        items: Vec::with_capacity(INPUT_LEN + (1 << 17)),
-    };
-    while input.messages.len() < INPUT_LEN {
-        push_message(&mut input, &mut numbers, levels, items);
+    let mut out = Vec::with_capacity(wanted + (1 << 17));
+    let mut count = 0;
+    while out.len() < wanted {
+        push_message(&mut out, &mut numbers, levels, items);
+        count += items as u64;
     }
-    input
+    (out, count)
 }
 
-fn push_message(input: &mut Input, numbers: &mut Numbers, levels: usize, items: usize) {
+fn push_message(out: &mut Vec<u8>, numbers: &mut Numbers, levels: usize, items: usize) {
     for _ in 0..levels {
-        input.messages.extend_from_slice(&[0x30, INDEFINITE]);
-        let start = input.items.len();
+        out.extend_from_slice(&[0x30, INDEFINITE]);
         for _ in 0..items / levels {
-            push_element(&mut input.items, numbers, short_len);
+            push_element(out, numbers, short_len);
         }
-        input.messages.extend_from_slice(&input.items[start..]);
     }
-    input.messages.resize(input.messages.len() + 2 * levels, 0);
-    input.message_count += 1;
+    out.resize(out.len() + 2 * levels, 0);
+}
+
+fn print_row_scans(levels: usize, items: usize, size: usize) {
+    let (bytes, count) = messages(levels, items, size);
+    let row = Row {
+        name: format!("messages of {items} items, {levels} deep"),
+        size,
+        octets: bytes.len(),
+        count,
+    };
+    let ways = [
+        way(By::Library, |()| proved_scan(&bytes)),
+        way(By::Octets, |()| scan_by_octets(&bytes)),
+        way(By::Hand, |()| scan_by_hand(&bytes)),
+    ];
+    print_row(&row, &ways, &mut ());
 }
 
 fn main() {
-    for (levels, item_count) in MESSAGES {
-        let input = input(levels, item_count);
-        let (messages, items) = (&input.messages, &input.items);
-        let name = format!("{levels} levels, {item_count} items");
-        let totals = scan_by_hand(messages);
-        assert_eq!(proved_scan(messages), totals, "{name}");
-        assert_eq!(scan_by_octets(messages), totals, "{name}");
-        let count = input.message_count;
-        let [proved, by_octets, by_hand, walked] = measure([
-            (proved_scan, messages, count),
-            (scan_by_octets, messages, count),
-            (scan_by_hand, messages, count),
-            (proved_walk, items, count * item_count as u64),
-        ]);
-        let [proved, by_octets, by_hand] = [proved, by_octets, by_hand].map(|it| it / item_count as f64);
-        println!(
-            "{name}: {count} messages of {:.1} octets; library {proved:.2} ns, by hand {by_hand:.2} ns \
-             an item, ratio {:.2}; octet by octet {by_octets:.2} ns; a walk over the items \
-             {walked:.2} ns",
-            messages.len() as f64 / count as f64,
-            proved / by_hand,
-        );
+    for (levels, items) in MESSAGES {
+        // an input has at least one message
+        for size in SIZES.into_iter().filter(|size| items * ITEM_LEN <= *size) {
+            print_row_scans(levels, items, size);
+        }
     }
 }

@@ -1,8 +1,10 @@
-//! Decodes 16 MiB of OCTET STRINGs and UTF8Strings with the proved reader and by hand: borrowed,
-//! copied as text, and joined from segments, flat and nested. Prints the time for one string each.
+//! Decodes OCTET STRINGs and UTF8Strings with the proved reader and by hand: borrowed, copied as
+//! text, and joined from segments, flat and nested. Prints the time for one string each.
 mod common;
+mod rounds;
 
-use common::{INPUT_LEN, Numbers, Totals, measure, push_length, split_contents};
+use common::{Numbers, Totals, push_length, split_contents};
+use rounds::{By, Row, SIZES, print_row, way};
 use std::hint::black_box;
 
 const OCTET_STRING: u8 = 0x04;
@@ -143,12 +145,12 @@ fn push_element(out: &mut Vec<u8>, numbers: &mut Numbers, tag: u8, len: usize) {
     out.extend((0..len).map(|_| b'a' + numbers.below(26) as u8));
 }
 
-/// Elements until the input is as long as requested, and their number.
-fn elements(tag: u8, bound: u64) -> (Vec<u8>, u64) {
+/// Elements until the input is `wanted` octets long, and their number.
+fn elements(tag: u8, bound: u64, wanted: usize) -> (Vec<u8>, u64) {
     let mut numbers = Numbers(0x9E37_79B9_7F4A_7C15);
-    let mut out = Vec::with_capacity(INPUT_LEN + (1 << 12));
+    let mut out = Vec::with_capacity(wanted + (1 << 12));
     let mut count = 0;
-    while out.len() < INPUT_LEN {
+    while out.len() < wanted {
         let len = numbers.below(bound) as usize;
         push_element(&mut out, &mut numbers, tag, len);
         count += 1;
@@ -157,11 +159,11 @@ fn elements(tag: u8, bound: u64) -> (Vec<u8>, u64) {
 }
 
 /// The same for strings of `segments` segments each, nested in `levels` levels.
-fn segmented(levels: usize, segments: usize, bound: u64) -> (Vec<u8>, u64) {
+fn segmented(levels: usize, segments: usize, bound: u64, wanted: usize) -> (Vec<u8>, u64) {
     let mut numbers = Numbers(0x9E37_79B9_7F4A_7C15);
-    let mut out = Vec::with_capacity(INPUT_LEN + (1 << 16));
+    let mut out = Vec::with_capacity(wanted + (1 << 16));
     let mut count = 0;
-    while out.len() < INPUT_LEN {
+    while out.len() < wanted {
         for _ in 0..levels {
             out.extend_from_slice(&SEGMENTS);
         }
@@ -177,39 +179,50 @@ fn segmented(levels: usize, segments: usize, bound: u64) -> (Vec<u8>, u64) {
     (out, count)
 }
 
-fn print_row(
+/// A way to decode strings.
+type Decoding = fn(&[u8]) -> Totals;
+
+fn print_row_strings(
     name: &str,
+    size: usize,
     (bytes, count): &(Vec<u8>, u64),
-    proved: fn(&[u8]) -> Totals,
-    by_hand: fn(&[u8]) -> Totals,
+    [proved, by_hand]: [Decoding; 2],
 ) {
-    assert_eq!(proved(bytes), by_hand(bytes), "{name}");
-    let [library, hand] = measure([(proved, bytes, *count), (by_hand, bytes, *count)]);
-    println!(
-        "{name}: {count} strings of {:.1} octets; \
-         library {library:.2} ns, by hand {hand:.2} ns a string, ratio {:.2}",
-        bytes.len() as f64 / *count as f64,
-        library / hand,
-    );
+    let row = Row {
+        name: name.to_owned(),
+        size,
+        octets: bytes.len(),
+        count: *count,
+    };
+    let ways = [
+        way(By::Library, |()| proved(bytes)),
+        way(By::Hand, |()| by_hand(bytes)),
+    ];
+    print_row(&row, &ways, &mut ());
 }
 
-fn main() {
-    let borrowed = elements(OCTET_STRING, 33);
-    print_row(
+fn print_rows(size: usize) {
+    let borrowed = elements(OCTET_STRING, 33, size);
+    print_row_strings(
         "borrowed octets",
+        size,
         &borrowed,
-        proved_borrowed,
-        borrow_by_hand,
+        [proved_borrowed, borrow_by_hand],
     );
-    let texts = elements(UTF8_STRING, 33);
-    print_row("copied texts", &texts, proved_texts, copy_by_hand);
+    let texts = elements(UTF8_STRING, 33, size);
+    print_row_strings("copied texts", size, &texts, [proved_texts, copy_by_hand]);
     for bound in [33, 2049] {
         let name = format!("16 segments of 0 to {} octets", bound - 1);
-        print_row(&name, &segmented(1, 16, bound), proved_joined, join_by_hand);
+        let joined = segmented(1, 16, bound, size);
+        print_row_strings(&name, size, &joined, [proved_joined, join_by_hand]);
     }
     for levels in [1, 4, 16, 64] {
         let name = format!("1024 segments of 0 to 32 octets, inside {levels} levels");
-        let strings = segmented(levels, 1024, 33);
-        print_row(&name, &strings, proved_joined, join_levels_by_hand);
+        let joined = segmented(levels, 1024, 33, size);
+        print_row_strings(&name, size, &joined, [proved_joined, join_levels_by_hand]);
     }
+}
+
+fn main() {
+    SIZES.into_iter().for_each(print_rows);
 }

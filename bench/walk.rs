@@ -1,10 +1,11 @@
-//! Walks over 16 MiB of elements with the proved reader and by hand. Prints the time for one
-//! element each.
+//! Walks over elements with the proved reader and by hand. Prints the time for one element each.
 mod common;
 mod elements;
+mod rounds;
 
-use common::{INPUT_LEN, Numbers, Totals, measure, split_contents};
+use common::{Numbers, Totals, split_contents};
 use elements::{UNIVERSAL, count_contents, proved_walk, push_element, short_len, skip_identifier};
+use rounds::{By, Row, SIZES, print_row, way};
 
 /// Walks by hand, without a reader. It rejects the same elements.
 #[inline(never)]
@@ -24,33 +25,39 @@ fn any_len(numbers: &mut Numbers) -> usize {
     1 + numbers.below(bound) as usize
 }
 
-/// Elements until the input is as long as requested, and their number.
-fn elements(next_len: fn(&mut Numbers) -> usize) -> (Vec<u8>, u64) {
+/// Elements until the input is `wanted` octets long, and their number.
+fn elements(next_len: fn(&mut Numbers) -> usize, wanted: usize) -> (Vec<u8>, u64) {
     let mut numbers = Numbers(0x9E37_79B9_7F4A_7C15);
-    let mut out = Vec::with_capacity(INPUT_LEN + (1 << 17));
+    let mut out = Vec::with_capacity(wanted + (1 << 17));
     let mut count = 0;
-    while out.len() < INPUT_LEN {
+    while out.len() < wanted {
         push_element(&mut out, &mut numbers, next_len);
         count += 1;
     }
     (out, count)
 }
 
-fn main() {
-    let mixes: [(&str, fn(&mut Numbers) -> usize); 2] = [
-        ("1 to 18 octets of contents", short_len),
-        ("1 to 65536 octets of contents", any_len),
+fn print_row_walks(name: &str, size: usize, next_len: fn(&mut Numbers) -> usize) {
+    let (bytes, count) = elements(next_len, size);
+    let row = Row {
+        name: name.to_owned(),
+        size,
+        octets: bytes.len(),
+        count,
+    };
+    let ways = [
+        way(By::Library, |()| proved_walk(&bytes)),
+        way(By::Hand, |()| walk_by_hand(&bytes)),
     ];
-    for (name, next_len) in mixes {
-        let (bytes, count) = elements(next_len);
-        assert_eq!(proved_walk(&bytes), walk_by_hand(&bytes), "{name}");
-        let [proved, by_hand] =
-            measure([(proved_walk, &bytes, count), (walk_by_hand, &bytes, count)]);
-        println!(
-            "{name}: {count} elements of {:.1} octets; \
-             library {proved:.2} ns, by hand {by_hand:.2} ns an element, ratio {:.2}",
-            bytes.len() as f64 / count as f64,
-            proved / by_hand,
-        );
+    print_row(&row, &ways, &mut ());
+}
+
+fn main() {
+    for size in SIZES {
+        print_row_walks("1 to 18 octets of contents", size, short_len);
+    }
+    // 16 KiB would hold only four of these
+    for size in &SIZES[1..] {
+        print_row_walks("1 to 65536 octets of contents", *size, any_len);
     }
 }

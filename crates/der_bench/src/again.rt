@@ -53,7 +53,7 @@ pub extern "C" fn der_bench_public_key_to_der(alloc: Global, octets: &[u8], time
 }
 
 #[inline(always)]
-fn to_slice<'a, T: Decode<SliceReader<'a>, Error = Error> + Encode>(
+pub(crate) fn to_slice<'a, T: Decode<SliceReader<'a>, Error = Error> + Encode>(
     alloc: Global,
     octets: &'a [u8],
     times: u64,

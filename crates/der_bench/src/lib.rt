@@ -1,7 +1,7 @@
 //! The functions whose speed `bench/` measures: walks over elements, decoding of keys,
-//! certificates, revocation lists, byte strings and texts, comparison of elements, reading of messages with
-//! indefinite lengths, and writing. Also the functions with which `tools/real_files` reads files
-//! and writes them back.
+//! certificates, revocation lists, byte strings and texts, comparison of elements, reading of
+//! messages with indefinite lengths, and writing. Also the functions with which `tools/real_files`
+//! reads files and writes them back.
 #![tactic(auto)]
 
 mod again;
@@ -9,11 +9,13 @@ mod certificates;
 mod decode;
 mod extensions;
 mod files;
+mod handwritten;
 mod headers;
 mod keys;
 mod messages;
 mod nested;
 mod orders;
+mod public_keys;
 mod revocation_lists;
 mod scan;
 mod sets;
