@@ -76,6 +76,16 @@ impl<'a> EncodeValue for KeyAlgorithm<'a> {
     fn encode_value<W: Writer>(&self, writer: &mut W) -> Result<(), Error> {
         field_refs!(self, (oid, parameters)).encode(writer)
     }
+
+    #[inline(always)]
+    fn value_len_before(&self) -> Option<u32> {
+        field_refs!(self, (oid, parameters)).len_before()
+    }
+
+    #[inline(always)]
+    fn encode_value_before(&self, buf: &mut [u8], end: u32) -> u32 {
+        field_refs!(self, (oid, parameters)).encode_before(buf, end)
+    }
 }
 
 // A public key with its algorithm (RFC 5280, 4.1.2.7).
@@ -138,5 +148,15 @@ impl<'a> EncodeValue for PublicKey<'a> {
     #[inline(always)]
     fn encode_value<W: Writer>(&self, writer: &mut W) -> Result<(), Error> {
         field_refs!(self, (algorithm, key)).encode(writer)
+    }
+
+    #[inline(always)]
+    fn value_len_before(&self) -> Option<u32> {
+        field_refs!(self, (algorithm, key)).len_before()
+    }
+
+    #[inline(always)]
+    fn encode_value_before(&self, buf: &mut [u8], end: u32) -> u32 {
+        field_refs!(self, (algorithm, key)).encode_before(buf, end)
     }
 }

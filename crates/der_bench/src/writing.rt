@@ -3,7 +3,10 @@ ghost use Rattle.std.specs.Prelude.{Ok};
 ghost use Rattle.der.specs.Prelude.{definite_length, OctetString, slice_writer_state, Keeps, Writes, write_outcome};
 
 use crate::Totals;
-use der::{Encode, EncodeValue, Error, FixedTag, Length, SliceWriter, Tag, Writer, WrittenValue};
+use der::{
+    Encode, EncodeValue, Error, FixedTag, Length, SliceWriter, Tag, Writer, WrittenValue,
+    octets_len, place_before,
+};
 use std::alloc::Global;
 
 // The octets of a number, the most significant first.
@@ -39,6 +42,14 @@ impl EncodeValue for Eight {
 
     fn encode_value<W: Writer>(&self, writer: &mut W) -> Result<(), Error> {
         writer.write(&self.octets)
+    }
+
+    fn value_len_before(&self) -> Option<u32> {
+        octets_len(&self.octets)
+    }
+
+    fn encode_value_before(&self, buf: &mut [u8], end: u32) -> u32 {
+        place_before(&self.octets, buf, end)
     }
 }
 
