@@ -23,15 +23,11 @@ pub enum By {
     Library,
     Hand,
     /// The crate `der` 0.8.3.
-    #[allow(dead_code, reason = "only the build beside the crate has it")]
     Crate,
-    #[allow(dead_code, reason = "only where its headers are there")]
     Mbedtls,
     /// The library's scan for readers that return no slices.
-    #[allow(dead_code, reason = "only the driver `scan` has it")]
     Octets,
     /// The library, with types that are written by hand.
-    #[allow(dead_code, reason = "only the driver `generated` has it")]
     Handwritten,
 }
 

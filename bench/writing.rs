@@ -13,6 +13,7 @@ mod elements;
 mod hand;
 mod put;
 mod rounds;
+#[allow(dead_code, reason = "as above")]
 mod written;
 
 use certificates::headers;
