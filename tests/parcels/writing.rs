@@ -1,15 +1,16 @@
 //! Parcels that are put together, and written.
-use super::octets::{SEAL, SMALL};
-use crate::checks::{holds, same_octets};
-use der::{Encode, Tag};
+use super::octets::{FULL, PLAN, SEAL, SMALL};
+use crate::checks::{holds, same, same_octets};
+use der::{DecodeBytes, Encode, Tag};
 use der_asn1::{
     AnyRef, BooleanRef, DefaultValue, Defaulted, Explicit, Implicit, IntRef, IntegerIn, IntegerOf,
     NamedInteger, ObjectIdentifierRef, Optional, PrintableStringRef, SequenceOf,
     Utf8StringRef, WithDefault,
 };
-use parcels::{Address, Journey, Parcel, Seal, TextTagged, Text, Version};
+use parcels::{Address, Journey, Parcel, Plan, Seal, TextTagged, Text, Version};
 use spki::AlgorithmIdentifierRef;
 use std::alloc::Global;
+use std::process::Abort;
 
 fn sender() -> Option<Address<'static>> {
     Some(Address {
@@ -80,5 +81,38 @@ fn a_seal_is_written(rt: HostRuntime) {
     match seal.to_der(rt.alloc()) {
         Ok(written) => same_octets(&rt, written.as_slice(), &SEAL),
         Err(_) => holds(&rt, false),
+    }
+}
+
+// Checks that a value is written so that its encoding ends before index 250 of a buffer.
+fn is_placed<T: Encode>(rt: &impl Abort, value: &T, encoding: &[u8]) {
+    let mut buf = [0xAA; 252];
+    let start = value.encode_before(&mut buf, 250) as usize;
+    same_octets(rt, &buf[start..250], encoding);
+    same_octets(rt, &buf[250..], &[0xAA, 0xAA]);
+}
+
+#[test]
+fn values_are_written_from_the_end(rt: HostRuntime) {
+    match (small(rt.alloc()), seal()) {
+        (Some(parcel), Some(seal)) => {
+            same(&rt, parcel.len_before(), Some(31));
+            is_placed(&rt, &parcel, &SMALL);
+            same(&rt, seal.len_before(), Some(21));
+            is_placed(&rt, &seal, &SEAL);
+        }
+        _ => holds(&rt, false),
+    }
+}
+
+#[test]
+fn values_that_were_read_are_written_from_the_end(rt: HostRuntime) {
+    match (Parcel::from_der(rt.alloc(), &FULL), Plan::from_der(rt.alloc(), &PLAN)) {
+        (Ok(parcel), Ok(plan)) => {
+            is_placed(&rt, &parcel, &FULL);
+            same(&rt, plan.len_before(), Some(98));
+            is_placed(&rt, &plan, &PLAN);
+        }
+        _ => holds(&rt, false),
     }
 }
