@@ -109,6 +109,7 @@ fn values_are_written_from_the_end(rt: HostRuntime) {
 fn values_that_were_read_are_written_from_the_end(rt: HostRuntime) {
     match (Parcel::from_der(rt.alloc(), &FULL), Plan::from_der(rt.alloc(), &PLAN)) {
         (Ok(parcel), Ok(plan)) => {
+            same(&rt, parcel.len_before(), Some(FULL.len() as u32));
             is_placed(&rt, &parcel, &FULL);
             same(&rt, plan.len_before(), Some(98));
             is_placed(&rt, &plan, &PLAN);

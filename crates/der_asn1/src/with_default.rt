@@ -172,6 +172,16 @@ impl<T: EncodeValue + Copy, D> EncodeValue for WithDefault<T, D> {
     fn encode_value<W: Writer>(&self, writer: &mut W) -> Result<(), Error> {
         self.value.encode_value(writer)
     }
+
+    #[inline(always)]
+    fn value_len_before(&self) -> Option<u32> {
+        self.value.value_len_before()
+    }
+
+    #[inline(always)]
+    fn encode_value_before(&self, buf: &mut [u8], end: u32) -> u32 {
+        self.value.encode_value_before(buf, end)
+    }
 }
 
 impl<T: Lawful + Copy, D> Lawful for WithDefault<T, D> {

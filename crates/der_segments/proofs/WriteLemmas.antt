@@ -1,9 +1,11 @@
 -- Lemmas on pieces that are written or copied one after the other.
 use Rattle.std.proofs.Common.{◌≡◌, ℕ, ◌+◌, ◌-◌, ◌≤◌, Bool, true, false, Ok, Err, List, [], ◌∷◌, ◌++◌, length, take, drop, refl, sym, ap, ◌∙◌, subst, append_assoc, append-nil, length-append, length-drop, length-take, arith}
 use Rattle.std.proofs.lemmas.List.{take_at, drop_at, take-take, drop-drop, take-append-drop}
-use Rattle.der_core.proofs.EncodeLemmas.{pieces_then, pieces_stop, one_piece, appended_both, space_after}
+use Rattle.der_core.proofs.BeforeLemmas.{space_for_part, space_for_rest}
+use Rattle.der_core.proofs.EncodeLemmas.{pieces_then, pieces_stop, one_piece, appended_both, space_after, has_space, space_suffices}
+use Rattle.der_core.specs.Before.{IsAccepted}
 use Rattle.der.specs.Prelude.{Error, Writes}
-use Rattle.der.specs.Writer.{WriterState, Fits, Keeps, appended_state, write_outcome, write_pieces}
+use Rattle.der.specs.Writer.{WriterState, WriterOutcome, Fits, HasSpace, Keeps, appended_state, chained_write, success_outcome, write_outcome, write_pieces}
 use Rattle.der_segments.specs.Copied.{CopiesPieces}
 use Rattle.der_segments.specs.Pieces.{joined_pieces}
 use Rattle.der_segments.specs.Written.{WritesPieces}
@@ -96,3 +98,14 @@ pub all_copied : {all : List (List ℕ)} {at : ℕ} {old new : List ℕ} → Cop
 all_copied {all} {at} {old} {new} h =
     let whole : joined_pieces all ≡ joined_pieces h.done = ap joined_pieces (h.split ∙ append-nil h.done) in
     h.copied ∙ ap (λ n. joined_pieces h.done ++ drop n old) h.counted ∙ ap (λ x. x ++ drop (length x) old) (sym whole)
+
+-- pieces for which there is space are written
+pub pieces_accepted : (ps : List (List ℕ)) → IsAccepted (λ s r t. Writes (write_pieces ps s) r t) (joined_pieces ps)
+pieces_accepted [] s has = record { answered = refl; leaves = ap (λ l. record s { octets = l; following = s.following }) (append-nil s.octets) }
+pieces_accepted (p ∷ ps) s has =
+    let part = space_for_part (length p) (length (p ++ joined_pieces ps)) s (omega (arith, length-append p (joined_pieces ps))) has in
+    let facts = has_space (length p) s part in
+    let first : write_outcome p s ≡ success_outcome (appended_state s p) = space_suffices (length p) s (appended_state s p) facts.0 facts.1 facts.2 in
+    let rest = pieces_accepted ps (appended_state s p) (space_for_rest p (joined_pieces ps) s has) in
+    subst (λ (o : WriterOutcome). Writes (chained_write o.answer o.after (write_pieces ps)) (Ok tt) (appended_state s (p ++ joined_pieces ps))) (sym first)
+    (subst (λ t. Writes (write_pieces ps (appended_state s p)) (Ok tt) t) (appended_both s p (joined_pieces ps)) rest)

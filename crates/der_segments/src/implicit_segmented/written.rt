@@ -36,4 +36,14 @@ impl<'a, const N: u32> Encode for ImplicitSegmented<'a, N> {
     fn encode<W: Writer>(&self, writer: &mut W) -> Result<(), Error> {
         Implicit::<Segmented<'a>, N>(self.0).encode(writer)
     }
+
+    #[inline(always)]
+    fn len_before(&self) -> Option<u32> {
+        Implicit::<Segmented<'a>, N>(self.0).len_before()
+    }
+
+    #[inline(always)]
+    fn encode_before(&self, buf: &mut [u8], end: u32) -> u32 {
+        Implicit::<Segmented<'a>, N>(self.0).encode_before(buf, end)
+    }
 }

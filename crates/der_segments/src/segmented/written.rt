@@ -37,6 +37,13 @@ impl<'a> EncodeValue for Segmented<'a> {
         }
         Ok(())
     }
+
+    // The octets are placed by `encode_value` of the trait's default, which computes no length again.
+    #[inline(always)]
+    fn value_len_before(&self) -> Option<u32> {
+        let count = self.count;
+        Some(count)
+    }
 }
 
 impl<'a> Lawful for Segmented<'a> {
