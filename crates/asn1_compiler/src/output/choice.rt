@@ -138,6 +138,12 @@ pub returns-in-@V : goal.returns-in-@V
 returns-in-@V c = rw c.in-@V.is c.len_before@E.ensures
 ";
 
+// The proof that `encode_before` writes the alternative that the value has.
+const ENCODE_BEFORE_PROOF: &str = "
+pub returns-in-@V : goal.returns-in-@V
+returns-in-@V c = rw c.in-@V.is c.encode_before@E.ensures
+";
+
 // The line of an alternative of a part, as a term.
 const PART_VALUE: &str = "      | variant.@V v ↦ @G(record { choice = @Hv@J })@K\n";
 
@@ -162,7 +168,8 @@ impl ChoiceText {
     pub fn proofs(&self, alloc: Global) -> Result<Vec<Proof>, AllocError> {
         let encode = self.proof_of(alloc, "encode", ENCODE_PROOF)?;
         let len_before = self.proof_of(alloc, "len_before", LEN_BEFORE_PROOF)?;
-        Ok(vec![in alloc; encode, len_before]?)
+        let encode_before = self.proof_of(alloc, "encode_before", ENCODE_BEFORE_PROOF)?;
+        Ok(vec![in alloc; encode, len_before, encode_before]?)
     }
 
     // The proof of a function, from a template for each alternative.
