@@ -1,12 +1,11 @@
 -- Values that are written from the end of a buffer.
-use Rattle.std.proofs.Common.{rules, arith, ◌≡◌, ℕ, ◌+◌, ◌-◌, ◌^◌, ◌<◌, ◌≤◌, false, List, [], ◌∷◌, ◌++◌, length, take, drop, length-append, length-take-le, length-drop, append_assoc, refl, sym, ap, ◌∙◌, subst, Result, Ok, Err}
-use Rattle.std.specs.Prelude.{Option, Some, None, IfSome, IsOk}
+use Rattle.std.proofs.Common.{arith, ◌≡◌, ℕ, ◌+◌, ◌^◌, ◌<◌, ◌≤◌, false, List, ◌++◌, length, take, drop, length-append, length-take-le, length-drop, append_assoc, refl, sym, ap, ◌∙◌, subst, Result, Ok, Err}
+use Rattle.std.specs.Prelude.{Option, Some, None, IfSome}
 use Rattle.std.specs.Option.{SomeIff}
 use Rattle.std.proofs.Math.Nat.{le-min}
 use Rattle.std.proofs.Math.Seq.{take-append_seam, drop-append_seam}
 use Rattle.std.proofs.lemmas.List.{take-append-drop, drop-drop}
 use Rattle.std.proofs.lemmas.Bool.{lt-ltb}
-use Rattle.std.proofs.lemmas.Bool.Decides.{nat_tests}
 use Rattle.der_base.specs.Arithmetic.{checked_length, element_count}
 use Rattle.der_base.specs.HeaderGrammar.{header_octets}
 use Rattle.der_base.specs.Length.{number, definite_length, length_octets}
@@ -19,7 +18,7 @@ use Rattle.der_core.specs.Encode.{WriterAnswer, FitsCounted, ElementWritten, The
 use Rattle.der_core.specs.Fields.{FieldsWritten, continues, fields_size}
 use Rattle.der_core.specs.SliceWriter.{slice_writer_state}
 use Rattle.der_core.specs.declared.writer.slice.SliceWriter.{SliceWriter}
-use Rattle.der_core.specs.Writer.{WriterState, WriterOutcome, HasSpace, Writes, Appends, fresh_state, appended_state, written_count, write_outcome, space_outcome, success_outcome}
+use Rattle.der_core.specs.Writer.{WriterState, WriterOutcome, HasSpace, Writes, Appends, fresh_state, appended_state, written_count, write_outcome, success_outcome}
 use Rattle.der_core.proofs.EncodeLemmas.{has_space, space_suffices, header_with_space, appended_both}
 
 -- there is space for n octets if the writer has not failed and neither limit is exceeded
@@ -153,6 +152,7 @@ appended_inside octets old start n reference w appended count within =
           ∙ drop-append_seam (take start old) (octets ++ drop (length octets) (drop start old)) ∙ ap (λ l. octets ++ l) rest;
       as_long = omega (arith, ap length new, length-append (take start old ++ octets) (drop (length octets) (drop start old)), length-append (take start old) octets, length-drop (length octets) (drop start old), length-drop start old, before, count, within);
     }
+
 -- and the buffer after the writer ended, which has its octets if it was the writer's to the end
 pub placed_by_writer : (octets old new : List ℕ) (start n stop reference : ℕ) (r : Result (Unit {0}) Error) (s : WriterState) (w : SliceWriter)
     → (reference ≡ w.bytes.ghost_name → new ≡ w.bytes.now) → s ≡ inner_state old reference start n → Appends s octets r (slice_writer_state w) → FitsCounted s octets r

@@ -19,9 +19,9 @@ use crate::encode::before::{element_len, header_before, len_within};
 use crate::header::encode_header;
 use crate::tag::fixed::Tagged;
 use crate::writer::{SliceWriter, Writer};
+pub use before::{octets_len, place_before};
 use der_base::{Error, Length};
 use std::alloc::Global;
-pub use before::{octets_len, place_before};
 pub use value::{EncodeValue, WrittenValue, encode_value_to_slice};
 pub use vec::{encode_to_vec_in, to_der_in};
 

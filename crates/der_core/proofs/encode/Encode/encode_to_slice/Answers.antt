@@ -1,4 +1,3 @@
-use Rattle.std.proofs.Common.{arith}
 use Rattle.der_core.proofs.BeforeLemmas.{written_whole}
 use Rattle.der_core.proofs.encode.Encode.encode_to_slice.Goals as goal
 

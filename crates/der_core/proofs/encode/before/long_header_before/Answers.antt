@@ -1,4 +1,4 @@
-use Rattle.std.proofs.Common.{arith, ℕ, List, length, ap, sym, subst, refl, ◌∙◌, ◌/◌, ◌%◌}
+use Rattle.std.proofs.Common.{arith, ℕ, List, length, ap, subst, refl, ◌∙◌}
 use Rattle.der_base.specs.Length.{number, length_octets}
 use Rattle.der_base.specs.declared.length.Length.{Length}
 use Rattle.der_base.specs.Tag.{label, leading_octet}

@@ -1,4 +1,3 @@
-use Rattle.std.proofs.Common.{arith}
 use Rattle.der_core.proofs.BeforeLemmas.{fields_certain_if_some}
 use Rattle.der_core.proofs.encode.fields.Tuple2Encode.len_before.Goals as goal
 

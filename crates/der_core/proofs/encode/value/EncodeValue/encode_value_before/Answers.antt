@@ -1,4 +1,4 @@
-use Rattle.std.proofs.Common.{rules, arith, ◌≡◌, ◌-◌, take, length}
+use Rattle.std.proofs.Common.{rules, arith}
 use Rattle.der_core.proofs.BeforeLemmas.{placed_by_writer}
 use Rattle.der_core.proofs.encode.value.EncodeValue.encode_value_before.Goals as goal
 
