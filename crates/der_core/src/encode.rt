@@ -230,6 +230,7 @@ impl<T: EncodeValue + Tagged> Encode for T {
     #[inline(always)]
     fn encode_before(&self, buf: &mut [u8], end: u32) -> u32 {
         let start = self.encode_value_before(buf, end);
+        // the start is after the end only if the result is unspecified
         header_before(self.tag(), end.wrapping_sub(start), buf, start)
     }
 }
