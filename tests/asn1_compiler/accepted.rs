@@ -133,6 +133,9 @@ fn values_are_written_from_the_end_of_a_buffer(rt: HostRuntime) -> Result<(), Fa
             let proof = "proofs/asn1/c/CEncode/len_before/Answers.antt";
             has_text(&rt, &files, proof, "returns-in-A c = rw c.in-A.is c.len_before.ensures");
             has_text(&rt, &files, proof, "returns-in-B c = rw c.in-B.is c.len_before-in-B.ensures");
+            let proof = "proofs/asn1/c/CEncode/encode_before/Answers.antt";
+            has_text(&rt, &files, proof, "returns-in-A c = rw c.in-A.is c.encode_before.ensures");
+            has_text(&rt, &files, proof, "returns-in-B c = rw c.in-B.is c.encode_before-in-B.ensures");
         }
         Err(place) => same(&rt, Some(place), None),
     }

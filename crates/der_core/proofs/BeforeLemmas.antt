@@ -78,12 +78,6 @@ octets_certain octets n count few = record {
   accepted = write_accepted octets;
 }
 
--- what is certain without a condition is certain under one that holds
-pub certain_under : (e : Type 0) (size : Result Length Error) (answers : WriterAnswer) (octets : List ℕ) (result : Option ℕ) → e → CertainIfSome (Unit {0}) size answers octets result
-    → CertainIfSome e size answers octets result
-certain_under e size answers octets None holds p = tt
-certain_under e size answers octets (Some n) holds p = record { encodable = holds; counted = p.counted; sized = p.sized; accepted = p.accepted }
-
 -- two fields are certain
 pub fields_certain : (e f : Type 0) (m n : Result Length Error) (first second : WriterAnswer) (xs ys : List ℕ) (j k : ℕ) → j + k < 2 ^ 32
     → Certain e m first xs j → Certain f n second ys k → Certain (e × f) (fields_size m n) (FieldsWritten first second) (xs ++ ys) (j + k)
@@ -105,23 +99,6 @@ element_certain e t size answers contents k n count few p = record {
   sized = rw (p.sized) (subst (λ m. checked_length m ≡ Ok (definite_length n)) count (counted_length n few));
   accepted = subst (λ r. IsAccepted (ElementWritten t r answers) (element_octets t contents)) (sym p.sized) (element_accepted t (definite_length k) answers contents p.counted p.accepted);
 }
-
--- octets in front of others that were placed
-pub placed_both : (xs ys : List ℕ) (start middle stop : ℕ) (old between new : List ℕ) → Placed ys middle stop old between → Placed xs start middle between new → Placed (xs ++ ys) start stop old new
-placed_both xs ys start middle stop old between new p q = record {
-  ends = omega (arith, p.ends, q.ends, length-append xs ys);
-  placed = q.placed ∙ ap (λ l. xs ++ l) p.placed ∙ sym (append_assoc xs ys (drop stop old));
-  as_long = q.as_long ∙ p.as_long;
-}
-
--- and if there is space for both
-pub placed_in_front : (xs ys : List ℕ) (start middle stop : ℕ) (old between new : List ℕ) → PlacedIfSpace ys middle stop old between → PlacedIfSpace xs start middle between new
-    → PlacedIfSpace (xs ++ ys) start stop old new
-placed_in_front xs ys start middle stop old between new p q fits within =
-    let sum : length (xs ++ ys) ≡ length xs + length ys = length-append xs ys in
-    let following = p (omega (arith, fits, sum)) within in
-    placed_both xs ys start middle stop old between new following
-    (q (omega (arith, fits, sum, following.ends)) (omega (arith, within, following.ends, following.as_long)))
 
 -- two fields are certain if a length can represent their sum
 pub fields_certain_if_some : (e f : Type 0) (m n : Result Length Error) (first second : WriterAnswer) (xs ys : List ℕ) (j k : ℕ) (sum : Option ℕ)

@@ -41,8 +41,8 @@ impl<'c> Line<'c> {
         }
     }
 
-    // Adds what a proof has behind the name of a function that is called for each alternative, to
-    // name the call for this one.
+    // Adds what a proof writes after the name of a function that is called for each alternative,
+    // to name the call for this one.
     fn push_place_of_call(&self, out: &mut String) -> Result<(), AllocError> {
         if self.index == 0 {
             return Ok(());

@@ -38,9 +38,10 @@ impl<'a> EncodeValue for Segmented<'a> {
         Ok(())
     }
 
-    // The octets are placed by `encode_value` of the trait's default, which computes no length again.
+    // `encode_value_before` is that of the trait: the length that it asks for is known.
     #[inline(always)]
     fn value_len_before(&self) -> Option<u32> {
+        // read for its range
         let count = self.count;
         Some(count)
     }
