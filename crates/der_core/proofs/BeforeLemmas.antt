@@ -4,7 +4,7 @@ use Rattle.std.specs.Prelude.{Option, Some, None, IfSome}
 use Rattle.std.specs.Option.{SomeIff}
 use Rattle.std.proofs.Math.Nat.{le-min}
 use Rattle.std.proofs.Math.Seq.{take-append_seam, drop-append_seam}
-use Rattle.std.proofs.lemmas.List.{take-append-drop, drop-drop}
+use Rattle.std.proofs.lemmas.List.{take-append-drop, take-take, drop-drop}
 use Rattle.std.proofs.lemmas.Bool.{lt-ltb}
 use Rattle.der_base.specs.Arithmetic.{checked_length, element_count}
 use Rattle.der_base.specs.HeaderGrammar.{header_octets}
@@ -114,6 +114,33 @@ pub element_certain_if_some : (e : Type 0) (t u : Tag) (size : Result Length Err
 element_certain_if_some e t u size answers contents k None same count few p = tt
 element_certain_if_some e t u size answers contents k (Some n) same count few p = element_certain e t size answers contents k n (count ∙ ap (λ w. element_count w k) same) few p
 
+-- octets in front of other octets
+pub placed_both : (xs ys : List ℕ) (start middle stop : ℕ) (old mid new : List ℕ) → Placed ys middle stop old mid → Placed xs start middle mid new → Placed (xs ++ ys) start stop old new
+placed_both xs ys start middle stop old mid new p q =
+    let inside : start ≤ middle = omega (arith, q.ends) in
+    record {
+      ends = omega (arith, p.ends, q.ends, length-append xs ys);
+      before = q.before ∙ sym (take-take start middle mid inside) ∙ ap (take start) p.before ∙ take-take start middle old inside;
+      placed = q.placed ∙ ap (λ l. xs ++ l) p.placed ∙ sym (append_assoc xs ys (drop stop old));
+      as_long = q.as_long ∙ p.as_long;
+    }
+
+-- and if both fit
+pub placed_both_if_space : (xs ys : List ℕ) (start middle stop : ℕ) (old mid new : List ℕ) → PlacedIfSpace ys middle stop old mid → PlacedIfSpace xs start middle mid new
+    → PlacedIfSpace (xs ++ ys) start stop old new
+placed_both_if_space xs ys start middle stop old mid new p q fits within =
+    let long : length (xs ++ ys) ≡ length xs + length ys = length-append xs ys in
+    let rest = p (omega (arith, long, fits)) within in
+    placed_both xs ys start middle stop old mid new rest (q (omega (arith, long, fits, rest.ends)) (omega (arith, rest.ends, rest.as_long, within)))
+
+-- a header in front of contents, whose number is known only once they are placed
+pub placed_element : (t u : Tag) (contents : List ℕ) (k start middle stop : ℕ) (old mid new : List ℕ) → u ≡ t → (middle + length contents ≡ stop → k ≡ length contents)
+    → PlacedIfSpace contents middle stop old mid → PlacedIfSpace (header_octets u k) start middle mid new → PlacedIfSpace (element_octets t contents) start stop old new
+placed_element t u contents k start middle stop old mid new same counts p q fits within =
+    let rest = p (omega (arith, length-append (header_octets t (length contents)) contents, fits)) within in
+    let header : header_octets u k ≡ header_octets t (length contents) = ap (λ v. header_octets v k) same ∙ ap (header_octets t) (counts rest.ends) in
+    placed_both_if_space (header_octets t (length contents)) contents start middle stop old mid new p (subst (λ l. PlacedIfSpace l start middle mid new) header q) fits within
+
 -- the octets that a writer appended inside a buffer
 appended_inside : (octets old : List ℕ) (start n reference : ℕ) (w : SliceWriter) → slice_writer_state w ≡ appended_state (inner_state old reference start n) octets
     → n ≡ length octets → start + n ≤ length old → Placed octets start (start + n) old w.bytes.now
@@ -125,6 +152,8 @@ appended_inside octets old start n reference w appended count within =
     let rest : drop (length octets) (drop start old) ≡ drop (start + n) old = drop-drop (length octets) start old ∙ ap (λ k. drop (start + k) old) (sym count) in
     record {
       ends = ap (λ k. start + k) (sym count);
+      before = ap (take start) seam ∙ ap (λ k. take k (take start old ++ (octets ++ drop (length octets) (drop start old)))) (sym before)
+          ∙ take-append_seam (take start old) (octets ++ drop (length octets) (drop start old));
       placed = ap (drop start) seam ∙ ap (λ k. drop k (take start old ++ (octets ++ drop (length octets) (drop start old)))) (sym before)
           ∙ drop-append_seam (take start old) (octets ++ drop (length octets) (drop start old)) ∙ ap (λ l. octets ++ l) rest;
       as_long = omega (arith, ap length new, length-append (take start old ++ octets) (drop (length octets) (drop start old)), length-append (take start old) octets, length-drop (length octets) (drop start old), length-drop start old, before, count, within);

@@ -33,9 +33,10 @@ pub record HasCount (size : Result Length Error) (octets : List ℕ) (n : ℕ) :
   pub counted : n ≡ length octets
   pub countable : n < 2 ^ 32
 
--- the buffer has the octets from `start` to `stop`, and is unchanged from `stop` on
+-- the buffer has the octets from `start` to `stop`, and is unchanged before `start` and from `stop` on
 pub record Placed (octets : List ℕ) (start stop : ℕ) (old new : List ℕ) : Type 0 where
   pub ends : start + length octets ≡ stop
+  pub before : take start new ≡ take start old
   pub placed : drop start new ≡ octets ++ drop stop old
   pub as_long : length new ≡ length old
 

@@ -85,9 +85,9 @@ pub trait Encode {
     }
 
     /// Writes the value's encoding so that it ends before index `end` of the buffer, and returns
-    /// the index at which it starts. The octets from `end` on are unchanged. A header is written
-    /// after the contents that follow it, when their number is known, so no length is computed. The
-    /// default implementation computes the length and writes by [`Encode::encode`].
+    /// the index at which it starts. All other octets of the buffer are unchanged. A header is
+    /// written after the contents that follow it, when their number is known, so no length is
+    /// computed. The default implementation computes the length and writes by [`Encode::encode`].
     ///
     /// If the value cannot be written, or does not fit before `end`, the result and the contents of
     /// the buffer are unspecified.

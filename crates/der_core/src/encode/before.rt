@@ -11,8 +11,8 @@ use crate::tag::first_octet_of;
 use der_base::{Length, Tag};
 
 /// Copies `octets` into the buffer so that they end before index `end`, and returns the index at
-/// which they start. The octets from `end` on are unchanged. If `octets` do not fit before `end`,
-/// the result and the contents of the buffer are unspecified.
+/// which they start. All other octets of the buffer are unchanged. If `octets` do not fit before
+/// `end`, the result and the contents of the buffer are unspecified.
 #[inline(always)]
 pub fn place_before(octets: &[u8], buf: &mut [u8], end: u32) -> u32
     ensures { PlacedIfSpace octets.now result end buf.old buf.new }

@@ -150,8 +150,8 @@ pub trait EncodeValue: WrittenValue {
     }
 
     /// Writes the value's contents octets so that they end before index `end` of the buffer, and
-    /// returns the index at which they start. The octets from `end` on are unchanged. The default
-    /// implementation computes the length and writes by [`EncodeValue::encode_value`].
+    /// returns the index at which they start. All other octets of the buffer are unchanged. The
+    /// default implementation computes the length and writes by [`EncodeValue::encode_value`].
     ///
     /// If the value cannot be written, or does not fit before `end`, the result and the contents of
     /// the buffer are unspecified.
