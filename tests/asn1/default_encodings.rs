@@ -5,7 +5,7 @@ ghost use Rattle.std.specs.Prelude.{[], ◌∷◌};
 use crate::checks::same_at;
 use crate::fixtures::readers::{ber_reader, der_reader};
 use der::{
-    Decode, DecodeValue, Encode, Error, ErrorKind, Length, Reader, SliceReader, Tag,
+    Decode, Encode, Error, ErrorKind, IsValue, Length, Reader, SliceReader, Tag,
 };
 use der_asn1::{
     AnyRef, Checked, DefaultEncoding, DefaultOf, DefaultedTo, Optional, has_contents,
@@ -32,7 +32,7 @@ impl<'a> DefaultOf<AlgorithmIdentifierRef<'a>> for Sha1 {
 
 impl<'a> DefaultEncoding<AlgorithmIdentifierRef<'a>> for Sha1 {
     fn is_default(value: &AlgorithmIdentifierRef<'a>) -> bool {
-        <AlgorithmIdentifierRef<'a> as DecodeValue<SliceReader<'a>>>::is_value(value);
+        value.is_value();
         let octets = [6, 5, 43, 14, 3, 2, 26, 5, 0];
         has_contents(value, &octets, &mut [0; 9])
     }

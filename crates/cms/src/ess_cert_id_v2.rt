@@ -10,8 +10,8 @@ ghost use Rattle.der_asn1.specs.Meaning.{alternative, field, optional, sequence,
 use crate::asn1::IssuerSerial;
 use crate::sha256_default::Sha256Default;
 use der::{
-    Decode, DecodeValue, Encode, EncodeValue, Error, FromFields, Header, Length, Reader, Sequence,
-    SliceReader, Writer, decode_sequence, field_refs,
+    Decode, DecodeValue, Encode, EncodeValue, Error, FromFields, Header, IsValue, Length, Reader,
+    Sequence, SliceReader, Writer, decode_sequence, field_refs,
 };
 use der_asn1::{
     BorrowedItem, DecodeItem, DefaultOf, DefaultedTo, Described, Item, Nestable, OctetStringRef,
@@ -75,12 +75,14 @@ impl<'a, R: Reader<Borrowed = &'a [u8]>> DecodeValue<R> for EssCertIdV2<'a> {
     fn decode_value(alloc: Global, reader: &mut R, header: Header) -> Result<Self, Error> {
         decode_sequence::<R, EssCertIdV2Fields<'a>, Self>(alloc, reader, header)
     }
+}
 
+impl<'a> IsValue for EssCertIdV2<'a> {
     fn is_value(&self) {
-        <AlgorithmIdentifierRef<'a> as DecodeValue<R>>::is_value(&self.hash_algorithm.0);
-        <OctetStringRef<'a> as DecodeValue<R>>::is_value(&self.cert_hash);
+        self.hash_algorithm.0.is_value();
+        self.cert_hash.is_value();
         if let Some(value) = &self.issuer_serial.0 {
-            <IssuerSerial<'a> as DecodeValue<R>>::is_value(value);
+            value.is_value();
         }
     }
 }

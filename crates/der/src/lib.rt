@@ -22,8 +22,8 @@ pub use der_base::{
 };
 pub use der_core::{
     Decode, DecodeBytes, DecodeError, DecodeValue, DerOrd, Described, Encode, EncodeRef,
-    EncodeValue, EncodeValueRef, FixedTag, FromFields, Header, IsConstructed, Lawful, Octets,
-    OrdIsValueOrd, Orderly, Position, ReadValue, Reader, ReaderExt, Resumption, Sequence,
+    EncodeValue, EncodeValueRef, FixedTag, FromFields, Header, IsConstructed, IsValue, Lawful,
+    Octets, OrdIsValueOrd, Orderly, Position, ReadValue, Reader, ReaderExt, Resumption, Sequence,
     SliceReader, SliceWriter, TagPeek, Tagged, Turns, ValueOrd, Writer, WrittenValue, close_value,
     decode_contents, decode_fields, decode_header, decode_indefinite_length, decode_length,
     decode_sequence, decode_tlv, decode_wrapped, der_cmp_tlv, encode_tlv, encode_to_vec_in,

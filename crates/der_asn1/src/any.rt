@@ -7,8 +7,8 @@ ghost use Rattle.der_asn1.specs.AnyElement.{AnyElementNext, AnyElementRead};
 
 use crate::element::decode_element;
 use der::{
-    Decode, DecodeValue, EncodeValue, Error, Header, Length, ReadValue, Reader, Tag, Tagged,
-    Writer, WrittenValue, octets_len, place_before,
+    Decode, DecodeValue, EncodeValue, Error, Header, IsValue, Length, ReadValue, Reader, Tag,
+    Tagged, Writer, WrittenValue, octets_len, place_before,
 };
 use std::alloc::Global;
 
@@ -63,7 +63,9 @@ impl<'a, R: Reader<Borrowed = &'a [u8]>> DecodeValue<R> for AnyRef<'a> {
             contents,
         })
     }
+}
 
+impl<'a> IsValue for AnyRef<'a> {
     fn is_value(&self) {
         let _number = self.tag.number().value();
     }

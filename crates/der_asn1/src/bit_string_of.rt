@@ -14,7 +14,7 @@ use crate::explicit::Nestable;
 use crate::item::{DecodeItem, Item};
 use crate::no_unused_bits::NoUnusedBits;
 use der::{
-    DecodeValue, Encode, EncodeRef, EncodeValue, Error, FixedTag, Header, Lawful, Length,
+    DecodeValue, Encode, EncodeRef, EncodeValue, Error, FixedTag, Header, IsValue, Lawful, Length,
     ReadValue, Reader, Tag, Writer, WrittenValue, decode_contents,
 };
 use std::alloc::Global;
@@ -73,7 +73,9 @@ impl<R: Reader, T: DecodeValue<R, Error = Error> + FixedTag> DecodeValue<R> for 
         let (_, value) = decode_contents::<R, (NoUnusedBits, T)>(alloc, reader, header)?;
         Ok(BitStringOf(value))
     }
+}
 
+impl<T: IsValue + FixedTag> IsValue for BitStringOf<T> {
     fn is_value(&self) {
         self.0.is_value()
     }

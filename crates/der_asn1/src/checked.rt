@@ -9,8 +9,8 @@ use crate::described::Described;
 use crate::explicit::Nestable;
 use crate::grammar::ContentsGrammar;
 use der::{
-    DecodeValue, EncodeValue, Error, FixedTag, Header, Lawful, Length, ReadValue, Reader, Tag,
-    Writer, WrittenValue, octets_len, place_before,
+    DecodeValue, EncodeValue, Error, FixedTag, Header, IsValue, Lawful, Length, ReadValue, Reader,
+    Tag, Writer, WrittenValue, octets_len, place_before,
 };
 use std::alloc::{AllocError, Global};
 use std::marker::PhantomData;
@@ -123,7 +123,9 @@ impl<'a, F: ContentsGrammar, R: Reader<Borrowed = &'a [u8]>> DecodeValue<R> for 
             None => Err(reader.error(F::fixed_tag().value_error())),
         }
     }
+}
 
+impl<'a, F: ContentsGrammar> IsValue for Checked<'a, F> {
     fn is_value(&self) {
         let _octets = self.octets();
     }

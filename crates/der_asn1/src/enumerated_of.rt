@@ -13,8 +13,8 @@ use crate::integer_number::IntegerNumber;
 use crate::item::{DecodeItem, Item};
 use crate::iter::BorrowedItem;
 use der::{
-    DecodeValue, EncodeValue, Error, FixedTag, Header, Lawful, Length, ReadValue, Reader, Tag,
-    Writer, WrittenValue, octets_len, place_before,
+    DecodeValue, EncodeValue, Error, FixedTag, Header, IsValue, Lawful, Length, ReadValue, Reader,
+    Tag, Writer, WrittenValue, octets_len, place_before,
 };
 use std::alloc::Global;
 
@@ -72,7 +72,9 @@ impl<'a, N: IntegerNumber, R: Reader<Borrowed = &'a [u8]>> DecodeValue<R> for En
             None => Err(reader.error(Tag::Enumerated.value_error())),
         }
     }
+}
 
+impl<N: IntegerNumber> IsValue for EnumeratedOf<N> {
     fn is_value(&self) {
         let _contents = self.number.to_contents();
     }

@@ -8,8 +8,8 @@ ghost use Rattle.der_asn1.specs.Meaning.{explicit};
 
 use crate::described::Described;
 use der::{
-    DecodeValue, Encode, EncodeValue, Error, FixedTag, Header, Lawful, Length, ReadValue, Reader,
-    Tag, TagNumber, Writer, WrittenValue, decode_contents,
+    DecodeValue, Encode, EncodeValue, Error, FixedTag, Header, IsValue, Lawful, Length, ReadValue,
+    Reader, Tag, TagNumber, Writer, WrittenValue, decode_contents,
 };
 use std::alloc::Global;
 
@@ -82,7 +82,9 @@ impl<R: Reader, T: DecodeValue<R> + FixedTag, const N: u32> DecodeValue<R> for E
         let value = decode_contents::<R, T>(alloc, reader, header)?;
         Ok(Explicit(value))
     }
+}
 
+impl<T: IsValue + FixedTag, const N: u32> IsValue for Explicit<T, N> {
     fn is_value(&self) {
         self.0.is_value()
     }

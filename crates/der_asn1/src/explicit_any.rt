@@ -14,7 +14,7 @@ use crate::described::Described;
 use crate::item::{DecodeItem, Item};
 use crate::iter::BorrowedItem;
 use der::{
-    DecodeValue, Encode, EncodeValue, Error, FixedTag, FromFields, Header, Lawful, Length,
+    DecodeValue, Encode, EncodeValue, Error, FixedTag, FromFields, Header, IsValue, Lawful, Length,
     ReadValue, Reader, Tag, TagNumber, Writer, WrittenValue, decode_sequence,
 };
 use std::alloc::Global;
@@ -78,9 +78,11 @@ impl<'a, R: Reader<Borrowed = &'a [u8]>, const N: u32> DecodeValue<R> for Explic
     fn decode_value(alloc: Global, reader: &mut R, header: Header) -> Result<Self, Error> {
         decode_sequence::<R, AnyRef<'a>, Self>(alloc, reader, header)
     }
+}
 
+impl<'a, const N: u32> IsValue for ExplicitAny<'a, N> {
     fn is_value(&self) {
-        <AnyRef<'a> as DecodeValue<R>>::is_value(&self.0)
+        self.0.is_value();
     }
 }
 

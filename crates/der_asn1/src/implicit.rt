@@ -10,8 +10,8 @@ ghost use Rattle.der_asn1.specs.Meaning.{implicit};
 use crate::described::Described;
 use crate::explicit::Nestable;
 use der::{
-    DecodeValue, EncodeValue, Error, FixedTag, Header, Lawful, Length, ReadValue, Reader, Tag,
-    TagNumber, Writer, WrittenValue,
+    DecodeValue, EncodeValue, Error, FixedTag, Header, IsValue, Lawful, Length, ReadValue, Reader,
+    Tag, TagNumber, Writer, WrittenValue,
 };
 use std::alloc::Global;
 
@@ -72,7 +72,9 @@ impl<R: Reader, T: DecodeValue<R> + FixedTag, const N: u32> DecodeValue<R> for I
         let own = Header::new(T::fixed_tag(), header.length());
         Ok(Implicit(T::decode_value(alloc, reader, own)?))
     }
+}
 
+impl<T: IsValue + FixedTag, const N: u32> IsValue for Implicit<T, N> {
     fn is_value(&self) {
         self.0.is_value()
     }

@@ -11,8 +11,8 @@ use crate::described::Described;
 use crate::explicit::Nestable;
 use crate::item::{DecodeItem, Item};
 use der::{
-    DecodeValue, EncodeValue, Error, FixedTag, Header, Lawful, Length, ReadValue, Reader, Tag,
-    TagNumber, Writer, WrittenValue,
+    DecodeValue, EncodeValue, Error, FixedTag, Header, IsValue, Lawful, Length, ReadValue, Reader,
+    Tag, TagNumber, Writer, WrittenValue,
 };
 use std::alloc::Global;
 
@@ -90,7 +90,9 @@ impl<R: Reader, T: DecodeValue<R> + FixedTag, const PRIVATE: bool> DecodeValue<R
         let own = Header::new(T::fixed_tag(), header.length());
         Ok(InClass(T::decode_value(alloc, reader, own)?))
     }
+}
 
+impl<T: IsValue + FixedTag, const PRIVATE: bool> IsValue for InClass<T, PRIVATE> {
     fn is_value(&self) {
         self.0.is_value()
     }

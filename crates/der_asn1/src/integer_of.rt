@@ -11,8 +11,8 @@ use crate::explicit::Nestable;
 use crate::integer::IntRef;
 use crate::integer_number::IntegerNumber;
 use der::{
-    DecodeValue, EncodeValue, Error, FixedTag, Header, Lawful, Length, ReadValue, Reader, Tag,
-    Writer, WrittenValue, octets_len, place_before,
+    DecodeValue, EncodeValue, Error, FixedTag, Header, IsValue, Lawful, Length, ReadValue, Reader,
+    Tag, Writer, WrittenValue, octets_len, place_before,
 };
 use std::alloc::Global;
 
@@ -79,7 +79,9 @@ impl<'a, N: IntegerNumber, R: Reader<Borrowed = &'a [u8]>> DecodeValue<R> for In
             None => Err(reader.error(Tag::Integer.value_error())),
         }
     }
+}
 
+impl<N: IntegerNumber> IsValue for IntegerOf<N> {
     fn is_value(&self) {
         let _contents = self.number.to_contents();
     }

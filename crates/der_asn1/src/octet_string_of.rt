@@ -12,8 +12,8 @@ use crate::described::Described;
 use crate::explicit::Nestable;
 use crate::item::{DecodeItem, Item};
 use der::{
-    DecodeValue, Encode, EncodeValue, Error, FixedTag, Header, Lawful, Length, ReadValue, Reader,
-    Tag, Writer, WrittenValue, decode_contents,
+    DecodeValue, Encode, EncodeValue, Error, FixedTag, Header, IsValue, Lawful, Length, ReadValue,
+    Reader, Tag, Writer, WrittenValue, decode_contents,
 };
 use std::alloc::Global;
 
@@ -69,7 +69,9 @@ impl<R: Reader, T: DecodeValue<R> + FixedTag> DecodeValue<R> for OctetStringOf<T
         let value = decode_contents::<R, T>(alloc, reader, header)?;
         Ok(OctetStringOf(value))
     }
+}
 
+impl<T: IsValue + FixedTag> IsValue for OctetStringOf<T> {
     fn is_value(&self) {
         self.0.is_value()
     }

@@ -20,8 +20,8 @@ use crate::item_walk::{check_items, read_items, read_part};
 use crate::items::Items;
 use crate::iter::Iter;
 use der::{
-    Decode, DecodeValue, EncodeValue, Error, FixedTag, Header, Lawful, Length, ReadValue, Reader,
-    SliceReader, Tag, Writer, WrittenValue, octets_len, place_before,
+    Decode, DecodeValue, EncodeValue, Error, FixedTag, Header, IsValue, Lawful, Length, ReadValue,
+    Reader, SliceReader, Tag, Writer, WrittenValue, octets_len, place_before,
 };
 use std::alloc::{AllocError, Global};
 use std::marker::PhantomData;
@@ -109,7 +109,9 @@ impl<
             of: PhantomData,
         })
     }
+}
 
+impl<'a, T: Item> IsValue for SequenceOf<'a, T> {
     fn is_value(&self) {
         let _octets = self.octets;
     }

@@ -21,8 +21,8 @@ use crate::iter::Iter;
 use crate::sequence_of::SequenceOf;
 use crate::set_walk::{check_set, read_set};
 use der::{
-    Decode, DecodeValue, EncodeValue, Error, FixedTag, Header, Lawful, Length, ReadValue, Reader,
-    SliceReader, Tag, Writer, WrittenValue, octets_len, place_before,
+    Decode, DecodeValue, EncodeValue, Error, FixedTag, Header, IsValue, Lawful, Length, ReadValue,
+    Reader, SliceReader, Tag, Writer, WrittenValue, octets_len, place_before,
 };
 use std::alloc::{AllocError, Global};
 
@@ -111,7 +111,9 @@ impl<
             elements: SequenceOf::formed(octets),
         })
     }
+}
 
+impl<'a, T: Item> IsValue for SetOf<'a, T> {
     fn is_value(&self) {
         let _octets = self.octets();
     }

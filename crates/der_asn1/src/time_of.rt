@@ -10,8 +10,8 @@ use crate::described::Described;
 use crate::explicit::Nestable;
 use crate::time_format::TimeFormat;
 use der::{
-    DecodeValue, EncodeValue, Error, FixedTag, Header, Lawful, Length, ReadValue, Reader, Tag,
-    Writer, WrittenValue, octets_len, place_before,
+    DecodeValue, EncodeValue, Error, FixedTag, Header, IsValue, Lawful, Length, ReadValue, Reader,
+    Tag, Writer, WrittenValue, octets_len, place_before,
 };
 use std::alloc::{AllocError, Global};
 use std::marker::PhantomData;
@@ -111,7 +111,9 @@ impl<'a, F: TimeFormat, R: Reader<Borrowed = &'a [u8]>> DecodeValue<R> for TimeO
             None => Err(reader.error(F::fixed_tag().value_error())),
         }
     }
+}
 
+impl<F: TimeFormat> IsValue for TimeOf<F> {
     fn is_value(&self) {
         let _contents = F::to_contents(&self.time);
     }

@@ -10,8 +10,8 @@ use crate::described::Described;
 use crate::equal_contents::EqualContents;
 use crate::explicit::Nestable;
 use der::{
-    DecodeValue, EncodeValue, Error, FixedTag, Header, Lawful, Length, ReadValue, Reader, Tag,
-    Writer, WrittenValue,
+    DecodeValue, EncodeValue, Error, FixedTag, Header, IsValue, Lawful, Length, ReadValue, Reader,
+    Tag, Writer, WrittenValue,
 };
 use std::alloc::{AllocError, Global};
 use std::marker::PhantomData;
@@ -141,7 +141,9 @@ impl<R: Reader, T: DecodeValue<R> + Copy, D> DecodeValue<R> for WithDefault<T, D
     ) -> Result<Self, <T as DecodeValue<R>>::Error> {
         Ok(WithDefault::new(T::decode_value(alloc, reader, header)?))
     }
+}
 
+impl<T: IsValue + Copy, D> IsValue for WithDefault<T, D> {
     fn is_value(&self) {
         self.value.is_value()
     }

@@ -6,10 +6,7 @@ ghost use Rattle.std.proofs.Common.{refl};
 ghost use Rattle.der.specs.Prelude.{map_ok};
 ghost use Rattle.der_asn1.specs.Meaning.{alternative, any_element, field, optional, sequence, two_fields};
 
-use der::{
-    Decode, DecodeValue, Encode, EncodeValue, Error, FromFields, Header, Length, Reader, Sequence,
-    SliceReader, Writer, decode_sequence, field_refs,
-};
+use der::{Decode, DecodeValue, Encode, EncodeValue, Error, FromFields, Header, IsValue, Length, Reader, Sequence, SliceReader, Writer, decode_sequence, field_refs};
 use der_asn1::{AnyRef, BitStringRef, Described, ObjectIdentifierRef, Optional};
 use std::alloc::Global;
 
@@ -50,11 +47,13 @@ impl<'a, R: Reader<Borrowed = &'a [u8]>> DecodeValue<R> for KeyAlgorithm<'a> {
     fn decode_value(alloc: Global, reader: &mut R, header: Header) -> Result<Self, Error> {
         decode_sequence::<R, KeyAlgorithmFields<'a>, Self>(alloc, reader, header)
     }
+}
 
+impl<'a> IsValue for KeyAlgorithm<'a> {
     fn is_value(&self) {
-        <ObjectIdentifierRef<'a> as DecodeValue<R>>::is_value(&self.oid);
+        self.oid.is_value();
         if let Some(value) = &self.parameters.0 {
-            <AnyRef<'a> as DecodeValue<R>>::is_value(value);
+            value.is_value();
         }
     }
 }
@@ -126,10 +125,12 @@ impl<'a, R: Reader<Borrowed = &'a [u8]>> DecodeValue<R> for PublicKey<'a> {
     fn decode_value(alloc: Global, reader: &mut R, header: Header) -> Result<Self, Error> {
         decode_sequence::<R, PublicKeyFields<'a>, Self>(alloc, reader, header)
     }
+}
 
+impl<'a> IsValue for PublicKey<'a> {
     fn is_value(&self) {
-        <KeyAlgorithm<'a> as DecodeValue<R>>::is_value(&self.algorithm);
-        <BitStringRef<'a> as DecodeValue<R>>::is_value(&self.key);
+        self.algorithm.is_value();
+        self.key.is_value();
     }
 }
 

@@ -11,6 +11,7 @@ ghost use Rattle.der_core.specs.Decode.{is_out_of_memory_kind, Passes, ReadsOrLa
 
 mod boxed;
 mod fields;
+mod is_value;
 mod lawful;
 mod phantom;
 mod value;
@@ -18,6 +19,7 @@ mod value;
 use crate::reader::{Reader, SliceReader};
 use der_base::{EncodingRules, Error, ErrorKind};
 pub use fields::decode_contents;
+pub use is_value::IsValue;
 pub use lawful::Lawful;
 use std::alloc::Global;
 pub use value::{DecodeValue, ReadValue, decode_tlv};

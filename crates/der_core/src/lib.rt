@@ -22,7 +22,8 @@ mod tag;
 pub mod writer;
 
 pub use decode::{
-    Decode, DecodeBytes, DecodeError, DecodeValue, Lawful, ReadValue, decode_contents, decode_tlv,
+    Decode, DecodeBytes, DecodeError, DecodeValue, IsValue, Lawful, ReadValue, decode_contents,
+    decode_tlv,
 };
 pub use described::Described;
 pub use encode::{

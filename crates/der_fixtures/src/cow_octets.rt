@@ -53,8 +53,6 @@ impl<'a, R: Reader<Borrowed = &'a [u8]>> DecodeValue<R> for CowOctets<'a> {
         let octets = BytesCow::decode_value(alloc, reader, header)?;
         Ok(CowOctets { octets })
     }
-
-    fn is_value(&self) {}
 }
 
 impl<'a> WrittenValue for CowOctets<'a> {

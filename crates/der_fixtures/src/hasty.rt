@@ -56,6 +56,4 @@ impl<R: Reader> DecodeValue<R> for Hasty {
         }
         Ok(Hasty { octet })
     }
-
-    fn is_value(&self) {}
 }

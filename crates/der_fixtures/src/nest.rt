@@ -44,8 +44,6 @@ impl<const LEVELS: u8, R: Reader> DecodeValue<R> for Nest<LEVELS> {
             Err(error) => Err(error),
         }
     }
-
-    fn is_value(&self) {}
 }
 
 // Consumes what is left inside this number of nested parts.

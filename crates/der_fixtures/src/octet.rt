@@ -70,6 +70,4 @@ impl<R: Reader> DecodeValue<R> for Octet {
         let number = reader.read_byte()?;
         Ok(Octet { number })
     }
-
-    fn is_value(&self) {}
 }

@@ -41,6 +41,4 @@ impl<R: Reader> DecodeValue<R> for Unread {
     fn decode_value(_alloc: Global, _reader: &mut R, _header: Header) -> Result<Self, Error> {
         Ok(Unread)
     }
-
-    fn is_value(&self) {}
 }

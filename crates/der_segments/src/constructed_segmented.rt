@@ -55,8 +55,4 @@ impl<'a, const N: u32, R: Reader<Borrowed = &'a [u8]>> DecodeValue<R>
         let string = <Segmented<'a> as DecodeValue<R>>::decode_value(alloc, reader, header)?;
         Ok(ConstructedSegmented(string))
     }
-
-    fn is_value(&self) {
-        <Segmented<'a> as DecodeValue<R>>::is_value(&self.0);
-    }
 }

@@ -7,7 +7,7 @@ mod reading;
 mod written;
 
 use crate::segmented::Segmented;
-use der::{DecodeValue, SliceReader};
+use der::IsValue;
 
 /// An OCTET STRING with the IMPLICIT context-specific tag with the number `N` (X.690 8.14.3), such as
 /// an encrypted content of a message, borrowed from the input. The tag is primitive if the string is
@@ -21,6 +21,6 @@ impl<'a, const N: u32> ImplicitSegmented<'a, N> {
     pub fn is_value(&self)
         ensures { IsCounted (segmented_octets self.now.0) }
     {
-        <Segmented<'a> as DecodeValue<SliceReader<'a>>>::is_value(&self.0)
+        self.0.is_value()
     }
 }

@@ -42,8 +42,6 @@ impl<'a, R: Reader<Borrowed = &'a [u8]>> DecodeValue<R> for AlgorithmIdentifier<
     fn decode_value(alloc: Global, reader: &mut R, header: Header) -> Result<Self, Error> {
         decode_sequence::<R, (MyOctets<'a>, MyByteMonth), Self>(alloc, reader, header)
     }
-
-    fn is_value(&self) {}
 }
 
 impl<'a> EncodeValue for AlgorithmIdentifier<'a> {

@@ -43,8 +43,6 @@ impl<'a, R: Reader<Borrowed = &'a [u8]>> DecodeValue<R> for KeyInfo<'a> {
     fn decode_value(alloc: Global, reader: &mut R, header: Header) -> Result<Self, Error> {
         decode_sequence::<R, (AlgorithmIdentifier<'a>, MyOctets<'a>), Self>(alloc, reader, header)
     }
-
-    fn is_value(&self) {}
 }
 
 impl<'a> EncodeValue for KeyInfo<'a> {

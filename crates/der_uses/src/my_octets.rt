@@ -61,8 +61,6 @@ impl<'a, R: Reader<Borrowed = &'a [u8]>> DecodeValue<R> for MyOctets<'a> {
         let octets = reader.read_slice(header.length())?;
         Ok(MyOctets { octets })
     }
-
-    fn is_value(&self) {}
 }
 
 impl<'a> EncodeValue for MyOctets<'a> {

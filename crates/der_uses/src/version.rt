@@ -85,8 +85,6 @@ impl<R: Reader> DecodeValue<R> for Version {
             _ => Err(reader.error(Tag::Integer.value_error())),
         }
     }
-
-    fn is_value(&self) {}
 }
 
 impl EncodeValue for Version {

@@ -2,7 +2,7 @@
 //! the reader has failed after every error.
 use super::*;
 use crate::checks::{holds, same};
-use der::{DecodeValue, decode_contents, decode_tlv};
+use der::{DecodeValue, IsValue, decode_contents, decode_tlv};
 
 // The number of the month that the reader decodes.
 fn next_month(alloc: Global, reader: &mut SliceReader<'_>) -> Result<u8, Error> {
@@ -23,7 +23,7 @@ fn month_by_header(
     header: Header,
 ) -> Result<u8, Error> {
     let month = MyByteMonth::decode_value(alloc, reader, header)?;
-    <MyByteMonth as DecodeValue<SliceReader>>::is_value(&month);
+    month.is_value();
     Ok(month.month())
 }
 

@@ -1,7 +1,7 @@
 //! Fields of a struct.
 
 use super::defaults::OwnDefault;
-use super::rust_type::{RustKind, RustType};
+use super::rust_type::RustType;
 use super::template::{Items, Places, fill, push_pairs};
 use std::alloc::AllocError;
 use std::fmt::Write;
@@ -38,18 +38,13 @@ const DEFAULTED_TO: &str =
     "(defaulted_to ⟦<@O as DefaultOf<@T>>⟧.default_contents ⟦<@T as Described>⟧.element (λ v. v.0))";
 
 const CHECK_OPTIONAL: &str = "        if let Some(value) = &self.@N.0 {
-            <@T as DecodeValue<R>>::is_value(value);
+            value.is_value();
         }
 ";
 
 const CHECK_OPTIONAL_CHOICE: &str = "        if let Some(value) = &self.@N.0 {
             match value {
 @A}
-        }
-";
-
-const CHECK_OPTIONAL_OWN_CHOICE: &str = "        if let Some(value) = &self.@N.0 {
-            value.is_value();
         }
 ";
 
@@ -91,14 +86,11 @@ impl Field {
 
     /// The statement which checks that the value of the field is one of its type, as a template.
     pub fn check(&self) -> &'static str {
-        let is_own = self.of.arms.is_empty();
-        match (self.of.kind, &self.presence) {
-            (RustKind::Choice, FieldPresence::Optional) if is_own => CHECK_OPTIONAL_OWN_CHOICE,
-            (RustKind::Choice, _) if is_own => "        self.@N@I.is_value();\n",
-            (RustKind::Choice, FieldPresence::Optional) => CHECK_OPTIONAL_CHOICE,
-            (RustKind::Choice, _) => "        match &self.@N@I {\n@A}\n",
-            (_, FieldPresence::Optional) => CHECK_OPTIONAL,
-            _ => "        <@T as DecodeValue<R>>::is_value(&self.@N@I);\n",
+        match (self.of.arms.is_empty(), &self.presence) {
+            (true, FieldPresence::Optional) => CHECK_OPTIONAL,
+            (true, _) => "        self.@N@I.is_value();\n",
+            (false, FieldPresence::Optional) => CHECK_OPTIONAL_CHOICE,
+            (false, _) => "        match &self.@N@I {\n@A}\n",
         }
     }
 

@@ -48,6 +48,7 @@ Error
 FixedTag
 FromFields
 Header
+IsValue
 Lawful
 Length
 ReadValue

@@ -86,9 +86,11 @@ impl<'a, R: Reader<Borrowed = &'a [u8]>> DecodeValue<R> for @N<'a> {
     fn decode_value(alloc: Global, reader: &mut R, header: Header) -> Result<Self, Error> {
         decode_wrapped::<R, Items<'a>, Self>(alloc, reader, header)
     }
+}
 
+impl<'a> IsValue for @N<'a> {
     fn is_value(&self) {
-        <Items<'a> as DecodeValue<R>>::is_value(&self.@F);
+        self.@F.is_value();
     }
 }
 

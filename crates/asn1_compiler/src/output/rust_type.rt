@@ -76,12 +76,10 @@ impl RustType {
 
     /// Adds the expression which checks that the value `value` is one of this type.
     pub fn push_check(&self, out: &mut String) -> Result<(), AllocError> {
-        let text = self.text.as_str();
         let arms = self.arms.as_str();
-        match self.kind {
-            RustKind::Choice if arms.is_empty() => out.push_str("value.is_value()"),
-            RustKind::Choice => write!(out, "match value {{\n{arms}}}"),
-            _ => write!(out, "<{text} as DecodeValue<R>>::is_value(value)"),
+        if arms.is_empty() {
+            return out.push_str("value.is_value()");
         }
+        write!(out, "match value {{\n{arms}}}")
     }
 }

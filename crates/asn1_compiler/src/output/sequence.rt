@@ -55,7 +55,9 @@ impl<'a, R: Reader<Borrowed = &'a [u8]>> DecodeValue<R> for @N@L {
     fn decode_value(alloc: Global, reader: &mut R, header: Header) -> Result<Self, Error> {
         decode_sequence::<R, @Q, Self>(alloc, reader, header)
     }
+}
 
+impl@L IsValue for @N@L {
     fn is_value(&self) {
 @C    }
 }

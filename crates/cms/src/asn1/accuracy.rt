@@ -8,8 +8,8 @@ ghost use Rattle.der_asn1.specs.Item.{decodes_same};
 ghost use Rattle.der_asn1.specs.Meaning.{alternative, optional, sequence, sequence_is_item, sequence_item, two_fields};
 
 use der::{
-    Decode, DecodeValue, Encode, EncodeValue, Error, FromFields, Header, Length, Reader, Sequence,
-    SliceReader, Writer, decode_sequence, field_refs,
+    Decode, DecodeValue, Encode, EncodeValue, Error, FromFields, Header, IsValue, Length, Reader,
+    Sequence, SliceReader, Writer, decode_sequence, field_refs,
 };
 use der_asn1::{
     BorrowedItem, DecodeItem, Described, Implicit, IntRef, IntegerIn, Item, Nestable, Optional,
@@ -70,16 +70,18 @@ impl<'a, R: Reader<Borrowed = &'a [u8]>> DecodeValue<R> for Accuracy<'a> {
     fn decode_value(alloc: Global, reader: &mut R, header: Header) -> Result<Self, Error> {
         decode_sequence::<R, AccuracyFields<'a>, Self>(alloc, reader, header)
     }
+}
 
+impl<'a> IsValue for Accuracy<'a> {
     fn is_value(&self) {
         if let Some(value) = &self.seconds.0 {
-            <IntRef<'a> as DecodeValue<R>>::is_value(value);
+            value.is_value();
         }
         if let Some(value) = &self.millis.0 {
-            <Implicit<IntegerIn<1, 999>, 0> as DecodeValue<R>>::is_value(value);
+            value.is_value();
         }
         if let Some(value) = &self.micros.0 {
-            <Implicit<IntegerIn<1, 999>, 1> as DecodeValue<R>>::is_value(value);
+            value.is_value();
         }
     }
 }

@@ -19,8 +19,8 @@ use crate::asn1::encrypted_content_info::EncryptedContentInfo;
 use crate::asn1::originator_info::OriginatorInfo;
 use crate::asn1::recipient_infos::RecipientInfos;
 use der::{
-    Decode, DecodeValue, Encode, EncodeValue, Error, FromFields, Header, Length, Reader, Sequence,
-    SliceReader, Writer, decode_sequence, field_refs,
+    Decode, DecodeValue, Encode, EncodeValue, Error, FromFields, Header, IsValue, Length, Reader,
+    Sequence, SliceReader, Writer, decode_sequence, field_refs,
 };
 use der_asn1::{
     BorrowedItem, DecodeItem, Described, Implicit, Item, Nestable, OctetStringRef, Optional,
@@ -111,20 +111,22 @@ impl<'a, R: Reader<Borrowed = &'a [u8]>> DecodeValue<R> for AuthEnvelopedData<'a
             alloc, reader, header,
         )
     }
+}
 
+impl<'a> IsValue for AuthEnvelopedData<'a> {
     fn is_value(&self) {
-        <CmsVersion<'a> as DecodeValue<R>>::is_value(&self.version);
+        self.version.is_value();
         if let Some(value) = &self.originator_info.0 {
-            <Implicit<OriginatorInfo<'a>, 0> as DecodeValue<R>>::is_value(value);
+            value.is_value();
         }
-        <RecipientInfos<'a> as DecodeValue<R>>::is_value(&self.recipient_infos);
-        <EncryptedContentInfo<'a> as DecodeValue<R>>::is_value(&self.auth_encrypted_content_info);
+        self.recipient_infos.is_value();
+        self.auth_encrypted_content_info.is_value();
         if let Some(value) = &self.auth_attrs.0 {
-            <Implicit<AuthAttributes<'a>, 1> as DecodeValue<R>>::is_value(value);
+            value.is_value();
         }
-        <OctetStringRef<'a> as DecodeValue<R>>::is_value(&self.mac);
+        self.mac.is_value();
         if let Some(value) = &self.unauth_attrs.0 {
-            <Implicit<AuthAttributes<'a>, 2> as DecodeValue<R>>::is_value(value);
+            value.is_value();
         }
     }
 }

@@ -10,8 +10,8 @@ ghost use Rattle.der_asn1.specs.Meaning.{alternative, field, sequence, sequence_
 use crate::asn1::cms_version::CmsVersion;
 use crate::asn1::encapsulated_content_info::EncapsulatedContentInfo;
 use der::{
-    Decode, DecodeValue, Encode, EncodeValue, Error, FromFields, Header, Length, Reader, Sequence,
-    SliceReader, Writer, decode_sequence, field_refs,
+    Decode, DecodeValue, Encode, EncodeValue, Error, FromFields, Header, IsValue, Length, Reader,
+    Sequence, SliceReader, Writer, decode_sequence, field_refs,
 };
 use der_asn1::{BorrowedItem, DecodeItem, Described, Item, Nestable};
 use spki::AlgorithmIdentifierRef;
@@ -68,11 +68,13 @@ impl<'a, R: Reader<Borrowed = &'a [u8]>> DecodeValue<R> for CompressedData<'a> {
     fn decode_value(alloc: Global, reader: &mut R, header: Header) -> Result<Self, Error> {
         decode_sequence::<R, CompressedDataFields<'a>, Self>(alloc, reader, header)
     }
+}
 
+impl<'a> IsValue for CompressedData<'a> {
     fn is_value(&self) {
-        <CmsVersion<'a> as DecodeValue<R>>::is_value(&self.version);
-        <AlgorithmIdentifierRef<'a> as DecodeValue<R>>::is_value(&self.compression_algorithm);
-        <EncapsulatedContentInfo<'a> as DecodeValue<R>>::is_value(&self.encap_content_info);
+        self.version.is_value();
+        self.compression_algorithm.is_value();
+        self.encap_content_info.is_value();
     }
 }
 

@@ -9,8 +9,8 @@ ghost use Rattle.der_asn1.specs.Meaning.{alternative, field, sequence, sequence_
 
 use crate::asn1::content_type::ContentType;
 use der::{
-    Decode, DecodeValue, Encode, EncodeValue, Error, FromFields, Header, Length, Reader, Sequence,
-    SliceReader, Writer, decode_sequence, field_refs,
+    Decode, DecodeValue, Encode, EncodeValue, Error, FromFields, Header, IsValue, Length, Reader,
+    Sequence, SliceReader, Writer, decode_sequence, field_refs,
 };
 use der_asn1::{BorrowedItem, DecodeItem, Described, ExplicitAny, Item, Nestable};
 use std::alloc::Global;
@@ -59,10 +59,12 @@ impl<'a, R: Reader<Borrowed = &'a [u8]>> DecodeValue<R> for ContentInfo<'a> {
     fn decode_value(alloc: Global, reader: &mut R, header: Header) -> Result<Self, Error> {
         decode_sequence::<R, ContentInfoFields<'a>, Self>(alloc, reader, header)
     }
+}
 
+impl<'a> IsValue for ContentInfo<'a> {
     fn is_value(&self) {
-        <ContentType<'a> as DecodeValue<R>>::is_value(&self.content_type);
-        <ExplicitAny<'a, 0> as DecodeValue<R>>::is_value(&self.content);
+        self.content_type.is_value();
+        self.content.is_value();
     }
 }
 

@@ -10,8 +10,8 @@ ghost use Rattle.der_asn1.specs.Meaning.{alternative, field, sequence, sequence_
 use crate::asn1::cms_version::CmsVersion;
 use crate::asn1::encapsulated_content_info::EncapsulatedContentInfo;
 use der::{
-    Decode, DecodeValue, Encode, EncodeValue, Error, FromFields, Header, Length, Reader, Sequence,
-    SliceReader, Writer, decode_sequence, field_refs,
+    Decode, DecodeValue, Encode, EncodeValue, Error, FromFields, Header, IsValue, Length, Reader,
+    Sequence, SliceReader, Writer, decode_sequence, field_refs,
 };
 use der_asn1::{BorrowedItem, DecodeItem, Described, Item, Nestable, OctetStringRef};
 use spki::AlgorithmIdentifierRef;
@@ -73,12 +73,14 @@ impl<'a, R: Reader<Borrowed = &'a [u8]>> DecodeValue<R> for DigestedData<'a> {
     fn decode_value(alloc: Global, reader: &mut R, header: Header) -> Result<Self, Error> {
         decode_sequence::<R, DigestedDataFields<'a>, Self>(alloc, reader, header)
     }
+}
 
+impl<'a> IsValue for DigestedData<'a> {
     fn is_value(&self) {
-        <CmsVersion<'a> as DecodeValue<R>>::is_value(&self.version);
-        <AlgorithmIdentifierRef<'a> as DecodeValue<R>>::is_value(&self.digest_algorithm);
-        <EncapsulatedContentInfo<'a> as DecodeValue<R>>::is_value(&self.encap_content_info);
-        <OctetStringRef<'a> as DecodeValue<R>>::is_value(&self.digest);
+        self.version.is_value();
+        self.digest_algorithm.is_value();
+        self.encap_content_info.is_value();
+        self.digest.is_value();
     }
 }
 

@@ -10,8 +10,8 @@ ghost use Rattle.der_asn1.specs.Meaning.{alternative, field, optional, sequence,
 use crate::Segmented;
 use crate::asn1::content_type::ContentType;
 use der::{
-    Decode, DecodeValue, Encode, EncodeValue, Error, FromFields, Header, Length, Reader, Sequence,
-    SliceReader, Writer, decode_sequence, field_refs,
+    Decode, DecodeValue, Encode, EncodeValue, Error, FromFields, Header, IsValue, Length, Reader,
+    Sequence, SliceReader, Writer, decode_sequence, field_refs,
 };
 use der_asn1::{BorrowedItem, DecodeItem, Described, Explicit, Item, Nestable, Optional};
 use std::alloc::Global;
@@ -66,11 +66,13 @@ impl<'a, R: Reader<Borrowed = &'a [u8]>> DecodeValue<R> for EncapsulatedContentI
     fn decode_value(alloc: Global, reader: &mut R, header: Header) -> Result<Self, Error> {
         decode_sequence::<R, EncapsulatedContentInfoFields<'a>, Self>(alloc, reader, header)
     }
+}
 
+impl<'a> IsValue for EncapsulatedContentInfo<'a> {
     fn is_value(&self) {
-        <ContentType<'a> as DecodeValue<R>>::is_value(&self.e_content_type);
+        self.e_content_type.is_value();
         if let Some(value) = &self.e_content.0 {
-            <Explicit<Segmented<'a>, 0> as DecodeValue<R>>::is_value(value);
+            value.is_value();
         }
     }
 }

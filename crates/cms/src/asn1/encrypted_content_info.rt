@@ -10,8 +10,8 @@ ghost use Rattle.der_asn1.specs.Meaning.{alternative, field, optional, sequence,
 use crate::EncryptedOctets;
 use crate::asn1::content_type::ContentType;
 use der::{
-    Decode, DecodeValue, Encode, EncodeValue, Error, FromFields, Header, Length, Reader, Sequence,
-    SliceReader, Writer, decode_sequence, field_refs,
+    Decode, DecodeValue, Encode, EncodeValue, Error, FromFields, Header, IsValue, Length, Reader,
+    Sequence, SliceReader, Writer, decode_sequence, field_refs,
 };
 use der_asn1::{BorrowedItem, DecodeItem, Described, DescribedChoice, Item, Nestable, Optional};
 use spki::AlgorithmIdentifierRef;
@@ -68,12 +68,12 @@ impl<'a, R: Reader<Borrowed = &'a [u8]>> DecodeValue<R> for EncryptedContentInfo
     fn decode_value(alloc: Global, reader: &mut R, header: Header) -> Result<Self, Error> {
         decode_sequence::<R, EncryptedContentInfoFields<'a>, Self>(alloc, reader, header)
     }
+}
 
+impl<'a> IsValue for EncryptedContentInfo<'a> {
     fn is_value(&self) {
-        <ContentType<'a> as DecodeValue<R>>::is_value(&self.content_type);
-        <AlgorithmIdentifierRef<'a> as DecodeValue<R>>::is_value(
-            &self.content_encryption_algorithm,
-        );
+        self.content_type.is_value();
+        self.content_encryption_algorithm.is_value();
         if let Some(value) = &self.encrypted_content.0 {
             value.is_value();
         }

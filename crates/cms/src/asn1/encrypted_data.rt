@@ -10,8 +10,8 @@ ghost use Rattle.der_asn1.specs.Meaning.{alternative, field, optional, sequence,
 use crate::asn1::cms_version::CmsVersion;
 use crate::asn1::encrypted_content_info::EncryptedContentInfo;
 use der::{
-    Decode, DecodeValue, Encode, EncodeValue, Error, FromFields, Header, Length, Reader, Sequence,
-    SliceReader, Writer, decode_sequence, field_refs,
+    Decode, DecodeValue, Encode, EncodeValue, Error, FromFields, Header, IsValue, Length, Reader,
+    Sequence, SliceReader, Writer, decode_sequence, field_refs,
 };
 use der_asn1::{BorrowedItem, DecodeItem, Described, Implicit, Item, Nestable, Optional};
 use std::alloc::Global;
@@ -72,12 +72,14 @@ impl<'a, R: Reader<Borrowed = &'a [u8]>> DecodeValue<R> for EncryptedData<'a> {
     fn decode_value(alloc: Global, reader: &mut R, header: Header) -> Result<Self, Error> {
         decode_sequence::<R, EncryptedDataFields<'a>, Self>(alloc, reader, header)
     }
+}
 
+impl<'a> IsValue for EncryptedData<'a> {
     fn is_value(&self) {
-        <CmsVersion<'a> as DecodeValue<R>>::is_value(&self.version);
-        <EncryptedContentInfo<'a> as DecodeValue<R>>::is_value(&self.encrypted_content_info);
+        self.version.is_value();
+        self.encrypted_content_info.is_value();
         if let Some(value) = &self.unprotected_attrs.0 {
-            <Implicit<Attributes<'a>, 1> as DecodeValue<R>>::is_value(value);
+            value.is_value();
         }
     }
 }

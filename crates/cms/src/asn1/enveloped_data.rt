@@ -14,8 +14,8 @@ use crate::asn1::enveloped_data_part2::{EnvelopedDataPart2, EnvelopedDataPart2Fi
 use crate::asn1::originator_info::OriginatorInfo;
 use crate::asn1::recipient_infos::RecipientInfos;
 use der::{
-    Decode, DecodeValue, Encode, EncodeValue, Error, FromFields, Header, Length, Reader, Sequence,
-    SliceReader, Writer, decode_sequence, field_refs,
+    Decode, DecodeValue, Encode, EncodeValue, Error, FromFields, Header, IsValue, Length, Reader,
+    Sequence, SliceReader, Writer, decode_sequence, field_refs,
 };
 use der_asn1::{BorrowedItem, DecodeItem, Described, Implicit, Item, Nestable, Optional};
 use std::alloc::Global;
@@ -93,16 +93,18 @@ impl<'a, R: Reader<Borrowed = &'a [u8]>> DecodeValue<R> for EnvelopedData<'a> {
             alloc, reader, header,
         )
     }
+}
 
+impl<'a> IsValue for EnvelopedData<'a> {
     fn is_value(&self) {
-        <CmsVersion<'a> as DecodeValue<R>>::is_value(&self.version);
+        self.version.is_value();
         if let Some(value) = &self.originator_info.0 {
-            <Implicit<OriginatorInfo<'a>, 0> as DecodeValue<R>>::is_value(value);
+            value.is_value();
         }
-        <RecipientInfos<'a> as DecodeValue<R>>::is_value(&self.recipient_infos);
-        <EncryptedContentInfo<'a> as DecodeValue<R>>::is_value(&self.encrypted_content_info);
+        self.recipient_infos.is_value();
+        self.encrypted_content_info.is_value();
         if let Some(value) = &self.unprotected_attrs.0 {
-            <Implicit<Attributes<'a>, 1> as DecodeValue<R>>::is_value(value);
+            value.is_value();
         }
     }
 }

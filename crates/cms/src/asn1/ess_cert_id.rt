@@ -9,8 +9,8 @@ ghost use Rattle.der_asn1.specs.Meaning.{alternative, field, optional, sequence,
 
 use crate::asn1::issuer_serial::IssuerSerial;
 use der::{
-    Decode, DecodeValue, Encode, EncodeValue, Error, FromFields, Header, Length, Reader, Sequence,
-    SliceReader, Writer, decode_sequence, field_refs,
+    Decode, DecodeValue, Encode, EncodeValue, Error, FromFields, Header, IsValue, Length, Reader,
+    Sequence, SliceReader, Writer, decode_sequence, field_refs,
 };
 use der_asn1::{BorrowedItem, DecodeItem, Described, Item, Nestable, OctetStringRef, Optional};
 use std::alloc::Global;
@@ -59,11 +59,13 @@ impl<'a, R: Reader<Borrowed = &'a [u8]>> DecodeValue<R> for EssCertId<'a> {
     fn decode_value(alloc: Global, reader: &mut R, header: Header) -> Result<Self, Error> {
         decode_sequence::<R, EssCertIdFields<'a>, Self>(alloc, reader, header)
     }
+}
 
+impl<'a> IsValue for EssCertId<'a> {
     fn is_value(&self) {
-        <OctetStringRef<'a> as DecodeValue<R>>::is_value(&self.cert_hash);
+        self.cert_hash.is_value();
         if let Some(value) = &self.issuer_serial.0 {
-            <IssuerSerial<'a> as DecodeValue<R>>::is_value(value);
+            value.is_value();
         }
     }
 }

@@ -9,8 +9,8 @@ ghost use Rattle.der_asn1.specs.Meaning.{alternative, field, optional, sequence,
 
 use crate::asn1::other_key_attribute::OtherKeyAttribute;
 use der::{
-    Decode, DecodeValue, Encode, EncodeValue, Error, FromFields, Header, Length, Reader, Sequence,
-    SliceReader, Writer, decode_sequence, field_refs,
+    Decode, DecodeValue, Encode, EncodeValue, Error, FromFields, Header, IsValue, Length, Reader,
+    Sequence, SliceReader, Writer, decode_sequence, field_refs,
 };
 use der_asn1::{
     BorrowedItem, DecodeItem, Described, GeneralizedTime, Item, Nestable, OctetStringRef, Optional,
@@ -68,14 +68,16 @@ impl<'a, R: Reader<Borrowed = &'a [u8]>> DecodeValue<R> for KekIdentifier<'a> {
     fn decode_value(alloc: Global, reader: &mut R, header: Header) -> Result<Self, Error> {
         decode_sequence::<R, KekIdentifierFields<'a>, Self>(alloc, reader, header)
     }
+}
 
+impl<'a> IsValue for KekIdentifier<'a> {
     fn is_value(&self) {
-        <OctetStringRef<'a> as DecodeValue<R>>::is_value(&self.key_identifier);
+        self.key_identifier.is_value();
         if let Some(value) = &self.date.0 {
-            <GeneralizedTime as DecodeValue<R>>::is_value(value);
+            value.is_value();
         }
         if let Some(value) = &self.other.0 {
-            <OtherKeyAttribute<'a> as DecodeValue<R>>::is_value(value);
+            value.is_value();
         }
     }
 }

@@ -10,8 +10,8 @@ ghost use Rattle.der_asn1.specs.Meaning.{alternative, field, sequence, sequence_
 use crate::asn1::cms_version::CmsVersion;
 use crate::asn1::kek_identifier::KekIdentifier;
 use der::{
-    Decode, DecodeValue, Encode, EncodeValue, Error, FromFields, Header, Length, Reader, Sequence,
-    SliceReader, Writer, decode_sequence, field_refs,
+    Decode, DecodeValue, Encode, EncodeValue, Error, FromFields, Header, IsValue, Length, Reader,
+    Sequence, SliceReader, Writer, decode_sequence, field_refs,
 };
 use der_asn1::{BorrowedItem, DecodeItem, Described, Item, Nestable, OctetStringRef};
 use spki::AlgorithmIdentifierRef;
@@ -72,12 +72,14 @@ impl<'a, R: Reader<Borrowed = &'a [u8]>> DecodeValue<R> for KekRecipientInfo<'a>
     fn decode_value(alloc: Global, reader: &mut R, header: Header) -> Result<Self, Error> {
         decode_sequence::<R, KekRecipientInfoFields<'a>, Self>(alloc, reader, header)
     }
+}
 
+impl<'a> IsValue for KekRecipientInfo<'a> {
     fn is_value(&self) {
-        <CmsVersion<'a> as DecodeValue<R>>::is_value(&self.version);
-        <KekIdentifier<'a> as DecodeValue<R>>::is_value(&self.kekid);
-        <AlgorithmIdentifierRef<'a> as DecodeValue<R>>::is_value(&self.key_encryption_algorithm);
-        <OctetStringRef<'a> as DecodeValue<R>>::is_value(&self.encrypted_key);
+        self.version.is_value();
+        self.kekid.is_value();
+        self.key_encryption_algorithm.is_value();
+        self.encrypted_key.is_value();
     }
 }
 

@@ -17,8 +17,8 @@ use crate::asn1::key_agree_recipient_info_part2::{
 use crate::asn1::originator_identifier_or_key_tagged::OriginatorIdentifierOrKeyTagged;
 use crate::asn1::recipient_encrypted_key::RecipientEncryptedKey;
 use der::{
-    Decode, DecodeValue, Encode, EncodeValue, Error, FromFields, Header, Length, Reader, Sequence,
-    SliceReader, Writer, decode_sequence, field_refs,
+    Decode, DecodeValue, Encode, EncodeValue, Error, FromFields, Header, IsValue, Length, Reader,
+    Sequence, SliceReader, Writer, decode_sequence, field_refs,
 };
 use der_asn1::{
     BorrowedItem, DecodeItem, Described, Explicit, Implicit, Item, Nestable, OctetStringRef,
@@ -117,19 +117,17 @@ impl<'a, R: Reader<Borrowed = &'a [u8]>> DecodeValue<R> for KeyAgreeRecipientInf
             Self,
         >(alloc, reader, header)
     }
+}
 
+impl<'a> IsValue for KeyAgreeRecipientInfo<'a> {
     fn is_value(&self) {
-        <CmsVersion<'a> as DecodeValue<R>>::is_value(&self.version);
-        <Implicit<OriginatorIdentifierOrKeyTagged<'a>, 0> as DecodeValue<R>>::is_value(
-            &self.originator,
-        );
+        self.version.is_value();
+        self.originator.is_value();
         if let Some(value) = &self.ukm.0 {
-            <Explicit<OctetStringRef<'a>, 1> as DecodeValue<R>>::is_value(value);
+            value.is_value();
         }
-        <AlgorithmIdentifierRef<'a> as DecodeValue<R>>::is_value(&self.key_encryption_algorithm);
-        <SequenceOf<'a, RecipientEncryptedKey<'a>> as DecodeValue<R>>::is_value(
-            &self.recipient_encrypted_keys,
-        );
+        self.key_encryption_algorithm.is_value();
+        self.recipient_encrypted_keys.is_value();
     }
 }
 

@@ -12,11 +12,11 @@ use crate::asn1::issuer_and_serial_number::IssuerAndSerialNumber;
 use crate::asn1::recipient_identifier::RecipientIdentifier;
 use crate::asn1::signer_identifier::SignerIdentifier;
 use der::{
-    Decode, DecodeValue, Encode, EncodeValue, Error, FromFields, Header, Length, Reader, Sequence,
-    SliceReader, Writer, decode_sequence, field_refs,
+    Decode, DecodeValue, Encode, EncodeValue, Error, FromFields, Header, IsValue, Length, Reader,
+    Sequence, SliceReader, Writer, decode_sequence, field_refs,
 };
 use der_asn1::{
-    BorrowedItem, DecodeItem, Described, DescribedChoice, Implicit, Item, Nestable, OctetStringRef,
+    BorrowedItem, DecodeItem, Described, DescribedChoice, Item, Nestable, OctetStringRef,
 };
 use spki::AlgorithmIdentifierRef;
 use std::alloc::Global;
@@ -79,20 +79,17 @@ impl<'a, R: Reader<Borrowed = &'a [u8]>> DecodeValue<R> for KeyTransRecipientInf
     fn decode_value(alloc: Global, reader: &mut R, header: Header) -> Result<Self, Error> {
         decode_sequence::<R, KeyTransRecipientInfoFields<'a>, Self>(alloc, reader, header)
     }
+}
 
+impl<'a> IsValue for KeyTransRecipientInfo<'a> {
     fn is_value(&self) {
-        <CmsVersion<'a> as DecodeValue<R>>::is_value(&self.version);
+        self.version.is_value();
         match &self.rid {
-            SignerIdentifier::IssuerAndSerialNumber(value) => <IssuerAndSerialNumber<
-                'a,
-            > as DecodeValue<R>>::is_value(value),
-            SignerIdentifier::SubjectKeyIdentifier(value) => <Implicit<
-                SubjectKeyIdentifier<'a>,
-                0,
-            > as DecodeValue<R>>::is_value(value),
+            SignerIdentifier::IssuerAndSerialNumber(value) => value.is_value(),
+            SignerIdentifier::SubjectKeyIdentifier(value) => value.is_value(),
         }
-        <AlgorithmIdentifierRef<'a> as DecodeValue<R>>::is_value(&self.key_encryption_algorithm);
-        <OctetStringRef<'a> as DecodeValue<R>>::is_value(&self.encrypted_key);
+        self.key_encryption_algorithm.is_value();
+        self.encrypted_key.is_value();
     }
 }
 

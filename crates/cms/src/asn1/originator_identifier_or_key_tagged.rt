@@ -9,12 +9,11 @@ ghost use Rattle.der_asn1.specs.Meaning.{alternative, field, sequence, sequence_
 
 use crate::asn1::issuer_and_serial_number::IssuerAndSerialNumber;
 use crate::asn1::originator_identifier_or_key::OriginatorIdentifierOrKey;
-use crate::asn1::originator_public_key::OriginatorPublicKey;
 use der::{
-    Decode, DecodeValue, Encode, EncodeValue, Error, FromFields, Header, Length, Reader, Sequence,
-    SliceReader, Writer, decode_sequence, field_refs,
+    Decode, DecodeValue, Encode, EncodeValue, Error, FromFields, Header, IsValue, Length, Reader,
+    Sequence, SliceReader, Writer, decode_sequence, field_refs,
 };
-use der_asn1::{BorrowedItem, DecodeItem, Described, DescribedChoice, Implicit, Item, Nestable};
+use der_asn1::{BorrowedItem, DecodeItem, Described, DescribedChoice, Item, Nestable};
 use std::alloc::Global;
 use x509::SubjectKeyIdentifier;
 
@@ -57,20 +56,14 @@ impl<'a, R: Reader<Borrowed = &'a [u8]>> DecodeValue<R> for OriginatorIdentifier
     fn decode_value(alloc: Global, reader: &mut R, header: Header) -> Result<Self, Error> {
         decode_sequence::<R, OriginatorIdentifierOrKeyTaggedFields<'a>, Self>(alloc, reader, header)
     }
+}
 
+impl<'a> IsValue for OriginatorIdentifierOrKeyTagged<'a> {
     fn is_value(&self) {
         match &self.value {
-            OriginatorIdentifierOrKey::IssuerAndSerialNumber(value) => <IssuerAndSerialNumber<
-                'a,
-            > as DecodeValue<R>>::is_value(value),
-            OriginatorIdentifierOrKey::SubjectKeyIdentifier(value) => <Implicit<
-                SubjectKeyIdentifier<'a>,
-                0,
-            > as DecodeValue<R>>::is_value(value),
-            OriginatorIdentifierOrKey::OriginatorKey(value) => <Implicit<
-                OriginatorPublicKey<'a>,
-                1,
-            > as DecodeValue<R>>::is_value(value),
+            OriginatorIdentifierOrKey::IssuerAndSerialNumber(value) => value.is_value(),
+            OriginatorIdentifierOrKey::SubjectKeyIdentifier(value) => value.is_value(),
+            OriginatorIdentifierOrKey::OriginatorKey(value) => value.is_value(),
         }
     }
 }

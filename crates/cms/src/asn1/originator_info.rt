@@ -10,8 +10,8 @@ ghost use Rattle.der_asn1.specs.Meaning.{alternative, optional, sequence, sequen
 use crate::asn1::certificate_set::CertificateSet;
 use crate::asn1::revocation_info_choices::RevocationInfoChoices;
 use der::{
-    Decode, DecodeValue, Encode, EncodeValue, Error, FromFields, Header, Length, Reader, Sequence,
-    SliceReader, Writer, decode_sequence, field_refs,
+    Decode, DecodeValue, Encode, EncodeValue, Error, FromFields, Header, IsValue, Length, Reader,
+    Sequence, SliceReader, Writer, decode_sequence, field_refs,
 };
 use der_asn1::{BorrowedItem, DecodeItem, Described, Implicit, Item, Nestable, Optional};
 use std::alloc::Global;
@@ -61,13 +61,15 @@ impl<'a, R: Reader<Borrowed = &'a [u8]>> DecodeValue<R> for OriginatorInfo<'a> {
     fn decode_value(alloc: Global, reader: &mut R, header: Header) -> Result<Self, Error> {
         decode_sequence::<R, OriginatorInfoFields<'a>, Self>(alloc, reader, header)
     }
+}
 
+impl<'a> IsValue for OriginatorInfo<'a> {
     fn is_value(&self) {
         if let Some(value) = &self.certs.0 {
-            <Implicit<CertificateSet<'a>, 0> as DecodeValue<R>>::is_value(value);
+            value.is_value();
         }
         if let Some(value) = &self.crls.0 {
-            <Implicit<RevocationInfoChoices<'a>, 1> as DecodeValue<R>>::is_value(value);
+            value.is_value();
         }
     }
 }

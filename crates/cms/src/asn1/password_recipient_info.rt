@@ -9,8 +9,8 @@ ghost use Rattle.der_asn1.specs.Meaning.{alternative, field, optional, sequence,
 
 use crate::asn1::cms_version::CmsVersion;
 use der::{
-    Decode, DecodeValue, Encode, EncodeValue, Error, FromFields, Header, Length, Reader, Sequence,
-    SliceReader, Writer, decode_sequence, field_refs,
+    Decode, DecodeValue, Encode, EncodeValue, Error, FromFields, Header, IsValue, Length, Reader,
+    Sequence, SliceReader, Writer, decode_sequence, field_refs,
 };
 use der_asn1::{
     BorrowedItem, DecodeItem, Described, Implicit, Item, Nestable, OctetStringRef, Optional,
@@ -77,14 +77,16 @@ impl<'a, R: Reader<Borrowed = &'a [u8]>> DecodeValue<R> for PasswordRecipientInf
     fn decode_value(alloc: Global, reader: &mut R, header: Header) -> Result<Self, Error> {
         decode_sequence::<R, PasswordRecipientInfoFields<'a>, Self>(alloc, reader, header)
     }
+}
 
+impl<'a> IsValue for PasswordRecipientInfo<'a> {
     fn is_value(&self) {
-        <CmsVersion<'a> as DecodeValue<R>>::is_value(&self.version);
+        self.version.is_value();
         if let Some(value) = &self.key_derivation_algorithm.0 {
-            <Implicit<AlgorithmIdentifierRef<'a>, 0> as DecodeValue<R>>::is_value(value);
+            value.is_value();
         }
-        <AlgorithmIdentifierRef<'a> as DecodeValue<R>>::is_value(&self.key_encryption_algorithm);
-        <OctetStringRef<'a> as DecodeValue<R>>::is_value(&self.encrypted_key);
+        self.key_encryption_algorithm.is_value();
+        self.encrypted_key.is_value();
     }
 }
 

@@ -10,8 +10,8 @@ ghost use Rattle.der_asn1.specs.Meaning.{alternative, field, optional, sequence,
 use crate::asn1::pki_failure_info::PkiFailureInfo;
 use crate::asn1::pki_status::PkiStatus;
 use der::{
-    Decode, DecodeValue, Encode, EncodeValue, Error, FromFields, Header, Length, Reader, Sequence,
-    SliceReader, Writer, decode_sequence, field_refs,
+    Decode, DecodeValue, Encode, EncodeValue, Error, FromFields, Header, IsValue, Length, Reader,
+    Sequence, SliceReader, Writer, decode_sequence, field_refs,
 };
 use der_asn1::{
     BorrowedItem, DecodeItem, Described, Item, NamedInteger, Nestable, Optional, SequenceOf,
@@ -73,14 +73,16 @@ impl<'a, R: Reader<Borrowed = &'a [u8]>> DecodeValue<R> for PkiStatusInfo<'a> {
     fn decode_value(alloc: Global, reader: &mut R, header: Header) -> Result<Self, Error> {
         decode_sequence::<R, PkiStatusInfoFields<'a>, Self>(alloc, reader, header)
     }
+}
 
+impl<'a> IsValue for PkiStatusInfo<'a> {
     fn is_value(&self) {
-        <NamedInteger<PkiStatus> as DecodeValue<R>>::is_value(&self.status);
+        self.status.is_value();
         if let Some(value) = &self.status_string.0 {
-            <SequenceOf<'a, Utf8StringRef<'a>> as DecodeValue<R>>::is_value(value);
+            value.is_value();
         }
         if let Some(value) = &self.fail_info.0 {
-            <PkiFailureInfo<'a> as DecodeValue<R>>::is_value(value);
+            value.is_value();
         }
     }
 }

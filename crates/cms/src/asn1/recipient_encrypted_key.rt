@@ -9,13 +9,12 @@ ghost use Rattle.der_asn1.specs.Meaning.{alternative, field, sequence, sequence_
 
 use crate::asn1::issuer_and_serial_number::IssuerAndSerialNumber;
 use crate::asn1::key_agree_recipient_identifier::KeyAgreeRecipientIdentifier;
-use crate::asn1::recipient_key_identifier::RecipientKeyIdentifier;
 use der::{
-    Decode, DecodeValue, Encode, EncodeValue, Error, FromFields, Header, Length, Reader, Sequence,
-    SliceReader, Writer, decode_sequence, field_refs,
+    Decode, DecodeValue, Encode, EncodeValue, Error, FromFields, Header, IsValue, Length, Reader,
+    Sequence, SliceReader, Writer, decode_sequence, field_refs,
 };
 use der_asn1::{
-    BorrowedItem, DecodeItem, Described, DescribedChoice, Implicit, Item, Nestable, OctetStringRef,
+    BorrowedItem, DecodeItem, Described, DescribedChoice, Item, Nestable, OctetStringRef,
 };
 use std::alloc::Global;
 
@@ -60,18 +59,15 @@ impl<'a, R: Reader<Borrowed = &'a [u8]>> DecodeValue<R> for RecipientEncryptedKe
     fn decode_value(alloc: Global, reader: &mut R, header: Header) -> Result<Self, Error> {
         decode_sequence::<R, RecipientEncryptedKeyFields<'a>, Self>(alloc, reader, header)
     }
+}
 
+impl<'a> IsValue for RecipientEncryptedKey<'a> {
     fn is_value(&self) {
         match &self.rid {
-            KeyAgreeRecipientIdentifier::IssuerAndSerialNumber(value) => <IssuerAndSerialNumber<
-                'a,
-            > as DecodeValue<R>>::is_value(value),
-            KeyAgreeRecipientIdentifier::RKeyId(value) => <Implicit<
-                RecipientKeyIdentifier<'a>,
-                0,
-            > as DecodeValue<R>>::is_value(value),
+            KeyAgreeRecipientIdentifier::IssuerAndSerialNumber(value) => value.is_value(),
+            KeyAgreeRecipientIdentifier::RKeyId(value) => value.is_value(),
         }
-        <OctetStringRef<'a> as DecodeValue<R>>::is_value(&self.encrypted_key);
+        self.encrypted_key.is_value();
     }
 }
 

@@ -9,8 +9,8 @@ ghost use Rattle.der_asn1.specs.Meaning.{renamed, sequence_is_item, sequence_ite
 
 use crate::asn1::recipient_info::RecipientInfo;
 use der::{
-    DecodeValue, EncodeValue, Error, FixedTag, FromFields, Header, Lawful, Length, ReadValue,
-    Reader, SliceReader, Tag, Writer, WrittenValue, decode_wrapped,
+    DecodeValue, EncodeValue, Error, FixedTag, FromFields, Header, IsValue, Lawful, Length,
+    ReadValue, Reader, SliceReader, Tag, Writer, WrittenValue, decode_wrapped,
 };
 use der_asn1::{BorrowedItem, DecodeItem, Described, Item, Nestable, SetOf};
 use std::alloc::Global;
@@ -82,9 +82,11 @@ impl<'a, R: Reader<Borrowed = &'a [u8]>> DecodeValue<R> for RecipientInfos<'a> {
     fn decode_value(alloc: Global, reader: &mut R, header: Header) -> Result<Self, Error> {
         decode_wrapped::<R, Items<'a>, Self>(alloc, reader, header)
     }
+}
 
+impl<'a> IsValue for RecipientInfos<'a> {
     fn is_value(&self) {
-        <Items<'a> as DecodeValue<R>>::is_value(&self.items);
+        self.items.is_value();
     }
 }
 

@@ -15,8 +15,8 @@ use crate::asn1::signed_data_part1::{SignedDataPart1, SignedDataPart1Fields};
 use crate::asn1::signed_data_part2::{SignedDataPart2, SignedDataPart2Fields};
 use crate::asn1::signer_info::SignerInfo;
 use der::{
-    Decode, DecodeValue, Encode, EncodeValue, Error, FromFields, Header, Length, Reader, Sequence,
-    SliceReader, Writer, decode_sequence, field_refs,
+    Decode, DecodeValue, Encode, EncodeValue, Error, FromFields, Header, IsValue, Length, Reader,
+    Sequence, SliceReader, Writer, decode_sequence, field_refs,
 };
 use der_asn1::{BorrowedItem, DecodeItem, Described, Implicit, Item, Nestable, Optional, SetOf};
 use spki::AlgorithmIdentifierRef;
@@ -98,20 +98,20 @@ impl<'a, R: Reader<Borrowed = &'a [u8]>> DecodeValue<R> for SignedData<'a> {
             alloc, reader, header,
         )
     }
+}
 
+impl<'a> IsValue for SignedData<'a> {
     fn is_value(&self) {
-        <CmsVersion<'a> as DecodeValue<R>>::is_value(&self.version);
-        <SetOf<'a, AlgorithmIdentifierRef<'a>> as DecodeValue<R>>::is_value(
-            &self.digest_algorithms,
-        );
-        <EncapsulatedContentInfo<'a> as DecodeValue<R>>::is_value(&self.encap_content_info);
+        self.version.is_value();
+        self.digest_algorithms.is_value();
+        self.encap_content_info.is_value();
         if let Some(value) = &self.certificates.0 {
-            <Implicit<CertificateSet<'a>, 0> as DecodeValue<R>>::is_value(value);
+            value.is_value();
         }
         if let Some(value) = &self.crls.0 {
-            <Implicit<RevocationInfoChoices<'a>, 1> as DecodeValue<R>>::is_value(value);
+            value.is_value();
         }
-        <SetOf<'a, SignerInfo<'a>> as DecodeValue<R>>::is_value(&self.signer_infos);
+        self.signer_infos.is_value();
     }
 }
 

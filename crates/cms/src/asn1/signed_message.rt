@@ -10,8 +10,8 @@ ghost use Rattle.der_asn1.specs.Meaning.{alternative, field, sequence, sequence_
 use crate::asn1::content_type::ContentType;
 use crate::asn1::signed_data::SignedData;
 use der::{
-    Decode, DecodeValue, Encode, EncodeValue, Error, FromFields, Header, Length, Reader, Sequence,
-    SliceReader, Writer, decode_sequence, field_refs,
+    Decode, DecodeValue, Encode, EncodeValue, Error, FromFields, Header, IsValue, Length, Reader,
+    Sequence, SliceReader, Writer, decode_sequence, field_refs,
 };
 use der_asn1::{BorrowedItem, DecodeItem, Described, Explicit, Item, Nestable};
 use std::alloc::Global;
@@ -60,10 +60,12 @@ impl<'a, R: Reader<Borrowed = &'a [u8]>> DecodeValue<R> for SignedMessage<'a> {
     fn decode_value(alloc: Global, reader: &mut R, header: Header) -> Result<Self, Error> {
         decode_sequence::<R, SignedMessageFields<'a>, Self>(alloc, reader, header)
     }
+}
 
+impl<'a> IsValue for SignedMessage<'a> {
     fn is_value(&self) {
-        <ContentType<'a> as DecodeValue<R>>::is_value(&self.content_type);
-        <Explicit<SignedData<'a>, 0> as DecodeValue<R>>::is_value(&self.content);
+        self.content_type.is_value();
+        self.content.is_value();
     }
 }
 

@@ -13,8 +13,8 @@ use crate::asn1::signer_identifier::SignerIdentifier;
 use crate::asn1::signer_info_part1::{SignerInfoPart1, SignerInfoPart1Fields};
 use crate::asn1::signer_info_part2::{SignerInfoPart2, SignerInfoPart2Fields};
 use der::{
-    Decode, DecodeValue, Encode, EncodeValue, Error, FromFields, Header, Length, Reader, Sequence,
-    SliceReader, Writer, decode_sequence, field_refs,
+    Decode, DecodeValue, Encode, EncodeValue, Error, FromFields, Header, IsValue, Length, Reader,
+    Sequence, SliceReader, Writer, decode_sequence, field_refs,
 };
 use der_asn1::{
     BorrowedItem, DecodeItem, Described, DescribedChoice, Implicit, Item, Nestable, OctetStringRef,
@@ -106,26 +106,23 @@ impl<'a, R: Reader<Borrowed = &'a [u8]>> DecodeValue<R> for SignerInfo<'a> {
             alloc, reader, header,
         )
     }
+}
 
+impl<'a> IsValue for SignerInfo<'a> {
     fn is_value(&self) {
-        <CmsVersion<'a> as DecodeValue<R>>::is_value(&self.version);
+        self.version.is_value();
         match &self.sid {
-            SignerIdentifier::IssuerAndSerialNumber(value) => <IssuerAndSerialNumber<
-                'a,
-            > as DecodeValue<R>>::is_value(value),
-            SignerIdentifier::SubjectKeyIdentifier(value) => <Implicit<
-                SubjectKeyIdentifier<'a>,
-                0,
-            > as DecodeValue<R>>::is_value(value),
+            SignerIdentifier::IssuerAndSerialNumber(value) => value.is_value(),
+            SignerIdentifier::SubjectKeyIdentifier(value) => value.is_value(),
         }
-        <AlgorithmIdentifierRef<'a> as DecodeValue<R>>::is_value(&self.digest_algorithm);
+        self.digest_algorithm.is_value();
         if let Some(value) = &self.signed_attrs.0 {
-            <Implicit<Attributes<'a>, 0> as DecodeValue<R>>::is_value(value);
+            value.is_value();
         }
-        <AlgorithmIdentifierRef<'a> as DecodeValue<R>>::is_value(&self.signature_algorithm);
-        <OctetStringRef<'a> as DecodeValue<R>>::is_value(&self.signature);
+        self.signature_algorithm.is_value();
+        self.signature.is_value();
         if let Some(value) = &self.unsigned_attrs.0 {
-            <Implicit<Attributes<'a>, 1> as DecodeValue<R>>::is_value(value);
+            value.is_value();
         }
     }
 }

@@ -9,8 +9,8 @@ ghost use Rattle.der_asn1.specs.Meaning.{alternative, field, optional, sequence,
 
 use crate::asn1::ess_cert_id::EssCertId;
 use der::{
-    Decode, DecodeValue, Encode, EncodeValue, Error, FromFields, Header, Length, Reader, Sequence,
-    SliceReader, Writer, decode_sequence, field_refs,
+    Decode, DecodeValue, Encode, EncodeValue, Error, FromFields, Header, IsValue, Length, Reader,
+    Sequence, SliceReader, Writer, decode_sequence, field_refs,
 };
 use der_asn1::{BorrowedItem, DecodeItem, Described, Item, Nestable, Optional, SequenceOf};
 use std::alloc::Global;
@@ -62,11 +62,13 @@ impl<'a, R: Reader<Borrowed = &'a [u8]>> DecodeValue<R> for SigningCertificate<'
     fn decode_value(alloc: Global, reader: &mut R, header: Header) -> Result<Self, Error> {
         decode_sequence::<R, SigningCertificateFields<'a>, Self>(alloc, reader, header)
     }
+}
 
+impl<'a> IsValue for SigningCertificate<'a> {
     fn is_value(&self) {
-        <SequenceOf<'a, EssCertId<'a>> as DecodeValue<R>>::is_value(&self.certs);
+        self.certs.is_value();
         if let Some(value) = &self.policies.0 {
-            <SequenceOf<'a, PolicyInformation<'a>> as DecodeValue<R>>::is_value(value);
+            value.is_value();
         }
     }
 }

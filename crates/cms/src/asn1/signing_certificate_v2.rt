@@ -9,8 +9,8 @@ ghost use Rattle.der_asn1.specs.Meaning.{alternative, field, optional, sequence,
 
 use crate::EssCertIdV2;
 use der::{
-    Decode, DecodeValue, Encode, EncodeValue, Error, FromFields, Header, Length, Reader, Sequence,
-    SliceReader, Writer, decode_sequence, field_refs,
+    Decode, DecodeValue, Encode, EncodeValue, Error, FromFields, Header, IsValue, Length, Reader,
+    Sequence, SliceReader, Writer, decode_sequence, field_refs,
 };
 use der_asn1::{BorrowedItem, DecodeItem, Described, Item, Nestable, Optional, SequenceOf};
 use std::alloc::Global;
@@ -62,11 +62,13 @@ impl<'a, R: Reader<Borrowed = &'a [u8]>> DecodeValue<R> for SigningCertificateV2
     fn decode_value(alloc: Global, reader: &mut R, header: Header) -> Result<Self, Error> {
         decode_sequence::<R, SigningCertificateV2Fields<'a>, Self>(alloc, reader, header)
     }
+}
 
+impl<'a> IsValue for SigningCertificateV2<'a> {
     fn is_value(&self) {
-        <SequenceOf<'a, EssCertIdV2<'a>> as DecodeValue<R>>::is_value(&self.certs);
+        self.certs.is_value();
         if let Some(value) = &self.policies.0 {
-            <SequenceOf<'a, PolicyInformation<'a>> as DecodeValue<R>>::is_value(value);
+            value.is_value();
         }
     }
 }

@@ -13,8 +13,8 @@ use crate::asn1::time_stamp_req_part2::{TimeStampReqPart2, TimeStampReqPart2Fiel
 use crate::asn1::time_stamp_req_part3::{TimeStampReqPart3, TimeStampReqPart3Fields};
 use crate::asn1::tsa_policy_id::TsaPolicyId;
 use der::{
-    Decode, DecodeValue, Encode, EncodeValue, Error, FromFields, Header, Length, Reader, Sequence,
-    SliceReader, Writer, decode_sequence, field_refs,
+    Decode, DecodeValue, Encode, EncodeValue, Error, FromFields, Header, IsValue, Length, Reader,
+    Sequence, SliceReader, Writer, decode_sequence, field_refs,
 };
 use der_asn1::{
     BooleanRef, BorrowedItem, DecodeItem, DefaultValue, Defaulted, Described, Implicit, IntRef,
@@ -119,19 +119,21 @@ impl<'a, R: Reader<Borrowed = &'a [u8]>> DecodeValue<R> for TimeStampReq<'a> {
             Self,
         >(alloc, reader, header)
     }
+}
 
+impl<'a> IsValue for TimeStampReq<'a> {
     fn is_value(&self) {
-        <IntRef<'a> as DecodeValue<R>>::is_value(&self.version);
-        <MessageImprint<'a> as DecodeValue<R>>::is_value(&self.message_imprint);
+        self.version.is_value();
+        self.message_imprint.is_value();
         if let Some(value) = &self.req_policy.0 {
-            <TsaPolicyId<'a> as DecodeValue<R>>::is_value(value);
+            value.is_value();
         }
         if let Some(value) = &self.nonce.0 {
-            <IntRef<'a> as DecodeValue<R>>::is_value(value);
+            value.is_value();
         }
-        <BooleanRef<'a> as DecodeValue<R>>::is_value(&self.cert_req.0);
+        self.cert_req.0.is_value();
         if let Some(value) = &self.extensions.0 {
-            <Implicit<Extensions<'a>, 0> as DecodeValue<R>>::is_value(value);
+            value.is_value();
         }
     }
 }

@@ -10,8 +10,8 @@ ghost use Rattle.der_asn1.specs.Meaning.{alternative, field, optional, sequence,
 use crate::asn1::pki_status_info::PkiStatusInfo;
 use crate::asn1::time_stamp_token::TimeStampToken;
 use der::{
-    Decode, DecodeValue, Encode, EncodeValue, Error, FromFields, Header, Length, Reader, Sequence,
-    SliceReader, Writer, decode_sequence, field_refs,
+    Decode, DecodeValue, Encode, EncodeValue, Error, FromFields, Header, IsValue, Length, Reader,
+    Sequence, SliceReader, Writer, decode_sequence, field_refs,
 };
 use der_asn1::{BorrowedItem, DecodeItem, Described, Item, Nestable, Optional};
 use std::alloc::Global;
@@ -61,11 +61,13 @@ impl<'a, R: Reader<Borrowed = &'a [u8]>> DecodeValue<R> for TimeStampResp<'a> {
     fn decode_value(alloc: Global, reader: &mut R, header: Header) -> Result<Self, Error> {
         decode_sequence::<R, TimeStampRespFields<'a>, Self>(alloc, reader, header)
     }
+}
 
+impl<'a> IsValue for TimeStampResp<'a> {
     fn is_value(&self) {
-        <PkiStatusInfo<'a> as DecodeValue<R>>::is_value(&self.status);
+        self.status.is_value();
         if let Some(value) = &self.time_stamp_token.0 {
-            <TimeStampToken<'a> as DecodeValue<R>>::is_value(value);
+            value.is_value();
         }
     }
 }

@@ -17,8 +17,8 @@ use crate::asn1::tst_info_part3::{TstInfoPart3, TstInfoPart3Fields};
 use crate::asn1::tst_info_part4::{TstInfoPart4, TstInfoPart4Fields};
 use crate::asn1::tst_info_part5::{TstInfoPart5, TstInfoPart5Fields};
 use der::{
-    Decode, DecodeValue, Encode, EncodeValue, Error, FromFields, Header, Length, Reader, Sequence,
-    SliceReader, Writer, decode_sequence, field_refs,
+    Decode, DecodeValue, Encode, EncodeValue, Error, FromFields, Header, IsValue, Length, Reader,
+    Sequence, SliceReader, Writer, decode_sequence, field_refs,
 };
 use der_asn1::{
     BooleanRef, BorrowedItem, DecodeItem, DefaultValue, Defaulted, Described, GeneralizedTime,
@@ -154,25 +154,27 @@ impl<'a, R: Reader<Borrowed = &'a [u8]>> DecodeValue<R> for TstInfo<'a> {
             Self,
         >(alloc, reader, header)
     }
+}
 
+impl<'a> IsValue for TstInfo<'a> {
     fn is_value(&self) {
-        <IntRef<'a> as DecodeValue<R>>::is_value(&self.version);
-        <TsaPolicyId<'a> as DecodeValue<R>>::is_value(&self.policy);
-        <MessageImprint<'a> as DecodeValue<R>>::is_value(&self.message_imprint);
-        <IntRef<'a> as DecodeValue<R>>::is_value(&self.serial_number);
-        <GeneralizedTime as DecodeValue<R>>::is_value(&self.gen_time);
+        self.version.is_value();
+        self.policy.is_value();
+        self.message_imprint.is_value();
+        self.serial_number.is_value();
+        self.gen_time.is_value();
         if let Some(value) = &self.accuracy.0 {
-            <Accuracy<'a> as DecodeValue<R>>::is_value(value);
+            value.is_value();
         }
-        <BooleanRef<'a> as DecodeValue<R>>::is_value(&self.ordering.0);
+        self.ordering.0.is_value();
         if let Some(value) = &self.nonce.0 {
-            <IntRef<'a> as DecodeValue<R>>::is_value(value);
+            value.is_value();
         }
         if let Some(value) = &self.tsa.0 {
-            <Implicit<GeneralNameTagged<'a>, 0> as DecodeValue<R>>::is_value(value);
+            value.is_value();
         }
         if let Some(value) = &self.extensions.0 {
-            <Implicit<Extensions<'a>, 1> as DecodeValue<R>>::is_value(value);
+            value.is_value();
         }
     }
 }

@@ -9,7 +9,9 @@ ghost use Rattle.der.specs.BytesCow.{cow_octets, IsBorrowedOctets};
 
 use crate::bytes::{BytesOwned, BytesRef};
 use der_base::{Error, Length};
-use der_core::{DecodeValue, EncodeValue, Header, ReadValue, Reader, Writer, WrittenValue};
+use der_core::{
+    DecodeValue, EncodeValue, Header, IsValue, ReadValue, Reader, Writer, WrittenValue,
+};
 use std::alloc::Global;
 
 /// A byte string of at most 4294967295 octets, borrowed or owned.
@@ -79,7 +81,9 @@ impl<'a, R: Reader<Borrowed = &'a [u8]>> DecodeValue<R> for BytesCow<'a> {
             Ok(BytesCow::Owned(BytesOwned::decode_value(alloc, reader, header)?))
         }
     }
+}
 
+impl<'a> IsValue for BytesCow<'a> {
     fn is_value(&self) {}
 }
 

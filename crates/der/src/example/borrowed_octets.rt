@@ -9,8 +9,8 @@ ghost use Rattle.der.specs.BorrowedOctets.{borrowed_octets, borrowed_lawful};
 use crate::bytes::BytesRef;
 use der_base::{Error, Length, Tag};
 use der_core::{
-    DecodeValue, DerOrd, EncodeValue, FixedTag, Header, Lawful, Orderly, ReadValue, Reader,
-    ValueOrd, Writer, WrittenValue,
+    DecodeValue, DerOrd, EncodeValue, FixedTag, Header, IsValue, Lawful, Orderly, ReadValue,
+    Reader, ValueOrd, Writer, WrittenValue,
 };
 use std::alloc::Global;
 use std::cmp::Ordering;
@@ -61,7 +61,9 @@ impl<'a, R: Reader<Borrowed = &'a [u8]>> DecodeValue<R> for BorrowedOctets<'a> {
         let octets = BytesRef::decode_value(alloc, reader, header)?;
         Ok(BorrowedOctets { octets })
     }
+}
 
+impl<'a> IsValue for BorrowedOctets<'a> {
     fn is_value(&self) {}
 }
 

@@ -9,8 +9,8 @@ ghost use Rattle.der.specs.JoinedOctets.{joined_octets, joined_levels, TakesJoin
 use crate::bytes::BytesOwned;
 use der_base::{Error, Length, Tag};
 use der_core::{
-    DecodeValue, DerOrd, EncodeValue, FixedTag, Header, Lawful, Orderly, ReadValue, Reader,
-    ValueOrd, Writer, WrittenValue,
+    DecodeValue, DerOrd, EncodeValue, FixedTag, Header, IsValue, Lawful, Orderly, ReadValue,
+    Reader, ValueOrd, Writer, WrittenValue,
 };
 use std::alloc::Global;
 use std::cmp::Ordering;
@@ -62,7 +62,9 @@ impl<R: Reader> DecodeValue<R> for JoinedOctets {
         let octets = BytesOwned::decode_value_parts(alloc, reader, header, Tag::OctetString)?;
         Ok(JoinedOctets { octets })
     }
+}
 
+impl IsValue for JoinedOctets {
     fn is_value(&self) {}
 }
 

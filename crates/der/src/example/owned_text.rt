@@ -9,8 +9,8 @@ ghost use Rattle.der.specs.OwnedText.{owned_text_octets, owned_text_lawful};
 use crate::string::StringOwned;
 use der_base::{Error, Length, Tag};
 use der_core::{
-    DecodeValue, EncodeValue, FixedTag, Header, Lawful, Orderly, ReadValue, Reader, ValueOrd,
-    Writer, WrittenValue,
+    DecodeValue, EncodeValue, FixedTag, Header, IsValue, Lawful, Orderly, ReadValue, Reader,
+    ValueOrd, Writer, WrittenValue,
 };
 use std::alloc::Global;
 use std::cmp::Ordering;
@@ -59,7 +59,9 @@ impl<R: Reader> DecodeValue<R> for OwnedText {
         let text = StringOwned::decode_value(alloc, reader, header)?;
         Ok(OwnedText { text })
     }
+}
 
+impl IsValue for OwnedText {
     fn is_value(&self) {}
 }
 

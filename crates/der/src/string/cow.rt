@@ -9,7 +9,9 @@ ghost use Rattle.der.specs.StringCow.{cow_text, IsBorrowedText};
 
 use crate::string::{StringOwned, StringRef};
 use der_base::{Error, Length};
-use der_core::{DecodeValue, EncodeValue, Header, ReadValue, Reader, Writer, WrittenValue};
+use der_core::{
+    DecodeValue, EncodeValue, Header, IsValue, ReadValue, Reader, Writer, WrittenValue,
+};
 use std::alloc::Global;
 
 /// A text of at most 4294967295 octets, borrowed or owned.
@@ -83,7 +85,9 @@ impl<'a, R: Reader<Borrowed = &'a [u8]>> DecodeValue<R> for StringCow<'a> {
             Ok(StringCow::Owned(StringOwned::decode_value(alloc, reader, header)?))
         }
     }
+}
 
+impl<'a> IsValue for StringCow<'a> {
     fn is_value(&self) {}
 }
 

@@ -2,7 +2,7 @@
 ghost use Rattle.std.specs.Prelude.{true};
 ghost use Rattle.der_core.specs.Boxed.{BoxedRead};
 
-use crate::decode::{DecodeValue, Lawful, ReadValue};
+use crate::decode::{DecodeValue, IsValue, Lawful, ReadValue};
 use crate::header::Header;
 use crate::reader::Reader;
 use der_base::ErrorKind;
@@ -44,7 +44,9 @@ impl<R: Reader, T: DecodeValue<R>> DecodeValue<R> for Box<T> {
             Err(_) => Err(ErrorKind::OutOfMemory.to_error().into()),
         }
     }
+}
 
+impl<T: IsValue> IsValue for Box<T> {
     fn is_value(&self) {
         (**self).is_value()
     }

@@ -84,10 +84,6 @@ pub trait DecodeValue<R: Reader>: ReadValue + Drop {
             → EndsOrLacks Self.Error.out_of_memory Self.allocates result (R.state reader.new) }
         ensures exact { R.reliable ≡ true → decode_value_answers (head_of header)
             (R.state reader.old) result (R.state reader.new) };
-
-    /// Does nothing; the contract states, for use in proofs, that `self` is a valid value.
-    fn is_value(&self)
-        ensures { Self.valid self.now };
 }
 
 /// Decodes the whole element of a value (X.690 8.1.1): a header with the type's tag, the contents,

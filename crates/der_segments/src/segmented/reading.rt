@@ -7,7 +7,7 @@ ghost use Rattle.der_segments.specs.Segmented.{SegmentedRead, TakesSegmented, se
 
 use crate::measure::measure_segments;
 use crate::segmented::Segmented;
-use der::{DecodeValue, Error, FixedTag, Header, Length, ReadValue, Reader, Tag};
+use der::{DecodeValue, Error, FixedTag, Header, IsValue, Length, ReadValue, Reader, Tag};
 use std::alloc::Global;
 
 impl<'a> FixedTag for Segmented<'a> {
@@ -67,7 +67,9 @@ impl<'a, R: Reader<Borrowed = &'a [u8]>> DecodeValue<R> for Segmented<'a> {
         let count = measure_segments(reader)?;
         Ok(Segmented::in_segments(octets, count))
     }
+}
 
+impl<'a> IsValue for Segmented<'a> {
     fn is_value(&self) {
         let _count = self.count;
     }

@@ -10,8 +10,8 @@ ghost use Rattle.der_asn1.specs.Meaning.{alternative, field, optional, sequence,
 use crate::asn1::certificates::Certificates;
 use crate::asn1::response_data::ResponseData;
 use der::{
-    Decode, DecodeValue, Encode, EncodeValue, Error, FromFields, Header, Length, Reader, Sequence,
-    SliceReader, Writer, decode_sequence, field_refs,
+    Decode, DecodeValue, Encode, EncodeValue, Error, FromFields, Header, IsValue, Length, Reader,
+    Sequence, SliceReader, Writer, decode_sequence, field_refs,
 };
 use der_asn1::{
     BitStringRef, BorrowedItem, DecodeItem, Described, Explicit, Item, Nestable, Optional,
@@ -74,13 +74,15 @@ impl<'a, R: Reader<Borrowed = &'a [u8]>> DecodeValue<R> for BasicOcspResponse<'a
     fn decode_value(alloc: Global, reader: &mut R, header: Header) -> Result<Self, Error> {
         decode_sequence::<R, BasicOcspResponseFields<'a>, Self>(alloc, reader, header)
     }
+}
 
+impl<'a> IsValue for BasicOcspResponse<'a> {
     fn is_value(&self) {
-        <ResponseData<'a> as DecodeValue<R>>::is_value(&self.tbs_response_data);
-        <AlgorithmIdentifierRef<'a> as DecodeValue<R>>::is_value(&self.signature_algorithm);
-        <BitStringRef<'a> as DecodeValue<R>>::is_value(&self.signature);
+        self.tbs_response_data.is_value();
+        self.signature_algorithm.is_value();
+        self.signature.is_value();
         if let Some(value) = &self.certs.0 {
-            <Explicit<Certificates<'a>, 0> as DecodeValue<R>>::is_value(value);
+            value.is_value();
         }
     }
 }

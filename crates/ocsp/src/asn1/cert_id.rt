@@ -8,8 +8,8 @@ ghost use Rattle.der_asn1.specs.Item.{decodes_same};
 ghost use Rattle.der_asn1.specs.Meaning.{alternative, field, sequence, sequence_is_item, sequence_item, two_fields};
 
 use der::{
-    Decode, DecodeValue, Encode, EncodeValue, Error, FromFields, Header, Length, Reader, Sequence,
-    SliceReader, Writer, decode_sequence, field_refs,
+    Decode, DecodeValue, Encode, EncodeValue, Error, FromFields, Header, IsValue, Length, Reader,
+    Sequence, SliceReader, Writer, decode_sequence, field_refs,
 };
 use der_asn1::{BorrowedItem, DecodeItem, Described, Item, Nestable, OctetStringRef};
 use spki::AlgorithmIdentifierRef;
@@ -71,12 +71,14 @@ impl<'a, R: Reader<Borrowed = &'a [u8]>> DecodeValue<R> for CertId<'a> {
     fn decode_value(alloc: Global, reader: &mut R, header: Header) -> Result<Self, Error> {
         decode_sequence::<R, CertIdFields<'a>, Self>(alloc, reader, header)
     }
+}
 
+impl<'a> IsValue for CertId<'a> {
     fn is_value(&self) {
-        <AlgorithmIdentifierRef<'a> as DecodeValue<R>>::is_value(&self.hash_algorithm);
-        <OctetStringRef<'a> as DecodeValue<R>>::is_value(&self.issuer_name_hash);
-        <OctetStringRef<'a> as DecodeValue<R>>::is_value(&self.issuer_key_hash);
-        <CertificateSerialNumber<'a> as DecodeValue<R>>::is_value(&self.serial_number);
+        self.hash_algorithm.is_value();
+        self.issuer_name_hash.is_value();
+        self.issuer_key_hash.is_value();
+        self.serial_number.is_value();
     }
 }
 

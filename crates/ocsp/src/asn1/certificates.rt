@@ -8,8 +8,8 @@ ghost use Rattle.der_asn1.specs.Item.{decodes_same};
 ghost use Rattle.der_asn1.specs.Meaning.{renamed, sequence_is_item, sequence_item};
 
 use der::{
-    DecodeValue, EncodeValue, Error, FromFields, Header, Length, Reader, Sequence, SliceReader,
-    Writer, decode_wrapped,
+    DecodeValue, EncodeValue, Error, FromFields, Header, IsValue, Length, Reader, Sequence,
+    SliceReader, Writer, decode_wrapped,
 };
 use der_asn1::{BorrowedItem, DecodeItem, Described, Item, Nestable, SequenceOf};
 use std::alloc::Global;
@@ -50,9 +50,11 @@ impl<'a, R: Reader<Borrowed = &'a [u8]>> DecodeValue<R> for Certificates<'a> {
     fn decode_value(alloc: Global, reader: &mut R, header: Header) -> Result<Self, Error> {
         decode_wrapped::<R, Items<'a>, Self>(alloc, reader, header)
     }
+}
 
+impl<'a> IsValue for Certificates<'a> {
     fn is_value(&self) {
-        <Items<'a> as DecodeValue<R>>::is_value(&self.items);
+        self.items.is_value();
     }
 }
 

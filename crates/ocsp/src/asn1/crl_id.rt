@@ -8,8 +8,8 @@ ghost use Rattle.der_asn1.specs.Item.{decodes_same};
 ghost use Rattle.der_asn1.specs.Meaning.{alternative, optional, sequence, sequence_is_item, sequence_item, two_fields};
 
 use der::{
-    Decode, DecodeValue, Encode, EncodeValue, Error, FromFields, Header, Length, Reader, Sequence,
-    SliceReader, Writer, decode_sequence, field_refs,
+    Decode, DecodeValue, Encode, EncodeValue, Error, FromFields, Header, IsValue, Length, Reader,
+    Sequence, SliceReader, Writer, decode_sequence, field_refs,
 };
 use der_asn1::{
     BorrowedItem, DecodeItem, Described, Explicit, GeneralizedTime, Ia5StringRef, IntRef, Item,
@@ -71,16 +71,18 @@ impl<'a, R: Reader<Borrowed = &'a [u8]>> DecodeValue<R> for CrlId<'a> {
     fn decode_value(alloc: Global, reader: &mut R, header: Header) -> Result<Self, Error> {
         decode_sequence::<R, CrlIdFields<'a>, Self>(alloc, reader, header)
     }
+}
 
+impl<'a> IsValue for CrlId<'a> {
     fn is_value(&self) {
         if let Some(value) = &self.crl_url.0 {
-            <Explicit<Ia5StringRef<'a>, 0> as DecodeValue<R>>::is_value(value);
+            value.is_value();
         }
         if let Some(value) = &self.crl_num.0 {
-            <Explicit<IntRef<'a>, 1> as DecodeValue<R>>::is_value(value);
+            value.is_value();
         }
         if let Some(value) = &self.crl_time.0 {
-            <Explicit<GeneralizedTime, 2> as DecodeValue<R>>::is_value(value);
+            value.is_value();
         }
     }
 }

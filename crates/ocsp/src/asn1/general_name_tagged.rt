@@ -8,13 +8,10 @@ ghost use Rattle.der_asn1.specs.Item.{decodes_same};
 ghost use Rattle.der_asn1.specs.Meaning.{alternative, field, sequence, sequence_is_item, sequence_item};
 
 use der::{
-    Decode, DecodeValue, Encode, EncodeValue, Error, FromFields, Header, Length, Reader, Sequence,
-    SliceReader, Writer, decode_sequence, field_refs,
+    Decode, DecodeValue, Encode, EncodeValue, Error, FromFields, Header, IsValue, Length, Reader,
+    Sequence, SliceReader, Writer, decode_sequence, field_refs,
 };
-use der_asn1::{
-    BorrowedItem, DecodeItem, Described, DescribedChoice, Explicit, Ia5StringRef, Implicit, Item,
-    Nestable, ObjectIdentifierRef, OctetStringRef, SequenceRef,
-};
+use der_asn1::{BorrowedItem, DecodeItem, Described, DescribedChoice, Item, Nestable};
 use std::alloc::Global;
 use x509::GeneralName;
 
@@ -55,39 +52,20 @@ impl<'a, R: Reader<Borrowed = &'a [u8]>> DecodeValue<R> for GeneralNameTagged<'a
     fn decode_value(alloc: Global, reader: &mut R, header: Header) -> Result<Self, Error> {
         decode_sequence::<R, GeneralNameTaggedFields<'a>, Self>(alloc, reader, header)
     }
+}
 
+impl<'a> IsValue for GeneralNameTagged<'a> {
     fn is_value(&self) {
         match &self.value {
-            x509::GeneralName::OtherName(value) => <Implicit<x509::OtherName<'a>, 0> as DecodeValue<
-                R,
-            >>::is_value(value),
-            x509::GeneralName::Rfc822Name(value) => <Implicit<Ia5StringRef<'a>, 1> as DecodeValue<
-                R,
-            >>::is_value(value),
-            x509::GeneralName::DnsName(value) => <Implicit<Ia5StringRef<'a>, 2> as DecodeValue<
-                R,
-            >>::is_value(value),
-            x509::GeneralName::X400Address(value) => <Implicit<SequenceRef<'a>, 3> as DecodeValue<
-                R,
-            >>::is_value(value),
-            x509::GeneralName::DirectoryName(value) => <Explicit<x509::Name<'a>, 4> as DecodeValue<
-                R,
-            >>::is_value(value),
-            x509::GeneralName::EdiPartyName(value) => <Implicit<
-                x509::EdiPartyName<'a>,
-                5,
-            > as DecodeValue<R>>::is_value(value),
-            x509::GeneralName::UniformResourceIdentifier(value) => <Implicit<
-                Ia5StringRef<'a>,
-                6,
-            > as DecodeValue<R>>::is_value(value),
-            x509::GeneralName::IpAddress(value) => <Implicit<OctetStringRef<'a>, 7> as DecodeValue<
-                R,
-            >>::is_value(value),
-            x509::GeneralName::RegisteredId(value) => <Implicit<
-                ObjectIdentifierRef<'a>,
-                8,
-            > as DecodeValue<R>>::is_value(value),
+            x509::GeneralName::OtherName(value) => value.is_value(),
+            x509::GeneralName::Rfc822Name(value) => value.is_value(),
+            x509::GeneralName::DnsName(value) => value.is_value(),
+            x509::GeneralName::X400Address(value) => value.is_value(),
+            x509::GeneralName::DirectoryName(value) => value.is_value(),
+            x509::GeneralName::EdiPartyName(value) => value.is_value(),
+            x509::GeneralName::UniformResourceIdentifier(value) => value.is_value(),
+            x509::GeneralName::IpAddress(value) => value.is_value(),
+            x509::GeneralName::RegisteredId(value) => value.is_value(),
         }
     }
 }

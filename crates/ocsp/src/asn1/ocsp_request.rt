@@ -10,8 +10,8 @@ ghost use Rattle.der_asn1.specs.Meaning.{alternative, field, optional, sequence,
 use crate::asn1::signature::Signature;
 use crate::asn1::tbs_request::TbsRequest;
 use der::{
-    Decode, DecodeValue, Encode, EncodeValue, Error, FromFields, Header, Length, Reader, Sequence,
-    SliceReader, Writer, decode_sequence, field_refs,
+    Decode, DecodeValue, Encode, EncodeValue, Error, FromFields, Header, IsValue, Length, Reader,
+    Sequence, SliceReader, Writer, decode_sequence, field_refs,
 };
 use der_asn1::{BorrowedItem, DecodeItem, Described, Explicit, Item, Nestable, Optional};
 use std::alloc::Global;
@@ -60,11 +60,13 @@ impl<'a, R: Reader<Borrowed = &'a [u8]>> DecodeValue<R> for OcspRequest<'a> {
     fn decode_value(alloc: Global, reader: &mut R, header: Header) -> Result<Self, Error> {
         decode_sequence::<R, OcspRequestFields<'a>, Self>(alloc, reader, header)
     }
+}
 
+impl<'a> IsValue for OcspRequest<'a> {
     fn is_value(&self) {
-        <TbsRequest<'a> as DecodeValue<R>>::is_value(&self.tbs_request);
+        self.tbs_request.is_value();
         if let Some(value) = &self.optional_signature.0 {
-            <Explicit<Signature<'a>, 0> as DecodeValue<R>>::is_value(value);
+            value.is_value();
         }
     }
 }

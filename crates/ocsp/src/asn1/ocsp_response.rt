@@ -10,8 +10,8 @@ ghost use Rattle.der_asn1.specs.Meaning.{alternative, field, optional, sequence,
 use crate::asn1::ocsp_response_status::OcspResponseStatus;
 use crate::asn1::response_bytes::ResponseBytes;
 use der::{
-    Decode, DecodeValue, Encode, EncodeValue, Error, FromFields, Header, Length, Reader, Sequence,
-    SliceReader, Writer, decode_sequence, field_refs,
+    Decode, DecodeValue, Encode, EncodeValue, Error, FromFields, Header, IsValue, Length, Reader,
+    Sequence, SliceReader, Writer, decode_sequence, field_refs,
 };
 use der_asn1::{
     BorrowedItem, DecodeItem, Described, Enumerated, Explicit, Item, Nestable, Optional,
@@ -66,11 +66,13 @@ impl<'a, R: Reader<Borrowed = &'a [u8]>> DecodeValue<R> for OcspResponse<'a> {
     fn decode_value(alloc: Global, reader: &mut R, header: Header) -> Result<Self, Error> {
         decode_sequence::<R, OcspResponseFields<'a>, Self>(alloc, reader, header)
     }
+}
 
+impl<'a> IsValue for OcspResponse<'a> {
     fn is_value(&self) {
-        <Enumerated<OcspResponseStatus> as DecodeValue<R>>::is_value(&self.response_status);
+        self.response_status.is_value();
         if let Some(value) = &self.response_bytes.0 {
-            <Explicit<ResponseBytes<'a>, 0> as DecodeValue<R>>::is_value(value);
+            value.is_value();
         }
     }
 }

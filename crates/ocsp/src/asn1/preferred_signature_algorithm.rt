@@ -8,8 +8,8 @@ ghost use Rattle.der_asn1.specs.Item.{decodes_same};
 ghost use Rattle.der_asn1.specs.Meaning.{alternative, field, optional, sequence, sequence_is_item, sequence_item, two_fields};
 
 use der::{
-    Decode, DecodeValue, Encode, EncodeValue, Error, FromFields, Header, Length, Reader, Sequence,
-    SliceReader, Writer, decode_sequence, field_refs,
+    Decode, DecodeValue, Encode, EncodeValue, Error, FromFields, Header, IsValue, Length, Reader,
+    Sequence, SliceReader, Writer, decode_sequence, field_refs,
 };
 use der_asn1::{BorrowedItem, DecodeItem, Described, Item, Nestable, Optional};
 use spki::AlgorithmIdentifierRef;
@@ -63,11 +63,13 @@ impl<'a, R: Reader<Borrowed = &'a [u8]>> DecodeValue<R> for PreferredSignatureAl
     fn decode_value(alloc: Global, reader: &mut R, header: Header) -> Result<Self, Error> {
         decode_sequence::<R, PreferredSignatureAlgorithmFields<'a>, Self>(alloc, reader, header)
     }
+}
 
+impl<'a> IsValue for PreferredSignatureAlgorithm<'a> {
     fn is_value(&self) {
-        <AlgorithmIdentifierRef<'a> as DecodeValue<R>>::is_value(&self.sig_identifier);
+        self.sig_identifier.is_value();
         if let Some(value) = &self.cert_identifier.0 {
-            <AlgorithmIdentifierRef<'a> as DecodeValue<R>>::is_value(value);
+            value.is_value();
         }
     }
 }

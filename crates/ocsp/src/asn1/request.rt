@@ -9,8 +9,8 @@ ghost use Rattle.der_asn1.specs.Meaning.{alternative, field, optional, sequence,
 
 use crate::asn1::cert_id::CertId;
 use der::{
-    Decode, DecodeValue, Encode, EncodeValue, Error, FromFields, Header, Length, Reader, Sequence,
-    SliceReader, Writer, decode_sequence, field_refs,
+    Decode, DecodeValue, Encode, EncodeValue, Error, FromFields, Header, IsValue, Length, Reader,
+    Sequence, SliceReader, Writer, decode_sequence, field_refs,
 };
 use der_asn1::{BorrowedItem, DecodeItem, Described, Explicit, Item, Nestable, Optional};
 use std::alloc::Global;
@@ -59,11 +59,13 @@ impl<'a, R: Reader<Borrowed = &'a [u8]>> DecodeValue<R> for Request<'a> {
     fn decode_value(alloc: Global, reader: &mut R, header: Header) -> Result<Self, Error> {
         decode_sequence::<R, RequestFields<'a>, Self>(alloc, reader, header)
     }
+}
 
+impl<'a> IsValue for Request<'a> {
     fn is_value(&self) {
-        <CertId<'a> as DecodeValue<R>>::is_value(&self.req_cert);
+        self.req_cert.is_value();
         if let Some(value) = &self.single_request_extensions.0 {
-            <Explicit<Extensions<'a>, 0> as DecodeValue<R>>::is_value(value);
+            value.is_value();
         }
     }
 }

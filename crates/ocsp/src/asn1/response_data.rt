@@ -7,22 +7,21 @@ ghost use Rattle.der.specs.Prelude.{map_ok};
 ghost use Rattle.der_asn1.specs.Item.{decodes_same};
 ghost use Rattle.der_asn1.specs.Meaning.{alternative, defaulted, field, optional, seen, sequence, sequence_is_item, sequence_item, two_fields};
 
-use crate::asn1::key_hash::KeyHash;
 use crate::asn1::responder_id::ResponderId;
 use crate::asn1::response_data_part1::{ResponseDataPart1, ResponseDataPart1Fields};
 use crate::asn1::response_data_part2::{ResponseDataPart2, ResponseDataPart2Fields};
 use crate::asn1::response_data_part3::{ResponseDataPart3, ResponseDataPart3Fields};
 use crate::asn1::single_response::SingleResponse;
 use der::{
-    Decode, DecodeValue, Encode, EncodeValue, Error, FromFields, Header, Length, Reader, Sequence,
-    SliceReader, Writer, decode_sequence, field_refs,
+    Decode, DecodeValue, Encode, EncodeValue, Error, FromFields, Header, IsValue, Length, Reader,
+    Sequence, SliceReader, Writer, decode_sequence, field_refs,
 };
 use der_asn1::{
     BorrowedItem, DecodeItem, DefaultU64, DefaultValue, Defaulted, Described, DescribedChoice,
     Explicit, GeneralizedTime, IntegerOf, Item, Nestable, Optional, SequenceOf, WithDefault,
 };
 use std::alloc::Global;
-use x509::{Extensions, Name};
+use x509::Extensions;
 
 /// The part of a response that its signature covers (RFC 6960, 4.2.1), borrowed from the input.
 #[derive(Clone, Copy, Drop)]
@@ -119,23 +118,19 @@ impl<'a, R: Reader<Borrowed = &'a [u8]>> DecodeValue<R> for ResponseData<'a> {
             Self,
         >(alloc, reader, header)
     }
+}
 
+impl<'a> IsValue for ResponseData<'a> {
     fn is_value(&self) {
-        <Explicit<WithDefault<IntegerOf<u64>, DefaultU64<0>>, 0> as DecodeValue<R>>::is_value(
-            &self.version.0,
-        );
+        self.version.0.is_value();
         match &self.responder_id {
-            ResponderId::ByName(value) => <Explicit<Name<'a>, 1> as DecodeValue<R>>::is_value(
-                value,
-            ),
-            ResponderId::ByKey(value) => <Explicit<KeyHash<'a>, 2> as DecodeValue<R>>::is_value(
-                value,
-            ),
+            ResponderId::ByName(value) => value.is_value(),
+            ResponderId::ByKey(value) => value.is_value(),
         }
-        <GeneralizedTime as DecodeValue<R>>::is_value(&self.produced_at);
-        <SequenceOf<'a, SingleResponse<'a>> as DecodeValue<R>>::is_value(&self.responses);
+        self.produced_at.is_value();
+        self.responses.is_value();
         if let Some(value) = &self.response_extensions.0 {
-            <Explicit<Extensions<'a>, 1> as DecodeValue<R>>::is_value(value);
+            value.is_value();
         }
     }
 }

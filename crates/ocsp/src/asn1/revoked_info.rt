@@ -8,8 +8,8 @@ ghost use Rattle.der_asn1.specs.Item.{decodes_same};
 ghost use Rattle.der_asn1.specs.Meaning.{alternative, field, optional, sequence, sequence_is_item, sequence_item, two_fields};
 
 use der::{
-    Decode, DecodeValue, Encode, EncodeValue, Error, FromFields, Header, Length, Reader, Sequence,
-    SliceReader, Writer, decode_sequence, field_refs,
+    Decode, DecodeValue, Encode, EncodeValue, Error, FromFields, Header, IsValue, Length, Reader,
+    Sequence, SliceReader, Writer, decode_sequence, field_refs,
 };
 use der_asn1::{
     BorrowedItem, DecodeItem, Described, Enumerated, Explicit, GeneralizedTime, Item, Nestable,
@@ -65,11 +65,13 @@ impl<'a, R: Reader<Borrowed = &'a [u8]>> DecodeValue<R> for RevokedInfo {
     fn decode_value(alloc: Global, reader: &mut R, header: Header) -> Result<Self, Error> {
         decode_sequence::<R, RevokedInfoFields, Self>(alloc, reader, header)
     }
+}
 
+impl IsValue for RevokedInfo {
     fn is_value(&self) {
-        <GeneralizedTime as DecodeValue<R>>::is_value(&self.revocation_time);
+        self.revocation_time.is_value();
         if let Some(value) = &self.revocation_reason.0 {
-            <Explicit<Enumerated<CrlReason>, 0> as DecodeValue<R>>::is_value(value);
+            value.is_value();
         }
     }
 }

@@ -8,8 +8,8 @@ ghost use Rattle.der_asn1.specs.Item.{decodes_same};
 ghost use Rattle.der_asn1.specs.Meaning.{alternative, field, optional, sequence, sequence_is_item, sequence_item, two_fields};
 
 use der::{
-    Decode, DecodeValue, Encode, EncodeValue, Error, FromFields, Header, Length, Reader, Sequence,
-    SliceReader, Writer, decode_sequence, field_refs,
+    Decode, DecodeValue, Encode, EncodeValue, Error, FromFields, Header, IsValue, Length, Reader,
+    Sequence, SliceReader, Writer, decode_sequence, field_refs,
 };
 use der_asn1::{BorrowedItem, DecodeItem, Described, Item, Nestable, Optional};
 use std::alloc::Global;
@@ -56,11 +56,13 @@ impl<'a, R: Reader<Borrowed = &'a [u8]>> DecodeValue<R> for ServiceLocator<'a> {
     fn decode_value(alloc: Global, reader: &mut R, header: Header) -> Result<Self, Error> {
         decode_sequence::<R, ServiceLocatorFields<'a>, Self>(alloc, reader, header)
     }
+}
 
+impl<'a> IsValue for ServiceLocator<'a> {
     fn is_value(&self) {
-        <Name<'a> as DecodeValue<R>>::is_value(&self.issuer);
+        self.issuer.is_value();
         if let Some(value) = &self.locator.0 {
-            <AuthorityInfoAccessSyntax<'a> as DecodeValue<R>>::is_value(value);
+            value.is_value();
         }
     }
 }

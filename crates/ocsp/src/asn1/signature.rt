@@ -9,8 +9,8 @@ ghost use Rattle.der_asn1.specs.Meaning.{alternative, field, optional, sequence,
 
 use crate::asn1::certificates::Certificates;
 use der::{
-    Decode, DecodeValue, Encode, EncodeValue, Error, FromFields, Header, Length, Reader, Sequence,
-    SliceReader, Writer, decode_sequence, field_refs,
+    Decode, DecodeValue, Encode, EncodeValue, Error, FromFields, Header, IsValue, Length, Reader,
+    Sequence, SliceReader, Writer, decode_sequence, field_refs,
 };
 use der_asn1::{
     BitStringRef, BorrowedItem, DecodeItem, Described, Explicit, Item, Nestable, Optional,
@@ -69,12 +69,14 @@ impl<'a, R: Reader<Borrowed = &'a [u8]>> DecodeValue<R> for Signature<'a> {
     fn decode_value(alloc: Global, reader: &mut R, header: Header) -> Result<Self, Error> {
         decode_sequence::<R, SignatureFields<'a>, Self>(alloc, reader, header)
     }
+}
 
+impl<'a> IsValue for Signature<'a> {
     fn is_value(&self) {
-        <AlgorithmIdentifierRef<'a> as DecodeValue<R>>::is_value(&self.signature_algorithm);
-        <BitStringRef<'a> as DecodeValue<R>>::is_value(&self.signature);
+        self.signature_algorithm.is_value();
+        self.signature.is_value();
         if let Some(value) = &self.certs.0 {
-            <Explicit<Certificates<'a>, 0> as DecodeValue<R>>::is_value(value);
+            value.is_value();
         }
     }
 }

@@ -9,17 +9,15 @@ ghost use Rattle.der_asn1.specs.Meaning.{alternative, field, optional, seen, seq
 
 use crate::asn1::cert_id::CertId;
 use crate::asn1::cert_status::CertStatus;
-use crate::asn1::revoked_info::RevokedInfo;
 use crate::asn1::single_response_part1::{SingleResponsePart1, SingleResponsePart1Fields};
 use crate::asn1::single_response_part2::{SingleResponsePart2, SingleResponsePart2Fields};
-use crate::asn1::unknown_info::UnknownInfo;
 use der::{
-    Decode, DecodeValue, Encode, EncodeValue, Error, FromFields, Header, Length, Reader, Sequence,
-    SliceReader, Writer, decode_sequence, field_refs,
+    Decode, DecodeValue, Encode, EncodeValue, Error, FromFields, Header, IsValue, Length, Reader,
+    Sequence, SliceReader, Writer, decode_sequence, field_refs,
 };
 use der_asn1::{
-    BorrowedItem, DecodeItem, Described, DescribedChoice, Explicit, GeneralizedTime, Implicit,
-    Item, Nestable, Null, Optional,
+    BorrowedItem, DecodeItem, Described, DescribedChoice, Explicit, GeneralizedTime, Item,
+    Nestable, Optional,
 };
 use std::alloc::Global;
 use x509::Extensions;
@@ -95,24 +93,22 @@ impl<'a, R: Reader<Borrowed = &'a [u8]>> DecodeValue<R> for SingleResponse<'a> {
             alloc, reader, header,
         )
     }
+}
 
+impl<'a> IsValue for SingleResponse<'a> {
     fn is_value(&self) {
-        <CertId<'a> as DecodeValue<R>>::is_value(&self.cert_id);
+        self.cert_id.is_value();
         match &self.cert_status {
-            CertStatus::Good(value) => <Implicit<Null<'a>, 0> as DecodeValue<R>>::is_value(value),
-            CertStatus::Revoked(value) => <Implicit<RevokedInfo, 1> as DecodeValue<R>>::is_value(
-                value,
-            ),
-            CertStatus::Unknown(value) => <Implicit<UnknownInfo<'a>, 2> as DecodeValue<
-                R,
-            >>::is_value(value),
+            CertStatus::Good(value) => value.is_value(),
+            CertStatus::Revoked(value) => value.is_value(),
+            CertStatus::Unknown(value) => value.is_value(),
         }
-        <GeneralizedTime as DecodeValue<R>>::is_value(&self.this_update);
+        self.this_update.is_value();
         if let Some(value) = &self.next_update.0 {
-            <Explicit<GeneralizedTime, 0> as DecodeValue<R>>::is_value(value);
+            value.is_value();
         }
         if let Some(value) = &self.single_extensions.0 {
-            <Explicit<Extensions<'a>, 1> as DecodeValue<R>>::is_value(value);
+            value.is_value();
         }
     }
 }

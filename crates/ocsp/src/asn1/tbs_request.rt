@@ -14,8 +14,8 @@ use crate::asn1::tbs_request_part2::{TbsRequestPart2, TbsRequestPart2Fields};
 use crate::asn1::tbs_request_part3::{TbsRequestPart3, TbsRequestPart3Fields};
 use crate::asn1::tbs_request_part4::{TbsRequestPart4, TbsRequestPart4Fields};
 use der::{
-    Decode, DecodeValue, Encode, EncodeValue, Error, FromFields, Header, Length, Reader, Sequence,
-    SliceReader, Writer, decode_sequence, field_refs,
+    Decode, DecodeValue, Encode, EncodeValue, Error, FromFields, Header, IsValue, Length, Reader,
+    Sequence, SliceReader, Writer, decode_sequence, field_refs,
 };
 use der_asn1::{
     BorrowedItem, DecodeItem, DefaultU64, DefaultValue, Defaulted, Described, Explicit, Implicit,
@@ -119,17 +119,17 @@ impl<'a, R: Reader<Borrowed = &'a [u8]>> DecodeValue<R> for TbsRequest<'a> {
             Self,
         >(alloc, reader, header)
     }
+}
 
+impl<'a> IsValue for TbsRequest<'a> {
     fn is_value(&self) {
-        <Explicit<WithDefault<IntegerOf<u64>, DefaultU64<0>>, 0> as DecodeValue<R>>::is_value(
-            &self.version.0,
-        );
+        self.version.0.is_value();
         if let Some(value) = &self.requestor_name.0 {
-            <Implicit<GeneralNameTagged<'a>, 1> as DecodeValue<R>>::is_value(value);
+            value.is_value();
         }
-        <SequenceOf<'a, Request<'a>> as DecodeValue<R>>::is_value(&self.request_list);
+        self.request_list.is_value();
         if let Some(value) = &self.request_extensions.0 {
-            <Explicit<Extensions<'a>, 2> as DecodeValue<R>>::is_value(value);
+            value.is_value();
         }
     }
 }

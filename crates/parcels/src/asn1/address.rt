@@ -10,8 +10,8 @@ ghost use Rattle.der_asn1.specs.Meaning.{alternative, field, optional, seen, seq
 use crate::asn1::address_part1::{AddressPart1, AddressPart1Fields};
 use crate::asn1::address_part2::{AddressPart2, AddressPart2Fields};
 use der::{
-    Decode, DecodeValue, Encode, EncodeValue, Error, FromFields, Header, Length, Reader, Sequence,
-    SliceReader, Writer, decode_sequence, field_refs,
+    Decode, DecodeValue, Encode, EncodeValue, Error, FromFields, Header, IsValue, Length, Reader,
+    Sequence, SliceReader, Writer, decode_sequence, field_refs,
 };
 use der_asn1::{
     Application, BmpStringRef, BorrowedItem, DecodeItem, Described, Ia5StringRef, Implicit, Item,
@@ -84,18 +84,20 @@ impl<'a, R: Reader<Borrowed = &'a [u8]>> DecodeValue<R> for Address<'a> {
     fn decode_value(alloc: Global, reader: &mut R, header: Header) -> Result<Self, Error> {
         decode_sequence::<R, (AddressPart1<'a>, AddressPart2<'a>), Self>(alloc, reader, header)
     }
+}
 
+impl<'a> IsValue for Address<'a> {
     fn is_value(&self) {
-        <Utf8StringRef<'a> as DecodeValue<R>>::is_value(&self.name);
-        <PrintableStringRef<'a> as DecodeValue<R>>::is_value(&self.street);
+        self.name.is_value();
+        self.street.is_value();
         if let Some(value) = &self.code.0 {
-            <Application<Implicit<NumericStringRef<'a>, 1>> as DecodeValue<R>>::is_value(value);
+            value.is_value();
         }
         if let Some(value) = &self.type_.0 {
-            <Ia5StringRef<'a> as DecodeValue<R>>::is_value(value);
+            value.is_value();
         }
         if let Some(value) = &self.note.0 {
-            <BmpStringRef<'a> as DecodeValue<R>>::is_value(value);
+            value.is_value();
         }
     }
 }

@@ -14,8 +14,8 @@ use crate::asn1::journey_part3::{JourneyPart3, JourneyPart3Fields};
 use crate::asn1::property::Property;
 use crate::asn1::stop::Stop;
 use der::{
-    Decode, DecodeValue, Encode, EncodeValue, Error, FromFields, Header, Length, Reader, Sequence,
-    SliceReader, Writer, decode_sequence, field_refs,
+    Decode, DecodeValue, Encode, EncodeValue, Error, FromFields, Header, IsValue, Length, Reader,
+    Sequence, SliceReader, Writer, decode_sequence, field_refs,
 };
 use der_asn1::{
     BorrowedItem, DecodeItem, DefaultU64, DefaultValue, Defaulted, Described, Implicit, IntegerOf,
@@ -97,19 +97,19 @@ impl<'a, R: Reader<Borrowed = &'a [u8]>> DecodeValue<R> for Journey<'a> {
             alloc, reader, header,
         )
     }
+}
 
+impl<'a> IsValue for Journey<'a> {
     fn is_value(&self) {
-        <Implicit<Address<'a>, 1> as DecodeValue<R>>::is_value(&self.sender);
+        self.sender.is_value();
         if let Some(value) = &self.receiver.0 {
-            <Implicit<Address<'a>, 2> as DecodeValue<R>>::is_value(value);
+            value.is_value();
         }
-        <SequenceOf<'a, Stop<'a>> as DecodeValue<R>>::is_value(&self.stops);
+        self.stops.is_value();
         if let Some(value) = &self.properties.0 {
-            <Implicit<SetOf<'a, Property<'a>>, 3> as DecodeValue<R>>::is_value(value);
+            value.is_value();
         }
-        <Implicit<WithDefault<IntegerOf<u64>, DefaultU64<0>>, 5> as DecodeValue<R>>::is_value(
-            &self.attempts.0,
-        );
+        self.attempts.0.is_value();
     }
 }
 

@@ -10,8 +10,8 @@ ghost use Rattle.der_asn1.specs.Meaning.{alternative, field, optional, sequence,
 use crate::asn1::address::Address;
 use crate::asn1::seal::Seal;
 use der::{
-    Decode, DecodeValue, Encode, EncodeValue, Error, FromFields, Header, Length, Reader, Sequence,
-    SliceReader, Writer, decode_sequence, field_refs,
+    Decode, DecodeValue, Encode, EncodeValue, Error, FromFields, Header, IsValue, Length, Reader,
+    Sequence, SliceReader, Writer, decode_sequence, field_refs,
 };
 use der_asn1::{
     BitStringRef, BorrowedItem, DecodeItem, Described, Implicit, Item, Nestable, OctetStringOf,
@@ -74,13 +74,15 @@ impl<'a, R: Reader<Borrowed = &'a [u8]>> DecodeValue<R> for Label<'a> {
     fn decode_value(alloc: Global, reader: &mut R, header: Header) -> Result<Self, Error> {
         decode_sequence::<R, LabelFields<'a>, Self>(alloc, reader, header)
     }
+}
 
+impl<'a> IsValue for Label<'a> {
     fn is_value(&self) {
-        <BitStringRef<'a> as DecodeValue<R>>::is_value(&self.picture);
-        <OctetStringRef<'a> as DecodeValue<R>>::is_value(&self.octets);
-        <OctetStringOf<Address<'a>> as DecodeValue<R>>::is_value(&self.address);
+        self.picture.is_value();
+        self.octets.is_value();
+        self.address.is_value();
         if let Some(value) = &self.seal.0 {
-            <Implicit<Seal<'a>, 0> as DecodeValue<R>>::is_value(value);
+            value.is_value();
         }
     }
 }

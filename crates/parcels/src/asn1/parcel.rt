@@ -18,8 +18,8 @@ use crate::asn1::parcel_part3::{ParcelPart3, ParcelPart3Fields};
 use crate::asn1::parcel_part4::{ParcelPart4, ParcelPart4Fields};
 use crate::asn1::version::Version;
 use der::{
-    Decode, DecodeValue, Encode, EncodeValue, Error, FromFields, Header, Length, Reader, Sequence,
-    SliceReader, Writer, decode_sequence, field_refs,
+    Decode, DecodeValue, Encode, EncodeValue, Error, FromFields, Header, IsValue, Length, Reader,
+    Sequence, SliceReader, Writer, decode_sequence, field_refs,
 };
 use der_asn1::{
     BooleanRef, BorrowedItem, DecodeItem, DefaultOf, DefaultValue, Defaulted, Described,
@@ -144,23 +144,21 @@ impl<'a, R: Reader<Borrowed = &'a [u8]>> DecodeValue<R> for Parcel<'a> {
             Self,
         >(alloc, reader, header)
     }
+}
 
+impl<'a> IsValue for Parcel<'a> {
     fn is_value(&self) {
-        <Explicit<WithDefault<NamedInteger<Version>, ParcelVersionDefault>, 0> as DecodeValue<
-            R,
-        >>::is_value(&self.version.0);
-        <IntRef<'a> as DecodeValue<R>>::is_value(&self.number);
-        <IntegerIn<1, 30000> as DecodeValue<R>>::is_value(&self.weight);
-        <WithDefault<Enumerated<Packing>, ParcelPackingDefault> as DecodeValue<R>>::is_value(
-            &self.packing.0,
-        );
+        self.version.0.is_value();
+        self.number.is_value();
+        self.weight.is_value();
+        self.packing.0.is_value();
         if let Some(value) = &self.handling.0 {
-            <Handling<'a> as DecodeValue<R>>::is_value(value);
+            value.is_value();
         }
-        <BooleanRef<'a> as DecodeValue<R>>::is_value(&self.opened.0);
-        <Journey<'a> as DecodeValue<R>>::is_value(&self.journey);
+        self.opened.0.is_value();
+        self.journey.is_value();
         if let Some(value) = &self.label.0 {
-            <Implicit<Label<'a>, 4> as DecodeValue<R>>::is_value(value);
+            value.is_value();
         }
     }
 }

@@ -9,8 +9,8 @@ ghost use Rattle.der_asn1.specs.Meaning.{alternative, any_element, field, option
 
 use crate::asn1::text_tagged::TextTagged;
 use der::{
-    Decode, DecodeValue, Encode, EncodeValue, Error, FromFields, Header, Length, Reader, Sequence,
-    SliceReader, Writer, decode_sequence, field_refs,
+    Decode, DecodeValue, Encode, EncodeValue, Error, FromFields, Header, IsValue, Length, Reader,
+    Sequence, SliceReader, Writer, decode_sequence, field_refs,
 };
 use der_asn1::{AnyRef, BorrowedItem, DecodeItem, Described, Implicit, Item, Nestable, Optional};
 use spki::AlgorithmIdentifierRef;
@@ -66,12 +66,14 @@ impl<'a, R: Reader<Borrowed = &'a [u8]>> DecodeValue<R> for Seal<'a> {
     fn decode_value(alloc: Global, reader: &mut R, header: Header) -> Result<Self, Error> {
         decode_sequence::<R, SealFields<'a>, Self>(alloc, reader, header)
     }
+}
 
+impl<'a> IsValue for Seal<'a> {
     fn is_value(&self) {
-        <AlgorithmIdentifierRef<'a> as DecodeValue<R>>::is_value(&self.algorithm);
-        <Implicit<TextTagged<'a>, 0> as DecodeValue<R>>::is_value(&self.text);
+        self.algorithm.is_value();
+        self.text.is_value();
         if let Some(value) = &self.extra.0 {
-            <AnyRef<'a> as DecodeValue<R>>::is_value(value);
+            value.is_value();
         }
     }
 }

@@ -10,13 +10,10 @@ ghost use Rattle.der_asn1.specs.Meaning.{alternative, field, sequence, sequence_
 use crate::asn1::text::Text;
 use crate::asn1::time::Time;
 use der::{
-    Decode, DecodeValue, Encode, EncodeValue, Error, FromFields, Header, Length, Reader, Sequence,
-    SliceReader, Writer, decode_sequence, field_refs,
+    Decode, DecodeValue, Encode, EncodeValue, Error, FromFields, Header, IsValue, Length, Reader,
+    Sequence, SliceReader, Writer, decode_sequence, field_refs,
 };
-use der_asn1::{
-    BorrowedItem, DecodeItem, Described, DescribedChoice, GeneralizedTime, Item, Nestable, Null,
-    PrintableStringRef, TeletexStringRef, UtcTime, Utf8StringRef, VisibleStringRef,
-};
+use der_asn1::{BorrowedItem, DecodeItem, Described, DescribedChoice, Item, Nestable};
 use std::alloc::Global;
 
 /// A place on the way, and when the parcel was there.
@@ -59,18 +56,20 @@ impl<'a, R: Reader<Borrowed = &'a [u8]>> DecodeValue<R> for Stop<'a> {
     fn decode_value(alloc: Global, reader: &mut R, header: Header) -> Result<Self, Error> {
         decode_sequence::<R, StopFields<'a>, Self>(alloc, reader, header)
     }
+}
 
+impl<'a> IsValue for Stop<'a> {
     fn is_value(&self) {
         match &self.place {
-            Text::Printable(value) => <PrintableStringRef<'a> as DecodeValue<R>>::is_value(value),
-            Text::Utf8(value) => <Utf8StringRef<'a> as DecodeValue<R>>::is_value(value),
-            Text::Teletex(value) => <TeletexStringRef<'a> as DecodeValue<R>>::is_value(value),
-            Text::Visible(value) => <VisibleStringRef<'a> as DecodeValue<R>>::is_value(value),
+            Text::Printable(value) => value.is_value(),
+            Text::Utf8(value) => value.is_value(),
+            Text::Teletex(value) => value.is_value(),
+            Text::Visible(value) => value.is_value(),
         }
         match &self.time {
-            Time::Utc(value) => <UtcTime as DecodeValue<R>>::is_value(value),
-            Time::General(value) => <GeneralizedTime as DecodeValue<R>>::is_value(value),
-            Time::Unknown(value) => <Null<'a> as DecodeValue<R>>::is_value(value),
+            Time::Utc(value) => value.is_value(),
+            Time::General(value) => value.is_value(),
+            Time::Unknown(value) => value.is_value(),
         }
     }
 }

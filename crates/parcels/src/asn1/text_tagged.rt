@@ -9,13 +9,10 @@ ghost use Rattle.der_asn1.specs.Meaning.{alternative, field, sequence, sequence_
 
 use crate::asn1::text::Text;
 use der::{
-    Decode, DecodeValue, Encode, EncodeValue, Error, FromFields, Header, Length, Reader, Sequence,
-    SliceReader, Writer, decode_sequence, field_refs,
+    Decode, DecodeValue, Encode, EncodeValue, Error, FromFields, Header, IsValue, Length, Reader,
+    Sequence, SliceReader, Writer, decode_sequence, field_refs,
 };
-use der_asn1::{
-    BorrowedItem, DecodeItem, Described, DescribedChoice, Item, Nestable, PrintableStringRef,
-    TeletexStringRef, Utf8StringRef, VisibleStringRef,
-};
+use der_asn1::{BorrowedItem, DecodeItem, Described, DescribedChoice, Item, Nestable};
 use std::alloc::Global;
 
 /// What an explicit tag has in it: a [`Text`].
@@ -55,13 +52,15 @@ impl<'a, R: Reader<Borrowed = &'a [u8]>> DecodeValue<R> for TextTagged<'a> {
     fn decode_value(alloc: Global, reader: &mut R, header: Header) -> Result<Self, Error> {
         decode_sequence::<R, TextTaggedFields<'a>, Self>(alloc, reader, header)
     }
+}
 
+impl<'a> IsValue for TextTagged<'a> {
     fn is_value(&self) {
         match &self.value {
-            Text::Printable(value) => <PrintableStringRef<'a> as DecodeValue<R>>::is_value(value),
-            Text::Utf8(value) => <Utf8StringRef<'a> as DecodeValue<R>>::is_value(value),
-            Text::Teletex(value) => <TeletexStringRef<'a> as DecodeValue<R>>::is_value(value),
-            Text::Visible(value) => <VisibleStringRef<'a> as DecodeValue<R>>::is_value(value),
+            Text::Printable(value) => value.is_value(),
+            Text::Utf8(value) => value.is_value(),
+            Text::Teletex(value) => value.is_value(),
+            Text::Visible(value) => value.is_value(),
         }
     }
 }

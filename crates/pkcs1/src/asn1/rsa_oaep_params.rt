@@ -12,8 +12,8 @@ use crate::asn1::rsa_oaep_params_part1::{RsaOaepParamsPart1, RsaOaepParamsPart1F
 use crate::asn1::rsa_oaep_params_part2::{RsaOaepParamsPart2, RsaOaepParamsPart2Fields};
 use crate::{EmptyLabelDefault, Mgf1Sha1Default, Sha1Default};
 use der::{
-    Decode, DecodeValue, Encode, EncodeValue, Error, FromFields, Header, Length, Reader, Sequence,
-    SliceReader, Writer, decode_sequence, field_refs,
+    Decode, DecodeValue, Encode, EncodeValue, Error, FromFields, Header, IsValue, Length, Reader,
+    Sequence, SliceReader, Writer, decode_sequence, field_refs,
 };
 use der_asn1::{
     BorrowedItem, DecodeItem, DefaultOf, DefaultedTo, Described, Explicit, Item, Nestable,
@@ -84,11 +84,13 @@ impl<'a, R: Reader<Borrowed = &'a [u8]>> DecodeValue<R> for RsaOaepParams<'a> {
             alloc, reader, header,
         )
     }
+}
 
+impl<'a> IsValue for RsaOaepParams<'a> {
     fn is_value(&self) {
-        <Explicit<AlgorithmIdentifierRef<'a>, 0> as DecodeValue<R>>::is_value(&self.hash.0);
-        <Explicit<AlgorithmIdentifierRef<'a>, 1> as DecodeValue<R>>::is_value(&self.mask_gen.0);
-        <Explicit<AlgorithmIdentifierRef<'a>, 2> as DecodeValue<R>>::is_value(&self.p_source.0);
+        self.hash.0.is_value();
+        self.mask_gen.0.is_value();
+        self.p_source.0.is_value();
     }
 }
 

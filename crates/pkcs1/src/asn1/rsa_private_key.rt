@@ -12,8 +12,8 @@ use crate::asn1::rsa_private_key_part1::{RsaPrivateKeyPart1, RsaPrivateKeyPart1F
 use crate::asn1::rsa_private_key_part2::{RsaPrivateKeyPart2, RsaPrivateKeyPart2Fields};
 use crate::asn1::rsa_private_key_part3::{RsaPrivateKeyPart3, RsaPrivateKeyPart3Fields};
 use der::{
-    Decode, DecodeValue, Encode, EncodeValue, Error, FromFields, Header, Length, Reader, Sequence,
-    SliceReader, Writer, decode_sequence, field_refs,
+    Decode, DecodeValue, Encode, EncodeValue, Error, FromFields, Header, IsValue, Length, Reader,
+    Sequence, SliceReader, Writer, decode_sequence, field_refs,
 };
 use der_asn1::{BorrowedItem, DecodeItem, Described, IntRef, Item, Nestable, Optional};
 use std::alloc::Global;
@@ -140,19 +140,21 @@ impl<'a, R: Reader<Borrowed = &'a [u8]>> DecodeValue<R> for RsaPrivateKey<'a> {
             Self,
         >(alloc, reader, header)
     }
+}
 
+impl<'a> IsValue for RsaPrivateKey<'a> {
     fn is_value(&self) {
-        <IntRef<'a> as DecodeValue<R>>::is_value(&self.version);
-        <IntRef<'a> as DecodeValue<R>>::is_value(&self.modulus);
-        <IntRef<'a> as DecodeValue<R>>::is_value(&self.public_exponent);
-        <IntRef<'a> as DecodeValue<R>>::is_value(&self.private_exponent);
-        <IntRef<'a> as DecodeValue<R>>::is_value(&self.prime1);
-        <IntRef<'a> as DecodeValue<R>>::is_value(&self.prime2);
-        <IntRef<'a> as DecodeValue<R>>::is_value(&self.exponent1);
-        <IntRef<'a> as DecodeValue<R>>::is_value(&self.exponent2);
-        <IntRef<'a> as DecodeValue<R>>::is_value(&self.coefficient);
+        self.version.is_value();
+        self.modulus.is_value();
+        self.public_exponent.is_value();
+        self.private_exponent.is_value();
+        self.prime1.is_value();
+        self.prime2.is_value();
+        self.exponent1.is_value();
+        self.exponent2.is_value();
+        self.coefficient.is_value();
         if let Some(value) = &self.other_prime_infos.0 {
-            <OtherPrimeInfos<'a> as DecodeValue<R>>::is_value(value);
+            value.is_value();
         }
     }
 }

@@ -14,8 +14,8 @@ use crate::asn1::rsa_pss_params_part3::{RsaPssParamsPart3, RsaPssParamsPart3Fiel
 use crate::asn1::rsa_pss_params_part4::{RsaPssParamsPart4, RsaPssParamsPart4Fields};
 use crate::{Mgf1Sha1Default, Sha1Default};
 use der::{
-    Decode, DecodeValue, Encode, EncodeValue, Error, FromFields, Header, Length, Reader, Sequence,
-    SliceReader, Writer, decode_sequence, field_refs,
+    Decode, DecodeValue, Encode, EncodeValue, Error, FromFields, Header, IsValue, Length, Reader,
+    Sequence, SliceReader, Writer, decode_sequence, field_refs,
 };
 use der_asn1::{
     BorrowedItem, DecodeItem, DefaultOf, DefaultU64, DefaultValue, Defaulted, DefaultedTo,
@@ -114,16 +114,14 @@ impl<'a, R: Reader<Borrowed = &'a [u8]>> DecodeValue<R> for RsaPssParams<'a> {
             Self,
         >(alloc, reader, header)
     }
+}
 
+impl<'a> IsValue for RsaPssParams<'a> {
     fn is_value(&self) {
-        <Explicit<AlgorithmIdentifierRef<'a>, 0> as DecodeValue<R>>::is_value(&self.hash.0);
-        <Explicit<AlgorithmIdentifierRef<'a>, 1> as DecodeValue<R>>::is_value(&self.mask_gen.0);
-        <Explicit<WithDefault<IntegerOf<u64>, DefaultU64<20>>, 2> as DecodeValue<R>>::is_value(
-            &self.salt_len.0,
-        );
-        <Explicit<WithDefault<IntegerOf<u64>, DefaultU64<1>>, 3> as DecodeValue<R>>::is_value(
-            &self.trailer_field.0,
-        );
+        self.hash.0.is_value();
+        self.mask_gen.0.is_value();
+        self.salt_len.0.is_value();
+        self.trailer_field.0.is_value();
     }
 }
 

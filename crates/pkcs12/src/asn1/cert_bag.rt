@@ -8,8 +8,8 @@ ghost use Rattle.der_asn1.specs.Item.{decodes_same};
 ghost use Rattle.der_asn1.specs.Meaning.{alternative, field, sequence, sequence_is_item, sequence_item, two_fields};
 
 use der::{
-    Decode, DecodeValue, Encode, EncodeValue, Error, FromFields, Header, Length, Reader, Sequence,
-    SliceReader, Writer, decode_sequence, field_refs,
+    Decode, DecodeValue, Encode, EncodeValue, Error, FromFields, Header, IsValue, Length, Reader,
+    Sequence, SliceReader, Writer, decode_sequence, field_refs,
 };
 use der_asn1::{
     BorrowedItem, DecodeItem, Described, ExplicitAny, Item, Nestable, ObjectIdentifierRef,
@@ -57,10 +57,12 @@ impl<'a, R: Reader<Borrowed = &'a [u8]>> DecodeValue<R> for CertBag<'a> {
     fn decode_value(alloc: Global, reader: &mut R, header: Header) -> Result<Self, Error> {
         decode_sequence::<R, CertBagFields<'a>, Self>(alloc, reader, header)
     }
+}
 
+impl<'a> IsValue for CertBag<'a> {
     fn is_value(&self) {
-        <ObjectIdentifierRef<'a> as DecodeValue<R>>::is_value(&self.oid);
-        <ExplicitAny<'a, 0> as DecodeValue<R>>::is_value(&self.value);
+        self.oid.is_value();
+        self.value.is_value();
     }
 }
 

@@ -10,8 +10,8 @@ ghost use Rattle.der_asn1.specs.Meaning.{alternative, defaulted, field, seen, se
 use crate::asn1::mac_data_part1::{MacDataPart1, MacDataPart1Fields};
 use crate::asn1::mac_data_part2::{MacDataPart2, MacDataPart2Fields};
 use der::{
-    Decode, DecodeValue, Encode, EncodeValue, Error, FromFields, Header, Length, Reader, Sequence,
-    SliceReader, Writer, decode_sequence, field_refs,
+    Decode, DecodeValue, Encode, EncodeValue, Error, FromFields, Header, IsValue, Length, Reader,
+    Sequence, SliceReader, Writer, decode_sequence, field_refs,
 };
 use der_asn1::{
     BorrowedItem, DecodeItem, DefaultU64, DefaultValue, Defaulted, Described, IntegerOf, Item,
@@ -77,13 +77,13 @@ impl<'a, R: Reader<Borrowed = &'a [u8]>> DecodeValue<R> for MacData<'a> {
     fn decode_value(alloc: Global, reader: &mut R, header: Header) -> Result<Self, Error> {
         decode_sequence::<R, (MacDataPart1<'a>, MacDataPart2), Self>(alloc, reader, header)
     }
+}
 
+impl<'a> IsValue for MacData<'a> {
     fn is_value(&self) {
-        <DigestInfo<'a> as DecodeValue<R>>::is_value(&self.mac);
-        <OctetStringRef<'a> as DecodeValue<R>>::is_value(&self.mac_salt);
-        <WithDefault<IntegerOf<u64>, DefaultU64<1>> as DecodeValue<R>>::is_value(
-            &self.iterations.0,
-        );
+        self.mac.is_value();
+        self.mac_salt.is_value();
+        self.iterations.0.is_value();
     }
 }
 

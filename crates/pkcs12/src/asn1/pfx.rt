@@ -10,8 +10,8 @@ ghost use Rattle.der_asn1.specs.Meaning.{alternative, field, optional, sequence,
 use crate::asn1::mac_data::MacData;
 use cms::ContentInfo;
 use der::{
-    Decode, DecodeValue, Encode, EncodeValue, Error, FromFields, Header, Length, Reader, Sequence,
-    SliceReader, Writer, decode_sequence, field_refs,
+    Decode, DecodeValue, Encode, EncodeValue, Error, FromFields, Header, IsValue, Length, Reader,
+    Sequence, SliceReader, Writer, decode_sequence, field_refs,
 };
 use der_asn1::{BorrowedItem, DecodeItem, Described, IntRef, Item, Nestable, Optional};
 use std::alloc::Global;
@@ -66,12 +66,14 @@ impl<'a, R: Reader<Borrowed = &'a [u8]>> DecodeValue<R> for Pfx<'a> {
     fn decode_value(alloc: Global, reader: &mut R, header: Header) -> Result<Self, Error> {
         decode_sequence::<R, PfxFields<'a>, Self>(alloc, reader, header)
     }
+}
 
+impl<'a> IsValue for Pfx<'a> {
     fn is_value(&self) {
-        <IntRef<'a> as DecodeValue<R>>::is_value(&self.version);
-        <ContentInfo<'a> as DecodeValue<R>>::is_value(&self.auth_safe);
+        self.version.is_value();
+        self.auth_safe.is_value();
         if let Some(value) = &self.mac_data.0 {
-            <MacData<'a> as DecodeValue<R>>::is_value(value);
+            value.is_value();
         }
     }
 }

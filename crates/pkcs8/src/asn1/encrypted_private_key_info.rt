@@ -8,8 +8,8 @@ ghost use Rattle.der_asn1.specs.Item.{decodes_same};
 ghost use Rattle.der_asn1.specs.Meaning.{alternative, field, sequence, sequence_is_item, sequence_item, two_fields};
 
 use der::{
-    Decode, DecodeValue, Encode, EncodeValue, Error, FromFields, Header, Length, Reader, Sequence,
-    SliceReader, Writer, decode_sequence, field_refs,
+    Decode, DecodeValue, Encode, EncodeValue, Error, FromFields, Header, IsValue, Length, Reader,
+    Sequence, SliceReader, Writer, decode_sequence, field_refs,
 };
 use der_asn1::{BorrowedItem, DecodeItem, Described, Item, Nestable, OctetStringRef};
 use spki::AlgorithmIdentifierRef;
@@ -60,10 +60,12 @@ impl<'a, R: Reader<Borrowed = &'a [u8]>> DecodeValue<R> for EncryptedPrivateKeyI
     fn decode_value(alloc: Global, reader: &mut R, header: Header) -> Result<Self, Error> {
         decode_sequence::<R, EncryptedPrivateKeyInfoFields<'a>, Self>(alloc, reader, header)
     }
+}
 
+impl<'a> IsValue for EncryptedPrivateKeyInfo<'a> {
     fn is_value(&self) {
-        <AlgorithmIdentifierRef<'a> as DecodeValue<R>>::is_value(&self.encryption_algorithm);
-        <OctetStringRef<'a> as DecodeValue<R>>::is_value(&self.encrypted_data);
+        self.encryption_algorithm.is_value();
+        self.encrypted_data.is_value();
     }
 }
 

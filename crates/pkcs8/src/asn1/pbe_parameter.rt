@@ -8,8 +8,8 @@ ghost use Rattle.der_asn1.specs.Item.{decodes_same};
 ghost use Rattle.der_asn1.specs.Meaning.{alternative, field, sequence, sequence_is_item, sequence_item, two_fields};
 
 use der::{
-    Decode, DecodeValue, Encode, EncodeValue, Error, FromFields, Header, Length, Reader, Sequence,
-    SliceReader, Writer, decode_sequence, field_refs,
+    Decode, DecodeValue, Encode, EncodeValue, Error, FromFields, Header, IsValue, Length, Reader,
+    Sequence, SliceReader, Writer, decode_sequence, field_refs,
 };
 use der_asn1::{BorrowedItem, DecodeItem, Described, IntRef, Item, Nestable, OctetStringRef};
 use std::alloc::Global;
@@ -58,10 +58,12 @@ impl<'a, R: Reader<Borrowed = &'a [u8]>> DecodeValue<R> for PbeParameter<'a> {
     fn decode_value(alloc: Global, reader: &mut R, header: Header) -> Result<Self, Error> {
         decode_sequence::<R, PbeParameterFields<'a>, Self>(alloc, reader, header)
     }
+}
 
+impl<'a> IsValue for PbeParameter<'a> {
     fn is_value(&self) {
-        <OctetStringRef<'a> as DecodeValue<R>>::is_value(&self.salt);
-        <IntRef<'a> as DecodeValue<R>>::is_value(&self.iteration_count);
+        self.salt.is_value();
+        self.iteration_count.is_value();
     }
 }
 

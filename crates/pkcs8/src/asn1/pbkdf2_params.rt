@@ -13,12 +13,12 @@ use crate::asn1::pbkdf2_params_part1::{Pbkdf2ParamsPart1, Pbkdf2ParamsPart1Field
 use crate::asn1::pbkdf2_params_part2::{Pbkdf2ParamsPart2, Pbkdf2ParamsPart2Fields};
 use crate::asn1::pbkdf2_salt::Pbkdf2Salt;
 use der::{
-    Decode, DecodeValue, Encode, EncodeValue, Error, FromFields, Header, Length, Reader, Sequence,
-    SliceReader, Writer, decode_sequence, field_refs,
+    Decode, DecodeValue, Encode, EncodeValue, Error, FromFields, Header, IsValue, Length, Reader,
+    Sequence, SliceReader, Writer, decode_sequence, field_refs,
 };
 use der_asn1::{
     BorrowedItem, DecodeItem, DefaultOf, DefaultedTo, Described, DescribedChoice, IntRef, Item,
-    Nestable, OctetStringRef, Optional,
+    Nestable, Optional,
 };
 use spki::AlgorithmIdentifierRef;
 use std::alloc::Global;
@@ -88,19 +88,19 @@ impl<'a, R: Reader<Borrowed = &'a [u8]>> DecodeValue<R> for Pbkdf2Params<'a> {
             alloc, reader, header,
         )
     }
+}
 
+impl<'a> IsValue for Pbkdf2Params<'a> {
     fn is_value(&self) {
         match &self.salt {
-            Pbkdf2Salt::Specified(value) => <OctetStringRef<'a> as DecodeValue<R>>::is_value(value),
-            Pbkdf2Salt::OtherSource(value) => <AlgorithmIdentifierRef<'a> as DecodeValue<
-                R,
-            >>::is_value(value),
+            Pbkdf2Salt::Specified(value) => value.is_value(),
+            Pbkdf2Salt::OtherSource(value) => value.is_value(),
         }
-        <IntRef<'a> as DecodeValue<R>>::is_value(&self.iteration_count);
+        self.iteration_count.is_value();
         if let Some(value) = &self.key_length.0 {
-            <IntRef<'a> as DecodeValue<R>>::is_value(value);
+            value.is_value();
         }
-        <AlgorithmIdentifierRef<'a> as DecodeValue<R>>::is_value(&self.prf.0);
+        self.prf.0.is_value();
     }
 }
 

@@ -12,8 +12,8 @@ use crate::asn1::private_key_info_part1::{PrivateKeyInfoPart1, PrivateKeyInfoPar
 use crate::asn1::private_key_info_part2::{PrivateKeyInfoPart2, PrivateKeyInfoPart2Fields};
 use crate::asn1::version::Version;
 use der::{
-    Decode, DecodeValue, Encode, EncodeValue, Error, FromFields, Header, Length, Reader, Sequence,
-    SliceReader, Writer, decode_sequence, field_refs,
+    Decode, DecodeValue, Encode, EncodeValue, Error, FromFields, Header, IsValue, Length, Reader,
+    Sequence, SliceReader, Writer, decode_sequence, field_refs,
 };
 use der_asn1::{
     BitStringRef, BorrowedItem, DecodeItem, Described, Implicit, Item, NamedInteger, Nestable,
@@ -93,16 +93,18 @@ impl<'a, R: Reader<Borrowed = &'a [u8]>> DecodeValue<R> for PrivateKeyInfo<'a> {
             alloc, reader, header,
         )
     }
+}
 
+impl<'a> IsValue for PrivateKeyInfo<'a> {
     fn is_value(&self) {
-        <NamedInteger<Version> as DecodeValue<R>>::is_value(&self.version);
-        <AlgorithmIdentifierRef<'a> as DecodeValue<R>>::is_value(&self.private_key_algorithm);
-        <OctetStringRef<'a> as DecodeValue<R>>::is_value(&self.private_key);
+        self.version.is_value();
+        self.private_key_algorithm.is_value();
+        self.private_key.is_value();
         if let Some(value) = &self.attributes.0 {
-            <Implicit<PrivateKeyAttributes<'a>, 0> as DecodeValue<R>>::is_value(value);
+            value.is_value();
         }
         if let Some(value) = &self.public_key.0 {
-            <Implicit<BitStringRef<'a>, 1> as DecodeValue<R>>::is_value(value);
+            value.is_value();
         }
     }
 }

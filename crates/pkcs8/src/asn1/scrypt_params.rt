@@ -10,8 +10,8 @@ ghost use Rattle.der_asn1.specs.Meaning.{alternative, field, optional, seen, seq
 use crate::asn1::scrypt_params_part1::{ScryptParamsPart1, ScryptParamsPart1Fields};
 use crate::asn1::scrypt_params_part2::{ScryptParamsPart2, ScryptParamsPart2Fields};
 use der::{
-    Decode, DecodeValue, Encode, EncodeValue, Error, FromFields, Header, Length, Reader, Sequence,
-    SliceReader, Writer, decode_sequence, field_refs,
+    Decode, DecodeValue, Encode, EncodeValue, Error, FromFields, Header, IsValue, Length, Reader,
+    Sequence, SliceReader, Writer, decode_sequence, field_refs,
 };
 use der_asn1::{
     BorrowedItem, DecodeItem, Described, IntRef, Item, Nestable, OctetStringRef, Optional,
@@ -90,14 +90,16 @@ impl<'a, R: Reader<Borrowed = &'a [u8]>> DecodeValue<R> for ScryptParams<'a> {
             alloc, reader, header,
         )
     }
+}
 
+impl<'a> IsValue for ScryptParams<'a> {
     fn is_value(&self) {
-        <OctetStringRef<'a> as DecodeValue<R>>::is_value(&self.salt);
-        <IntRef<'a> as DecodeValue<R>>::is_value(&self.cost_parameter);
-        <IntRef<'a> as DecodeValue<R>>::is_value(&self.block_size);
-        <IntRef<'a> as DecodeValue<R>>::is_value(&self.parallelization);
+        self.salt.is_value();
+        self.cost_parameter.is_value();
+        self.block_size.is_value();
+        self.parallelization.is_value();
         if let Some(value) = &self.key_length.0 {
-            <IntRef<'a> as DecodeValue<R>>::is_value(value);
+            value.is_value();
         }
     }
 }

@@ -9,8 +9,8 @@ ghost use Rattle.der_asn1.specs.Meaning.{alternative, field, optional, sequence,
 
 use crate::asn1::field_element::FieldElement;
 use der::{
-    Decode, DecodeValue, Encode, EncodeValue, Error, FromFields, Header, Length, Reader, Sequence,
-    SliceReader, Writer, decode_sequence, field_refs,
+    Decode, DecodeValue, Encode, EncodeValue, Error, FromFields, Header, IsValue, Length, Reader,
+    Sequence, SliceReader, Writer, decode_sequence, field_refs,
 };
 use der_asn1::{BitStringRef, BorrowedItem, DecodeItem, Described, Item, Nestable, Optional};
 use std::alloc::Global;
@@ -62,12 +62,14 @@ impl<'a, R: Reader<Borrowed = &'a [u8]>> DecodeValue<R> for Curve<'a> {
     fn decode_value(alloc: Global, reader: &mut R, header: Header) -> Result<Self, Error> {
         decode_sequence::<R, CurveFields<'a>, Self>(alloc, reader, header)
     }
+}
 
+impl<'a> IsValue for Curve<'a> {
     fn is_value(&self) {
-        <FieldElement<'a> as DecodeValue<R>>::is_value(&self.a);
-        <FieldElement<'a> as DecodeValue<R>>::is_value(&self.b);
+        self.a.is_value();
+        self.b.is_value();
         if let Some(value) = &self.seed.0 {
-            <BitStringRef<'a> as DecodeValue<R>>::is_value(value);
+            value.is_value();
         }
     }
 }

@@ -8,8 +8,8 @@ ghost use Rattle.der_asn1.specs.Item.{decodes_same};
 ghost use Rattle.der_asn1.specs.Meaning.{alternative, field, sequence, sequence_is_item, sequence_item, two_fields};
 
 use der::{
-    Decode, DecodeValue, Encode, EncodeValue, Error, FromFields, Header, Length, Reader, Sequence,
-    SliceReader, Writer, decode_sequence, field_refs,
+    Decode, DecodeValue, Encode, EncodeValue, Error, FromFields, Header, IsValue, Length, Reader,
+    Sequence, SliceReader, Writer, decode_sequence, field_refs,
 };
 use der_asn1::{BorrowedItem, DecodeItem, Described, IntRef, Item, Nestable};
 use std::alloc::Global;
@@ -57,11 +57,13 @@ impl<'a, R: Reader<Borrowed = &'a [u8]>> DecodeValue<R> for DssParms<'a> {
     fn decode_value(alloc: Global, reader: &mut R, header: Header) -> Result<Self, Error> {
         decode_sequence::<R, DssParmsFields<'a>, Self>(alloc, reader, header)
     }
+}
 
+impl<'a> IsValue for DssParms<'a> {
     fn is_value(&self) {
-        <IntRef<'a> as DecodeValue<R>>::is_value(&self.p);
-        <IntRef<'a> as DecodeValue<R>>::is_value(&self.q);
-        <IntRef<'a> as DecodeValue<R>>::is_value(&self.g);
+        self.p.is_value();
+        self.q.is_value();
+        self.g.is_value();
     }
 }
 

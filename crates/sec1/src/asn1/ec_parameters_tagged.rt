@@ -8,14 +8,11 @@ ghost use Rattle.der_asn1.specs.Item.{decodes_same};
 ghost use Rattle.der_asn1.specs.Meaning.{alternative, field, sequence, sequence_is_item, sequence_item};
 
 use crate::asn1::ec_parameters::EcParameters;
-use crate::asn1::specified_ec_domain::SpecifiedEcDomain;
 use der::{
-    Decode, DecodeValue, Encode, EncodeValue, Error, FromFields, Header, Length, Reader, Sequence,
-    SliceReader, Writer, decode_sequence, field_refs,
+    Decode, DecodeValue, Encode, EncodeValue, Error, FromFields, Header, IsValue, Length, Reader,
+    Sequence, SliceReader, Writer, decode_sequence, field_refs,
 };
-use der_asn1::{
-    BorrowedItem, DecodeItem, Described, DescribedChoice, Item, Nestable, Null, ObjectIdentifierRef,
-};
+use der_asn1::{BorrowedItem, DecodeItem, Described, DescribedChoice, Item, Nestable};
 use std::alloc::Global;
 
 /// What an explicit tag has in it: a [`EcParameters`].
@@ -55,16 +52,14 @@ impl<'a, R: Reader<Borrowed = &'a [u8]>> DecodeValue<R> for EcParametersTagged<'
     fn decode_value(alloc: Global, reader: &mut R, header: Header) -> Result<Self, Error> {
         decode_sequence::<R, EcParametersTaggedFields<'a>, Self>(alloc, reader, header)
     }
+}
 
+impl<'a> IsValue for EcParametersTagged<'a> {
     fn is_value(&self) {
         match &self.value {
-            EcParameters::NamedCurve(value) => <ObjectIdentifierRef<'a> as DecodeValue<
-                R,
-            >>::is_value(value),
-            EcParameters::ImplicitCurve(value) => <Null<'a> as DecodeValue<R>>::is_value(value),
-            EcParameters::SpecifiedCurve(value) => <SpecifiedEcDomain<'a> as DecodeValue<
-                R,
-            >>::is_value(value),
+            EcParameters::NamedCurve(value) => value.is_value(),
+            EcParameters::ImplicitCurve(value) => value.is_value(),
+            EcParameters::SpecifiedCurve(value) => value.is_value(),
         }
     }
 }

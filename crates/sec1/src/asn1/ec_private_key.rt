@@ -11,8 +11,8 @@ use crate::asn1::ec_parameters_tagged::EcParametersTagged;
 use crate::asn1::ec_private_key_part1::{EcPrivateKeyPart1, EcPrivateKeyPart1Fields};
 use crate::asn1::ec_private_key_part2::{EcPrivateKeyPart2, EcPrivateKeyPart2Fields};
 use der::{
-    Decode, DecodeValue, Encode, EncodeValue, Error, FromFields, Header, Length, Reader, Sequence,
-    SliceReader, Writer, decode_sequence, field_refs,
+    Decode, DecodeValue, Encode, EncodeValue, Error, FromFields, Header, IsValue, Length, Reader,
+    Sequence, SliceReader, Writer, decode_sequence, field_refs,
 };
 use der_asn1::{
     BitStringRef, BorrowedItem, DecodeItem, Described, Explicit, Implicit, IntRef, Item, Nestable,
@@ -83,15 +83,17 @@ impl<'a, R: Reader<Borrowed = &'a [u8]>> DecodeValue<R> for EcPrivateKey<'a> {
             alloc, reader, header,
         )
     }
+}
 
+impl<'a> IsValue for EcPrivateKey<'a> {
     fn is_value(&self) {
-        <IntRef<'a> as DecodeValue<R>>::is_value(&self.version);
-        <OctetStringRef<'a> as DecodeValue<R>>::is_value(&self.private_key);
+        self.version.is_value();
+        self.private_key.is_value();
         if let Some(value) = &self.parameters.0 {
-            <Implicit<EcParametersTagged<'a>, 0> as DecodeValue<R>>::is_value(value);
+            value.is_value();
         }
         if let Some(value) = &self.public_key.0 {
-            <Explicit<BitStringRef<'a>, 1> as DecodeValue<R>>::is_value(value);
+            value.is_value();
         }
     }
 }

@@ -17,8 +17,8 @@ use crate::asn1::specified_ec_domain_part2::{
     SpecifiedEcDomainPart2, SpecifiedEcDomainPart2Fields,
 };
 use der::{
-    Decode, DecodeValue, Encode, EncodeValue, Error, FromFields, Header, Length, Reader, Sequence,
-    SliceReader, Writer, decode_sequence, field_refs,
+    Decode, DecodeValue, Encode, EncodeValue, Error, FromFields, Header, IsValue, Length, Reader,
+    Sequence, SliceReader, Writer, decode_sequence, field_refs,
 };
 use der_asn1::{BorrowedItem, DecodeItem, Described, IntRef, Item, Nestable, Optional};
 use spki::AlgorithmIdentifierRef;
@@ -106,18 +106,20 @@ impl<'a, R: Reader<Borrowed = &'a [u8]>> DecodeValue<R> for SpecifiedEcDomain<'a
             alloc, reader, header,
         )
     }
+}
 
+impl<'a> IsValue for SpecifiedEcDomain<'a> {
     fn is_value(&self) {
-        <IntRef<'a> as DecodeValue<R>>::is_value(&self.version);
-        <FieldId<'a> as DecodeValue<R>>::is_value(&self.field_id);
-        <Curve<'a> as DecodeValue<R>>::is_value(&self.curve);
-        <EcPoint<'a> as DecodeValue<R>>::is_value(&self.base);
-        <IntRef<'a> as DecodeValue<R>>::is_value(&self.order);
+        self.version.is_value();
+        self.field_id.is_value();
+        self.curve.is_value();
+        self.base.is_value();
+        self.order.is_value();
         if let Some(value) = &self.cofactor.0 {
-            <IntRef<'a> as DecodeValue<R>>::is_value(value);
+            value.is_value();
         }
         if let Some(value) = &self.hash.0 {
-            <AlgorithmIdentifierRef<'a> as DecodeValue<R>>::is_value(value);
+            value.is_value();
         }
     }
 }

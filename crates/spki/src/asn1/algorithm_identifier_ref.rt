@@ -8,8 +8,8 @@ ghost use Rattle.der_asn1.specs.Item.{decodes_same};
 ghost use Rattle.der_asn1.specs.Meaning.{alternative, any_element, field, optional, sequence, sequence_is_item, sequence_item, two_fields};
 
 use der::{
-    Decode, DecodeValue, Encode, EncodeValue, Error, FromFields, Header, Length, Reader, Sequence,
-    SliceReader, Writer, decode_sequence, field_refs,
+    Decode, DecodeValue, Encode, EncodeValue, Error, FromFields, Header, IsValue, Length, Reader,
+    Sequence, SliceReader, Writer, decode_sequence, field_refs,
 };
 use der_asn1::{
     AnyRef, BorrowedItem, DecodeItem, Described, Item, Nestable, ObjectIdentifierRef, Optional,
@@ -56,11 +56,13 @@ impl<'a, R: Reader<Borrowed = &'a [u8]>> DecodeValue<R> for AlgorithmIdentifierR
     fn decode_value(alloc: Global, reader: &mut R, header: Header) -> Result<Self, Error> {
         decode_sequence::<R, AlgorithmIdentifierRefFields<'a>, Self>(alloc, reader, header)
     }
+}
 
+impl<'a> IsValue for AlgorithmIdentifierRef<'a> {
     fn is_value(&self) {
-        <ObjectIdentifierRef<'a> as DecodeValue<R>>::is_value(&self.oid);
+        self.oid.is_value();
         if let Some(value) = &self.parameters.0 {
-            <AnyRef<'a> as DecodeValue<R>>::is_value(value);
+            value.is_value();
         }
     }
 }

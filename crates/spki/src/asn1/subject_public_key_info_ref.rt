@@ -9,8 +9,8 @@ ghost use Rattle.der_asn1.specs.Meaning.{alternative, field, sequence, sequence_
 
 use crate::asn1::algorithm_identifier_ref::AlgorithmIdentifierRef;
 use der::{
-    Decode, DecodeValue, Encode, EncodeValue, Error, FromFields, Header, Length, Reader, Sequence,
-    SliceReader, Writer, decode_sequence, field_refs,
+    Decode, DecodeValue, Encode, EncodeValue, Error, FromFields, Header, IsValue, Length, Reader,
+    Sequence, SliceReader, Writer, decode_sequence, field_refs,
 };
 use der_asn1::{BitStringRef, BorrowedItem, DecodeItem, Described, Item, Nestable};
 use std::alloc::Global;
@@ -59,10 +59,12 @@ impl<'a, R: Reader<Borrowed = &'a [u8]>> DecodeValue<R> for SubjectPublicKeyInfo
     fn decode_value(alloc: Global, reader: &mut R, header: Header) -> Result<Self, Error> {
         decode_sequence::<R, SubjectPublicKeyInfoRefFields<'a>, Self>(alloc, reader, header)
     }
+}
 
+impl<'a> IsValue for SubjectPublicKeyInfoRef<'a> {
     fn is_value(&self) {
-        <AlgorithmIdentifierRef<'a> as DecodeValue<R>>::is_value(&self.algorithm);
-        <BitStringRef<'a> as DecodeValue<R>>::is_value(&self.subject_public_key);
+        self.algorithm.is_value();
+        self.subject_public_key.is_value();
     }
 }
 

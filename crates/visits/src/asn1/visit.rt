@@ -10,8 +10,8 @@ ghost use Rattle.der_asn1.specs.Meaning.{alternative, field, seen, sequence, seq
 use crate::asn1::visit_part1::{VisitPart1, VisitPart1Fields};
 use crate::asn1::visit_part2::{VisitPart2, VisitPart2Fields};
 use der::{
-    Decode, DecodeValue, Encode, EncodeValue, Error, FromFields, Header, Length, Reader, Sequence,
-    SliceReader, Writer, decode_sequence, field_refs,
+    Decode, DecodeValue, Encode, EncodeValue, Error, FromFields, Header, IsValue, Length, Reader,
+    Sequence, SliceReader, Writer, decode_sequence, field_refs,
 };
 use der_asn1::{
     BooleanRef, BorrowedItem, DecodeItem, Described, GeneralizedTime, IntRef, Item, Nestable,
@@ -84,13 +84,15 @@ impl<'a, R: Reader<Borrowed = &'a [u8]>> DecodeValue<R> for Visit<'a> {
     fn decode_value(alloc: Global, reader: &mut R, header: Header) -> Result<Self, Error> {
         decode_sequence::<R, (VisitPart1<'a>, VisitPart2<'a>), Self>(alloc, reader, header)
     }
+}
 
+impl<'a> IsValue for Visit<'a> {
     fn is_value(&self) {
-        <IntRef<'a> as DecodeValue<R>>::is_value(&self.ticket);
-        <Utf8StringRef<'a> as DecodeValue<R>>::is_value(&self.visitor);
-        <GeneralizedTime as DecodeValue<R>>::is_value(&self.arrival);
-        <SequenceOf<'a, Utf8StringRef<'a>> as DecodeValue<R>>::is_value(&self.rooms);
-        <BooleanRef<'a> as DecodeValue<R>>::is_value(&self.member);
+        self.ticket.is_value();
+        self.visitor.is_value();
+        self.arrival.is_value();
+        self.rooms.is_value();
+        self.member.is_value();
     }
 }
 

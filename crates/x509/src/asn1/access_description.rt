@@ -9,15 +9,13 @@ ghost use Rattle.der_asn1.specs.Meaning.{alternative, field, sequence, sequence_
 
 use crate::asn1::edi_party_name::EdiPartyName;
 use crate::asn1::general_name::GeneralName;
-use crate::asn1::name::Name;
 use crate::asn1::other_name::OtherName;
 use der::{
-    Decode, DecodeValue, Encode, EncodeValue, Error, FromFields, Header, Length, Reader, Sequence,
-    SliceReader, Writer, decode_sequence, field_refs,
+    Decode, DecodeValue, Encode, EncodeValue, Error, FromFields, Header, IsValue, Length, Reader,
+    Sequence, SliceReader, Writer, decode_sequence, field_refs,
 };
 use der_asn1::{
-    BorrowedItem, DecodeItem, Described, DescribedChoice, Explicit, Ia5StringRef, Implicit, Item,
-    Nestable, ObjectIdentifierRef, OctetStringRef, SequenceRef,
+    BorrowedItem, DecodeItem, Described, DescribedChoice, Item, Nestable, ObjectIdentifierRef,
 };
 use std::alloc::Global;
 
@@ -65,39 +63,21 @@ impl<'a, R: Reader<Borrowed = &'a [u8]>> DecodeValue<R> for AccessDescription<'a
     fn decode_value(alloc: Global, reader: &mut R, header: Header) -> Result<Self, Error> {
         decode_sequence::<R, AccessDescriptionFields<'a>, Self>(alloc, reader, header)
     }
+}
 
+impl<'a> IsValue for AccessDescription<'a> {
     fn is_value(&self) {
-        <ObjectIdentifierRef<'a> as DecodeValue<R>>::is_value(&self.access_method);
+        self.access_method.is_value();
         match &self.access_location {
-            GeneralName::OtherName(value) => <Implicit<OtherName<'a>, 0> as DecodeValue<
-                R,
-            >>::is_value(value),
-            GeneralName::Rfc822Name(value) => <Implicit<Ia5StringRef<'a>, 1> as DecodeValue<
-                R,
-            >>::is_value(value),
-            GeneralName::DnsName(value) => <Implicit<Ia5StringRef<'a>, 2> as DecodeValue<
-                R,
-            >>::is_value(value),
-            GeneralName::X400Address(value) => <Implicit<SequenceRef<'a>, 3> as DecodeValue<
-                R,
-            >>::is_value(value),
-            GeneralName::DirectoryName(value) => <Explicit<Name<'a>, 4> as DecodeValue<
-                R,
-            >>::is_value(value),
-            GeneralName::EdiPartyName(value) => <Implicit<EdiPartyName<'a>, 5> as DecodeValue<
-                R,
-            >>::is_value(value),
-            GeneralName::UniformResourceIdentifier(value) => <Implicit<
-                Ia5StringRef<'a>,
-                6,
-            > as DecodeValue<R>>::is_value(value),
-            GeneralName::IpAddress(value) => <Implicit<OctetStringRef<'a>, 7> as DecodeValue<
-                R,
-            >>::is_value(value),
-            GeneralName::RegisteredId(value) => <Implicit<
-                ObjectIdentifierRef<'a>,
-                8,
-            > as DecodeValue<R>>::is_value(value),
+            GeneralName::OtherName(value) => value.is_value(),
+            GeneralName::Rfc822Name(value) => value.is_value(),
+            GeneralName::DnsName(value) => value.is_value(),
+            GeneralName::X400Address(value) => value.is_value(),
+            GeneralName::DirectoryName(value) => value.is_value(),
+            GeneralName::EdiPartyName(value) => value.is_value(),
+            GeneralName::UniformResourceIdentifier(value) => value.is_value(),
+            GeneralName::IpAddress(value) => value.is_value(),
+            GeneralName::RegisteredId(value) => value.is_value(),
         }
     }
 }

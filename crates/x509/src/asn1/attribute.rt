@@ -9,8 +9,8 @@ ghost use Rattle.der_asn1.specs.Meaning.{alternative, field, sequence, sequence_
 
 use crate::asn1::attribute_values::AttributeValues;
 use der::{
-    Decode, DecodeValue, Encode, EncodeValue, Error, FromFields, Header, Length, Reader, Sequence,
-    SliceReader, Writer, decode_sequence, field_refs,
+    Decode, DecodeValue, Encode, EncodeValue, Error, FromFields, Header, IsValue, Length, Reader,
+    Sequence, SliceReader, Writer, decode_sequence, field_refs,
 };
 use der_asn1::{BorrowedItem, DecodeItem, Described, Item, Nestable, ObjectIdentifierRef};
 use std::alloc::Global;
@@ -56,10 +56,12 @@ impl<'a, R: Reader<Borrowed = &'a [u8]>> DecodeValue<R> for Attribute<'a> {
     fn decode_value(alloc: Global, reader: &mut R, header: Header) -> Result<Self, Error> {
         decode_sequence::<R, AttributeFields<'a>, Self>(alloc, reader, header)
     }
+}
 
+impl<'a> IsValue for Attribute<'a> {
     fn is_value(&self) {
-        <ObjectIdentifierRef<'a> as DecodeValue<R>>::is_value(&self.oid);
-        <AttributeValues<'a> as DecodeValue<R>>::is_value(&self.values);
+        self.oid.is_value();
+        self.values.is_value();
     }
 }
 

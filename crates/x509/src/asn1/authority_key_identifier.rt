@@ -11,8 +11,8 @@ use crate::asn1::certificate_serial_number::CertificateSerialNumber;
 use crate::asn1::general_names::GeneralNames;
 use crate::asn1::key_identifier::KeyIdentifier;
 use der::{
-    Decode, DecodeValue, Encode, EncodeValue, Error, FromFields, Header, Length, Reader, Sequence,
-    SliceReader, Writer, decode_sequence, field_refs,
+    Decode, DecodeValue, Encode, EncodeValue, Error, FromFields, Header, IsValue, Length, Reader,
+    Sequence, SliceReader, Writer, decode_sequence, field_refs,
 };
 use der_asn1::{BorrowedItem, DecodeItem, Described, Implicit, Item, Nestable, Optional};
 use std::alloc::Global;
@@ -73,16 +73,18 @@ impl<'a, R: Reader<Borrowed = &'a [u8]>> DecodeValue<R> for AuthorityKeyIdentifi
     fn decode_value(alloc: Global, reader: &mut R, header: Header) -> Result<Self, Error> {
         decode_sequence::<R, AuthorityKeyIdentifierFields<'a>, Self>(alloc, reader, header)
     }
+}
 
+impl<'a> IsValue for AuthorityKeyIdentifier<'a> {
     fn is_value(&self) {
         if let Some(value) = &self.key_identifier.0 {
-            <Implicit<KeyIdentifier<'a>, 0> as DecodeValue<R>>::is_value(value);
+            value.is_value();
         }
         if let Some(value) = &self.authority_cert_issuer.0 {
-            <Implicit<GeneralNames<'a>, 1> as DecodeValue<R>>::is_value(value);
+            value.is_value();
         }
         if let Some(value) = &self.authority_cert_serial_number.0 {
-            <Implicit<CertificateSerialNumber<'a>, 2> as DecodeValue<R>>::is_value(value);
+            value.is_value();
         }
     }
 }

@@ -8,8 +8,8 @@ ghost use Rattle.der_asn1.specs.Item.{decodes_same};
 ghost use Rattle.der_asn1.specs.Meaning.{alternative, defaulted, optional, sequence, sequence_is_item, sequence_item, two_fields};
 
 use der::{
-    Decode, DecodeValue, Encode, EncodeValue, Error, FromFields, Header, Length, Reader, Sequence,
-    SliceReader, Writer, decode_sequence, field_refs,
+    Decode, DecodeValue, Encode, EncodeValue, Error, FromFields, Header, IsValue, Length, Reader,
+    Sequence, SliceReader, Writer, decode_sequence, field_refs,
 };
 use der_asn1::{
     BooleanRef, BorrowedItem, DecodeItem, DefaultValue, Defaulted, Described, IntRef, Item,
@@ -63,11 +63,13 @@ impl<'a, R: Reader<Borrowed = &'a [u8]>> DecodeValue<R> for BasicConstraints<'a>
     fn decode_value(alloc: Global, reader: &mut R, header: Header) -> Result<Self, Error> {
         decode_sequence::<R, BasicConstraintsFields<'a>, Self>(alloc, reader, header)
     }
+}
 
+impl<'a> IsValue for BasicConstraints<'a> {
     fn is_value(&self) {
-        <BooleanRef<'a> as DecodeValue<R>>::is_value(&self.ca.0);
+        self.ca.0.is_value();
         if let Some(value) = &self.path_len_constraint.0 {
-            <IntRef<'a> as DecodeValue<R>>::is_value(value);
+            value.is_value();
         }
     }
 }

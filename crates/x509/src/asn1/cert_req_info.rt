@@ -11,8 +11,8 @@ use crate::asn1::attributes::Attributes;
 use crate::asn1::cert_req_version::CertReqVersion;
 use crate::asn1::name::Name;
 use der::{
-    Decode, DecodeValue, Encode, EncodeValue, Error, FromFields, Header, Length, Reader, Sequence,
-    SliceReader, Writer, decode_sequence, field_refs,
+    Decode, DecodeValue, Encode, EncodeValue, Error, FromFields, Header, IsValue, Length, Reader,
+    Sequence, SliceReader, Writer, decode_sequence, field_refs,
 };
 use der_asn1::{BorrowedItem, DecodeItem, Described, Implicit, Item, NamedInteger, Nestable};
 use spki::SubjectPublicKeyInfoRef;
@@ -75,12 +75,14 @@ impl<'a, R: Reader<Borrowed = &'a [u8]>> DecodeValue<R> for CertReqInfo<'a> {
     fn decode_value(alloc: Global, reader: &mut R, header: Header) -> Result<Self, Error> {
         decode_sequence::<R, CertReqInfoFields<'a>, Self>(alloc, reader, header)
     }
+}
 
+impl<'a> IsValue for CertReqInfo<'a> {
     fn is_value(&self) {
-        <NamedInteger<CertReqVersion> as DecodeValue<R>>::is_value(&self.version);
-        <Name<'a> as DecodeValue<R>>::is_value(&self.subject);
-        <SubjectPublicKeyInfoRef<'a> as DecodeValue<R>>::is_value(&self.public_key);
-        <Implicit<Attributes<'a>, 0> as DecodeValue<R>>::is_value(&self.attributes);
+        self.version.is_value();
+        self.subject.is_value();
+        self.public_key.is_value();
+        self.attributes.is_value();
     }
 }
 

@@ -9,8 +9,8 @@ ghost use Rattle.der_asn1.specs.Meaning.{alternative, field, sequence, sequence_
 
 use crate::asn1::tbs_cert_list::TbsCertList;
 use der::{
-    Decode, DecodeValue, Encode, EncodeValue, Error, FromFields, Header, Length, Reader, Sequence,
-    SliceReader, Writer, decode_sequence, field_refs,
+    Decode, DecodeValue, Encode, EncodeValue, Error, FromFields, Header, IsValue, Length, Reader,
+    Sequence, SliceReader, Writer, decode_sequence, field_refs,
 };
 use der_asn1::{BitStringRef, BorrowedItem, DecodeItem, Described, Item, Nestable};
 use spki::AlgorithmIdentifierRef;
@@ -67,11 +67,13 @@ impl<'a, R: Reader<Borrowed = &'a [u8]>> DecodeValue<R> for CertificateList<'a> 
     fn decode_value(alloc: Global, reader: &mut R, header: Header) -> Result<Self, Error> {
         decode_sequence::<R, CertificateListFields<'a>, Self>(alloc, reader, header)
     }
+}
 
+impl<'a> IsValue for CertificateList<'a> {
     fn is_value(&self) {
-        <TbsCertList<'a> as DecodeValue<R>>::is_value(&self.tbs_cert_list);
-        <AlgorithmIdentifierRef<'a> as DecodeValue<R>>::is_value(&self.signature_algorithm);
-        <BitStringRef<'a> as DecodeValue<R>>::is_value(&self.signature);
+        self.tbs_cert_list.is_value();
+        self.signature_algorithm.is_value();
+        self.signature.is_value();
     }
 }
 

@@ -9,13 +9,10 @@ ghost use Rattle.der_asn1.specs.Meaning.{alternative, field, sequence, sequence_
 
 use crate::asn1::directory_string::DirectoryString;
 use der::{
-    Decode, DecodeValue, Encode, EncodeValue, Error, FromFields, Header, Length, Reader, Sequence,
-    SliceReader, Writer, decode_sequence, field_refs,
+    Decode, DecodeValue, Encode, EncodeValue, Error, FromFields, Header, IsValue, Length, Reader,
+    Sequence, SliceReader, Writer, decode_sequence, field_refs,
 };
-use der_asn1::{
-    BmpStringRef, BorrowedItem, DecodeItem, Described, DescribedChoice, Item, Nestable,
-    PrintableStringRef, TeletexStringRef, Utf8StringRef,
-};
+use der_asn1::{BorrowedItem, DecodeItem, Described, DescribedChoice, Item, Nestable};
 use std::alloc::Global;
 
 /// What an explicit tag has in it: a [`DirectoryString`].
@@ -55,21 +52,15 @@ impl<'a, R: Reader<Borrowed = &'a [u8]>> DecodeValue<R> for DirectoryStringTagge
     fn decode_value(alloc: Global, reader: &mut R, header: Header) -> Result<Self, Error> {
         decode_sequence::<R, DirectoryStringTaggedFields<'a>, Self>(alloc, reader, header)
     }
+}
 
+impl<'a> IsValue for DirectoryStringTagged<'a> {
     fn is_value(&self) {
         match &self.value {
-            DirectoryString::TeletexString(value) => <TeletexStringRef<'a> as DecodeValue<
-                R,
-            >>::is_value(value),
-            DirectoryString::PrintableString(value) => <PrintableStringRef<'a> as DecodeValue<
-                R,
-            >>::is_value(value),
-            DirectoryString::Utf8String(value) => <Utf8StringRef<'a> as DecodeValue<R>>::is_value(
-                value,
-            ),
-            DirectoryString::BmpString(value) => <BmpStringRef<'a> as DecodeValue<R>>::is_value(
-                value,
-            ),
+            DirectoryString::TeletexString(value) => value.is_value(),
+            DirectoryString::PrintableString(value) => value.is_value(),
+            DirectoryString::Utf8String(value) => value.is_value(),
+            DirectoryString::BmpString(value) => value.is_value(),
         }
     }
 }

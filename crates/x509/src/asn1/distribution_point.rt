@@ -13,8 +13,8 @@ use crate::asn1::distribution_point_part2::{DistributionPointPart2, Distribution
 use crate::asn1::general_names::GeneralNames;
 use crate::asn1::reason_flags::ReasonFlags;
 use der::{
-    Decode, DecodeValue, Encode, EncodeValue, Error, FromFields, Header, Length, Reader, Sequence,
-    SliceReader, Writer, decode_sequence, field_refs,
+    Decode, DecodeValue, Encode, EncodeValue, Error, FromFields, Header, IsValue, Length, Reader,
+    Sequence, SliceReader, Writer, decode_sequence, field_refs,
 };
 use der_asn1::{BorrowedItem, DecodeItem, Described, Implicit, Item, Nestable, Optional};
 use std::alloc::Global;
@@ -83,16 +83,18 @@ impl<'a, R: Reader<Borrowed = &'a [u8]>> DecodeValue<R> for DistributionPoint<'a
             alloc, reader, header,
         )
     }
+}
 
+impl<'a> IsValue for DistributionPoint<'a> {
     fn is_value(&self) {
         if let Some(value) = &self.distribution_point.0 {
-            <Implicit<DistributionPointNameTagged<'a>, 0> as DecodeValue<R>>::is_value(value);
+            value.is_value();
         }
         if let Some(value) = &self.reasons.0 {
-            <Implicit<ReasonFlags<'a>, 1> as DecodeValue<R>>::is_value(value);
+            value.is_value();
         }
         if let Some(value) = &self.crl_issuer.0 {
-            <Implicit<GeneralNames<'a>, 2> as DecodeValue<R>>::is_value(value);
+            value.is_value();
         }
     }
 }

@@ -8,13 +8,11 @@ ghost use Rattle.der_asn1.specs.Item.{decodes_same};
 ghost use Rattle.der_asn1.specs.Meaning.{alternative, field, sequence, sequence_is_item, sequence_item};
 
 use crate::asn1::distribution_point_name::DistributionPointName;
-use crate::asn1::general_names::GeneralNames;
-use crate::asn1::relative_distinguished_name::RelativeDistinguishedName;
 use der::{
-    Decode, DecodeValue, Encode, EncodeValue, Error, FromFields, Header, Length, Reader, Sequence,
-    SliceReader, Writer, decode_sequence, field_refs,
+    Decode, DecodeValue, Encode, EncodeValue, Error, FromFields, Header, IsValue, Length, Reader,
+    Sequence, SliceReader, Writer, decode_sequence, field_refs,
 };
-use der_asn1::{BorrowedItem, DecodeItem, Described, DescribedChoice, Implicit, Item, Nestable};
+use der_asn1::{BorrowedItem, DecodeItem, Described, DescribedChoice, Item, Nestable};
 use std::alloc::Global;
 
 /// What an explicit tag has in it: a [`DistributionPointName`].
@@ -54,16 +52,13 @@ impl<'a, R: Reader<Borrowed = &'a [u8]>> DecodeValue<R> for DistributionPointNam
     fn decode_value(alloc: Global, reader: &mut R, header: Header) -> Result<Self, Error> {
         decode_sequence::<R, DistributionPointNameTaggedFields<'a>, Self>(alloc, reader, header)
     }
+}
 
+impl<'a> IsValue for DistributionPointNameTagged<'a> {
     fn is_value(&self) {
         match &self.value {
-            DistributionPointName::FullName(value) => <Implicit<GeneralNames<'a>, 0> as DecodeValue<
-                R,
-            >>::is_value(value),
-            DistributionPointName::NameRelativeToCrlIssuer(value) => <Implicit<
-                RelativeDistinguishedName<'a>,
-                1,
-            > as DecodeValue<R>>::is_value(value),
+            DistributionPointName::FullName(value) => value.is_value(),
+            DistributionPointName::NameRelativeToCrlIssuer(value) => value.is_value(),
         }
     }
 }

@@ -9,8 +9,8 @@ ghost use Rattle.der_asn1.specs.Meaning.{alternative, field, optional, sequence,
 
 use crate::asn1::directory_string_tagged::DirectoryStringTagged;
 use der::{
-    Decode, DecodeValue, Encode, EncodeValue, Error, FromFields, Header, Length, Reader, Sequence,
-    SliceReader, Writer, decode_sequence, field_refs,
+    Decode, DecodeValue, Encode, EncodeValue, Error, FromFields, Header, IsValue, Length, Reader,
+    Sequence, SliceReader, Writer, decode_sequence, field_refs,
 };
 use der_asn1::{BorrowedItem, DecodeItem, Described, Implicit, Item, Nestable, Optional};
 use std::alloc::Global;
@@ -63,12 +63,14 @@ impl<'a, R: Reader<Borrowed = &'a [u8]>> DecodeValue<R> for EdiPartyName<'a> {
     fn decode_value(alloc: Global, reader: &mut R, header: Header) -> Result<Self, Error> {
         decode_sequence::<R, EdiPartyNameFields<'a>, Self>(alloc, reader, header)
     }
+}
 
+impl<'a> IsValue for EdiPartyName<'a> {
     fn is_value(&self) {
         if let Some(value) = &self.name_assigner.0 {
-            <Implicit<DirectoryStringTagged<'a>, 0> as DecodeValue<R>>::is_value(value);
+            value.is_value();
         }
-        <Implicit<DirectoryStringTagged<'a>, 1> as DecodeValue<R>>::is_value(&self.party_name);
+        self.party_name.is_value();
     }
 }
 

@@ -8,8 +8,8 @@ ghost use Rattle.der_asn1.specs.Item.{decodes_same};
 ghost use Rattle.der_asn1.specs.Meaning.{alternative, defaulted, field, sequence, sequence_is_item, sequence_item, two_fields};
 
 use der::{
-    Decode, DecodeValue, Encode, EncodeValue, Error, FromFields, Header, Length, Reader, Sequence,
-    SliceReader, Writer, decode_sequence, field_refs,
+    Decode, DecodeValue, Encode, EncodeValue, Error, FromFields, Header, IsValue, Length, Reader,
+    Sequence, SliceReader, Writer, decode_sequence, field_refs,
 };
 use der_asn1::{
     BooleanRef, BorrowedItem, DecodeItem, DefaultValue, Defaulted, Described, Item, Nestable,
@@ -70,11 +70,13 @@ impl<'a, R: Reader<Borrowed = &'a [u8]>> DecodeValue<R> for Extension<'a> {
     fn decode_value(alloc: Global, reader: &mut R, header: Header) -> Result<Self, Error> {
         decode_sequence::<R, ExtensionFields<'a>, Self>(alloc, reader, header)
     }
+}
 
+impl<'a> IsValue for Extension<'a> {
     fn is_value(&self) {
-        <ObjectIdentifierRef<'a> as DecodeValue<R>>::is_value(&self.extn_id);
-        <BooleanRef<'a> as DecodeValue<R>>::is_value(&self.critical.0);
-        <OctetStringRef<'a> as DecodeValue<R>>::is_value(&self.extn_value);
+        self.extn_id.is_value();
+        self.critical.0.is_value();
+        self.extn_value.is_value();
     }
 }
 

@@ -9,8 +9,8 @@ ghost use Rattle.der_asn1.specs.Meaning.{renamed, sequence_is_item, sequence_ite
 
 use crate::asn1::extension::Extension;
 use der::{
-    DecodeValue, EncodeValue, Error, FromFields, Header, Length, Reader, Sequence, SliceReader,
-    Writer, decode_wrapped,
+    DecodeValue, EncodeValue, Error, FromFields, Header, IsValue, Length, Reader, Sequence,
+    SliceReader, Writer, decode_wrapped,
 };
 use der_asn1::{BorrowedItem, DecodeItem, Described, Item, Nestable, SequenceOf};
 use std::alloc::Global;
@@ -51,9 +51,11 @@ impl<'a, R: Reader<Borrowed = &'a [u8]>> DecodeValue<R> for Extensions<'a> {
     fn decode_value(alloc: Global, reader: &mut R, header: Header) -> Result<Self, Error> {
         decode_wrapped::<R, Items<'a>, Self>(alloc, reader, header)
     }
+}
 
+impl<'a> IsValue for Extensions<'a> {
     fn is_value(&self) {
-        <Items<'a> as DecodeValue<R>>::is_value(&self.items);
+        self.items.is_value();
     }
 }
 

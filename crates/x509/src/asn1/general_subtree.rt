@@ -12,16 +12,14 @@ use crate::asn1::edi_party_name::EdiPartyName;
 use crate::asn1::general_name::GeneralName;
 use crate::asn1::general_subtree_part1::{GeneralSubtreePart1, GeneralSubtreePart1Fields};
 use crate::asn1::general_subtree_part2::{GeneralSubtreePart2, GeneralSubtreePart2Fields};
-use crate::asn1::name::Name;
 use crate::asn1::other_name::OtherName;
 use der::{
-    Decode, DecodeValue, Encode, EncodeValue, Error, FromFields, Header, Length, Reader, Sequence,
-    SliceReader, Writer, decode_sequence, field_refs,
+    Decode, DecodeValue, Encode, EncodeValue, Error, FromFields, Header, IsValue, Length, Reader,
+    Sequence, SliceReader, Writer, decode_sequence, field_refs,
 };
 use der_asn1::{
     BorrowedItem, DecodeItem, DefaultU64, DefaultValue, Defaulted, Described, DescribedChoice,
-    Explicit, Ia5StringRef, Implicit, IntegerOf, Item, Nestable, ObjectIdentifierRef,
-    OctetStringRef, Optional, SequenceRef, WithDefault,
+    Implicit, IntegerOf, Item, Nestable, Optional, WithDefault,
 };
 use std::alloc::Global;
 
@@ -88,44 +86,24 @@ impl<'a, R: Reader<Borrowed = &'a [u8]>> DecodeValue<R> for GeneralSubtree<'a> {
             alloc, reader, header,
         )
     }
+}
 
+impl<'a> IsValue for GeneralSubtree<'a> {
     fn is_value(&self) {
         match &self.base {
-            GeneralName::OtherName(value) => <Implicit<OtherName<'a>, 0> as DecodeValue<
-                R,
-            >>::is_value(value),
-            GeneralName::Rfc822Name(value) => <Implicit<Ia5StringRef<'a>, 1> as DecodeValue<
-                R,
-            >>::is_value(value),
-            GeneralName::DnsName(value) => <Implicit<Ia5StringRef<'a>, 2> as DecodeValue<
-                R,
-            >>::is_value(value),
-            GeneralName::X400Address(value) => <Implicit<SequenceRef<'a>, 3> as DecodeValue<
-                R,
-            >>::is_value(value),
-            GeneralName::DirectoryName(value) => <Explicit<Name<'a>, 4> as DecodeValue<
-                R,
-            >>::is_value(value),
-            GeneralName::EdiPartyName(value) => <Implicit<EdiPartyName<'a>, 5> as DecodeValue<
-                R,
-            >>::is_value(value),
-            GeneralName::UniformResourceIdentifier(value) => <Implicit<
-                Ia5StringRef<'a>,
-                6,
-            > as DecodeValue<R>>::is_value(value),
-            GeneralName::IpAddress(value) => <Implicit<OctetStringRef<'a>, 7> as DecodeValue<
-                R,
-            >>::is_value(value),
-            GeneralName::RegisteredId(value) => <Implicit<
-                ObjectIdentifierRef<'a>,
-                8,
-            > as DecodeValue<R>>::is_value(value),
+            GeneralName::OtherName(value) => value.is_value(),
+            GeneralName::Rfc822Name(value) => value.is_value(),
+            GeneralName::DnsName(value) => value.is_value(),
+            GeneralName::X400Address(value) => value.is_value(),
+            GeneralName::DirectoryName(value) => value.is_value(),
+            GeneralName::EdiPartyName(value) => value.is_value(),
+            GeneralName::UniformResourceIdentifier(value) => value.is_value(),
+            GeneralName::IpAddress(value) => value.is_value(),
+            GeneralName::RegisteredId(value) => value.is_value(),
         }
-        <Implicit<WithDefault<IntegerOf<u64>, DefaultU64<0>>, 0> as DecodeValue<R>>::is_value(
-            &self.minimum.0,
-        );
+        self.minimum.0.is_value();
         if let Some(value) = &self.maximum.0 {
-            <Implicit<BaseDistance<'a>, 1> as DecodeValue<R>>::is_value(value);
+            value.is_value();
         }
     }
 }

@@ -19,8 +19,8 @@ use crate::asn1::issuing_distribution_point_part3::{
 };
 use crate::asn1::reason_flags::ReasonFlags;
 use der::{
-    Decode, DecodeValue, Encode, EncodeValue, Error, FromFields, Header, Length, Reader, Sequence,
-    SliceReader, Writer, decode_sequence, field_refs,
+    Decode, DecodeValue, Encode, EncodeValue, Error, FromFields, Header, IsValue, Length, Reader,
+    Sequence, SliceReader, Writer, decode_sequence, field_refs,
 };
 use der_asn1::{
     BooleanRef, BorrowedItem, DecodeItem, DefaultValue, Defaulted, Described, Implicit, Item,
@@ -147,20 +147,20 @@ impl<'a, R: Reader<Borrowed = &'a [u8]>> DecodeValue<R> for IssuingDistributionP
             Self,
         >(alloc, reader, header)
     }
+}
 
+impl<'a> IsValue for IssuingDistributionPoint<'a> {
     fn is_value(&self) {
         if let Some(value) = &self.distribution_point.0 {
-            <Implicit<DistributionPointNameTagged<'a>, 0> as DecodeValue<R>>::is_value(value);
+            value.is_value();
         }
-        <Implicit<BooleanRef<'a>, 1> as DecodeValue<R>>::is_value(&self.only_contains_user_certs.0);
-        <Implicit<BooleanRef<'a>, 2> as DecodeValue<R>>::is_value(&self.only_contains_ca_certs.0);
+        self.only_contains_user_certs.0.is_value();
+        self.only_contains_ca_certs.0.is_value();
         if let Some(value) = &self.only_some_reasons.0 {
-            <Implicit<ReasonFlags<'a>, 3> as DecodeValue<R>>::is_value(value);
+            value.is_value();
         }
-        <Implicit<BooleanRef<'a>, 4> as DecodeValue<R>>::is_value(&self.indirect_crl.0);
-        <Implicit<BooleanRef<'a>, 5> as DecodeValue<R>>::is_value(
-            &self.only_contains_attribute_certs.0,
-        );
+        self.indirect_crl.0.is_value();
+        self.only_contains_attribute_certs.0.is_value();
     }
 }
 

@@ -9,8 +9,8 @@ ghost use Rattle.der_asn1.specs.Meaning.{alternative, optional, sequence, sequen
 
 use crate::asn1::general_subtrees::GeneralSubtrees;
 use der::{
-    Decode, DecodeValue, Encode, EncodeValue, Error, FromFields, Header, Length, Reader, Sequence,
-    SliceReader, Writer, decode_sequence, field_refs,
+    Decode, DecodeValue, Encode, EncodeValue, Error, FromFields, Header, IsValue, Length, Reader,
+    Sequence, SliceReader, Writer, decode_sequence, field_refs,
 };
 use der_asn1::{BorrowedItem, DecodeItem, Described, Implicit, Item, Nestable, Optional};
 use std::alloc::Global;
@@ -63,13 +63,15 @@ impl<'a, R: Reader<Borrowed = &'a [u8]>> DecodeValue<R> for NameConstraints<'a> 
     fn decode_value(alloc: Global, reader: &mut R, header: Header) -> Result<Self, Error> {
         decode_sequence::<R, NameConstraintsFields<'a>, Self>(alloc, reader, header)
     }
+}
 
+impl<'a> IsValue for NameConstraints<'a> {
     fn is_value(&self) {
         if let Some(value) = &self.permitted_subtrees.0 {
-            <Implicit<GeneralSubtrees<'a>, 0> as DecodeValue<R>>::is_value(value);
+            value.is_value();
         }
         if let Some(value) = &self.excluded_subtrees.0 {
-            <Implicit<GeneralSubtrees<'a>, 1> as DecodeValue<R>>::is_value(value);
+            value.is_value();
         }
     }
 }

@@ -9,12 +9,11 @@ ghost use Rattle.der_asn1.specs.Meaning.{alternative, field, sequence, sequence_
 
 use crate::asn1::display_text::DisplayText;
 use der::{
-    Decode, DecodeValue, Encode, EncodeValue, Error, FromFields, Header, Length, Reader, Sequence,
-    SliceReader, Writer, decode_sequence, field_refs,
+    Decode, DecodeValue, Encode, EncodeValue, Error, FromFields, Header, IsValue, Length, Reader,
+    Sequence, SliceReader, Writer, decode_sequence, field_refs,
 };
 use der_asn1::{
-    BmpStringRef, BorrowedItem, DecodeItem, Described, DescribedChoice, Ia5StringRef, IntRef, Item,
-    Nestable, SequenceOf, Utf8StringRef, VisibleStringRef,
+    BorrowedItem, DecodeItem, Described, DescribedChoice, IntRef, Item, Nestable, SequenceOf,
 };
 use std::alloc::Global;
 
@@ -62,19 +61,17 @@ impl<'a, R: Reader<Borrowed = &'a [u8]>> DecodeValue<R> for NoticeReference<'a> 
     fn decode_value(alloc: Global, reader: &mut R, header: Header) -> Result<Self, Error> {
         decode_sequence::<R, NoticeReferenceFields<'a>, Self>(alloc, reader, header)
     }
+}
 
+impl<'a> IsValue for NoticeReference<'a> {
     fn is_value(&self) {
         match &self.organization {
-            DisplayText::Ia5String(value) => <Ia5StringRef<'a> as DecodeValue<R>>::is_value(value),
-            DisplayText::VisibleString(value) => <VisibleStringRef<'a> as DecodeValue<R>>::is_value(
-                value,
-            ),
-            DisplayText::BmpString(value) => <BmpStringRef<'a> as DecodeValue<R>>::is_value(value),
-            DisplayText::Utf8String(value) => <Utf8StringRef<'a> as DecodeValue<R>>::is_value(
-                value,
-            ),
+            DisplayText::Ia5String(value) => value.is_value(),
+            DisplayText::VisibleString(value) => value.is_value(),
+            DisplayText::BmpString(value) => value.is_value(),
+            DisplayText::Utf8String(value) => value.is_value(),
         }
-        <SequenceOf<'a, IntRef<'a>> as DecodeValue<R>>::is_value(&self.notice_numbers);
+        self.notice_numbers.is_value();
     }
 }
 

@@ -9,8 +9,8 @@ ghost use Rattle.der_asn1.specs.Meaning.{alternative, field, optional, sequence,
 
 use crate::asn1::policy_qualifier_info::PolicyQualifierInfo;
 use der::{
-    Decode, DecodeValue, Encode, EncodeValue, Error, FromFields, Header, Length, Reader, Sequence,
-    SliceReader, Writer, decode_sequence, field_refs,
+    Decode, DecodeValue, Encode, EncodeValue, Error, FromFields, Header, IsValue, Length, Reader,
+    Sequence, SliceReader, Writer, decode_sequence, field_refs,
 };
 use der_asn1::{
     BorrowedItem, DecodeItem, Described, Item, Nestable, ObjectIdentifierRef, Optional, SequenceOf,
@@ -64,11 +64,13 @@ impl<'a, R: Reader<Borrowed = &'a [u8]>> DecodeValue<R> for PolicyInformation<'a
     fn decode_value(alloc: Global, reader: &mut R, header: Header) -> Result<Self, Error> {
         decode_sequence::<R, PolicyInformationFields<'a>, Self>(alloc, reader, header)
     }
+}
 
+impl<'a> IsValue for PolicyInformation<'a> {
     fn is_value(&self) {
-        <ObjectIdentifierRef<'a> as DecodeValue<R>>::is_value(&self.policy_identifier);
+        self.policy_identifier.is_value();
         if let Some(value) = &self.policy_qualifiers.0 {
-            <SequenceOf<'a, PolicyQualifierInfo<'a>> as DecodeValue<R>>::is_value(value);
+            value.is_value();
         }
     }
 }

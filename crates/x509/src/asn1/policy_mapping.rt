@@ -8,8 +8,8 @@ ghost use Rattle.der_asn1.specs.Item.{decodes_same};
 ghost use Rattle.der_asn1.specs.Meaning.{alternative, field, sequence, sequence_is_item, sequence_item, two_fields};
 
 use der::{
-    Decode, DecodeValue, Encode, EncodeValue, Error, FromFields, Header, Length, Reader, Sequence,
-    SliceReader, Writer, decode_sequence, field_refs,
+    Decode, DecodeValue, Encode, EncodeValue, Error, FromFields, Header, IsValue, Length, Reader,
+    Sequence, SliceReader, Writer, decode_sequence, field_refs,
 };
 use der_asn1::{BorrowedItem, DecodeItem, Described, Item, Nestable, ObjectIdentifierRef};
 use std::alloc::Global;
@@ -59,10 +59,12 @@ impl<'a, R: Reader<Borrowed = &'a [u8]>> DecodeValue<R> for PolicyMapping<'a> {
     fn decode_value(alloc: Global, reader: &mut R, header: Header) -> Result<Self, Error> {
         decode_sequence::<R, PolicyMappingFields<'a>, Self>(alloc, reader, header)
     }
+}
 
+impl<'a> IsValue for PolicyMapping<'a> {
     fn is_value(&self) {
-        <ObjectIdentifierRef<'a> as DecodeValue<R>>::is_value(&self.issuer_domain_policy);
-        <ObjectIdentifierRef<'a> as DecodeValue<R>>::is_value(&self.subject_domain_policy);
+        self.issuer_domain_policy.is_value();
+        self.subject_domain_policy.is_value();
     }
 }
 

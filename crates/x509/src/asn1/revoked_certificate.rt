@@ -11,12 +11,11 @@ use crate::asn1::certificate_serial_number::CertificateSerialNumber;
 use crate::asn1::extensions::Extensions;
 use crate::asn1::time::Time;
 use der::{
-    Decode, DecodeValue, Encode, EncodeValue, Error, FromFields, Header, Length, Reader, Sequence,
-    SliceReader, Writer, decode_sequence, field_refs,
+    Decode, DecodeValue, Encode, EncodeValue, Error, FromFields, Header, IsValue, Length, Reader,
+    Sequence, SliceReader, Writer, decode_sequence, field_refs,
 };
 use der_asn1::{
-    BorrowedItem, DecodeItem, Described, DescribedChoice, GeneralizedTime, Item, Nestable,
-    Optional, UtcTime,
+    BorrowedItem, DecodeItem, Described, DescribedChoice, Item, Nestable, Optional, UtcTime,
 };
 use std::alloc::Global;
 
@@ -72,15 +71,17 @@ impl<'a, R: Reader<Borrowed = &'a [u8]>> DecodeValue<R> for RevokedCertificate<'
     fn decode_value(alloc: Global, reader: &mut R, header: Header) -> Result<Self, Error> {
         decode_sequence::<R, RevokedCertificateFields<'a>, Self>(alloc, reader, header)
     }
+}
 
+impl<'a> IsValue for RevokedCertificate<'a> {
     fn is_value(&self) {
-        <CertificateSerialNumber<'a> as DecodeValue<R>>::is_value(&self.user_certificate);
+        self.user_certificate.is_value();
         match &self.revocation_date {
-            Time::UtcTime(value) => <UtcTime as DecodeValue<R>>::is_value(value),
-            Time::GeneralTime(value) => <GeneralizedTime as DecodeValue<R>>::is_value(value),
+            Time::UtcTime(value) => value.is_value(),
+            Time::GeneralTime(value) => value.is_value(),
         }
         if let Some(value) = &self.crl_entry_extensions.0 {
-            <Extensions<'a> as DecodeValue<R>>::is_value(value);
+            value.is_value();
         }
     }
 }

@@ -15,12 +15,12 @@ use crate::asn1::tbs_cert_list_part1::{TbsCertListPart1, TbsCertListPart1Fields}
 use crate::asn1::tbs_cert_list_part2::{TbsCertListPart2, TbsCertListPart2Fields};
 use crate::asn1::time::Time;
 use der::{
-    Decode, DecodeValue, Encode, EncodeValue, Error, FromFields, Header, Length, Reader, Sequence,
-    SliceReader, Writer, decode_sequence, field_refs,
+    Decode, DecodeValue, Encode, EncodeValue, Error, FromFields, Header, IsValue, Length, Reader,
+    Sequence, SliceReader, Writer, decode_sequence, field_refs,
 };
 use der_asn1::{
-    BorrowedItem, DecodeItem, Described, DescribedChoice, Explicit, GeneralizedTime, Item,
-    Nestable, Optional, UtcTime,
+    BorrowedItem, DecodeItem, Described, DescribedChoice, Explicit, Item, Nestable, Optional,
+    UtcTime,
 };
 use spki::AlgorithmIdentifierRef;
 use std::alloc::Global;
@@ -108,28 +108,30 @@ impl<'a, R: Reader<Borrowed = &'a [u8]>> DecodeValue<R> for TbsCertList<'a> {
             alloc, reader, header,
         )
     }
+}
 
+impl<'a> IsValue for TbsCertList<'a> {
     fn is_value(&self) {
         if let Some(value) = &self.version.0 {
-            <Version<'a> as DecodeValue<R>>::is_value(value);
+            value.is_value();
         }
-        <AlgorithmIdentifierRef<'a> as DecodeValue<R>>::is_value(&self.signature);
-        <Name<'a> as DecodeValue<R>>::is_value(&self.issuer);
+        self.signature.is_value();
+        self.issuer.is_value();
         match &self.this_update {
-            Time::UtcTime(value) => <UtcTime as DecodeValue<R>>::is_value(value),
-            Time::GeneralTime(value) => <GeneralizedTime as DecodeValue<R>>::is_value(value),
+            Time::UtcTime(value) => value.is_value(),
+            Time::GeneralTime(value) => value.is_value(),
         }
         if let Some(value) = &self.next_update.0 {
             match value {
-                Time::UtcTime(value) => <UtcTime as DecodeValue<R>>::is_value(value),
-                Time::GeneralTime(value) => <GeneralizedTime as DecodeValue<R>>::is_value(value),
+                Time::UtcTime(value) => value.is_value(),
+                Time::GeneralTime(value) => value.is_value(),
             }
         }
         if let Some(value) = &self.revoked_certificates.0 {
-            <RevokedCertificates<'a> as DecodeValue<R>>::is_value(value);
+            value.is_value();
         }
         if let Some(value) = &self.crl_extensions.0 {
-            <Explicit<Extensions<'a>, 0> as DecodeValue<R>>::is_value(value);
+            value.is_value();
         }
     }
 }

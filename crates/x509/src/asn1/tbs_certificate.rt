@@ -16,8 +16,8 @@ use crate::asn1::tbs_certificate_part2::{TbsCertificatePart2, TbsCertificatePart
 use crate::asn1::tbs_certificate_part3::{TbsCertificatePart3, TbsCertificatePart3Fields};
 use crate::asn1::validity::Validity;
 use der::{
-    Decode, DecodeValue, Encode, EncodeValue, Error, FromFields, Header, Length, Reader, Sequence,
-    SliceReader, Writer, decode_sequence, field_refs,
+    Decode, DecodeValue, Encode, EncodeValue, Error, FromFields, Header, IsValue, Length, Reader,
+    Sequence, SliceReader, Writer, decode_sequence, field_refs,
 };
 use der_asn1::{
     BitStringRef, BorrowedItem, DecodeItem, DefaultValue, Defaulted, Described, Explicit, Implicit,
@@ -150,23 +150,25 @@ impl<'a, R: Reader<Borrowed = &'a [u8]>> DecodeValue<R> for TbsCertificate<'a> {
             Self,
         >(alloc, reader, header)
     }
+}
 
+impl<'a> IsValue for TbsCertificate<'a> {
     fn is_value(&self) {
-        <Explicit<Version<'a>, 0> as DecodeValue<R>>::is_value(&self.version.0);
-        <CertificateSerialNumber<'a> as DecodeValue<R>>::is_value(&self.serial_number);
-        <AlgorithmIdentifierRef<'a> as DecodeValue<R>>::is_value(&self.signature);
-        <Name<'a> as DecodeValue<R>>::is_value(&self.issuer);
-        <Validity as DecodeValue<R>>::is_value(&self.validity);
-        <Name<'a> as DecodeValue<R>>::is_value(&self.subject);
-        <SubjectPublicKeyInfoRef<'a> as DecodeValue<R>>::is_value(&self.subject_public_key_info);
+        self.version.0.is_value();
+        self.serial_number.is_value();
+        self.signature.is_value();
+        self.issuer.is_value();
+        self.validity.is_value();
+        self.subject.is_value();
+        self.subject_public_key_info.is_value();
         if let Some(value) = &self.issuer_unique_id.0 {
-            <Implicit<BitStringRef<'a>, 1> as DecodeValue<R>>::is_value(value);
+            value.is_value();
         }
         if let Some(value) = &self.subject_unique_id.0 {
-            <Implicit<BitStringRef<'a>, 2> as DecodeValue<R>>::is_value(value);
+            value.is_value();
         }
         if let Some(value) = &self.extensions.0 {
-            <Explicit<Extensions<'a>, 3> as DecodeValue<R>>::is_value(value);
+            value.is_value();
         }
     }
 }

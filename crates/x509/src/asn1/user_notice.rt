@@ -10,13 +10,10 @@ ghost use Rattle.der_asn1.specs.Meaning.{alternative, optional, sequence, sequen
 use crate::asn1::display_text::DisplayText;
 use crate::asn1::notice_reference::NoticeReference;
 use der::{
-    Decode, DecodeValue, Encode, EncodeValue, Error, FromFields, Header, Length, Reader, Sequence,
-    SliceReader, Writer, decode_sequence, field_refs,
+    Decode, DecodeValue, Encode, EncodeValue, Error, FromFields, Header, IsValue, Length, Reader,
+    Sequence, SliceReader, Writer, decode_sequence, field_refs,
 };
-use der_asn1::{
-    BmpStringRef, BorrowedItem, DecodeItem, Described, DescribedChoice, Ia5StringRef, Item,
-    Nestable, Optional, Utf8StringRef, VisibleStringRef,
-};
+use der_asn1::{BorrowedItem, DecodeItem, Described, DescribedChoice, Item, Nestable, Optional};
 use std::alloc::Global;
 
 /// A notice to the user of a certificate (RFC 5280, 4.2.1.4), borrowed from the input.
@@ -63,25 +60,19 @@ impl<'a, R: Reader<Borrowed = &'a [u8]>> DecodeValue<R> for UserNotice<'a> {
     fn decode_value(alloc: Global, reader: &mut R, header: Header) -> Result<Self, Error> {
         decode_sequence::<R, UserNoticeFields<'a>, Self>(alloc, reader, header)
     }
+}
 
+impl<'a> IsValue for UserNotice<'a> {
     fn is_value(&self) {
         if let Some(value) = &self.notice_ref.0 {
-            <NoticeReference<'a> as DecodeValue<R>>::is_value(value);
+            value.is_value();
         }
         if let Some(value) = &self.explicit_text.0 {
             match value {
-                DisplayText::Ia5String(value) => <Ia5StringRef<'a> as DecodeValue<R>>::is_value(
-                    value,
-                ),
-                DisplayText::VisibleString(value) => <VisibleStringRef<'a> as DecodeValue<
-                    R,
-                >>::is_value(value),
-                DisplayText::BmpString(value) => <BmpStringRef<'a> as DecodeValue<R>>::is_value(
-                    value,
-                ),
-                DisplayText::Utf8String(value) => <Utf8StringRef<'a> as DecodeValue<R>>::is_value(
-                    value,
-                ),
+                DisplayText::Ia5String(value) => value.is_value(),
+                DisplayText::VisibleString(value) => value.is_value(),
+                DisplayText::BmpString(value) => value.is_value(),
+                DisplayText::Utf8String(value) => value.is_value(),
             }
         }
     }

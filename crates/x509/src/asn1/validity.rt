@@ -9,12 +9,10 @@ ghost use Rattle.der_asn1.specs.Meaning.{alternative, field, sequence, sequence_
 
 use crate::asn1::time::Time;
 use der::{
-    Decode, DecodeValue, Encode, EncodeValue, Error, FromFields, Header, Length, Reader, Sequence,
-    SliceReader, Writer, decode_sequence, field_refs,
+    Decode, DecodeValue, Encode, EncodeValue, Error, FromFields, Header, IsValue, Length, Reader,
+    Sequence, SliceReader, Writer, decode_sequence, field_refs,
 };
-use der_asn1::{
-    BorrowedItem, DecodeItem, Described, DescribedChoice, GeneralizedTime, Item, Nestable, UtcTime,
-};
+use der_asn1::{BorrowedItem, DecodeItem, Described, DescribedChoice, Item, Nestable, UtcTime};
 use std::alloc::Global;
 
 /// The period in which a certificate is valid (RFC 5280, 4.1.2.5): the times at its two ends
@@ -61,15 +59,17 @@ impl<'a, R: Reader<Borrowed = &'a [u8]>> DecodeValue<R> for Validity {
     fn decode_value(alloc: Global, reader: &mut R, header: Header) -> Result<Self, Error> {
         decode_sequence::<R, ValidityFields, Self>(alloc, reader, header)
     }
+}
 
+impl IsValue for Validity {
     fn is_value(&self) {
         match &self.not_before {
-            Time::UtcTime(value) => <UtcTime as DecodeValue<R>>::is_value(value),
-            Time::GeneralTime(value) => <GeneralizedTime as DecodeValue<R>>::is_value(value),
+            Time::UtcTime(value) => value.is_value(),
+            Time::GeneralTime(value) => value.is_value(),
         }
         match &self.not_after {
-            Time::UtcTime(value) => <UtcTime as DecodeValue<R>>::is_value(value),
-            Time::GeneralTime(value) => <GeneralizedTime as DecodeValue<R>>::is_value(value),
+            Time::UtcTime(value) => value.is_value(),
+            Time::GeneralTime(value) => value.is_value(),
         }
     }
 }

@@ -12,8 +12,8 @@ ghost use Rattle.der.specs.BytesOwned.{owned_octets};
 use crate::bytes::BytesOwned;
 use der_base::{Error, Length};
 use der_core::{
-    DecodeValue, DerOrd, EncodeValue, Header, ReadValue, Reader, Writer, WrittenValue, octets_len,
-    place_before,
+    DecodeValue, DerOrd, EncodeValue, Header, IsValue, ReadValue, Reader, Writer, WrittenValue,
+    octets_len, place_before,
 };
 use std::alloc::Global;
 use std::cmp::Ordering;
@@ -49,7 +49,9 @@ impl<R: Reader> DecodeValue<R> for BytesOwned {
     {
         read_owned(alloc, reader, header.length())
     }
+}
 
+impl IsValue for BytesOwned {
     fn is_value(&self) {}
 }
 

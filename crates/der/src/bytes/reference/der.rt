@@ -11,8 +11,8 @@ ghost use Rattle.der.specs.BytesRef.{reference_octets};
 use crate::bytes::BytesRef;
 use der_base::{Error, Length};
 use der_core::{
-    DecodeValue, DerOrd, EncodeValue, Header, ReadValue, Reader, Writer, WrittenValue, octets_len,
-    place_before,
+    DecodeValue, DerOrd, EncodeValue, Header, IsValue, ReadValue, Reader, Writer, WrittenValue,
+    octets_len, place_before,
 };
 use std::alloc::Global;
 use std::cmp::Ordering;
@@ -58,7 +58,9 @@ impl<'a, R: Reader<Borrowed = &'a [u8]>> DecodeValue<R> for BytesRef<'a> {
     {
         BytesRef::new(reader.read_slice(header.length())?)
     }
+}
 
+impl<'a> IsValue for BytesRef<'a> {
     fn is_value(&self) {}
 }
 

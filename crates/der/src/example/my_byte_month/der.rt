@@ -8,8 +8,8 @@ ghost use Rattle.der.specs.MyByteMonth.{IsMonth, TakesMonth, MonthRead, MonthWri
 use crate::example::MyByteMonth;
 use der_base::{Error, ErrorKind, Length, Tag};
 use der_core::{
-    DecodeValue, EncodeValue, FixedTag, Header, Lawful, Orderly, ReadValue, Reader, ReaderExt,
-    ValueOrd, Writer, WrittenValue, place_before,
+    DecodeValue, EncodeValue, FixedTag, Header, IsValue, Lawful, Orderly, ReadValue, Reader,
+    ReaderExt, ValueOrd, Writer, WrittenValue, place_before,
 };
 use std::alloc::Global;
 use std::cmp::Ordering;
@@ -55,7 +55,9 @@ impl<R: Reader> DecodeValue<R> for MyByteMonth {
             None => Err(reader.error(ErrorKind::DateTime)),
         }
     }
+}
 
+impl IsValue for MyByteMonth {
     fn is_value(&self) {}
 }
 

@@ -9,8 +9,8 @@ ghost use Rattle.der.specs.StringOwned.{owned_text};
 use crate::string::StringOwned;
 use der_base::{Error, Length};
 use der_core::{
-    DecodeValue, EncodeValue, Header, Octets, ReadValue, Reader, Writer, WrittenValue, octets_len,
-    place_before,
+    DecodeValue, EncodeValue, Header, IsValue, Octets, ReadValue, Reader, Writer, WrittenValue,
+    octets_len, place_before,
 };
 use std::alloc::Global;
 
@@ -54,7 +54,9 @@ impl<R: Reader> DecodeValue<R> for StringOwned {
         let bytes = reader.read_slice(header.length())?;
         StringOwned::from_bytes(alloc, bytes.as_slice())
     }
+}
 
+impl IsValue for StringOwned {
     fn is_value(&self) {}
 }
 

@@ -10,7 +10,7 @@ ghost use Rattle.der.specs.StringRef.{reference_text};
 use crate::string::StringRef;
 use der_base::{Error, Length};
 use der_core::{
-    DecodeValue, EncodeValue, Header, ReadValue, Reader, Writer, WrittenValue, octets_len,
+    DecodeValue, EncodeValue, Header, IsValue, ReadValue, Reader, Writer, WrittenValue, octets_len,
     place_before,
 };
 use std::alloc::Global;
@@ -58,7 +58,9 @@ impl<'a, R: Reader<Borrowed = &'a [u8]>> DecodeValue<R> for StringRef<'a> {
     {
         StringRef::from_bytes(reader.read_slice(header.length())?)
     }
+}
 
+impl<'a> IsValue for StringRef<'a> {
     fn is_value(&self) {}
 }
 
