@@ -1,4 +1,4 @@
-//! Writes by hand, with an index, what keys.rt of der_bench writes. A key is a SEQUENCE of an
+//! Writes by hand, with an index, what library/keys.rs writes. A key is a SEQUENCE of an
 //! algorithm and an OCTET STRING, and an algorithm is a SEQUENCE of an OCTET STRING and a month.
 use crate::common::Totals;
 use crate::put::{pass, put_length, put_octet};

@@ -37,6 +37,10 @@ mod show;
 #[cfg(test)]
 mod strings;
 #[cfg(test)]
+mod uses;
+#[cfg(test)]
 mod values;
+#[cfg(test)]
+mod visits;
 #[cfg(test)]
 mod writers;

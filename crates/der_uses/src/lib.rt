@@ -3,8 +3,6 @@
 
 pub mod algorithm_identifier;
 pub mod certificate;
-#[cfg(test)]
-mod certificate_tests;
 pub mod contents;
 pub mod fields;
 pub mod front;
@@ -13,12 +11,8 @@ pub mod message;
 pub mod my_octets;
 pub mod nested;
 pub mod public_key;
-#[cfg(test)]
-mod public_key_tests;
 pub mod reader;
 pub mod sequence;
 pub mod set_of;
 pub mod version;
-#[cfg(test)]
-mod version_tests;
 pub mod writer;

@@ -2,7 +2,5 @@
 #![tactic(auto)]
 
 pub mod asn1;
-#[cfg(test)]
-mod visit_tests;
 
 pub use asn1::{Visit, VisitFields};

@@ -7,6 +7,7 @@
 #![tactic(auto)]
 
 mod allocating;
+mod before;
 mod decoding;
 mod orders;
 mod print;
@@ -34,6 +35,10 @@ fn main(rt: HostRuntime) -> io::Result<()> {
     writers::pieces(&rt)?;
     writers::sequences(&rt)?;
     writers::values(&rt)?;
+    before::lengths(&rt)?;
+    before::elements(&rt)?;
+    before::contents(&rt)?;
+    before::boxed(&rt, rt.alloc())?;
     decoding::headers(&rt, rt.alloc())?;
     decoding::elements(&rt, rt.alloc())?;
     decoding::fronts(&rt, rt.alloc())?;

@@ -1,5 +1,5 @@
 //! Tests of the summary of a certificate.
-use crate::certificate::summary_of;
+use super::certificate::summary_of;
 use x509::{FindError, KeyUsageBit, Time};
 
 // By `openssl req -x509 -newkey ed25519 -subj /CN=example.org`, with a keyUsage of digitalSignature

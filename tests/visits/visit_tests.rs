@@ -1,5 +1,5 @@
 //! Visits, read and written.
-use crate::asn1::Visit;
+use super::asn1::Visit;
 use der::{DecodeBytes, Encode};
 use der_asn1::{BooleanRef, DateTime, GeneralizedTime, IntRef, SequenceOf, Utf8StringRef};
 use std::alloc::Global;

@@ -1,5 +1,5 @@
 //! Versions, read and written.
-use crate::version::Version;
+use super::version::Version;
 use der::{DecodeBytes, Encode, Error, Length, Tag};
 
 #[test]

@@ -1,5 +1,5 @@
 //! A public key that openssl made, read field by field.
-use crate::public_key::{PublicKey, public_key};
+use super::public_key::{PublicKey, public_key};
 use der::{ErrorKind, Length};
 
 // openssl genpkey -algorithm ed25519 | openssl pkey -pubout -outform DER
