@@ -49,14 +49,7 @@ impl<'a, R: Reader<Borrowed = &'a [u8]>> DecodeValue<R> for KeyAlgorithm<'a> {
     }
 }
 
-impl<'a> IsValue for KeyAlgorithm<'a> {
-    fn is_value(&self) {
-        self.oid.is_value();
-        if let Some(value) = &self.parameters.0 {
-            value.is_value();
-        }
-    }
-}
+impl<'a> IsValue for KeyAlgorithm<'a> {}
 
 impl<'a> EncodeValue for KeyAlgorithm<'a> {
     ghost value_size = { λ v. ⟦<KeyAlgorithmFields<'a> as Encode>⟧.size
@@ -127,12 +120,7 @@ impl<'a, R: Reader<Borrowed = &'a [u8]>> DecodeValue<R> for PublicKey<'a> {
     }
 }
 
-impl<'a> IsValue for PublicKey<'a> {
-    fn is_value(&self) {
-        self.algorithm.is_value();
-        self.key.is_value();
-    }
-}
+impl<'a> IsValue for PublicKey<'a> {}
 
 impl<'a> EncodeValue for PublicKey<'a> {
     ghost value_size = { λ v. ⟦<PublicKeyFields<'a> as Encode>⟧.size
