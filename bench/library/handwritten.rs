@@ -6,7 +6,7 @@ ghost use Rattle.std.proofs.Common.{refl};
 ghost use Rattle.der.specs.Prelude.{map_ok};
 ghost use Rattle.der_asn1.specs.Meaning.{alternative, any_element, field, optional, sequence, two_fields};
 
-use der::{Decode, DecodeValue, Encode, EncodeValue, Error, FromFields, Header, IsValue, Length, Reader, Sequence, SliceReader, Writer, decode_sequence, field_refs};
+use der::{Decode, DecodeValue, Encode, EncodeValue, Error, FromFields, Header, Length, Reader, Sequence, SliceReader, Writer, decode_sequence, field_refs};
 use der_asn1::{AnyRef, BitStringRef, Described, ObjectIdentifierRef, Optional};
 use std::alloc::Global;
 
@@ -48,8 +48,6 @@ impl<'a, R: Reader<Borrowed = &'a [u8]>> DecodeValue<R> for KeyAlgorithm<'a> {
         decode_sequence::<R, KeyAlgorithmFields<'a>, Self>(alloc, reader, header)
     }
 }
-
-impl<'a> IsValue for KeyAlgorithm<'a> {}
 
 impl<'a> EncodeValue for KeyAlgorithm<'a> {
     ghost value_size = { λ v. ⟦<KeyAlgorithmFields<'a> as Encode>⟧.size
@@ -119,8 +117,6 @@ impl<'a, R: Reader<Borrowed = &'a [u8]>> DecodeValue<R> for PublicKey<'a> {
         decode_sequence::<R, PublicKeyFields<'a>, Self>(alloc, reader, header)
     }
 }
-
-impl<'a> IsValue for PublicKey<'a> {}
 
 impl<'a> EncodeValue for PublicKey<'a> {
     ghost value_size = { λ v. ⟦<PublicKeyFields<'a> as Encode>⟧.size
