@@ -1,7 +1,7 @@
 //! The default of the hashes of certificates.
 ghost use Rattle.std.specs.Prelude.{[], ◌∷◌};
 
-use der::{DecodeValue, SliceReader};
+use der::IsValue;
 use der_asn1::{Checked, DefaultEncoding, DefaultOf, Optional, has_contents};
 use spki::AlgorithmIdentifierRef;
 
@@ -23,7 +23,7 @@ impl<'a> DefaultOf<AlgorithmIdentifierRef<'a>> for Sha256Default {
 
 impl<'a> DefaultEncoding<AlgorithmIdentifierRef<'a>> for Sha256Default {
     fn is_default(value: &AlgorithmIdentifierRef<'a>) -> bool {
-        <AlgorithmIdentifierRef<'a> as DecodeValue<SliceReader<'a>>>::is_value(value);
+        value.is_value();
         let octets = [
             0x06, 0x09, 0x60, 0x86, 0x48, 0x01, 0x65, 0x03, 0x04, 0x02, 0x01,
         ];

@@ -1,7 +1,7 @@
 //! The default of the sources of labels.
 ghost use Rattle.std.specs.Prelude.{[], ◌∷◌};
 
-use der::{DecodeValue, SliceReader, Tag};
+use der::{IsValue, Tag};
 use der_asn1::{AnyRef, Checked, DefaultEncoding, DefaultOf, Explicit, Optional, has_contents};
 use spki::AlgorithmIdentifierRef;
 
@@ -27,7 +27,7 @@ impl<'a> DefaultOf<Explicit<AlgorithmIdentifierRef<'a>, 2>> for EmptyLabelDefaul
 
 impl<'a> DefaultEncoding<Explicit<AlgorithmIdentifierRef<'a>, 2>> for EmptyLabelDefault {
     fn is_default(value: &Explicit<AlgorithmIdentifierRef<'a>, 2>) -> bool {
-        <Explicit<AlgorithmIdentifierRef<'a>, 2> as DecodeValue<SliceReader<'a>>>::is_value(value);
+        value.is_value();
         let octets = [
             0x30, 0x0D, 0x06, 0x09, 0x2A, 0x86, 0x48, 0x86, 0xF7, 0x0D, 0x01, 0x01, 0x09, 0x04,
             0x00,

@@ -1,7 +1,7 @@
 //! The default of mask generation functions.
 ghost use Rattle.std.specs.Prelude.{[], ◌∷◌};
 
-use der::{DecodeValue, SliceReader, Tag};
+use der::{IsValue, Tag};
 use der_asn1::{AnyRef, Checked, DefaultEncoding, DefaultOf, Explicit, Optional, has_contents};
 use spki::AlgorithmIdentifierRef;
 
@@ -28,7 +28,7 @@ impl<'a> DefaultOf<Explicit<AlgorithmIdentifierRef<'a>, 1>> for Mgf1Sha1Default 
 
 impl<'a> DefaultEncoding<Explicit<AlgorithmIdentifierRef<'a>, 1>> for Mgf1Sha1Default {
     fn is_default(value: &Explicit<AlgorithmIdentifierRef<'a>, 1>) -> bool {
-        <Explicit<AlgorithmIdentifierRef<'a>, 1> as DecodeValue<SliceReader<'a>>>::is_value(value);
+        value.is_value();
         let octets = [
             0x30, 0x16, 0x06, 0x09, 0x2A, 0x86, 0x48, 0x86, 0xF7, 0x0D, 0x01, 0x01, 0x08, 0x30,
             0x09, 0x06, 0x05, 0x2B, 0x0E, 0x03, 0x02, 0x1A, 0x05, 0x00,

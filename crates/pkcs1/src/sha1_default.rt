@@ -1,7 +1,7 @@
 //! The default of hash algorithms.
 ghost use Rattle.std.specs.Prelude.{[], ◌∷◌};
 
-use der::{DecodeValue, SliceReader, Tag};
+use der::{IsValue, Tag};
 use der_asn1::{AnyRef, Checked, DefaultEncoding, DefaultOf, Explicit, Optional, has_contents};
 use spki::AlgorithmIdentifierRef;
 
@@ -26,7 +26,7 @@ impl<'a> DefaultOf<Explicit<AlgorithmIdentifierRef<'a>, 0>> for Sha1Default {
 
 impl<'a> DefaultEncoding<Explicit<AlgorithmIdentifierRef<'a>, 0>> for Sha1Default {
     fn is_default(value: &Explicit<AlgorithmIdentifierRef<'a>, 0>) -> bool {
-        <Explicit<AlgorithmIdentifierRef<'a>, 0> as DecodeValue<SliceReader<'a>>>::is_value(value);
+        value.is_value();
         let octets = [
             0x30, 0x09, 0x06, 0x05, 0x2B, 0x0E, 0x03, 0x02, 0x1A, 0x05, 0x00,
         ];

@@ -1,7 +1,7 @@
 //! The default of the functions of PBKDF2.
 ghost use Rattle.std.specs.Prelude.{[], ◌∷◌};
 
-use der::{DecodeValue, SliceReader, Tag};
+use der::{IsValue, Tag};
 use der_asn1::{AnyRef, Checked, DefaultEncoding, DefaultOf, Optional, has_contents};
 use spki::AlgorithmIdentifierRef;
 
@@ -26,7 +26,7 @@ impl<'a> DefaultOf<AlgorithmIdentifierRef<'a>> for HmacWithSha1Default {
 
 impl<'a> DefaultEncoding<AlgorithmIdentifierRef<'a>> for HmacWithSha1Default {
     fn is_default(value: &AlgorithmIdentifierRef<'a>) -> bool {
-        <AlgorithmIdentifierRef<'a> as DecodeValue<SliceReader<'a>>>::is_value(value);
+        value.is_value();
         let octets = [
             0x06, 0x08, 0x2A, 0x86, 0x48, 0x86, 0xF7, 0x0D, 0x02, 0x07, 0x05, 0x00,
         ];
