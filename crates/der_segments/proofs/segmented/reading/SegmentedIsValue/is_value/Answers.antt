@@ -1,6 +1,6 @@
 use Rattle.std.proofs.Common.{arith}
 use Rattle.der_segments.proofs.SegmentedLemmas.{octets_counted}
-use Rattle.der_segments.proofs.segmented.reading.SegmentedDecodeValue.is_value.Goals as goal
+use Rattle.der_segments.proofs.segmented.reading.SegmentedIsValue.is_value.Goals as goal
 
 pub returns : goal.returns
 returns g c = omega (arith, octets_counted c.args.self.now.formed)
