@@ -3,4 +3,4 @@ use Rattle.der_segments.proofs.SegmentedLemmas.{octets_counted}
 use Rattle.der_segments.proofs.segmented.reading.SegmentedIsValue.is_value.Goals as goal
 
 pub returns : goal.returns
-returns g c = omega (arith, octets_counted c.args.self.now.formed)
+returns c = omega (arith, octets_counted c.args.self.now.formed)
