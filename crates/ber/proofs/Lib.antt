@@ -1,0 +1,4 @@
+pub mod ListLemmas
+pub mod TagNumberLemmas
+pub mod LengthLemmas
+pub mod HeaderLemmas

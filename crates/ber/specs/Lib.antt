@@ -1,0 +1,4 @@
+pub mod Identifier
+pub mod Length
+pub mod Header
+pub mod Fault

@@ -1,0 +1,18 @@
+//! Headers and elements of the Basic Encoding Rules (X.690 section 8), read from slices.
+//!
+//! [`read_header`] reads an identifier of any class and number and a length in any form, and returns the
+//! first fault if the octets do not begin with a header. Numbers of tags and lengths go up to
+//! 4294967295. Nothing here allocates.
+#![tactic(auto)]
+
+mod fault;
+mod fault_kind;
+mod header;
+mod length;
+mod length_octets;
+mod tag_number;
+
+pub use fault::Fault;
+pub use fault_kind::FaultKind;
+pub use header::{Header, read_header};
+pub use length::Length;
