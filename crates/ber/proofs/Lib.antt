@@ -2,3 +2,4 @@ pub mod ListLemmas
 pub mod TagNumberLemmas
 pub mod LengthLemmas
 pub mod HeaderLemmas
+pub mod GrammarLemmas

@@ -2,3 +2,4 @@ pub mod Identifier
 pub mod Length
 pub mod Header
 pub mod Fault
+pub mod Laws

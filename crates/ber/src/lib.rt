@@ -8,6 +8,7 @@
 mod fault;
 mod fault_kind;
 mod header;
+mod laws;
 mod length;
 mod length_octets;
 mod tag_number;

@@ -1,0 +1,11 @@
+//! Laws of headers. Each function does nothing; its contract is a law that `specs/Laws.antt` defines.
+//! Nothing calls the functions of this module.
+ghost use Rattle.ber.specs.Laws.{NoHeaderBeginsAnother, NoHeaderAtAFault};
+
+fn no_header_begins_another()
+    ensures { NoHeaderBeginsAnother }
+{}
+
+fn no_header_at_a_fault()
+    ensures { NoHeaderAtAFault }
+{}
