@@ -2,4 +2,6 @@ pub mod Identifier
 pub mod Length
 pub mod Header
 pub mod Fault
+pub mod Form
+pub mod Universal
 pub mod Laws

@@ -7,13 +7,17 @@
 
 mod fault;
 mod fault_kind;
+mod form;
 mod header;
 mod laws;
 mod length;
 mod length_octets;
 mod tag_number;
+mod universal;
 
 pub use fault::Fault;
 pub use fault_kind::FaultKind;
+pub use form::Form;
 pub use header::{Header, read_header};
 pub use length::Length;
+pub use universal::Universal;
