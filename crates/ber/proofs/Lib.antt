@@ -3,3 +3,5 @@ pub mod TagNumberLemmas
 pub mod LengthLemmas
 pub mod HeaderLemmas
 pub mod GrammarLemmas
+pub mod UniversalLemmas
+pub mod DerLemmas

@@ -1,6 +1,15 @@
 -- Laws of headers and of their faults.
-use Rattle.std.specs.Prelude.{◌≡◌, ℕ, List, ◌++◌}
-use Rattle.ber.specs.Header.{IsHeader, IsNext}
+use Rattle.std.specs.Prelude.{◌≡◌, ◌↔◌, ℕ, true, Some, List, ◌++◌}
+use Rattle.der_base.specs.Length.{number, definite_length}
+use Rattle.der_base.specs.Tag.{label}
+use Rattle.der_base.specs.HeaderGrammar.{Head, head, HeadNext}
+use Rattle.der_base.specs.declared.encoding_rules.EncodingRules.TheVariants.{Der}
+use Rattle.der_base.specs.declared.tag.Tag.{Tag}
+use Rattle.ber.specs.Der.{IsDer, has_tag}
+use Rattle.ber.specs.Header.{label_of_header, IsHeader, IsNext}
+use Rattle.ber.specs.Universal.{number_of, universal_at}
+use Rattle.ber.specs.declared.length.Length.TheVariants.{Definite}
+use Rattle.ber.specs.declared.universal.Universal.{Universal}
 use Rattle.ber.specs.Fault.{IsFault}
 use Rattle.ber.specs.declared.header.Header.{Header}
 use Rattle.ber.specs.declared.fault.Fault.{Fault}
@@ -14,3 +23,28 @@ NoHeaderBeginsAnother =
 -- octets with a fault begin with no header
 abbrev pub NoHeaderAtAFault : Type 0
 NoHeaderAtAFault = (octets : List ℕ) (f : Fault) (h : Header) → IsFault octets f → IsNext h octets → ⊥
+
+-- the head of a header in the grammar of `der_base`
+pub record IsHead (g : Head) (h : Header) : Type 0 where
+  pub label : label g.tag ≡ label_of_header h
+  pub constructed : g.constructed ≡ h.constructed
+  pub definite : g.length ≡ definite_length (number g.length)
+  pub length : h.length ≡ Definite (number g.length)
+
+-- a header with no departure, and with a tag that `der_base` has, is one of the Distinguished
+-- Encoding Rules
+abbrev pub HeadersWithoutDeparturesAreDer : Type 0
+HeadersWithoutDeparturesAreDer =
+    (octets : List ℕ) (h : Header) → IsNext h octets → IsDer h → has_tag (label_of_header h) ≡ true
+    → (g : Head) × IsHead g h × HeadNext g Der octets h.header_len
+
+-- each header of the Distinguished Encoding Rules is one with no departure, and with such a tag
+abbrev pub DerHeadersHaveNoDepartures : Type 0
+DerHeadersHaveNoDepartures =
+    (octets : List ℕ) (g : Head) (m : ℕ) → HeadNext g Der octets m
+    → (h : Header) × IsHead g h × IsNext h octets × IsDer h × (has_tag (label_of_header h) ≡ true)
+    × (h.header_len ≡ m)
+
+-- each universal type is found by its number, and has the number by which it is found
+abbrev pub UniversalNumbers : Type 0
+UniversalNumbers = (n : ℕ) (u : Universal) → (universal_at n ≡ Some u) ↔ (number_of u ≡ n)

@@ -4,4 +4,5 @@ pub mod Header
 pub mod Fault
 pub mod Form
 pub mod Universal
+pub mod Der
 pub mod Laws
