@@ -117,7 +117,7 @@ number_refused (large n rest many low) =
     (_, refused_on octets fault)
 
 -- octets with a fault of a number begin with none
-number_never : {s : List ℕ} {f : Fault} → IsNumberFault s f → (n : ℕ) (y : List ℕ) → 31 ≤ n → n < 2 ^ 32 → s ≡ continuation_octets (digits 128 n) ++ y → ⊥
+pub number_never : {s : List ℕ} {f : Fault} → IsNumberFault s f → (n : ℕ) (y : List ℕ) → 31 ≤ n → n < 2 ^ 32 → s ≡ continuation_octets (digits 128 n) ++ y → ⊥
 number_never {s} is n y many fits e =
     let refused = number_refused is in
     no_identifier_fault y refused.1 (long_identifier {rules = Der} 95 n (omega arith) (omega arith) refl many fits) (ap (λ l. 95 ∷ l) e)
@@ -148,7 +148,7 @@ length_never (primitive off rest) (long ds more last all fits) form y e = let f 
 length_never (primitive off rest) indefinite form y e = let f : false ≡ true = sym off ∙ form refl in cc
 
 -- an identifier is not empty
-identifier_some : (l : Label) (y : List ℕ) → [] ≡ identifier_octets l ++ y → ⊥
+pub identifier_some : (l : Label) (y : List ℕ) → [] ≡ identifier_octets l ++ y → ⊥
 identifier_some l y e =
     ⊎_elim
     (λ a. let f : [] ≡ leading_octet l l.number ∷ y = e ∙ ap (λ x. x ++ y) (label_small l a) in cc)
@@ -156,7 +156,7 @@ identifier_some l y e =
     (cases_lt l.number 31)
 
 -- a first octet whose five low bits are set is followed by the number
-identifier_set : (o : ℕ) (l : Label) (s y : List ℕ) → o % 32 ≡ 31 → o ∷ s ≡ identifier_octets l ++ y → (31 ≤ l.number) × (s ≡ continuation_octets (digits 128 l.number) ++ y)
+pub identifier_set : (o : ℕ) (l : Label) (s y : List ℕ) → o % 32 ≡ 31 → o ∷ s ≡ identifier_octets l ++ y → (31 ≤ l.number) × (s ≡ continuation_octets (digits 128 l.number) ++ y)
 identifier_set o l s y set e =
     ⊎_elim
     (λ a. let f : o ∷ s ≡ leading_octet l l.number ∷ y = e ∙ ap (λ x. x ++ y) (label_small l a) in
@@ -180,3 +180,21 @@ no_header {a = a} {h = h} fault is y e =
     go (no_length {more = more} l fits number) e =
         let r = label_front l (label_of_header h) more (is.size ++ y) e in
         length_never number is.sized (λ i. ap (λ (m : Label). m.constructed) r.0 ∙ is.form i) y r.1
+
+-- a length has at least one octet
+pub length_some : {l : Length} {a : List ℕ} → IsLength l a → 1 ≤ length a
+length_some (short n p) = omega arith
+length_some (long ds some most all fits) = omega arith
+length_some indefinite = omega arith
+
+-- an identifier has at least one octet
+identifier_one : (l : Label) → 1 ≤ length (identifier_octets l)
+identifier_one l =
+    ⊎_elim
+    (λ a. omega (arith, ap length (label_small l a)))
+    (λ a. omega (arith, ap length (label_large l a)))
+    (cases_lt l.number 31)
+
+-- a header has at least two octets
+pub header_two : {h : Header} {a : List ℕ} → IsHeader h a → 2 ≤ h.header_len
+header_two {h} is = omega (arith, is.whole, ap length is.spelled, length-append (identifier_octets (label_of_header h)) is.size, identifier_one (label_of_header h), length_some is.sized)

@@ -5,3 +5,5 @@ pub mod HeaderLemmas
 pub mod GrammarLemmas
 pub mod UniversalLemmas
 pub mod DerLemmas
+pub mod ElementLemmas
+pub mod FaultLemmas

@@ -1,5 +1,5 @@
 -- Laws of headers and of their faults.
-use Rattle.std.specs.Prelude.{◌≡◌, ◌↔◌, ℕ, true, Some, List, ◌++◌}
+use Rattle.std.specs.Prelude.{◌≡◌, ◌↔◌, ℕ, ◌<◌, ◌≤◌, true, Some, List, ◌++◌, length}
 use Rattle.der_base.specs.Length.{number, definite_length}
 use Rattle.der_base.specs.Tag.{label}
 use Rattle.der_base.specs.HeaderGrammar.{Head, head, HeadNext}
@@ -10,7 +10,8 @@ use Rattle.ber.specs.Header.{label_of_header, IsHeader, IsNext}
 use Rattle.ber.specs.Universal.{number_of, universal_at}
 use Rattle.ber.specs.declared.length.Length.TheVariants.{Definite}
 use Rattle.ber.specs.declared.universal.Universal.{Universal}
-use Rattle.ber.specs.Fault.{IsFault}
+use Rattle.ber.specs.Element.{IsElement}
+use Rattle.ber.specs.Fault.{IsFault, truncated_at}
 use Rattle.ber.specs.declared.header.Header.{Header}
 use Rattle.ber.specs.declared.fault.Fault.{Fault}
 
@@ -20,9 +21,29 @@ NoHeaderBeginsAnother =
     (h g : Header) (a b x y : List ℕ) → IsHeader h a → IsHeader g b → a ++ x ≡ b ++ y
     → (h ≡ g) × (a ≡ b) × (x ≡ y)
 
+-- no element of definite length is a proper prefix of another
+abbrev pub NoElementBeginsAnother : Type 0
+NoElementBeginsAnother =
+    (h g : Header) (c d a b x y : List ℕ) → IsElement h c a → IsElement g d b → a ++ x ≡ b ++ y
+    → (h ≡ g) × (c ≡ d) × (a ≡ b) × (x ≡ y)
+
+-- a header has at least two octets
+abbrev pub HeadersHaveTwoOctets : Type 0
+HeadersHaveTwoOctets = (h : Header) (octets : List ℕ) → IsHeader h octets → 2 ≤ h.header_len
+
 -- octets with a fault begin with no header
 abbrev pub NoHeaderAtAFault : Type 0
 NoHeaderAtAFault = (octets : List ℕ) (f : Fault) (h : Header) → IsFault octets f → IsNext h octets → ⊥
+
+-- octets have at most one fault
+abbrev pub FaultsAreSingle : Type 0
+FaultsAreSingle = (octets : List ℕ) (f g : Fault) → IsFault octets f → IsFault octets g → f ≡ g
+
+-- each header that continues truncated octets has at least as many as are said to be needed
+abbrev pub TruncatedNeedsMore : Type 0
+TruncatedNeedsMore =
+    (octets more : List ℕ) (at needed : ℕ) (h : Header) → IsFault octets (truncated_at at needed)
+    → IsHeader h (octets ++ more) → (at ≡ length octets) × (at < needed) × (needed ≤ h.header_len)
 
 -- the head of a header in the grammar of `der_base`
 pub record IsHead (g : Head) (h : Header) : Type 0 where

@@ -2,6 +2,7 @@ pub mod Identifier
 pub mod Length
 pub mod Header
 pub mod Fault
+pub mod Element
 pub mod Form
 pub mod Universal
 pub mod Der

@@ -1,14 +1,16 @@
 //! Headers.
-ghost use Rattle.std.specs.Prelude.{◌≡◌, ◌≤◌, ◌++◌, length, IfOk, IfErr};
+ghost use Rattle.std.specs.Prelude.{◌≡◌, ◌≤◌, ◌↔◌, ◌++◌, length, IsTrue, IfOk, IfErr};
 ghost use Rattle.der_base.specs.Tag.{is_constructed};
 ghost use Rattle.ber.specs.Identifier.{identifier_octets, label_at};
 ghost use Rattle.ber.specs.Header.{IsNext};
 ghost use Rattle.ber.specs.Fault.{IsFault};
 
 use crate::fault::Fault;
+use crate::form::Form;
 use crate::length::Length;
 use crate::length_octets::LengthOctets;
 use crate::tag_number::tag_number;
+use crate::universal::Universal;
 use der_base::Class;
 
 /// The header of an element: its identifier and its length (X.690 8.1.2, 8.1.3).
@@ -26,6 +28,62 @@ pub struct Header {
     pub minimal: bool,
     /// The number of octets of the header, 2 to 133.
     pub header_len: usize,
+}
+
+impl Header {
+    ghost use Rattle.ber.specs.Header.{label_of_header};
+    ghost use Rattle.ber.specs.Der.{type_of, HasWrongForm, IsConstructedString, IsDer};
+
+    /// The type that has the tag in class UNIVERSAL. It is `None` for another class, and for a
+    /// reserved number.
+    pub const fn universal(self) -> Option<Universal>
+        ensures { result ≡ type_of (label_of_header self) }
+    {
+        match self.class {
+            Class::Universal => Universal::from_number(self.number),
+            _ => None,
+        }
+    }
+
+    /// Whether the length is indefinite, which the Distinguished Encoding Rules forbid (10.1).
+    pub const fn is_indefinite(self) -> bool
+        ensures { IsTrue result ↔ (self.length ≡ Length.Indefinite) }
+    {
+        matches!(self.length, Length::Indefinite)
+    }
+
+    /// Whether the encoding is constructed though its universal type is primitive, or primitive
+    /// though it is constructed (8.2 to 8.26). The Basic Encoding Rules forbid both.
+    pub const fn has_wrong_form(self) -> bool
+        ensures { IsTrue result ↔ HasWrongForm (label_of_header self) }
+    {
+        match self.universal() {
+            Some(universal) => !universal.form().allows(self.constructed),
+            None => false,
+        }
+    }
+
+    /// Whether this is a string of a universal type in the constructed form, which the
+    /// Distinguished Encoding Rules forbid (10.2).
+    pub const fn is_constructed_string(self) -> bool
+        ensures { IsTrue result ↔ IsConstructedString (label_of_header self) }
+    {
+        match self.universal() {
+            Some(universal) => self.constructed && matches!(universal.form(), Form::Either),
+            None => false,
+        }
+    }
+
+    /// Whether the header departs in nothing from the Distinguished Encoding Rules, as far as it
+    /// shows: a string with a tag of another class may still be in the constructed form.
+    pub const fn is_der(self) -> bool
+        ensures { IsTrue result ↔ IsDer self }
+    {
+        self.minimal
+            && !self.is_indefinite()
+            && !self.has_wrong_form()
+            && !self.is_constructed_string()
+    }
 }
 
 /// The header at the front of `octets`.

@@ -1,13 +1,29 @@
 //! Laws of headers. Each function does nothing; its contract is a law that `specs/Laws.antt` defines.
 //! Nothing calls the functions of this module.
-ghost use Rattle.ber.specs.Laws.{NoHeaderBeginsAnother, NoHeaderAtAFault, HeadersWithoutDeparturesAreDer, DerHeadersHaveNoDepartures, UniversalNumbers};
+ghost use Rattle.ber.specs.Laws.{NoHeaderBeginsAnother, NoElementBeginsAnother, HeadersHaveTwoOctets, NoHeaderAtAFault, FaultsAreSingle, TruncatedNeedsMore, HeadersWithoutDeparturesAreDer, DerHeadersHaveNoDepartures, UniversalNumbers};
 
 fn no_header_begins_another()
     ensures { NoHeaderBeginsAnother }
 {}
 
+fn no_element_begins_another()
+    ensures { NoElementBeginsAnother }
+{}
+
+fn headers_have_two_octets()
+    ensures { HeadersHaveTwoOctets }
+{}
+
 fn no_header_at_a_fault()
     ensures { NoHeaderAtAFault }
+{}
+
+fn faults_are_single()
+    ensures { FaultsAreSingle }
+{}
+
+fn truncated_needs_more()
+    ensures { TruncatedNeedsMore }
 {}
 
 fn headers_without_departures_are_der()

@@ -5,6 +5,8 @@
 //! 4294967295. Nothing here allocates.
 #![tactic(auto)]
 
+mod element;
+mod element_fault;
 mod fault;
 mod fault_kind;
 mod form;
@@ -15,6 +17,8 @@ mod length_octets;
 mod tag_number;
 mod universal;
 
+pub use element::{Element, is_end_of_contents, read_element};
+pub use element_fault::ElementFault;
 pub use fault::Fault;
 pub use fault_kind::FaultKind;
 pub use form::Form;
