@@ -1,7 +1,8 @@
 -- Octets have at most one fault, and how many octets truncated ones lack.
-use Rattle.std.proofs.Common.{◌≡◌, ℕ, suc, ◌+◌, ◌*◌, ◌/◌, ◌^◌, ◌<◌, ◌≤◌, Bool, List, [], ◌∷◌, ◌++◌, length, get_or, refl, sym, ap, ◌∙◌, subst, ⊎_elim, append_assoc, append-nil, length-append, arith}
+use Rattle.std.proofs.Common.{◌≡◌, ℕ, suc, ◌+◌, ◌*◌, ◌/◌, ◌^◌, ◌<◌, ◌≤◌, Bool, List, [], Result, Ok, Err, IfOk, IfErr, ◌∷◌, ◌++◌, length, get_or, refl, sym, ap, ◌∙◌, subst, ⊎_elim, append_assoc, append-nil, length-append, arith}
 use Rattle.std.proofs.lemmas.Bool.{cases_lt}
 use Rattle.std.proofs.lemmas.List.{length-map}
+use Rattle.std.proofs.lemmas.Result.{IfErr-weaker}
 use Rattle.std.proofs.lemmas.Int.Digits.{first_digits_of, number_digits_of, number_after_append, number_after_ge, all_below_base_digits_of}
 use Rattle.std.specs.Int.Digits.{digits_of, number_from_digits, number_from_digits_after, AllBelowBase}
 use Rattle.der_base.specs.Length.{digits}
@@ -10,13 +11,13 @@ use Rattle.der_base.proofs.DigitLemmas.{two_fronts, digits_positive, length_digi
 use Rattle.der_base.proofs.TagLemmas.{label_front}
 use Rattle.ber.specs.Identifier.{identifier_octets, continued_digits}
 use Rattle.ber.specs.Length.{IsLength, short, long, indefinite}
-use Rattle.ber.specs.Header.{label_of_header, IsHeader}
+use Rattle.ber.specs.Header.{label_of_header, IsHeader, IsNext}
 use Rattle.ber.specs.Fault.{fault_at, truncated_at, IsNumberFault, ends, padded, small, large, IsLengthFault, nothing, few, reserved, too_large, primitive, IsFault, no_octets, no_number, no_length}
 use Rattle.ber.specs.declared.header.Header.{Header}
 use Rattle.ber.specs.declared.length.Length.{Length}
 use Rattle.ber.specs.declared.fault.Fault.{Fault}
 use Rattle.ber.specs.declared.fault_kind.FaultKind.TheVariants.{Truncated, TagNumberPadded, TagNumberTooSmall, TagNumberTooLarge, LengthReserved, LengthTooLarge, PrimitiveIndefinite}
-use Rattle.ber.proofs.GrammarLemmas.{number_never, identifier_some, identifier_set, length_some, header_two}
+use Rattle.ber.proofs.GrammarLemmas.{number_never, identifier_some, identifier_set, length_some, header_two, one_header, no_header}
 
 -- the first octet of a number that continues is above 128
 first_above : (n : ℕ) (x : List ℕ) (o : ℕ) (rest : List ℕ) → 0 < n → continued_digits (digits_of 128 n) ++ x ≡ o ∷ rest → 128 < o
@@ -227,3 +228,17 @@ needs {h = h} more at needed (no_length {more = s} l fits number) e is =
     let r = label_front l (label_of_header h) (s ++ more) is.size split in
     let n = length_needs number e is.sized more [] (r.1 ∙ sym (append-nil is.size)) in
     (omega (arith, n.0, length-append id s), n.1, omega (arith, n.2, is.whole, ap length is.spelled, length-append (identifier_octets (label_of_header h)) is.size, ap (λ m. length (identifier_octets m)) r.0))
+
+-- a call that returns a fault that there is returns no fault where there is a header
+pub result_none : (s : List ℕ) (r : Result Header Fault) → IfErr r (λ f. IsFault s f) → IfErr r (λ f. (h : Header) → IsNext h s → ⊥)
+result_none s r fault = IfErr-weaker r (λ f. IsFault s f) (λ f. (h : Header) → IsNext h s → ⊥) (λ f is h next. no_header is next.is next.rest next.split) fault
+
+-- it returns each header that there is
+pub result_complete : (s : List ℕ) (r : Result Header Fault) → IfOk r (λ h. IsNext h s) → IfErr r (λ f. IsFault s f) → (h : Header) → IsNext h s → r ≡ Ok h
+result_complete s (Ok g) found fault h next = ap Ok (one_header found.is next.is found.rest next.rest (sym found.split ∙ next.split)).0
+result_complete s (Err f) found fault h next = absurd (no_header fault next.is next.rest next.split)
+
+-- it returns each fault that there is
+pub result_refused : (s : List ℕ) (r : Result Header Fault) → IfOk r (λ h. IsNext h s) → IfErr r (λ f. IsFault s f) → (f : Fault) → IsFault s f → r ≡ Err f
+result_refused s (Ok h) found fault f is = absurd (no_header is found.is found.rest found.split)
+result_refused s (Err g) found fault f is = ap Err (one_fault fault is refl)

@@ -4,6 +4,7 @@ ghost use Rattle.der_base.specs.Tag.{is_constructed};
 ghost use Rattle.ber.specs.Identifier.{identifier_octets, label_at};
 ghost use Rattle.ber.specs.Header.{IsNext};
 ghost use Rattle.ber.specs.Fault.{IsFault};
+ghost use Rattle.ber.specs.declared.fault.Fault.{Fault};
 
 use crate::fault::Fault;
 use crate::form::Form;
@@ -95,7 +96,12 @@ impl Header {
 #[inline(always)]
 pub fn read_header(octets: &[u8]) -> Result<Header, Fault>
     ensures found { IfOk result (λ h. IsNext h octets.now) }
+    ensures none { IfErr result (λ f. (h : Header) → IsNext h octets.now → ⊥) }
     ensures fault { IfErr result (λ f. IsFault octets.now f) }
+
+    // Both ways: it returns the header, or the fault, that there is.
+    ensures complete { (h : Header) → IsNext h octets.now → result ≡ Ok h }
+    ensures refused { (f : Fault) → IsFault octets.now f → result ≡ Err f }
 {
     match octets {
         [first, size, ..] if *first % 32 < 31 && *size < 0x80 => Ok(Header {
