@@ -1,15 +1,14 @@
 -- Headers with no departure are those of the Distinguished Encoding Rules.
-use Rattle.std.proofs.Common.{◌≡◌, ◌≢◌, ℕ, ◌+◌, ◌^◌, ◌<◌, ◌≤◌, Bool, true, false, Option, Some, None, List, [], ◌∷◌, ◌++◌, length, refl, sym, ap, ◌∙◌, subst, ⊎_elim, append_assoc, length-append, arith}
+use Rattle.std.proofs.Common.{◌≡◌, ◌≢◌, ℕ, ◌+◌, ◌^◌, ◌<◌, Bool, true, false, Some, List, ◌∷◌, ◌++◌, length, refl, sym, ap, ◌∙◌, subst, ⊎_elim, append_assoc, length-append, arith}
 use Rattle.std.proofs.lemmas.Bool.{cases_lt}
 use Rattle.std.proofs.lemmas.Int.Digits.{number_digits_of, all_below_base_digits_of, length-digits_of-le}
-use Rattle.std.specs.Int.Digits.{digits_of, number_from_digits, AllBelowBase}
+use Rattle.std.specs.Int.Digits.{digits_of, number_from_digits}
 use Rattle.der_base.specs.Class.{class_number}
-use Rattle.der_base.specs.Length.{number, is_indefinite, definite_length, digits, length_octets}
-use Rattle.der_base.specs.Tag.{Label, label, label_of, tag_octets, tag_number, IsIdentifier, of_tag}
-use Rattle.der_base.specs.HeaderGrammar.{Head, head, HeadNext, header, LengthNext, definite}
-use Rattle.der_base.specs.declared.length.Length.{Length as DerLength}
+use Rattle.der_base.specs.Length.{number, definite_length, digits, length_octets}
+use Rattle.der_base.specs.Tag.{Label, label, label_of, tag_octets, tag_number, of_tag}
+use Rattle.der_base.specs.HeaderGrammar.{Head, head, HeadNext, header, definite}
 use Rattle.der_base.specs.declared.encoding_rules.EncodingRules.{EncodingRules}
-use Rattle.der_base.specs.declared.encoding_rules.EncodingRules.TheVariants.{Ber, Der}
+use Rattle.der_base.specs.declared.encoding_rules.EncodingRules.TheVariants.{Der}
 use Rattle.der_base.specs.declared.tag.Tag.{Tag}
 use Rattle.der_base.specs.declared.tag.Tag.TheVariants as tags
 use Rattle.der_base.specs.declared.tag.class.Class.{Class}
@@ -20,7 +19,7 @@ use Rattle.der_base.proofs.IdentifierLemmas.{IdentifierView, tagged, segmented, 
 use Rattle.der_base.proofs.HeaderLemmas.{HeaderView, header_view_of, header_view, LengthView, view_definite, view_indefinite, length_view}
 use Rattle.ber.specs.Identifier.{identifier_octets}
 use Rattle.ber.specs.Length.{IsLength, short, long, indefinite, IsMinimal}
-use Rattle.ber.specs.Header.{label_of_header, IsHeader, IsNext}
+use Rattle.ber.specs.Header.{label_of_header, IsNext}
 use Rattle.ber.specs.Der.{type_of, HasWrongForm, IsConstructedString, IsDer, has_tag}
 use Rattle.ber.specs.Laws.{IsHead}
 use Rattle.ber.specs.Form.{allows}
@@ -71,8 +70,7 @@ der_header octets h next der has =
     let whole : tag_octets t ++ (length_octets n ++ next.rest) ≡ octets = sym (append_assoc (tag_octets t) (length_octets n) next.rest) ∙ ap (λ l. l ++ next.rest) (sym front) ∙ sym next.split in
     let count : length (tag_octets t) + length (length_octets n) ≡ h.header_len = omega (arith, is.whole, ap length front, length-append (tag_octets t) (length_octets n)) in
     let core : HeadNext (head t (definite_length n) h.constructed) Der (tag_octets t ++ (length_octets n ++ next.rest)) (length (tag_octets t) + length (length_octets n)) =
-    header (identifier_at refl bit (of_tag small)) (definite n next.rest fits) (λ i. cc) in
-    (
+    header (identifier_at refl bit (of_tag small)) (definite n next.rest fits) (λ i. cc) in (
       head t (definite_length n) h.constructed,
       record { label = labels; constructed = refl; definite = refl; length = e },
       head_at whole count core,

@@ -1,13 +1,12 @@
 -- Elements of definite length: what is read of them, and that none begins another.
-use Rattle.std.proofs.Common.{◌≡◌, ℕ, ◌+◌, ◌-◌, ◌<◌, ◌≤◌, List, ◌∷◌, ◌++◌, length, take, drop, refl, sym, ap, ◌∙◌, subst, append_assoc, length-append, length-take-le, drop_at, arith}
+use Rattle.std.proofs.Common.{◌≡◌, ℕ, ◌+◌, ◌-◌, ◌<◌, ◌≤◌, List, ◌++◌, length, take, drop, refl, sym, ap, ◌∙◌, append_assoc, length-append, length-take-le, drop_at, arith}
 use Rattle.std.proofs.lemmas.List.{take-append-drop}
 use Rattle.der_base.proofs.DigitLemmas.{same_length_front}
-use Rattle.ber.specs.Header.{IsHeader, IsNext}
+use Rattle.ber.specs.Header.{IsNext}
 use Rattle.ber.specs.Fault.{IsFault}
 use Rattle.ber.specs.Element.{IsElement}
 use Rattle.ber.specs.declared.fault.Fault.{Fault}
 use Rattle.ber.specs.declared.header.Header.{Header}
-use Rattle.ber.specs.declared.length.Length.{Length}
 use Rattle.ber.specs.declared.length.Length.TheVariants.{Definite, Indefinite}
 use Rattle.ber.proofs.ListLemmas.{rest_of}
 use Rattle.ber.proofs.GrammarLemmas.{one_header, no_header}

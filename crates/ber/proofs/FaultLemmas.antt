@@ -1,12 +1,12 @@
 -- Octets have at most one fault, and how many octets truncated ones lack.
-use Rattle.std.proofs.Common.{◌≡◌, ℕ, suc, ◌+◌, ◌*◌, ◌/◌, ◌^◌, ◌<◌, ◌≤◌, Bool, List, [], Result, Ok, Err, IfOk, IfErr, ◌∷◌, ◌++◌, length, get_or, refl, sym, ap, ◌∙◌, subst, ⊎_elim, append_assoc, append-nil, length-append, arith}
+use Rattle.std.proofs.Common.{◌≡◌, ℕ, ◌+◌, ◌*◌, ◌/◌, ◌^◌, ◌<◌, ◌≤◌, Bool, List, [], Result, Ok, Err, IfOk, IfErr, ◌∷◌, ◌++◌, length, get_or, refl, sym, ap, ◌∙◌, subst, ⊎_elim, append_assoc, append-nil, length-append, arith}
 use Rattle.std.proofs.lemmas.Bool.{cases_lt}
 use Rattle.std.proofs.lemmas.List.{length-map}
 use Rattle.std.proofs.lemmas.Result.{IfErr-weaker}
 use Rattle.std.proofs.lemmas.Int.Digits.{first_digits_of, number_digits_of, number_after_append, number_after_ge, all_below_base_digits_of}
 use Rattle.std.specs.Int.Digits.{digits_of, number_from_digits, number_from_digits_after, AllBelowBase}
 use Rattle.der_base.specs.Length.{digits}
-use Rattle.der_base.specs.Tag.{Label, continuation_octets}
+use Rattle.der_base.specs.Tag.{continuation_octets}
 use Rattle.der_base.proofs.DigitLemmas.{two_fronts, digits_positive, length_digits_positive, length_continued}
 use Rattle.der_base.proofs.TagLemmas.{label_front}
 use Rattle.ber.specs.Identifier.{identifier_octets, continued_digits}

@@ -1,10 +1,10 @@
 -- Octets begin with at most one header, and with none if there is a fault.
-use Rattle.std.proofs.Common.{◌≡◌, ◌≢◌, ℕ, ◌+◌, ◌*◌, ◌/◌, ◌%◌, ◌^◌, ◌<◌, ◌≤◌, ◌↔◌, IsTrue, Bool, true, false, List, [], ◌∷◌, ◌++◌, length, refl, sym, ap, ◌∙◌, subst, ⊎_elim, append_assoc, length-append, arith}
+use Rattle.std.proofs.Common.{◌≡◌, ℕ, ◌+◌, ◌*◌, ◌/◌, ◌%◌, ◌^◌, ◌<◌, ◌≤◌, ◌↔◌, IsTrue, Bool, true, false, List, [], ◌∷◌, ◌++◌, length, refl, sym, ap, ◌∙◌, subst, ⊎_elim, append_assoc, length-append, arith}
 use Rattle.std.proofs.lemmas.Bool.{cases_lt}
 use Rattle.std.specs.Int.Digits.{digits_of, number_from_digits}
 use Rattle.der_base.specs.Class.{class_number}
 use Rattle.der_base.specs.Length.{digits}
-use Rattle.der_base.specs.Tag.{Label, label_of, leading_octet, is_constructed, continuation_octets, other_tag, IdentifierFault}
+use Rattle.der_base.specs.Tag.{Label, leading_octet, continuation_octets, IdentifierFault}
 use Rattle.der_base.specs.Error.{Refusal}
 use Rattle.der_base.specs.declared.encoding_rules.EncodingRules.TheVariants.{Der}
 use Rattle.der_base.specs.declared.tag.class.Class.{Class}
@@ -12,7 +12,7 @@ use Rattle.der_base.specs.declared.tag.class.Class.TheVariants.{Universal, Appli
 use Rattle.der_base.proofs.DigitLemmas.{same_length_front, digits_of_push}
 use Rattle.der_base.proofs.TagLemmas.{label_front, label_small, label_large, octet_parts, octet_back}
 use Rattle.der_base.proofs.IdentifierLemmas.{no_identifier_fault, long_identifier}
-use Rattle.der_base.proofs.LongNumberLemmas.{SoFar, so_far_none, number_cut, number_refused_first, number_refused_few, number_refused_many, continued_digits_push}
+use Rattle.der_base.proofs.LongNumberLemmas.{so_far_none, number_cut, number_refused_first, number_refused_few, number_refused_many, continued_digits_push}
 use Rattle.ber.specs.Identifier.{identifier_octets, label_at, continued_digits}
 use Rattle.ber.specs.Length.{IsLength, short, long, indefinite, IsMinimal}
 use Rattle.ber.specs.Header.{label_of_header, IsHeader}
@@ -84,15 +84,14 @@ one_header {h} {g} {a} {b} p q x y e =
     let right : b ++ y ≡ identifier_octets (label_of_header g) ++ (q.size ++ y) = ap (λ l. l ++ y) q.spelled ∙ append_assoc (identifier_octets (label_of_header g)) q.size y in
     let front = label_front (label_of_header h) (label_of_header g) (p.size ++ x) (q.size ++ y) (sym left ∙ e ∙ right) in
     let tail = one_length p.sized q.sized x y front.1 in
-    let octets : a ≡ b = p.spelled ∙ ap (λ l. identifier_octets l ++ p.size) front.0 ∙ ap (λ s. identifier_octets (label_of_header g) ++ s) tail.1 ∙ sym q.spelled in
-    (
+    let octets : a ≡ b = p.spelled ∙ ap (λ l. identifier_octets l ++ p.size) front.0 ∙ ap (λ s. identifier_octets (label_of_header g) ++ s) tail.1 ∙ sym q.spelled in (
       same_header h g
-      (same_class h.class g.class (ap (λ (l : Label). l.class) front.0))
-      (ap (λ (l : Label). l.constructed) front.0)
-      (ap (λ (l : Label). l.number) front.0)
-      tail.0
-      (same_test h.minimal g.minimal p.minimal q.minimal (minimal_same tail.0 tail.1) (minimal_same (sym tail.0) (sym tail.1)))
-      (p.whole ∙ ap length octets ∙ sym q.whole),
+          (same_class h.class g.class (ap (λ (l : Label). l.class) front.0))
+          (ap (λ (l : Label). l.constructed) front.0)
+          (ap (λ (l : Label). l.number) front.0)
+          tail.0
+          (same_test h.minimal g.minimal p.minimal q.minimal (minimal_same tail.0 tail.1) (minimal_same (sym tail.0) (sym tail.1)))
+          (p.whole ∙ ap length octets ∙ sym q.whole),
       octets,
       tail.2,
     )

@@ -1,16 +1,15 @@
 -- Headers: an identifier, and the length after it.
-use Rattle.std.proofs.Common.{◌≡◌, ℕ, ◌+◌, ◌/◌, ◌%◌, ◌^◌, ◌<◌, ◌≤◌, Bool, true, List, [], ◌∷◌, ◌++◌, length, refl, sym, ap, ◌∙◌, subst, append_assoc, length-append, arith}
+use Rattle.std.proofs.Common.{◌≡◌, ℕ, ◌+◌, ◌/◌, ◌%◌, ◌^◌, ◌<◌, ◌≤◌, Bool, true, List, [], ◌∷◌, ◌++◌, length, sym, ap, ◌∙◌, subst, append_assoc, length-append, arith}
 use Rattle.std.proofs.lemmas.Int.Digits.{length-digits_of-le}
-use Rattle.std.specs.Int.Digits.{digits_of}
 use Rattle.der_base.specs.Class.{class_number}
 use Rattle.der_base.specs.Length.{digits}
-use Rattle.der_base.specs.Tag.{Label, label_of, leading_octet, is_constructed, continuation_octets}
+use Rattle.der_base.specs.Tag.{label_of, leading_octet, is_constructed, continuation_octets}
 use Rattle.der_base.specs.declared.tag.class.Class.{Class}
 use Rattle.der_base.proofs.DigitLemmas.{digits_positive, length_continued}
 use Rattle.der_base.proofs.TagLemmas.{label_small, label_large, octet_back}
 use Rattle.ber.specs.Identifier.{identifier_octets, label_at, IsTagNumber}
 use Rattle.ber.specs.Length.{LengthNext}
-use Rattle.ber.specs.Header.{IsHeader, IsNext}
+use Rattle.ber.specs.Header.{IsNext}
 use Rattle.ber.specs.Fault.{IsFault, IsLengthFault, no_length}
 use Rattle.ber.specs.declared.header.Header.{Header}
 use Rattle.ber.specs.declared.length.Length.TheVariants.{Definite}

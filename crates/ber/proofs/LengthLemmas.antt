@@ -1,15 +1,15 @@
 -- Lengths: what is read of them, and their faults.
-use Rattle.std.proofs.Common.{◌≡◌, ◌≢◌, ℕ, suc, ◌+◌, ◌*◌, ◌^◌, ◌<◌, ◌≤◌, ◌↔◌, IsTrue, Bool, true, false, List, [], ◌∷◌, ◌++◌, length, take, drop, get_or, refl, sym, ap, ◌∙◌, subst, ⊎_elim, length-take-le, arith}
+use Rattle.std.proofs.Common.{◌≡◌, ◌≢◌, ℕ, suc, ◌+◌, ◌*◌, ◌^◌, ◌<◌, ◌≤◌, IsTrue, Bool, true, List, [], ◌∷◌, ◌++◌, length, take, drop, get_or, refl, sym, ap, ◌∙◌, subst, ⊎_elim, length-take-le, arith}
 use Rattle.std.proofs.lemmas.Bool.{cases_lt}
 use Rattle.std.proofs.lemmas.List.{take-append-drop, get_or-take}
 use Rattle.std.proofs.lemmas.Int.Digits.{number_after_append, number_after_ge, first_digits_of}
 use Rattle.std.specs.Int.Digits.{digits_of, number_from_digits, number_from_digits_after, AllBelowBase}
-use Rattle.der_base.specs.FixedOctets.{long_form, indefinite_octet}
+use Rattle.der_base.specs.FixedOctets.{long_form}
 use Rattle.der_base.specs.Length.{digits, length_octets}
 use Rattle.der_base.proofs.DigitLemmas.{digits_positive, digits_of_number}
 use Rattle.der_base.proofs.LengthLemmas.{length_small, length_large}
-use Rattle.ber.specs.Length.{IsLength, short, long, indefinite, IsMinimal, LengthNext}
-use Rattle.ber.specs.Fault.{IsLengthFault, few, too_large, truncated_at, fault_at}
+use Rattle.ber.specs.Length.{IsLength, short, long, indefinite, LengthNext}
+use Rattle.ber.specs.Fault.{IsLengthFault, too_large, fault_at}
 use Rattle.ber.specs.declared.length.Length.{Length}
 use Rattle.ber.specs.declared.length.Length.TheVariants.{Definite, Indefinite}
 use Rattle.ber.specs.declared.length_octets.LengthOctets.{LengthOctets}

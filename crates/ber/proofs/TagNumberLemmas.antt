@@ -4,8 +4,6 @@ use Rattle.std.proofs.lemmas.List.{length-map}
 use Rattle.std.proofs.Math.Seq.{take-length}
 use Rattle.std.proofs.lemmas.Bool.{cases_lt}
 use Rattle.std.specs.Int.Digits.{digits_of}
-use Rattle.der_base.specs.Length.{digits}
-use Rattle.der_base.specs.Tag.{continuation_octets}
 use Rattle.der_base.proofs.DigitLemmas.{digits_of_push}
 use Rattle.der_base.proofs.LongNumberLemmas.{SoFar, so_far_more, number_found, continued_digits_push}
 use Rattle.ber.specs.Identifier.{continued_digits, IsTagNumber}

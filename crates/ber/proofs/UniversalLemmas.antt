@@ -1,12 +1,12 @@
 -- Universal types, and the tags of `der_base` for them.
-use Rattle.std.proofs.Common.{◌≡◌, ℕ, ◌+◌, ◌<◌, ◌≤◌, Bool, true, false, not, nat_eq, Option, Some, None, is_some, option_and_then, List, [], ◌∷◌, refl, sym, ap, ◌∙◌, subst, ⊎_elim, cond, arith}
+use Rattle.std.proofs.Common.{◌≡◌, ℕ, Bool, true, false, Option, Some, None, is_some, option_and_then, List, [], ◌∷◌, refl, sym, ap, ◌∙◌, ⊎_elim}
 use Rattle.std.proofs.lemmas.Bool.{cases_eq, eq-eqb, ne_eqb}
 use Rattle.der_base.specs.Tag.{Label, label, label_of}
 use Rattle.der_base.specs.declared.tag.Tag.{Tag}
 use Rattle.der_base.specs.declared.tag.Tag.TheVariants as tags
 use Rattle.ber.specs.Form.{allows}
 use Rattle.ber.specs.Universal.{number_of, form_of, universal_types, universal_among, universal_at}
-use Rattle.ber.specs.Der.{type_of, tag_of_type, has_tag, HasWrongForm, IsConstructedString}
+use Rattle.ber.specs.Der.{type_of, tag_of_type, has_tag}
 use Rattle.ber.specs.declared.form.Form.{Form}
 use Rattle.ber.specs.declared.form.Form.TheVariants.{Primitive, Constructed, Either}
 use Rattle.ber.specs.declared.universal.Universal.{Universal}

@@ -1,8 +1,8 @@
 -- Departures of a header from the Distinguished Encoding Rules, and headers with none (`IsDer`).
 -- `has_tag` is the test whether `der_base` has a tag with a label; the universal types without one
 -- are those for which `tag_of_type` is `None`.
-use Rattle.std.specs.Prelude.{◌≡◌, ◌≢◌, ℕ, Bool, true, false, nat_eq, Option, Some, None, is_some, option_and_then, if◌then◌else◌}
-use Rattle.der_base.specs.Tag.{Label, label, label_of}
+use Rattle.std.specs.Prelude.{◌≡◌, ◌≢◌, Bool, true, false, nat_eq, Option, Some, None, is_some, option_and_then, if◌then◌else◌}
+use Rattle.der_base.specs.Tag.{Label}
 use Rattle.der_base.specs.declared.tag.Tag.{Tag}
 use Rattle.der_base.specs.declared.tag.Tag.TheVariants as tags
 use Rattle.ber.specs.Form.{allows}

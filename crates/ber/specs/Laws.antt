@@ -2,9 +2,8 @@
 use Rattle.std.specs.Prelude.{◌≡◌, ◌↔◌, ℕ, ◌<◌, ◌≤◌, true, Some, List, ◌++◌, length}
 use Rattle.der_base.specs.Length.{number, definite_length}
 use Rattle.der_base.specs.Tag.{label}
-use Rattle.der_base.specs.HeaderGrammar.{Head, head, HeadNext}
+use Rattle.der_base.specs.HeaderGrammar.{Head, HeadNext}
 use Rattle.der_base.specs.declared.encoding_rules.EncodingRules.TheVariants.{Der}
-use Rattle.der_base.specs.declared.tag.Tag.{Tag}
 use Rattle.ber.specs.Der.{IsDer, has_tag}
 use Rattle.ber.specs.Header.{label_of_header, IsHeader, IsNext}
 use Rattle.ber.specs.Universal.{number_of, universal_at}

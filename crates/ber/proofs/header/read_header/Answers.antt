@@ -1,8 +1,4 @@
-use Rattle.std.proofs.Common.{◌%◌, true, Result, Ok, drop, get_or}
-use Rattle.ber.specs.Header.{IsNext}
-use Rattle.ber.specs.declared.fault.Fault.{Fault}
-use Rattle.ber.specs.declared.header.Header.{Header}
-use Rattle.ber.specs.declared.length.Length.TheVariants.{Definite}
+use Rattle.std.proofs.Common.{Ok, drop, get_or}
 use Rattle.ber.proofs.ListLemmas.{two_of}
 use Rattle.ber.proofs.HeaderLemmas.{header_short}
 use Rattle.ber.proofs.FaultLemmas.{result_none, result_complete, result_refused}

@@ -1,4 +1,4 @@
-use Rattle.std.proofs.Common.{rules, ◌≡◌, get_or, subst, arith, length}
+use Rattle.std.proofs.Common.{◌≡◌, subst, arith, length}
 use Rattle.ber.proofs.TagNumberLemmas.{IsSoFar, number_padded, number_small, number_large, number_read, number_ends, so_far_next}
 use Rattle.ber.proofs.tag_number.tag_number.Goals as goal
 use Rattle.ber.proofs.tag_number.tag_number.Goals.{else-number-eq0-via-then-number-eq0+else-octet, else-number-eq0-via-else-number-eq0}

@@ -1,7 +1,6 @@
-use Rattle.std.proofs.Common.{◌≡◌, ◌≢◌, ◌<◌, ◌≤◌, ◌∷◌, ◌++◌, Bool, true, false, get_or, take, drop, sym, ◌∙◌, subst, arith}
+use Rattle.std.proofs.Common.{◌≡◌, ◌<◌, ◌++◌, get_or, take, drop, sym, ◌∙◌, subst, arith}
 use Rattle.std.proofs.lemmas.Bool.{leb-true, le-leb, eqb-false, not-true}
 use Rattle.std.proofs.lemmas.List.{take-append-drop}
-use Rattle.std.specs.Int.Digits.{AllBelowBase}
 use Rattle.ber.specs.Fault.{few}
 use Rattle.ber.proofs.ListLemmas.{front_below}
 use Rattle.ber.proofs.LengthLemmas.{length_long, length_too_large}
