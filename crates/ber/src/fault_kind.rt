@@ -5,7 +5,7 @@
 pub enum FaultKind {
     /// The octets end within the header.
     Truncated {
-        /// The least number of octets of a header that begins with these, from its start.
+        /// Each header that begins with these octets has at least so many.
         needed: usize,
     },
     /// The first octet of a tag number is `0x80` (X.690 8.1.2.4.2 c).
