@@ -157,3 +157,18 @@ fn departures(rt: HostRuntime) {
     departs(&rt, &[0x61, 0], false, false, false, true);
     departs(&rt, &[0x0F, 0], false, false, false, true);
 }
+
+#[test]
+fn reserved_tags(rt: HostRuntime) {
+    for (octets, reserved) in [
+        ([0, 0], true),
+        ([0x0F, 0], true),
+        ([0x1E, 0], false),
+        ([0x8F, 0], false),
+    ] {
+        match read_header(&octets) {
+            Ok(header) => same(&rt, header.has_reserved_tag(), reserved),
+            Err(_) => holds(&rt, false),
+        }
+    }
+}

@@ -1,15 +1,17 @@
 -- Headers: an identifier, and the length after it.
-use Rattle.std.proofs.Common.{◌≡◌, ℕ, ◌+◌, ◌/◌, ◌%◌, ◌^◌, ◌<◌, ◌≤◌, Bool, true, List, [], ◌∷◌, ◌++◌, length, sym, ap, ◌∙◌, subst, append_assoc, length-append, arith}
+use Rattle.std.proofs.Common.{◌≡◌, ℕ, ◌+◌, ◌/◌, ◌%◌, ◌^◌, ◌<◌, ◌≤◌, ◌↔◌, false, Bool, true, List, [], ◌∷◌, ◌++◌, length, refl, sym, ap, ◌∙◌, subst, append_assoc, length-append, arith}
 use Rattle.std.proofs.lemmas.Int.Digits.{length-digits_of-le}
 use Rattle.der_base.specs.Class.{class_number}
 use Rattle.der_base.specs.Length.{digits}
 use Rattle.der_base.specs.Tag.{label_of, leading_octet, is_constructed, continuation_octets}
 use Rattle.der_base.specs.declared.tag.class.Class.{Class}
+use Rattle.der_base.specs.declared.tag.class.Class.TheVariants.{Universal}
+use Rattle.der_base.proofs.LengthLemmas.{length_small}
 use Rattle.der_base.proofs.DigitLemmas.{digits_positive, length_continued}
 use Rattle.der_base.proofs.TagLemmas.{label_small, label_large, octet_back}
 use Rattle.ber.specs.Identifier.{identifier_octets, label_at, IsTagNumber}
 use Rattle.ber.specs.Length.{LengthNext}
-use Rattle.ber.specs.Header.{IsNext}
+use Rattle.ber.specs.Header.{label_of_header, IsNext, end_header}
 use Rattle.ber.specs.Fault.{IsFault, IsLengthFault, no_length}
 use Rattle.ber.specs.declared.header.Header.{Header}
 use Rattle.ber.specs.declared.length.Length.TheVariants.{Definite}
@@ -76,3 +78,20 @@ pub header_fault : (b : Bool) (o n at : ℕ) (after : List ℕ) (f : Fault) → 
     → IsFault (identifier_octets (label_at o n) ++ after) f
 header_fault b o n at after f form small count is =
     no_length (label_at o n) small (subst (λ c. IsLengthFault c (length (identifier_octets (label_at o n))) after f) form (subst (λ k. IsLengthFault b k after f) count is))
+
+-- the end-of-contents octets are a header
+end_next : (octets rest : List ℕ) → octets ≡ 0 ∷ 0 ∷ rest → IsNext end_header octets
+end_next octets rest e = header_short Universal false 0 0 rest octets e refl refl (omega arith) (omega arith)
+
+-- octets with their header begin with them
+end_octets : (octets : List ℕ) → IsNext end_header octets → (rest : List ℕ) × (octets ≡ 0 ∷ 0 ∷ rest)
+end_octets octets next =
+    let is = next.is in
+    let size : is.size ≡ 0 ∷ [] = is.minimal.0 refl ∙ length_small 0 (omega arith) in
+    let id : identifier_octets (label_of_header end_header) ≡ 0 ∷ [] = label_small (label_of_header end_header) (omega arith) in
+    let front : next.front ≡ 0 ∷ 0 ∷ [] = is.spelled ∙ ap (λ l. l ++ is.size) id ∙ ap (λ l. 0 ∷ l) size in
+    (next.rest, next.split ∙ ap (λ l. l ++ next.rest) front)
+
+-- octets begin with the end-of-contents octets exactly if they begin with their header
+pub end_header_next : (octets : List ℕ) → ((rest : List ℕ) × (octets ≡ 0 ∷ 0 ∷ rest)) ↔ IsNext end_header octets
+end_header_next octets = (λ (rest, e). end_next octets rest e, end_octets octets)

@@ -18,6 +18,10 @@ use Rattle.ber.specs.declared.universal.Universal.TheVariants.{Boolean, Integer,
 abbrev pub type_of : Label → Option Universal
 type_of l = if nat_eq l.class 0 then universal_at l.number else None
 
+-- a number of class UNIVERSAL that no type has (X.680 8.6, table 1)
+abbrev pub HasReservedTag : Label → Type 0
+HasReservedTag l = (l.class ≡ 0) × (universal_at l.number ≡ None)
+
 -- the form is not one of the type (X.690 8.2 to 8.26): the Basic Encoding Rules forbid it too
 abbrev pub HasWrongForm : Label → Type 0
 HasWrongForm l =

@@ -1,11 +1,12 @@
 -- Headers (X.690 8.1): the octets of one (`IsHeader`), and octets that begin with one (`IsNext`).
-use Rattle.std.specs.Prelude.{◌≡◌, ℕ, ◌^◌, ◌<◌, ◌↔◌, true, IsTrue, List, ◌++◌, length}
+use Rattle.std.specs.Prelude.{◌≡◌, ℕ, ◌^◌, ◌<◌, ◌↔◌, true, false, IsTrue, List, ◌++◌, length}
 use Rattle.der_base.specs.Class.{class_number}
+use Rattle.der_base.specs.declared.tag.class.Class.TheVariants.{Universal}
 use Rattle.der_base.specs.Tag.{Label, label_of}
 use Rattle.ber.specs.Identifier.{identifier_octets}
 use Rattle.ber.specs.Length.{IsLength, IsMinimal}
 use Rattle.ber.specs.declared.header.Header.{Header}
-use Rattle.ber.specs.declared.length.Length.TheVariants.{Indefinite}
+use Rattle.ber.specs.declared.length.Length.TheVariants.{Definite, Indefinite}
 
 -- the class, the form and the number of a header
 abbrev pub label_of_header : Header → Label
@@ -28,3 +29,15 @@ pub record IsNext (h : Header) (octets : List ℕ) : Type 0 where
   pub rest : List ℕ
   pub is : IsHeader h front
   pub split : octets ≡ front ++ rest
+
+-- the header of the end-of-contents octets (X.690 8.1.5)
+abbrev pub end_header : Header
+end_header =
+    record {
+      class = Universal;
+      constructed = false;
+      number = 0;
+      length = Definite 0;
+      minimal = true;
+      header_len = 2;
+    }

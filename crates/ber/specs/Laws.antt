@@ -1,11 +1,12 @@
 -- Laws of headers and of their faults.
 use Rattle.std.specs.Prelude.{◌≡◌, ◌↔◌, ℕ, ◌<◌, ◌≤◌, true, Some, List, ◌++◌, length}
+use Rattle.der_base.specs.FixedOctets.{end_of_contents}
 use Rattle.der_base.specs.Length.{number, definite_length}
 use Rattle.der_base.specs.Tag.{label}
 use Rattle.der_base.specs.HeaderGrammar.{Head, HeadNext}
 use Rattle.der_base.specs.declared.encoding_rules.EncodingRules.TheVariants.{Der}
 use Rattle.ber.specs.Der.{IsDer, has_tag}
-use Rattle.ber.specs.Header.{label_of_header, IsHeader, IsNext}
+use Rattle.ber.specs.Header.{label_of_header, IsHeader, IsNext, end_header}
 use Rattle.ber.specs.Universal.{number_of, universal_at}
 use Rattle.ber.specs.declared.length.Length.TheVariants.{Definite}
 use Rattle.ber.specs.declared.universal.Universal.{Universal}
@@ -29,6 +30,11 @@ NoElementBeginsAnother =
 -- a header has at least two octets
 abbrev pub HeadersHaveTwoOctets : Type 0
 HeadersHaveTwoOctets = (h : Header) (octets : List ℕ) → IsHeader h octets → 2 ≤ h.header_len
+
+-- octets begin with the end-of-contents octets exactly if they begin with their header
+abbrev pub EndOfContentsIsAHeader : Type 0
+EndOfContentsIsAHeader =
+    (octets : List ℕ) → ((rest : List ℕ) × (octets ≡ end_of_contents ++ rest)) ↔ IsNext end_header octets
 
 -- octets with a fault begin with no header
 abbrev pub NoHeaderAtAFault : Type 0

@@ -33,7 +33,7 @@ pub struct Header {
 
 impl Header {
     ghost use Rattle.ber.specs.Header.{label_of_header};
-    ghost use Rattle.ber.specs.Der.{type_of, HasWrongForm, IsConstructedString, IsDer};
+    ghost use Rattle.ber.specs.Der.{type_of, HasReservedTag, HasWrongForm, IsConstructedString, IsDer};
 
     /// The type that has the tag in class UNIVERSAL. It is `None` for another class, and for a
     /// reserved number.
@@ -44,6 +44,15 @@ impl Header {
             Class::Universal => Universal::from_number(self.number),
             _ => None,
         }
+    }
+
+    /// Whether the tag is of class UNIVERSAL and has a reserved number (X.680 8.6, table 1). The tag of
+    /// end-of-contents octets is one. The rules for encodings say nothing of such tags, so this is
+    /// no departure.
+    pub const fn has_reserved_tag(self) -> bool
+        ensures { IsTrue result ↔ HasReservedTag (label_of_header self) }
+    {
+        matches!(self.class, Class::Universal) && matches!(self.universal(), None)
     }
 
     /// Whether the length is indefinite, which the Distinguished Encoding Rules forbid (10.1).
@@ -76,7 +85,8 @@ impl Header {
     }
 
     /// Whether the header departs in nothing from the Distinguished Encoding Rules, as far as it
-    /// shows: a string with a tag of another class may still be in the constructed form.
+    /// shows. A string with a tag of another class may still be in the constructed form. A reserved
+    /// tag is no departure.
     pub const fn is_der(self) -> bool
         ensures { IsTrue result ↔ IsDer self }
     {

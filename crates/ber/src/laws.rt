@@ -1,6 +1,6 @@
 //! Laws of headers. Each function does nothing; its contract is a law that `specs/Laws.antt` defines.
 //! Nothing calls the functions of this module.
-ghost use Rattle.ber.specs.Laws.{NoHeaderBeginsAnother, NoElementBeginsAnother, HeadersHaveTwoOctets, NoHeaderAtAFault, FaultsAreSingle, TruncatedNeedsMore, HeadersWithoutDeparturesAreDer, DerHeadersHaveNoDepartures, UniversalNumbers};
+ghost use Rattle.ber.specs.Laws.{NoHeaderBeginsAnother, NoElementBeginsAnother, HeadersHaveTwoOctets, EndOfContentsIsAHeader, NoHeaderAtAFault, FaultsAreSingle, TruncatedNeedsMore, HeadersWithoutDeparturesAreDer, DerHeadersHaveNoDepartures, UniversalNumbers};
 
 fn no_header_begins_another()
     ensures { NoHeaderBeginsAnother }
@@ -12,6 +12,10 @@ fn no_element_begins_another()
 
 fn headers_have_two_octets()
     ensures { HeadersHaveTwoOctets }
+{}
+
+fn end_of_contents_is_a_header()
+    ensures { EndOfContentsIsAHeader }
 {}
 
 fn no_header_at_a_fault()
