@@ -1,5 +1,5 @@
 -- Octets have at most one fault, and how many octets truncated ones lack.
-use Rattle.std.proofs.Common.{◌≡◌, ℕ, ◌+◌, ◌*◌, ◌/◌, ◌^◌, ◌<◌, ◌≤◌, Bool, List, [], Result, Ok, Err, IfOk, IfErr, ◌∷◌, ◌++◌, length, get_or, refl, sym, ap, ◌∙◌, subst, ⊎_elim, append_assoc, append-nil, length-append, arith}
+use Rattle.std.proofs.Common.{◌≡◌, ◌≢◌, ℕ, ◌+◌, ◌*◌, ◌/◌, ◌^◌, ◌<◌, ◌≤◌, Bool, List, [], Result, Ok, Err, IfOk, IfErr, ◌∷◌, ◌++◌, length, get_or, refl, sym, ap, ◌∙◌, subst, ⊎_elim, append_assoc, append-nil, length-append, arith}
 use Rattle.std.proofs.lemmas.Bool.{cases_lt}
 use Rattle.std.proofs.lemmas.List.{length-map}
 use Rattle.std.proofs.lemmas.Result.{IfErr-weaker}
@@ -242,3 +242,27 @@ result_complete s (Err f) found fault h next = absurd (no_header fault next.is n
 pub result_refused : (s : List ℕ) (r : Result Header Fault) → IfOk r (λ h. IsNext h s) → IfErr r (λ f. IsFault s f) → (f : Fault) → IsFault s f → r ≡ Err f
 result_refused s (Ok h) found fault f is = absurd (no_header is found.is found.rest found.split)
 result_refused s (Err g) found fault f is = ap Err (one_fault fault is refl)
+
+-- a fault of a number stays
+number_stays : {s : List ℕ} {f : Fault} (more : List ℕ) → IsNumberFault s f → ((n : ℕ) → f.kind ≢ Truncated n) → IsNumberFault (s ++ more) f
+number_stays more (ends n low) other = absurd (other (3 + length (digits_of 128 n)) refl)
+number_stays more (padded rest) other = padded (rest ++ more)
+number_stays more (small n rest low) other = small n (rest ++ more) low
+number_stays more (large n rest many fits) other =
+    subst (λ l. IsNumberFault l (fault_at TagNumberTooLarge (length (digits_of 128 n)))) (sym (append_assoc (continued_digits (digits_of 128 n)) rest more)) (large n (rest ++ more) many fits)
+
+-- a fault of a length stays
+length_stays : {b : Bool} {at : ℕ} {s : List ℕ} {f : Fault} (more : List ℕ) → IsLengthFault b at s f → ((n : ℕ) → f.kind ≢ Truncated n) → IsLengthFault b at (s ++ more) f
+length_stays {at = at} more nothing other = absurd (other (at + 1) refl)
+length_stays {at = at} more (few k ds some most cut) other = absurd (other (at + 1 + k) refl)
+length_stays more (reserved rest) other = reserved (rest ++ more)
+length_stays {b} {at} more (too_large ds rest some most big) other =
+    subst (λ l. IsLengthFault b at ((128 + length ds) ∷ l) (fault_at LengthTooLarge at)) (sym (append_assoc ds rest more)) (too_large ds (rest ++ more) some most big)
+length_stays more (primitive off rest) other = primitive off (rest ++ more)
+
+-- a fault other than a truncation stays
+pub stays : {s : List ℕ} {f : Fault} (more : List ℕ) → IsFault s f → ((n : ℕ) → f.kind ≢ Truncated n) → IsFault (s ++ more) f
+stays more no_octets other = absurd (other 2 refl)
+stays more (no_number o low set number) other = no_number o low set (number_stays more number other)
+stays {f = f} more (no_length {more = rest} l fits number) other =
+    subst (λ x. IsFault x f) (sym (append_assoc (identifier_octets l) rest more)) (no_length l fits (length_stays more number other))

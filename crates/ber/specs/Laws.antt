@@ -1,5 +1,5 @@
 -- Laws of headers and of their faults.
-use Rattle.std.specs.Prelude.{◌≡◌, ◌↔◌, ℕ, ◌<◌, ◌≤◌, true, Some, List, ◌++◌, length}
+use Rattle.std.specs.Prelude.{◌≡◌, ◌≢◌, ◌↔◌, ℕ, ◌<◌, ◌≤◌, true, Some, List, ◌++◌, length}
 use Rattle.der_base.specs.FixedOctets.{end_of_contents}
 use Rattle.der_base.specs.Length.{number, definite_length}
 use Rattle.der_base.specs.Tag.{label}
@@ -14,6 +14,7 @@ use Rattle.ber.specs.Element.{IsElement}
 use Rattle.ber.specs.Fault.{IsFault, truncated_at}
 use Rattle.ber.specs.declared.header.Header.{Header}
 use Rattle.ber.specs.declared.fault.Fault.{Fault}
+use Rattle.ber.specs.declared.fault_kind.FaultKind.TheVariants.{Truncated}
 
 -- no header is a proper prefix of another: octets begin with at most one
 abbrev pub NoHeaderBeginsAnother : Type 0
@@ -49,6 +50,12 @@ abbrev pub TruncatedNeedsMore : Type 0
 TruncatedNeedsMore =
     (octets more : List ℕ) (at needed : ℕ) (h : Header) → IsFault octets (truncated_at at needed)
     → IsHeader h (octets ++ more) → (at ≡ length octets) × (at < needed) × (needed ≤ h.header_len)
+
+-- a fault other than a truncation stays, whatever octets follow: so no header continues these octets
+abbrev pub FaultsStay : Type 0
+FaultsStay =
+    (octets more : List ℕ) (f : Fault) → IsFault octets f → ((n : ℕ) → f.kind ≢ Truncated n)
+    → IsFault (octets ++ more) f
 
 -- the head of a header in the grammar of `der_base`
 pub record IsHead (g : Head) (h : Header) : Type 0 where

@@ -1,6 +1,6 @@
 //! Laws of headers. Each function does nothing; its contract is a law that `specs/Laws.antt` defines.
 //! Nothing calls the functions of this module.
-ghost use Rattle.ber.specs.Laws.{NoHeaderBeginsAnother, NoElementBeginsAnother, HeadersHaveTwoOctets, EndOfContentsIsAHeader, NoHeaderAtAFault, FaultsAreSingle, TruncatedNeedsMore, HeadersWithoutDeparturesAreDer, DerHeadersHaveNoDepartures, UniversalNumbers};
+ghost use Rattle.ber.specs.Laws.{NoHeaderBeginsAnother, NoElementBeginsAnother, HeadersHaveTwoOctets, EndOfContentsIsAHeader, NoHeaderAtAFault, FaultsAreSingle, FaultsStay, TruncatedNeedsMore, HeadersWithoutDeparturesAreDer, DerHeadersHaveNoDepartures, UniversalNumbers};
 
 fn no_header_begins_another()
     ensures { NoHeaderBeginsAnother }
@@ -24,6 +24,10 @@ fn no_header_at_a_fault()
 
 fn faults_are_single()
     ensures { FaultsAreSingle }
+{}
+
+fn faults_stay()
+    ensures { FaultsStay }
 {}
 
 fn truncated_needs_more()
