@@ -9,7 +9,7 @@ use Rattle.ber.specs.declared.fault.Fault.{Fault}
 use Rattle.ber.specs.declared.header.Header.{Header}
 use Rattle.ber.specs.declared.length.Length.TheVariants.{Definite, Indefinite}
 use Rattle.ber.proofs.ListLemmas.{rest_of}
-use Rattle.ber.proofs.GrammarLemmas.{one_header, no_header}
+use Rattle.ber.proofs.GrammarLemmas.{one_header, no_header, header_two}
 
 -- an element, and what follows it, are its header, its contents and that
 opened : {h : Header} {c x octets : List ℕ} (rest : List ℕ) → (is : IsElement h c x) → octets ≡ x ++ rest → octets ≡ is.front ++ (c ++ rest)
@@ -53,10 +53,6 @@ no_element_truncated n next i short h c x rest is e =
 after_header : {octets : List ℕ} {h : Header} → (next : IsNext h octets) → drop h.header_len octets ≡ next.rest
 after_header {octets} {h} next = ap (drop h.header_len) next.split ∙ drop_at next.front next.rest h.header_len (sym next.is.whole)
 
--- the header is within the octets
-pub header_within : {octets : List ℕ} {h : Header} → IsNext h octets → h.header_len ≤ length octets
-header_within next = omega (arith, next.is.whole, ap length next.split, length-append next.front next.rest)
-
 -- the header at the front, and the contents after it
 pub element_read : (octets : List ℕ) (h : Header) (n : ℕ) → IsNext h octets → h.length ≡ Definite n → n ≤ length (take (length octets - h.header_len) (drop h.header_len octets))
     → (x : List ℕ) × IsElement h (take n (take (length octets - h.header_len) (drop h.header_len octets))) x
@@ -74,3 +70,7 @@ element_read octets h n next i room =
       },
       next.split ∙ ap (λ l. next.front ++ l) (sym here ∙ sym (take-append-drop n after)) ∙ sym (append_assoc next.front (take n after) (drop n after)) ∙ ap (λ l. (next.front ++ take n after) ++ l) (sym (rest_of n after)),
     )
+
+-- what follows an element has at least two octets less
+pub rest_shorter : (octets rest : List ℕ) (h : Header) (c x : List ℕ) → IsElement h c x → octets ≡ x ++ rest → length rest + 2 ≤ length octets
+rest_shorter octets rest h c x is e = omega (arith, header_two is.is, is.is.whole, ap length is.spelled, length-append is.front c, ap length e, length-append x rest)

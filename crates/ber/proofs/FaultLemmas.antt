@@ -2,7 +2,7 @@
 use Rattle.std.proofs.Common.{◌≡◌, ◌≢◌, ℕ, ◌+◌, ◌*◌, ◌/◌, ◌^◌, ◌<◌, ◌≤◌, Bool, List, [], Result, Ok, Err, IfOk, IfErr, ◌∷◌, ◌++◌, length, get_or, refl, sym, ap, ◌∙◌, subst, ⊎_elim, append_assoc, append-nil, length-append, arith}
 use Rattle.std.proofs.lemmas.Bool.{cases_lt}
 use Rattle.std.proofs.lemmas.List.{length-map}
-use Rattle.std.proofs.lemmas.Result.{IfErr-weaker}
+use Rattle.std.proofs.lemmas.Result.{IfOk-weaker, IfErr-weaker}
 use Rattle.std.proofs.lemmas.Int.Digits.{first_digits_of, number_digits_of, number_after_append, number_after_ge, all_below_base_digits_of}
 use Rattle.std.specs.Int.Digits.{digits_of, number_from_digits, number_from_digits_after, AllBelowBase}
 use Rattle.der_base.specs.Length.{digits}
@@ -17,7 +17,7 @@ use Rattle.ber.specs.declared.header.Header.{Header}
 use Rattle.ber.specs.declared.length.Length.{Length}
 use Rattle.ber.specs.declared.fault.Fault.{Fault}
 use Rattle.ber.specs.declared.fault_kind.FaultKind.TheVariants.{Truncated, TagNumberPadded, TagNumberTooSmall, TagNumberTooLarge, LengthReserved, LengthTooLarge, PrimitiveIndefinite}
-use Rattle.ber.proofs.GrammarLemmas.{number_never, identifier_some, identifier_set, length_some, header_two, one_header, no_header}
+use Rattle.ber.proofs.GrammarLemmas.{number_never, identifier_some, identifier_set, length_some, header_two, one_header, no_header, next_within}
 
 -- the first octet of a number that continues is above 128
 first_above : (n : ℕ) (x : List ℕ) (o : ℕ) (rest : List ℕ) → 0 < n → continued_digits (digits_of 128 n) ++ x ≡ o ∷ rest → 128 < o
@@ -232,6 +232,10 @@ needs {h = h} more at needed (no_length {more = s} l fits number) e is =
 -- a call that returns a fault that there is returns no fault where there is a header
 pub result_none : (s : List ℕ) (r : Result Header Fault) → IfErr r (λ f. IsFault s f) → IfErr r (λ f. (h : Header) → IsNext h s → ⊥)
 result_none s r fault = IfErr-weaker r (λ f. IsFault s f) (λ f. (h : Header) → IsNext h s → ⊥) (λ f is h next. no_header is next.is next.rest next.split) fault
+
+-- the header that it returns is within the octets
+pub result_within : (s : List ℕ) (r : Result Header Fault) → IfOk r (λ h. IsNext h s) → IfOk r (λ h. (2 ≤ h.header_len) × (h.header_len ≤ length s))
+result_within s r found = IfOk-weaker r (λ h. IsNext h s) (λ h. (2 ≤ h.header_len) × (h.header_len ≤ length s)) (λ h next. next_within next) found
 
 -- it returns each header that there is
 pub result_complete : (s : List ℕ) (r : Result Header Fault) → IfOk r (λ h. IsNext h s) → IfErr r (λ f. IsFault s f) → (h : Header) → IsNext h s → r ≡ Ok h

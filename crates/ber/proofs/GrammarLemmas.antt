@@ -1,6 +1,7 @@
 -- Octets begin with at most one header, and with none if there is a fault.
 use Rattle.std.proofs.Common.{◌≡◌, ℕ, ◌+◌, ◌*◌, ◌/◌, ◌%◌, ◌^◌, ◌<◌, ◌≤◌, ◌↔◌, IsTrue, Bool, true, false, List, [], ◌∷◌, ◌++◌, length, refl, sym, ap, ◌∙◌, subst, ⊎_elim, append_assoc, length-append, arith}
 use Rattle.std.proofs.lemmas.Bool.{cases_lt}
+use Rattle.std.proofs.lemmas.Int.Digits.{length-digits_of-le}
 use Rattle.std.specs.Int.Digits.{digits_of, number_from_digits}
 use Rattle.der_base.specs.Class.{class_number}
 use Rattle.der_base.specs.Length.{digits}
@@ -9,13 +10,13 @@ use Rattle.der_base.specs.Error.{Refusal}
 use Rattle.der_base.specs.declared.encoding_rules.EncodingRules.TheVariants.{Der}
 use Rattle.der_base.specs.declared.tag.class.Class.{Class}
 use Rattle.der_base.specs.declared.tag.class.Class.TheVariants.{Universal, Application, ContextSpecific, Private}
-use Rattle.der_base.proofs.DigitLemmas.{same_length_front, digits_of_push}
+use Rattle.der_base.proofs.DigitLemmas.{same_length_front, digits_of_push, digits_positive, length_continued}
 use Rattle.der_base.proofs.TagLemmas.{label_front, label_small, label_large, octet_parts, octet_back}
 use Rattle.der_base.proofs.IdentifierLemmas.{no_identifier_fault, long_identifier}
 use Rattle.der_base.proofs.LongNumberLemmas.{so_far_none, number_cut, number_refused_first, number_refused_few, number_refused_many, continued_digits_push}
 use Rattle.ber.specs.Identifier.{identifier_octets, label_at, continued_digits}
 use Rattle.ber.specs.Length.{IsLength, short, long, indefinite, IsMinimal}
-use Rattle.ber.specs.Header.{label_of_header, IsHeader}
+use Rattle.ber.specs.Header.{label_of_header, IsHeader, IsNext}
 use Rattle.ber.specs.Fault.{IsNumberFault, ends, padded, small, large, IsLengthFault, nothing, few, reserved, too_large, primitive, IsFault, no_octets, no_number, no_length}
 use Rattle.ber.specs.declared.header.Header.{Header}
 use Rattle.ber.specs.declared.length.Length.{Length}
@@ -197,3 +198,25 @@ identifier_one l =
 -- a header has at least two octets
 pub header_two : {h : Header} {a : List ℕ} → IsHeader h a → 2 ≤ h.header_len
 header_two {h} is = omega (arith, is.whole, ap length is.spelled, length-append (identifier_octets (label_of_header h)) is.size, identifier_one (label_of_header h), length_some is.sized)
+
+-- a length has at most 127 octets
+length_few : {l : Length} {a : List ℕ} → IsLength l a → length a ≤ 127
+length_few (short n p) = omega arith
+length_few (long ds some most all fits) = omega arith
+length_few indefinite = omega arith
+
+-- an identifier has at most six octets
+identifier_few : (l : Label) → l.number < 2 ^ 32 → length (identifier_octets l) ≤ 6
+identifier_few l fits =
+    ⊎_elim
+    (λ a. omega (arith, ap length (label_small l a)))
+    (λ a. omega (arith, ap length (label_large l a), length_continued (digits 128 l.number), ap length (digits_positive 128 l.number (omega arith)), length-digits_of-le 128 5 l.number (omega arith) (omega arith)))
+    (cases_lt l.number 31)
+
+-- a header has at most 133 octets
+pub header_few : {h : Header} {a : List ℕ} → IsHeader h a → h.header_len ≤ 133
+header_few {h} is = omega (arith, is.whole, ap length is.spelled, length-append (identifier_octets (label_of_header h)) is.size, identifier_few (label_of_header h) is.number, length_few is.sized)
+
+-- the header at the front of octets is within them
+pub next_within : {h : Header} {s : List ℕ} → IsNext h s → (2 ≤ h.header_len) × (h.header_len ≤ length s)
+next_within next = (header_two next.is, omega (arith, next.is.whole, ap length next.split, length-append next.front next.rest))

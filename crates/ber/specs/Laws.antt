@@ -28,9 +28,10 @@ NoElementBeginsAnother =
     (h g : Header) (c d a b x y : List ℕ) → IsElement h c a → IsElement g d b → a ++ x ≡ b ++ y
     → (h ≡ g) × (c ≡ d) × (a ≡ b) × (x ≡ y)
 
--- a header has at least two octets
-abbrev pub HeadersHaveTwoOctets : Type 0
-HeadersHaveTwoOctets = (h : Header) (octets : List ℕ) → IsHeader h octets → 2 ≤ h.header_len
+-- a header has 2 to 133 octets
+abbrev pub HeadersHaveFewOctets : Type 0
+HeadersHaveFewOctets =
+    (h : Header) (octets : List ℕ) → IsHeader h octets → (2 ≤ h.header_len) × (h.header_len ≤ 133)
 
 -- octets begin with the end-of-contents octets exactly if they begin with their header
 abbrev pub EndOfContentsIsAHeader : Type 0

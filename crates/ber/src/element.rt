@@ -1,5 +1,5 @@
 //! Elements of definite length, and end-of-contents octets.
-ghost use Rattle.std.specs.Prelude.{◌≡◌, ◌≢◌, ◌↔◌, ℕ, List, ◌++◌, IsTrue, IfOk, IfErr};
+ghost use Rattle.std.specs.Prelude.{◌≡◌, ◌≢◌, ◌↔◌, ◌+◌, ◌≤◌, ℕ, List, ◌++◌, length, IsTrue, IfOk, IfErr};
 ghost use Rattle.der_base.specs.FixedOctets.{end_of_contents};
 ghost use Rattle.ber.specs.Element.{IsElement, IsElementFault};
 ghost use Rattle.ber.specs.declared.header.Header.{Header};
@@ -30,6 +30,7 @@ pub struct Element<'a> {
 pub fn read_element(octets: &[u8]) -> Result<Element<'_>, ElementFault>
     ensures found { IfOk result (λ e. (x : List ℕ) × IsElement e.header e.contents.now x
         × (octets.now ≡ x ++ e.rest.now)) }
+    ensures shorter { IfOk result (λ e. length e.rest.now + 2 ≤ length octets.now) }
     ensures none { IfErr result
         (λ f. (h : Header) (c x rest : List ℕ) → IsElement h c x → octets.now ≢ x ++ rest) }
     ensures fault { IfErr result (λ f. IsElementFault octets.now f) }

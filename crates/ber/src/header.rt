@@ -46,9 +46,9 @@ impl Header {
         }
     }
 
-    /// Whether the tag is of class UNIVERSAL and has a reserved number (X.680 8.6, table 1). The tag of
-    /// end-of-contents octets is one. The rules for encodings say nothing of such tags, so this is
-    /// no departure.
+    /// Whether the tag is of class UNIVERSAL and has a reserved number (X.680 8.6, table 1). The
+    /// tag of end-of-contents octets is one. The rules for encodings say nothing of such tags, so
+    /// this is no departure.
     pub const fn has_reserved_tag(self) -> bool
         ensures { IsTrue result ↔ HasReservedTag (label_of_header self) }
     {
@@ -101,11 +101,13 @@ impl Header {
 ///
 /// # Errors
 ///
-/// The first fault, if the octets do not begin with a header. A universal tag that the standard does
-/// not define, and a form that its type does not have, are no faults.
+/// The first fault, if the octets do not begin with a header. A reserved tag, and a form that the
+/// type of the tag does not have, are no faults.
 #[inline(always)]
 pub fn read_header(octets: &[u8]) -> Result<Header, Fault>
     ensures found { IfOk result (λ h. IsNext h octets.now) }
+    ensures within { IfOk result
+        (λ h. (2 ≤ h.header_len) × (h.header_len ≤ length octets.now)) }
     ensures none { IfErr result (λ f. (h : Header) → IsNext h octets.now → ⊥) }
     ensures fault { IfErr result (λ f. IsFault octets.now f) }
 

@@ -1,6 +1,6 @@
 //! Laws of headers. Each function does nothing; its contract is a law that `specs/Laws.antt` defines.
 //! Nothing calls the functions of this module.
-ghost use Rattle.ber.specs.Laws.{NoHeaderBeginsAnother, NoElementBeginsAnother, HeadersHaveTwoOctets, EndOfContentsIsAHeader, NoHeaderAtAFault, FaultsAreSingle, FaultsStay, TruncatedNeedsMore, HeadersWithoutDeparturesAreDer, DerHeadersHaveNoDepartures, UniversalNumbers};
+ghost use Rattle.ber.specs.Laws.{NoHeaderBeginsAnother, NoElementBeginsAnother, HeadersHaveFewOctets, EndOfContentsIsAHeader, NoHeaderAtAFault, FaultsAreSingle, FaultsStay, TruncatedNeedsMore, HeadersWithoutDeparturesAreDer, DerHeadersHaveNoDepartures, UniversalNumbers};
 
 fn no_header_begins_another()
     ensures { NoHeaderBeginsAnother }
@@ -10,8 +10,8 @@ fn no_element_begins_another()
     ensures { NoElementBeginsAnother }
 {}
 
-fn headers_have_two_octets()
-    ensures { HeadersHaveTwoOctets }
+fn headers_have_few_octets()
+    ensures { HeadersHaveFewOctets }
 {}
 
 fn end_of_contents_is_a_header()

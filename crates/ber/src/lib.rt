@@ -1,16 +1,16 @@
 //! Headers and elements of the Basic Encoding Rules (X.690 section 8), read from slices.
 //!
-//! [`read_header`] reads an identifier of any class and number, and a length in any form. It returns
-//! the first fault, with its offset, if the octets do not begin with a header. A [`Header`] says what
-//! it departs in from the Distinguished Encoding Rules. [`read_element`] reads an element of definite
-//! length; contents of indefinite length are left to the caller, who looks for their end by
-//! [`is_end_of_contents`]. [`Universal`] has the universal types of X.680.
+//! [`read_header`] reads an identifier of any class and number, and a length in any form. It
+//! returns the first fault, with its offset, if the octets do not begin with a header. A [`Header`]
+//! says what it departs in from the Distinguished Encoding Rules. [`read_element`] reads an element
+//! of definite length. Contents of indefinite length are left to the caller, who looks for their
+//! end by [`is_end_of_contents`]. [`Universal`] has the universal types of X.680.
 //!
 //! Numbers of tags and lengths go up to 4294967295. Nothing here allocates.
 //!
-//! Proved: a header is returned exactly if the octets begin with it, and a fault exactly if they have
-//! it; each departure; no header or element is a prefix of another one; headers without departures are
-//! those of the Distinguished Encoding Rules, for each tag of `der_base`.
+//! Proved: a header is returned exactly if the octets begin with it, and a fault exactly if they
+//! have it; each departure; no header or element is a prefix of another one; headers without
+//! departures are those of the Distinguished Encoding Rules, for each tag of `der_base`.
 #![tactic(auto)]
 
 mod element;

@@ -1,7 +1,7 @@
 use Rattle.std.proofs.Common.{Ok, drop, get_or}
 use Rattle.ber.proofs.ListLemmas.{two_of}
 use Rattle.ber.proofs.HeaderLemmas.{header_short}
-use Rattle.ber.proofs.FaultLemmas.{result_none, result_complete, result_refused}
+use Rattle.ber.proofs.FaultLemmas.{result_within, result_none, result_complete, result_refused}
 use Rattle.ber.proofs.header.read_header.Goals as goal
 
 pub returns-in-len2-up-clause-found : goal.returns-in-len2-up-clause-found
@@ -23,3 +23,6 @@ returns-in_default-clause-complete c = result_complete c.args.octets.now c.any_h
 
 pub returns-in_default-clause-refused : goal.returns-in_default-clause-refused
 returns-in_default-clause-refused c = result_refused c.args.octets.now c.any_header.result c.any_header.ensures.found c.any_header.ensures.fault
+
+pub returns-in_default-clause-within : goal.returns-in_default-clause-within
+returns-in_default-clause-within c = result_within c.args.octets.now c.any_header.result c.any_header.ensures.found
