@@ -12,7 +12,7 @@ use Rattle.ber.proofs.ListLemmas.{rest_of}
 use Rattle.ber.proofs.GrammarLemmas.{one_header, no_header, header_two}
 
 -- an element, and what follows it, are its header, its contents and that
-opened : {h : Header} {c x octets : List ℕ} (rest : List ℕ) → (is : IsElement h c x) → octets ≡ x ++ rest → octets ≡ is.front ++ (c ++ rest)
+pub opened : {h : Header} {c x octets : List ℕ} (rest : List ℕ) → (is : IsElement h c x) → octets ≡ x ++ rest → octets ≡ is.front ++ (c ++ rest)
 opened {c = c} rest is e = e ∙ ap (λ l. l ++ rest) is.spelled ∙ append_assoc is.front c rest
 
 -- no element is a proper prefix of another
@@ -50,7 +50,7 @@ no_element_truncated n next i short h c x rest is e =
     omega (arith, r.1)
 
 -- the octets after a header
-after_header : {octets : List ℕ} {h : Header} → (next : IsNext h octets) → drop h.header_len octets ≡ next.rest
+pub after_header : {octets : List ℕ} {h : Header} → (next : IsNext h octets) → drop h.header_len octets ≡ next.rest
 after_header {octets} {h} next = ap (drop h.header_len) next.split ∙ drop_at next.front next.rest h.header_len (sym next.is.whole)
 
 -- the header at the front, and the contents after it

@@ -7,3 +7,4 @@ pub mod UniversalLemmas
 pub mod DerLemmas
 pub mod ElementLemmas
 pub mod FaultLemmas
+pub mod WholeLemmas

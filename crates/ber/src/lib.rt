@@ -24,6 +24,8 @@ mod length;
 mod length_octets;
 mod tag_number;
 mod universal;
+mod whole;
+mod whole_fault;
 
 pub use element::{Element, is_end_of_contents, read_element};
 pub use element_fault::ElementFault;
@@ -33,3 +35,5 @@ pub use form::Form;
 pub use header::{Header, read_header};
 pub use length::Length;
 pub use universal::Universal;
+pub use whole::body_len;
+pub use whole_fault::WholeFault;
