@@ -7,4 +7,4 @@ pub mod UniversalLemmas
 pub mod DerLemmas
 pub mod ElementLemmas
 pub mod FaultLemmas
-pub mod WholeLemmas
+pub mod BodyLemmas

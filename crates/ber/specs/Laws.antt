@@ -12,6 +12,7 @@ use Rattle.ber.specs.declared.length.Length.TheVariants.{Definite}
 use Rattle.ber.specs.declared.universal.Universal.{Universal}
 use Rattle.ber.specs.Element.{IsElement}
 use Rattle.ber.specs.Fault.{IsFault, truncated_at}
+use Rattle.ber.specs.Body.{IsWhole, IsBody}
 use Rattle.ber.specs.declared.header.Header.{Header}
 use Rattle.ber.specs.declared.fault.Fault.{Fault}
 use Rattle.ber.specs.declared.fault_kind.FaultKind.TheVariants.{Truncated}
@@ -27,6 +28,15 @@ abbrev pub NoElementBeginsAnother : Type 0
 NoElementBeginsAnother =
     (h g : Header) (c d a b x y : List ℕ) → IsElement h c a → IsElement g d b → a ++ x ≡ b ++ y
     → (h ≡ g) × (c ≡ d) × (a ≡ b) × (x ≡ y)
+
+-- no whole element is a proper prefix of another, nor is a body
+abbrev pub NoWholeBeginsAnother : Type 0
+NoWholeBeginsAnother =
+    (a b x y : List ℕ) → IsWhole a → IsWhole b → a ++ x ≡ b ++ y → (a ≡ b) × (x ≡ y)
+
+abbrev pub NoBodyBeginsAnother : Type 0
+NoBodyBeginsAnother =
+    (a b x y : List ℕ) → IsBody a → IsBody b → a ++ x ≡ b ++ y → (a ≡ b) × (x ≡ y)
 
 -- a header has 2 to 133 octets
 abbrev pub HeadersHaveFewOctets : Type 0

@@ -3,7 +3,7 @@ pub mod Length
 pub mod Header
 pub mod Fault
 pub mod Element
-pub mod Whole
+pub mod Body
 pub mod Form
 pub mod Universal
 pub mod Der

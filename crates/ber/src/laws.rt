@@ -1,6 +1,6 @@
 //! Laws of headers. Each function does nothing; its contract is a law that `specs/Laws.antt` defines.
 //! Nothing calls the functions of this module.
-ghost use Rattle.ber.specs.Laws.{NoHeaderBeginsAnother, NoElementBeginsAnother, HeadersHaveFewOctets, EndOfContentsIsAHeader, NoHeaderAtAFault, FaultsAreSingle, FaultsStay, TruncatedNeedsMore, HeadersWithoutDeparturesAreDer, DerHeadersHaveNoDepartures, UniversalNumbers};
+ghost use Rattle.ber.specs.Laws.{NoHeaderBeginsAnother, NoElementBeginsAnother, NoWholeBeginsAnother, NoBodyBeginsAnother, HeadersHaveFewOctets, EndOfContentsIsAHeader, NoHeaderAtAFault, FaultsAreSingle, FaultsStay, TruncatedNeedsMore, HeadersWithoutDeparturesAreDer, DerHeadersHaveNoDepartures, UniversalNumbers};
 
 fn no_header_begins_another()
     ensures { NoHeaderBeginsAnother }
@@ -8,6 +8,14 @@ fn no_header_begins_another()
 
 fn no_element_begins_another()
     ensures { NoElementBeginsAnother }
+{}
+
+fn no_whole_begins_another()
+    ensures { NoWholeBeginsAnother }
+{}
+
+fn no_body_begins_another()
+    ensures { NoBodyBeginsAnother }
 {}
 
 fn headers_have_few_octets()

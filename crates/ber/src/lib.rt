@@ -3,16 +3,19 @@
 //! [`read_header`] reads an identifier of any class and number, and a length in any form. It
 //! returns the first fault, with its offset, if the octets do not begin with a header. A [`Header`]
 //! says what it departs in from the Distinguished Encoding Rules. [`read_element`] reads an element
-//! of definite length. Contents of indefinite length are left to the caller, who looks for their
-//! end by [`is_end_of_contents`]. [`Universal`] has the universal types of X.680.
+//! of definite length. Contents of indefinite length are left to the caller, who walks over them
+//! with [`is_end_of_contents`], or passes them with [`body_len`]. [`Universal`] has the universal
+//! types of X.680.
 //!
 //! Numbers of tags and lengths go up to 4294967295. Nothing here allocates.
 //!
 //! Proved: a header is returned exactly if the octets begin with it, and a fault exactly if they
-//! have it; each departure; no header or element is a prefix of another one; headers without
+//! have it; each departure; no header, element or body is a prefix of another one; headers without
 //! departures are those of the Distinguished Encoding Rules, for each tag of `der_base`.
 #![tactic(auto)]
 
+mod body;
+mod body_fault;
 mod element;
 mod element_fault;
 mod fault;
@@ -24,9 +27,9 @@ mod length;
 mod length_octets;
 mod tag_number;
 mod universal;
-mod whole;
-mod whole_fault;
 
+pub use body::body_len;
+pub use body_fault::BodyFault;
 pub use element::{Element, is_end_of_contents, read_element};
 pub use element_fault::ElementFault;
 pub use fault::Fault;
@@ -35,5 +38,3 @@ pub use form::Form;
 pub use header::{Header, read_header};
 pub use length::Length;
 pub use universal::Universal;
-pub use whole::body_len;
-pub use whole_fault::WholeFault;

@@ -1,16 +1,15 @@
 -- Walks over bodies of indefinite length, a header at a time.
-use Rattle.std.proofs.Common.{◌≡◌, ◌≢◌, ℕ, zero, suc, ◌+◌, ◌-◌, ◌<◌, ◌≤◌, List, [], ◌∷◌, ◌++◌, length, take, drop, refl, sym, ap, ◌∙◌, subst, append_assoc, append-nil, length-append, arith}
+use Rattle.std.proofs.Common.{◌≡◌, ◌≢◌, ℕ, suc, ◌+◌, ◌-◌, ◌<◌, ◌≤◌, List, [], ◌∷◌, ◌++◌, length, take, drop, refl, sym, ap, ◌∙◌, subst, append_assoc, append-nil, length-append, arith}
 use Rattle.ber.specs.Element.{IsElement, IsElementFault, no_header as no_header_fault, indefinite as indefinite_fault, truncated as truncated_fault}
 use Rattle.ber.specs.Fault.{IsFault}
 use Rattle.ber.specs.Header.{IsHeader, IsNext, end_header}
-use Rattle.ber.specs.Whole.{IsWhole, definite, indefinite, IsBody, ends, more, AreBodies, none, then_body, IsStep, IsStepFault, no_header as no_header_step, truncated as truncated_step, IsBodyFault}
+use Rattle.ber.specs.Body.{IsWhole, definite, indefinite, IsBody, ends, more, AreBodies, none, then_body, IsStep, IsStepFault, no_header as no_header_step, truncated as truncated_step, IsBodyFault}
 use Rattle.ber.specs.declared.element_fault.ElementFault.{ElementFault}
 use Rattle.ber.specs.declared.element_fault.ElementFault.TheVariants as faults
-use Rattle.ber.specs.declared.whole_fault.WholeFault.{WholeFault}
-use Rattle.ber.specs.declared.whole_fault.WholeFault.TheVariants as whole_faults
+use Rattle.ber.specs.declared.body_fault.BodyFault.{BodyFault}
+use Rattle.ber.specs.declared.body_fault.BodyFault.TheVariants as body_faults
 use Rattle.ber.specs.declared.fault.Fault.{Fault}
 use Rattle.ber.specs.declared.header.Header.{Header}
-use Rattle.ber.specs.declared.length.Length.{Length}
 use Rattle.ber.specs.declared.length.Length.TheVariants.{Definite, Indefinite}
 use Rattle.ber.proofs.HeaderLemmas.{end_header_next}
 use Rattle.ber.proofs.GrammarLemmas.{one_header, no_header, header_two, next_within}
@@ -247,7 +246,7 @@ walk_never {octets} walk never body after is e =
     let there = walk.after (body ++ []) after (then_body is none) (e ∙ ap (λ l. l ++ after) (sym (append-nil body))) in never there.0 after there.1 there.2
 
 -- the fault of a step, at the offset of the rest
-pub walk_fault : {octets rest : List ℕ} {n : ℕ} {f : WholeFault} (at : ℕ) → IsWalk octets rest n → 1 ≤ n → at ≡ length octets - length rest → IsStepFault at rest f → IsBodyFault octets f
+pub walk_fault : {octets rest : List ℕ} {n : ℕ} {f : BodyFault} (at : ℕ) → IsWalk octets rest n → 1 ≤ n → at ≡ length octets - length rest → IsStepFault at rest f → IsBodyFault octets f
 walk_fault {octets} {rest} {n} {f} at walk some here fault =
     let place : at ≡ length walk.piece = omega (arith, ap length walk.split, length-append walk.piece rest) in
     record {
@@ -260,8 +259,47 @@ walk_fault {octets} {rest} {n} {f} at walk some here fault =
       fault = subst (λ k. IsStepFault k rest f) place fault;
     }
 
-pub step_no_header : (octets : List ℕ) (at : ℕ) (f : ElementFault) (g : Fault) → IsElementFault octets f → f ≡ faults.NoHeader g → IsStepFault at octets (whole_faults.NoHeader at g)
+pub step_no_header : (octets : List ℕ) (at : ℕ) (f : ElementFault) (g : Fault) → IsElementFault octets f → f ≡ faults.NoHeader g → IsStepFault at octets (body_faults.NoHeader at g)
 step_no_header octets at f g fault e = no_header_step g (fault_header g fault e)
 
-pub step_truncated : (octets : List ℕ) (at : ℕ) (f : ElementFault) (h : Header) → IsElementFault octets f → f ≡ faults.Truncated h → IsStepFault at octets (whole_faults.Truncated at h)
+pub step_truncated : (octets : List ℕ) (at : ℕ) (f : ElementFault) (h : Header) → IsElementFault octets f → f ≡ faults.Truncated h → IsStepFault at octets (body_faults.Truncated at h)
 step_truncated octets at f h fault e = let (n, next, i, short) = fault_truncated h fault e in truncated_step h n next i short
+
+-- the header of a whole element is not that of end-of-contents octets
+whole_next : {a : List ℕ} (x : List ℕ) → IsWhole a → (h : Header) × IsNext h (a ++ x) × (h ≢ end_header)
+whole_next x (definite {h = h} {contents = c} el other) = (h, record { front = el.front; rest = c ++ x; is = el.is; split = opened x el refl }, other)
+whole_next x (indefinite {h = h} {front = front} {body = body} is i inner) =
+    (h, record { front = front; rest = body ++ x; is = is; split = append_assoc front body x }, λ same. let e : Indefinite ≡ Definite 0 = sym i ∙ ap (λ (k : Header). k.length) same in cc)
+
+-- the end-of-contents octets begin no whole element
+not_whole : {a : List ℕ} (x y : List ℕ) → IsWhole a → a ++ x ≡ 0 ∷ 0 ∷ y → ⊥
+not_whole {a} x y is e =
+    let (h, next, other) = whole_next x is in
+    let front = (end_header_next (a ++ x)).0 (y, e) in
+    other (one_header next.is front.is next.rest front.rest (sym next.split ∙ front.split)).0
+
+-- a header of indefinite length begins no element of definite length
+not_both : {h g : Header} {c front a : List ℕ} (x y : List ℕ) → IsElement h c a → IsHeader g front → g.length ≡ Indefinite → a ++ x ≡ front ++ y → ⊥
+not_both {c = c} {a = a} x y el is i e =
+    let one = one_header el.is is (c ++ x) y (sym (opened x el refl) ∙ e) in
+    let f : Definite (length c) ≡ Indefinite = sym el.counted ∙ ap (λ (k : Header). k.length) one.0 ∙ i in cc
+
+-- no whole element is a proper prefix of another, nor is a body
+mutual
+  pub one_whole : {a b : List ℕ} → IsWhole a → IsWhole b → (x y : List ℕ) → a ++ x ≡ b ++ y → (a ≡ b) × (x ≡ y)
+  one_whole (definite el other) (definite k differs) x y e = let one = one_element x y el k e in (one.2, one.3)
+  one_whole (definite el other) (indefinite {front = front} {body = body} is i inner) x y e = absurd (not_both x (body ++ y) el is i (e ∙ append_assoc front body y))
+  one_whole (indefinite {front = front} {body = body} is i inner) (definite el other) x y e = absurd (not_both y (body ++ x) el is i (sym e ∙ append_assoc front body x))
+  one_whole (indefinite {front = p} {body = a} is i inner) (indefinite {front = q} {body = b} are j within) x y e =
+      let one = one_header is are (a ++ x) (b ++ y) (sym (append_assoc p a x) ∙ e ∙ append_assoc q b y) in
+      let rest = one_whole_body inner within x y one.2 in
+      (ap (λ l. l ++ a) one.1 ∙ ap (λ l. q ++ l) rest.0, rest.1)
+
+  pub one_whole_body : {a b : List ℕ} → IsBody a → IsBody b → (x y : List ℕ) → a ++ x ≡ b ++ y → (a ≡ b) × (x ≡ y)
+  one_whole_body ends ends x y e = (refl, cc)
+  one_whole_body ends (more {item = item} {body = body} whole is) x y e = absurd (not_whole (body ++ y) x whole (sym (append_assoc item body y) ∙ sym e))
+  one_whole_body (more {item = item} {body = body} whole is) ends x y e = absurd (not_whole (body ++ x) y whole (sym (append_assoc item body x) ∙ e))
+  one_whole_body (more {item = p} {body = a} whole is) (more {item = q} {body = b} other are) x y e =
+      let one = one_whole whole other (a ++ x) (b ++ y) (sym (append_assoc p a x) ∙ e ∙ append_assoc q b y) in
+      let rest = one_whole_body is are x y one.1 in
+      (ap (λ l. l ++ a) one.0 ∙ ap (λ l. q ++ l) rest.0, rest.1)

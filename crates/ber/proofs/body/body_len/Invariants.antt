@@ -1,6 +1,6 @@
 use Rattle.std.proofs.Common.{length}
-use Rattle.ber.proofs.WholeLemmas.{IsWalk}
-use Rattle.ber.proofs.whole.body_len.Given as goal
+use Rattle.ber.proofs.BodyLemmas.{IsWalk}
+use Rattle.ber.proofs.body.body_len.Given as goal
 
 abbrev pub invariant-headers : goal.invariant-headers
 invariant-headers l = IsWalk l.octets l.rest l.depth

@@ -1,6 +1,6 @@
-use Rattle.std.proofs.Common.{◌≡◌, ℕ, ◌∷◌, List, false, true, sym, ◌∙◌}
-use Rattle.ber.proofs.WholeLemmas.{end_stepped, element_stepped, header_stepped, no_bodies_header, no_bodies_truncated, step_no_header, step_truncated}
-use Rattle.ber.proofs.whole.step.Goals as goal
+use Rattle.std.proofs.Common.{◌≡◌, false, true, sym, ◌∙◌}
+use Rattle.ber.proofs.BodyLemmas.{end_stepped, element_stepped, header_stepped, no_bodies_header, no_bodies_truncated, step_no_header, step_truncated}
+use Rattle.ber.proofs.body.step.Goals as goal
 
 pub returns-then-is_end_of_contents-clause-found : goal.returns-then-is_end_of_contents-clause-found
 returns-then-is_end_of_contents-clause-found c = end_stepped c.args.octets.now c.args.depth c.requires.inside (c.is_end_of_contents.ensures.0 c.if-is_end_of_contents.true)

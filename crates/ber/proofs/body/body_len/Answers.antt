@@ -1,7 +1,7 @@
 use Rattle.std.proofs.Common.{◌≡◌, ◌-◌, length, refl, subst, arith}
 use Rattle.std.proofs.lemmas.Result.{err_from_is_err_and}
-use Rattle.ber.proofs.WholeLemmas.{IsWalk, walk_step, walk_end, walk_never, walk_fault}
-use Rattle.ber.proofs.whole.body_len.Goals as goal
+use Rattle.ber.proofs.BodyLemmas.{IsWalk, walk_step, walk_end, walk_never, walk_fault}
+use Rattle.ber.proofs.body.body_len.Goals as goal
 
 pub step-requires-clause-small : goal.step-requires-clause-small
 step-requires-clause-small c = omega (arith, c.headers.invariant.room)

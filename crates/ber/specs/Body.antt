@@ -8,8 +8,8 @@ use Rattle.ber.specs.Header.{IsHeader, IsNext, end_header}
 use Rattle.ber.specs.declared.fault.Fault.{Fault}
 use Rattle.ber.specs.declared.header.Header.{Header}
 use Rattle.ber.specs.declared.length.Length.TheVariants.{Definite, Indefinite}
-use Rattle.ber.specs.declared.whole_fault.WholeFault.{WholeFault}
-use Rattle.ber.specs.declared.whole_fault.WholeFault.TheVariants.{NoHeader, Truncated}
+use Rattle.ber.specs.declared.body_fault.BodyFault.{BodyFault}
+use Rattle.ber.specs.declared.body_fault.BodyFault.TheVariants.{NoHeader, Truncated}
 
 mutual
   -- an element of definite length, other than end-of-contents octets, with any contents; or a header
@@ -43,13 +43,13 @@ pub record IsStep (octets : List ℕ) (m : ℕ) (rest : List ℕ) (n : ℕ) : Ty
       → (left : List ℕ) × AreBodies n left × (rest ≡ left ++ more)
 
 -- at an offset there is no header, or the octets end within the contents of the header
-pub data IsStepFault (at : ℕ) (octets : List ℕ) : WholeFault → Type 0 where
+pub data IsStepFault (at : ℕ) (octets : List ℕ) : BodyFault → Type 0 where
   no_header : (f : Fault) → IsFault octets f → IsStepFault at octets (NoHeader at f)
   truncated : (h : Header) (n : ℕ) → IsNext h octets → h.length ≡ Definite n
       → length octets < h.header_len + n → IsStepFault at octets (Truncated at h)
 
 -- such a fault after the beginning of a body, in which n bodies are open
-pub record IsBodyFault (octets : List ℕ) (f : WholeFault) : Type 0 where
+pub record IsBodyFault (octets : List ℕ) (f : BodyFault) : Type 0 where
   pub piece : List ℕ
   pub rest : List ℕ
   pub n : ℕ
