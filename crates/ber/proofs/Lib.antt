@@ -1,0 +1,10 @@
+pub mod ListLemmas
+pub mod TagNumberLemmas
+pub mod LengthLemmas
+pub mod HeaderLemmas
+pub mod GrammarLemmas
+pub mod UniversalLemmas
+pub mod DerLemmas
+pub mod ElementLemmas
+pub mod FaultLemmas
+pub mod BodyLemmas

@@ -1,0 +1,10 @@
+pub mod Identifier
+pub mod Length
+pub mod Header
+pub mod Fault
+pub mod Element
+pub mod Body
+pub mod Form
+pub mod Universal
+pub mod Der
+pub mod Laws

@@ -1,0 +1,178 @@
+//! Headers.
+ghost use Rattle.std.specs.Prelude.{◌≡◌, ◌≤◌, ◌↔◌, ◌++◌, length, IsTrue, IfOk, IfErr};
+ghost use Rattle.der_base.specs.Tag.{is_constructed};
+ghost use Rattle.ber.specs.Identifier.{identifier_octets, label_at};
+ghost use Rattle.ber.specs.Header.{IsNext};
+ghost use Rattle.ber.specs.Fault.{IsFault};
+ghost use Rattle.ber.specs.declared.fault.Fault.{Fault};
+
+use crate::fault::Fault;
+use crate::form::Form;
+use crate::length::Length;
+use crate::length_octets::LengthOctets;
+use crate::tag_number::tag_number;
+use crate::universal::Universal;
+use der_base::Class;
+
+/// The header of an element: its identifier and its length (X.690 8.1.2, 8.1.3).
+#[derive(Debug, Clone, Copy, PartialEq, Eq)]
+pub struct Header {
+    /// The class of the tag.
+    pub class: Class,
+    /// Whether the contents are constructed (8.1.2.5).
+    pub constructed: bool,
+    /// The number of the tag.
+    pub number: u32,
+    /// The length of the contents.
+    pub length: Length,
+    /// Whether a definite length is in the fewest octets (10.1); true for the indefinite form.
+    pub minimal: bool,
+    /// The number of octets of the header, 2 to 133.
+    pub header_len: usize,
+}
+
+impl Header {
+    ghost use Rattle.ber.specs.Header.{label_of_header};
+    ghost use Rattle.ber.specs.Der.{type_of, HasReservedTag, HasWrongForm, IsConstructedString, IsDer};
+
+    /// The type that has the tag in class UNIVERSAL. It is `None` for another class, and for a
+    /// reserved number.
+    pub const fn universal(self) -> Option<Universal>
+        ensures { result ≡ type_of (label_of_header self) }
+    {
+        match self.class {
+            Class::Universal => Universal::from_number(self.number),
+            _ => None,
+        }
+    }
+
+    /// Whether the tag is of class UNIVERSAL and has a reserved number (X.680 8.6, table 1). The
+    /// tag of end-of-contents octets is one. The rules for encodings say nothing of such tags, so
+    /// this is no departure.
+    pub const fn has_reserved_tag(self) -> bool
+        ensures { IsTrue result ↔ HasReservedTag (label_of_header self) }
+    {
+        matches!(self.class, Class::Universal) && matches!(self.universal(), None)
+    }
+
+    /// Whether the length is indefinite, which the Distinguished Encoding Rules forbid (10.1).
+    pub const fn is_indefinite(self) -> bool
+        ensures { IsTrue result ↔ (self.length ≡ Length.Indefinite) }
+    {
+        matches!(self.length, Length::Indefinite)
+    }
+
+    /// Whether the encoding is constructed though its universal type is primitive, or primitive
+    /// though it is constructed (8.2 to 8.26). The Basic Encoding Rules forbid both.
+    pub const fn has_wrong_form(self) -> bool
+        ensures { IsTrue result ↔ HasWrongForm (label_of_header self) }
+    {
+        match self.universal() {
+            Some(universal) => !universal.form().allows(self.constructed),
+            None => false,
+        }
+    }
+
+    /// Whether this is a string of a universal type in the constructed form, which the
+    /// Distinguished Encoding Rules forbid (10.2).
+    pub const fn is_constructed_string(self) -> bool
+        ensures { IsTrue result ↔ IsConstructedString (label_of_header self) }
+    {
+        match self.universal() {
+            Some(universal) => self.constructed && matches!(universal.form(), Form::Either),
+            None => false,
+        }
+    }
+
+    /// Whether the header departs in nothing from the Distinguished Encoding Rules, as far as it
+    /// shows. A string with a tag of another class may still be in the constructed form. A reserved
+    /// tag is no departure.
+    pub const fn is_der(self) -> bool
+        ensures { IsTrue result ↔ IsDer self }
+    {
+        self.minimal
+            && !self.is_indefinite()
+            && !self.has_wrong_form()
+            && !self.is_constructed_string()
+    }
+}
+
+/// The header at the front of `octets`.
+///
+/// # Errors
+///
+/// The first fault, if the octets do not begin with a header. A reserved tag, and a form that the
+/// type of the tag does not have, are no faults.
+#[inline(always)]
+pub fn read_header(octets: &[u8]) -> Result<Header, Fault>
+    ensures found { IfOk result (λ h. IsNext h octets.now) }
+    ensures within { IfOk result
+        (λ h. (2 ≤ h.header_len) × (h.header_len ≤ length octets.now)) }
+    ensures none { IfErr result (λ f. (h : Header) → IsNext h octets.now → ⊥) }
+    ensures fault { IfErr result (λ f. IsFault octets.now f) }
+
+    // Both ways: it returns the header, or the fault, that there is.
+    ensures complete { (h : Header) → IsNext h octets.now → result ≡ Ok h }
+    ensures refused { (f : Fault) → IsFault octets.now f → result ≡ Err f }
+{
+    match octets {
+        [first, size, ..] if *first % 32 < 31 && *size < 0x80 => Ok(Header {
+            class: Class::from_bits(*first),
+            constructed: has_constructed_bit(*first),
+            number: (*first % 32) as u32,
+            length: Length::Definite(*size as u32),
+            minimal: true,
+            header_len: 2,
+        }),
+        _ => any_header(octets),
+    }
+}
+
+// The header at the front of octets, in any form.
+#[inline(never)]
+fn any_header(octets: &[u8]) -> Result<Header, Fault>
+    ensures found { IfOk result (λ h. IsNext h octets.now) }
+    ensures fault { IfErr result (λ f. IsFault octets.now f) }
+{
+    match octets {
+        [first, after @ ..] if *first % 32 < 31 => {
+            header_after(*first, (*first % 32) as u32, 1, after)
+        }
+        [first, after @ ..] => {
+            let (number, count) = tag_number(after)?;
+            header_after(*first, number, 1 + count, &after[count..])
+        }
+        [] => Err(Fault::truncated(0, 2)),
+    }
+}
+
+// The header whose identifier, with this first octet and number, has `at` octets, and which
+// continues with `after`.
+#[inline(always)]
+fn header_after(first: u8, number: u32, at: usize, after: &[u8]) -> Result<Header, Fault>
+    requires near { at ≤ 6 }
+    requires known { at ≡ length (identifier_octets (label_at first number)) }
+    ensures found { IfOk result
+        (λ h. IsNext h (identifier_octets (label_at first number) ++ after.now)) }
+    ensures fault { IfErr result
+        (λ f. IsFault (identifier_octets (label_at first number) ++ after.now) f) }
+{
+    let constructed = has_constructed_bit(first);
+    let size = LengthOctets::read(constructed, at, after)?;
+    Ok(Header {
+        class: Class::from_bits(first),
+        constructed,
+        number,
+        length: size.length,
+        minimal: size.minimal,
+        header_len: at + size.count,
+    })
+}
+
+// Bit 6 of the first identifier octet (X.690 8.1.2.3).
+#[inline(always)]
+fn has_constructed_bit(first: u8) -> bool
+    ensures { result ≡ is_constructed first }
+{
+    first / 32 % 2 == 1
+}
