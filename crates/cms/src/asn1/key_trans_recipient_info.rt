@@ -8,7 +8,6 @@ ghost use Rattle.der_asn1.specs.Item.{decodes_same};
 ghost use Rattle.der_asn1.specs.Meaning.{alternative, field, sequence, sequence_is_item, sequence_item, two_fields};
 
 use crate::asn1::cms_version::CmsVersion;
-use crate::asn1::issuer_and_serial_number::IssuerAndSerialNumber;
 use crate::asn1::recipient_identifier::RecipientIdentifier;
 use crate::asn1::signer_identifier::SignerIdentifier;
 use der::{
@@ -20,7 +19,6 @@ use der_asn1::{
 };
 use spki::AlgorithmIdentifierRef;
 use std::alloc::Global;
-use x509::SubjectKeyIdentifier;
 
 /// A key that is encrypted with the public key of a recipient (RFC 5652, 6.2.1), borrowed from the
 /// input.

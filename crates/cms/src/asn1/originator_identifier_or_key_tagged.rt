@@ -7,7 +7,6 @@ ghost use Rattle.der.specs.Prelude.{map_ok};
 ghost use Rattle.der_asn1.specs.Item.{decodes_same};
 ghost use Rattle.der_asn1.specs.Meaning.{alternative, field, sequence, sequence_is_item, sequence_item};
 
-use crate::asn1::issuer_and_serial_number::IssuerAndSerialNumber;
 use crate::asn1::originator_identifier_or_key::OriginatorIdentifierOrKey;
 use der::{
     Decode, DecodeValue, Encode, EncodeValue, Error, FromFields, Header, IsValue, Length, Reader,
@@ -15,7 +14,6 @@ use der::{
 };
 use der_asn1::{BorrowedItem, DecodeItem, Described, DescribedChoice, Item, Nestable};
 use std::alloc::Global;
-use x509::SubjectKeyIdentifier;
 
 /// What an explicit tag has in it: a [`OriginatorIdentifierOrKey`].
 #[derive(Clone, Copy, Drop)]

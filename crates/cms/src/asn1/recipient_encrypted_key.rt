@@ -7,7 +7,6 @@ ghost use Rattle.der.specs.Prelude.{map_ok};
 ghost use Rattle.der_asn1.specs.Item.{decodes_same};
 ghost use Rattle.der_asn1.specs.Meaning.{alternative, field, sequence, sequence_is_item, sequence_item, two_fields};
 
-use crate::asn1::issuer_and_serial_number::IssuerAndSerialNumber;
 use crate::asn1::key_agree_recipient_identifier::KeyAgreeRecipientIdentifier;
 use der::{
     Decode, DecodeValue, Encode, EncodeValue, Error, FromFields, Header, IsValue, Length, Reader,

@@ -8,7 +8,6 @@ ghost use Rattle.der_asn1.specs.Item.{decodes_same};
 ghost use Rattle.der_asn1.specs.Meaning.{alternative, field, optional, seen, sequence, sequence_is_item, sequence_item, two_fields};
 
 use crate::asn1::cms_version::CmsVersion;
-use crate::asn1::issuer_and_serial_number::IssuerAndSerialNumber;
 use crate::asn1::signer_identifier::SignerIdentifier;
 use crate::asn1::signer_info_part1::{SignerInfoPart1, SignerInfoPart1Fields};
 use crate::asn1::signer_info_part2::{SignerInfoPart2, SignerInfoPart2Fields};
@@ -22,7 +21,7 @@ use der_asn1::{
 };
 use spki::AlgorithmIdentifierRef;
 use std::alloc::Global;
-use x509::{Attributes, SubjectKeyIdentifier};
+use x509::Attributes;
 
 /// A signature of one signer (RFC 5652, 5.3), borrowed from the input.
 #[derive(Clone, Copy, Drop)]

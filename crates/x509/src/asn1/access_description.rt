@@ -7,9 +7,7 @@ ghost use Rattle.der.specs.Prelude.{map_ok};
 ghost use Rattle.der_asn1.specs.Item.{decodes_same};
 ghost use Rattle.der_asn1.specs.Meaning.{alternative, field, sequence, sequence_is_item, sequence_item, two_fields};
 
-use crate::asn1::edi_party_name::EdiPartyName;
 use crate::asn1::general_name::GeneralName;
-use crate::asn1::other_name::OtherName;
 use der::{
     Decode, DecodeValue, Encode, EncodeValue, Error, FromFields, Header, IsValue, Length, Reader,
     Sequence, SliceReader, Writer, decode_sequence, field_refs,

@@ -8,11 +8,9 @@ ghost use Rattle.der_asn1.specs.Item.{decodes_same};
 ghost use Rattle.der_asn1.specs.Meaning.{alternative, defaulted, field, optional, seen, sequence, sequence_is_item, sequence_item, two_fields};
 
 use crate::asn1::base_distance::BaseDistance;
-use crate::asn1::edi_party_name::EdiPartyName;
 use crate::asn1::general_name::GeneralName;
 use crate::asn1::general_subtree_part1::{GeneralSubtreePart1, GeneralSubtreePart1Fields};
 use crate::asn1::general_subtree_part2::{GeneralSubtreePart2, GeneralSubtreePart2Fields};
-use crate::asn1::other_name::OtherName;
 use der::{
     Decode, DecodeValue, Encode, EncodeValue, Error, FromFields, Header, IsValue, Length, Reader,
     Sequence, SliceReader, Writer, decode_sequence, field_refs,

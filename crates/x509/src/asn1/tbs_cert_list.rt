@@ -20,7 +20,6 @@ use der::{
 };
 use der_asn1::{
     BorrowedItem, DecodeItem, Described, DescribedChoice, Explicit, Item, Nestable, Optional,
-    UtcTime,
 };
 use spki::AlgorithmIdentifierRef;
 use std::alloc::Global;
