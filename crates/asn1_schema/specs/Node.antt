@@ -1,0 +1,60 @@
+-- Nodes: a row of 40 octets (`node_at`), and a node that is well-formed (`IsNode`).
+use Rattle.std.specs.Prelude.{◌≡◌, ℕ, ◌+◌, ◌/◌, ◌%◌, ◌<◌, nat_eq, not, Bool, true, false, List, slice_index, Option, Some, None, IsSome, unwrap_or, if◌then◌else◌}
+use Rattle.der_base.specs.declared.tag.class.Class.{Class}
+use Rattle.der_base.specs.declared.tag.class.Class.TheVariants.{Universal, Application, ContextSpecific, Private}
+use Rattle.asn1_schema.specs.Numbers.{number_at}
+use Rattle.asn1_schema.specs.NodeKind.{kind_at, parts_room, chooser_room, needs_inner, allows_inner}
+use Rattle.asn1_schema.specs.Span.{span_at, IsWithin}
+use Rattle.asn1_schema.specs.declared.counts.Counts.{Counts}
+use Rattle.asn1_schema.specs.declared.node.Node.{Node}
+use Rattle.asn1_schema.specs.declared.node_kind.NodeKind.{NodeKind}
+use Rattle.asn1_schema.specs.declared.node_kind.NodeKind.TheVariants.{Any}
+
+-- the class in the two highest bits of an octet (X.690 8.1.2.2)
+abbrev pub class_at : ℕ → Class
+class_at o =
+    if nat_eq (o / 64) 0 then Universal
+    else if nat_eq (o / 64) 1 then Application
+    else if nat_eq (o / 64) 2 then ContextSpecific
+    else Private
+
+abbrev pub flag_at : ℕ → Bool
+flag_at o = not (nat_eq o 0)
+
+abbrev pub inner_at : ℕ → ℕ → Option ℕ
+inner_at o node = if nat_eq o 0 then None else Some node
+
+-- the node in the 40 octets from an offset on
+abbrev pub node_at : List ℕ → ℕ → Node
+node_at octets at = record {
+  kind = unwrap_or (kind_at (slice_index octets at)) Any;
+  class = class_at (slice_index octets (at + 1));
+  extensible = flag_at (slice_index octets (at + 2));
+  inner = inner_at (slice_index octets (at + 3)) (number_at octets (at + 16));
+  number = number_at octets (at + 4);
+  name = span_at octets (at + 8);
+  parts = span_at octets (at + 20);
+  limits = span_at octets (at + 28);
+  chooser = number_at octets (at + 36);
+}
+
+-- a node inside a node of this kind is one of so many
+abbrev pub IsInner : NodeKind → Option ℕ → ℕ → Type 0
+IsInner kind None nodes = needs_inner kind ≡ false
+IsInner kind (Some node) nodes = (allows_inner kind ≡ true) × (node < nodes)
+
+-- what a node names is there
+pub record IsNode (c : Counts) (n : Node) : Type 0 where
+  pub name : IsWithin n.name c.pool
+  pub inner : IsInner n.kind n.inner c.nodes
+  pub parts : IsWithin n.parts (parts_room c n.kind)
+  pub limits : IsWithin n.limits c.limits
+  pub chooser : n.chooser < chooser_room c n.kind
+
+-- a row is a node that is well-formed
+pub record IsNodeRow (c : Counts) (octets : List ℕ) (at : ℕ) : Type 0 where
+  pub kind : IsSome (kind_at (slice_index octets at))
+  pub class : slice_index octets (at + 1) % 64 ≡ 0
+  pub extensible : slice_index octets (at + 2) < 2
+  pub inner : slice_index octets (at + 3) < 2
+  pub fits : IsNode c (node_at octets at)
