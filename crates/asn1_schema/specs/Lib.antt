@@ -1,6 +1,13 @@
 pub mod Numbers
 pub mod Counts
 pub mod Span
+pub mod Pool
 pub mod Fault
 pub mod NodeKind
 pub mod Node
+pub mod Presence
+pub mod Field
+pub mod LimitKind
+pub mod Limit
+pub mod Name
+pub mod OpenType

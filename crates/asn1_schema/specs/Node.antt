@@ -1,10 +1,14 @@
 -- Nodes: a row of 40 octets (`node_at`), and a node that is well-formed (`IsNode`).
-use Rattle.std.specs.Prelude.{◌≡◌, ℕ, ◌+◌, ◌/◌, ◌%◌, ◌<◌, nat_eq, not, Bool, true, false, List, slice_index, Option, Some, None, IsSome, unwrap_or, if◌then◌else◌}
+use Rattle.std.specs.Prelude.{◌≡◌, ℕ, ◌+◌, ◌/◌, ◌%◌, ◌<◌, ◌≤◌, nat_eq, not, Bool, true, false, List, slice_index, Option, Some, None, IsSome, unwrap_or, if◌then◌else◌}
 use Rattle.der_base.specs.declared.tag.class.Class.{Class}
 use Rattle.der_base.specs.declared.tag.class.Class.TheVariants.{Universal, Application, ContextSpecific, Private}
 use Rattle.asn1_schema.specs.Numbers.{number_at}
 use Rattle.asn1_schema.specs.NodeKind.{kind_at, parts_room, chooser_room, needs_inner, allows_inner}
 use Rattle.asn1_schema.specs.Span.{span_at, IsWithin}
+use Rattle.asn1_schema.specs.Pool.{IsText}
+use Rattle.asn1_schema.specs.Fault.{fault_at}
+use Rattle.asn1_schema.specs.declared.fault.Fault.{Fault}
+use Rattle.asn1_schema.specs.declared.fault_kind.FaultKind.TheVariants.{Kind as NoKind, Class as NoClass, Flag as NoFlag, Name as NoName, Inner as NoInner, Parts as NoParts, Limits as NoLimits, Chooser as NoChooser}
 use Rattle.asn1_schema.specs.declared.counts.Counts.{Counts}
 use Rattle.asn1_schema.specs.declared.node.Node.{Node}
 use Rattle.asn1_schema.specs.declared.node_kind.NodeKind.{NodeKind}
@@ -44,17 +48,37 @@ IsInner kind None nodes = needs_inner kind ≡ false
 IsInner kind (Some node) nodes = (allows_inner kind ≡ true) × (node < nodes)
 
 -- what a node names is there
-pub record IsNode (c : Counts) (n : Node) : Type 0 where
-  pub name : IsWithin n.name c.pool
+pub record IsNode (c : Counts) (pool : List ℕ) (n : Node) : Type 0 where
+  pub name : IsText pool n.name
   pub inner : IsInner n.kind n.inner c.nodes
   pub parts : IsWithin n.parts (parts_room c n.kind)
   pub limits : IsWithin n.limits c.limits
   pub chooser : n.chooser < chooser_room c n.kind
 
--- a row is a node that is well-formed
-pub record IsNodeRow (c : Counts) (octets : List ℕ) (at : ℕ) : Type 0 where
+-- a row is such a node
+pub record IsNodeRow (c : Counts) (pool octets : List ℕ) (at : ℕ) : Type 0 where
   pub kind : IsSome (kind_at (slice_index octets at))
   pub class : slice_index octets (at + 1) % 64 ≡ 0
   pub extensible : slice_index octets (at + 2) < 2
   pub inner : slice_index octets (at + 3) < 2
-  pub fits : IsNode c (node_at octets at)
+  pub fits : IsNode c pool (node_at octets at)
+
+-- why a row is none
+pub data IsNodeFault (c : Counts) (pool octets : List ℕ) (at : ℕ) : Fault → Type 0 where
+  unknown_kind : kind_at (slice_index octets at) ≡ None
+      → IsNodeFault c pool octets at (fault_at NoKind at)
+  no_class : (slice_index octets (at + 1) % 64 ≡ 0 → ⊥)
+      → IsNodeFault c pool octets at (fault_at NoClass (at + 1))
+  no_flag : 2 ≤ slice_index octets (at + 2) → IsNodeFault c pool octets at (fault_at NoFlag (at + 2))
+  no_inner_flag : 2 ≤ slice_index octets (at + 3)
+      → IsNodeFault c pool octets at (fault_at NoFlag (at + 3))
+  no_node_name : (IsText pool (node_at octets at).name → ⊥)
+      → IsNodeFault c pool octets at (fault_at NoName (at + 8))
+  no_inner : (IsInner (node_at octets at).kind (node_at octets at).inner c.nodes → ⊥)
+      → IsNodeFault c pool octets at (fault_at NoInner (at + 16))
+  no_parts : (IsWithin (node_at octets at).parts (parts_room c (node_at octets at).kind) → ⊥)
+      → IsNodeFault c pool octets at (fault_at NoParts (at + 20))
+  no_limits : (IsWithin (node_at octets at).limits c.limits → ⊥)
+      → IsNodeFault c pool octets at (fault_at NoLimits (at + 28))
+  no_chooser : chooser_room c (node_at octets at).kind ≤ (node_at octets at).chooser
+      → IsNodeFault c pool octets at (fault_at NoChooser (at + 36))

@@ -1,5 +1,5 @@
 -- Ranges of rows of a section, or of octets of the pool.
-use Rattle.std.specs.Prelude.{ℕ, ◌+◌, ◌≤◌, List, take, drop}
+use Rattle.std.specs.Prelude.{ℕ, ◌+◌, ◌≤◌, List}
 use Rattle.asn1_schema.specs.Numbers.{number_at}
 use Rattle.asn1_schema.specs.declared.span.Span.{Span}
 
@@ -10,7 +10,3 @@ span_at octets at = record { start = number_at octets at; count = number_at octe
 -- a range is one of so many rows or octets
 abbrev pub IsWithin : Span → ℕ → Type 0
 IsWithin span room = span.start + span.count ≤ room
-
--- the octets of a range of the pool
-abbrev pub octets_of : List ℕ → Span → List ℕ
-octets_of pool span = take span.count (drop span.start pool)

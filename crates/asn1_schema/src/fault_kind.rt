@@ -17,8 +17,10 @@ pub enum FaultKind {
     Class,
     /// An octet that is 0 or 1 is neither.
     Flag,
-    /// A range of octets is not one of the pool.
-    Range,
+    /// The octets of a name are no range of the pool, or not UTF-8.
+    Name,
+    /// A node, which a field or a type of an open type is of, is none.
+    Node,
     /// A node has another node inside it though its kind has none, lacks one though its kind has
     /// one, or names one that there is not.
     Inner,
@@ -28,4 +30,12 @@ pub enum FaultKind {
     Limits,
     /// The field that chooses an open type is none.
     Chooser,
+    /// A field is neither required, nor optional, nor with a default.
+    Presence,
+    /// The octets of a default are no range of the pool, or are there without a default.
+    Default,
+    /// The kind of a limit is none.
+    Limit,
+    /// The octets of an OBJECT IDENTIFIER are no range of the pool.
+    Identifier,
 }

@@ -1,9 +1,13 @@
 //! Nodes.
-ghost use Rattle.std.specs.Prelude.{◌≡◌, ◌+◌, ◌≤◌, length};
-ghost use Rattle.asn1_schema.specs.Node.{class_at, flag_at, inner_at, node_at};
+ghost use Rattle.std.specs.Prelude.{◌≡◌, ◌↔◌, ◌+◌, ◌≤◌, length, IsTrue, IfOk, IfErr};
+ghost use Rattle.asn1_schema.specs.Node.{class_at, flag_at, inner_at, node_at, IsInner, IsNode, IsNodeRow, IsNodeFault};
 
+use crate::counts::Counts;
+use crate::fault::Fault;
+use crate::fault_kind::FaultKind;
 use crate::node_kind::NodeKind;
 use crate::numbers::number_at;
+use crate::pool::is_text;
 use crate::span::Span;
 use der_base::Class;
 
@@ -49,6 +53,67 @@ impl Node {
             limits: Span::read(octets, at + 28),
             chooser: number_at(octets, at + 36),
         }
+    }
+
+    // Whether the 40 octets from `at` on are a node.
+    pub(crate) fn check(
+        octets: &[u8],
+        at: usize,
+        counts: Counts,
+        pool: &[u8],
+    ) -> Result<(), Fault>
+        requires { at + 40 ≤ length octets.now }
+        ensures ok { IfOk result (λ _. IsNodeRow counts pool.now octets.now at) }
+        ensures fault { IfErr result (λ f. IsNodeFault counts pool.now octets.now at f) }
+    {
+        if NodeKind::from_octet(octets[at]).is_none() {
+            return Err(Fault::new(FaultKind::Kind, at));
+        }
+        if octets[at + 1] % 64 != 0 {
+            return Err(Fault::new(FaultKind::Class, at + 1));
+        }
+        if octets[at + 2] > 1 {
+            return Err(Fault::new(FaultKind::Flag, at + 2));
+        }
+        if octets[at + 3] > 1 {
+            return Err(Fault::new(FaultKind::Flag, at + 3));
+        }
+        Node::check_parts(octets, at, counts, pool)
+    }
+
+    // Whether what the node in the 40 octets from `at` on names is there.
+    fn check_parts(octets: &[u8], at: usize, counts: Counts, pool: &[u8]) -> Result<(), Fault>
+        requires { at + 40 ≤ length octets.now }
+        ensures ok { IfOk result (λ _. IsNode counts pool.now (node_at octets.now at)) }
+        ensures fault { IfErr result (λ f. IsNodeFault counts pool.now octets.now at f) }
+    {
+        let node = Node::read(octets, at);
+        if !is_text(pool, node.name) {
+            return Err(Fault::new(FaultKind::Name, at + 8));
+        }
+        if !is_inner(node.kind, node.inner, counts.nodes) {
+            return Err(Fault::new(FaultKind::Inner, at + 16));
+        }
+        if !node.parts.is_within(node.kind.parts_room(counts) as usize) {
+            return Err(Fault::new(FaultKind::Parts, at + 20));
+        }
+        if !node.limits.is_within(counts.limits as usize) {
+            return Err(Fault::new(FaultKind::Limits, at + 28));
+        }
+        if node.chooser >= node.kind.chooser_room(counts) {
+            return Err(Fault::new(FaultKind::Chooser, at + 36));
+        }
+        Ok(())
+    }
+}
+
+// Whether a node of this kind may have this node inside it.
+fn is_inner(kind: NodeKind, inner: Option<u32>, nodes: u32) -> bool
+    ensures { IsTrue result ↔ IsInner kind inner nodes }
+{
+    match inner {
+        None => !kind.needs_inner(),
+        Some(node) => kind.allows_inner() && node < nodes,
     }
 }
 

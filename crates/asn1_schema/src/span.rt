@@ -28,9 +28,9 @@ impl Span {
 
     // Whether the range is one of so many rows or octets.
     #[inline(always)]
-    pub(crate) fn is_within(self, room: u32) -> bool
+    pub(crate) fn is_within(self, room: usize) -> bool
         ensures { IsTrue result ↔ IsWithin self room }
     {
-        self.start as u64 + self.count as u64 <= room as u64
+        self.start as usize + self.count as usize <= room
     }
 }
