@@ -1,1 +1,2 @@
 pub mod TestLemmas
+pub mod FaultLemmas

@@ -11,3 +11,5 @@ pub mod LimitKind
 pub mod Limit
 pub mod Name
 pub mod OpenType
+pub mod Table
+pub mod Schema

@@ -42,10 +42,12 @@ node_at octets at = record {
   chooser = number_at octets (at + 36);
 }
 
--- a node inside a node of this kind is one of so many
+-- a node inside a node of this kind is there if the kind needs one, and is one of so many and only
+-- there if the kind allows one
 abbrev pub IsInner : NodeKind → Option ℕ → ℕ → Type 0
-IsInner kind None nodes = needs_inner kind ≡ false
-IsInner kind (Some node) nodes = (allows_inner kind ≡ true) × (node < nodes)
+IsInner kind inner nodes =
+    (needs_inner kind ≡ true → IsSome inner)
+    × ((node : ℕ) → inner ≡ Some node → (allows_inner kind ≡ true) × (node < nodes))
 
 -- what a node names is there
 pub record IsNode (c : Counts) (pool : List ℕ) (n : Node) : Type 0 where

@@ -5,6 +5,7 @@ mod counts;
 mod fault;
 mod fault_kind;
 mod field;
+mod header;
 mod limit;
 mod limit_kind;
 mod name;
@@ -15,6 +16,7 @@ mod open_type;
 mod pool;
 mod presence;
 mod schema;
+mod sections;
 mod span;
 
 pub use counts::Counts;

@@ -1,0 +1,58 @@
+-- Tables: the lists that rows of octets are. Rows name each other by index.
+use Rattle.std.specs.Prelude.{◌≡◌, ℕ, zero, suc, ◌+◌, ◌*◌, ◌<◌, List, [], ◌∷◌, drop}
+use Rattle.asn1_schema.specs.Counts.{counts_in, nodes_at, fields_at, limits_at, names_at, opens_at, pool_at}
+use Rattle.asn1_schema.specs.Node.{node_at, IsNodeRow}
+use Rattle.asn1_schema.specs.Field.{field_at, IsFieldRow}
+use Rattle.asn1_schema.specs.Limit.{limit_at, IsLimitRow}
+use Rattle.asn1_schema.specs.Name.{name_at, IsNameRow}
+use Rattle.asn1_schema.specs.OpenType.{open_type_at, IsOpenTypeRow}
+use Rattle.asn1_schema.specs.declared.counts.Counts.{Counts}
+use Rattle.asn1_schema.specs.declared.node.Node.{Node}
+use Rattle.asn1_schema.specs.declared.field.Field.{Field}
+use Rattle.asn1_schema.specs.declared.limit.Limit.{Limit}
+use Rattle.asn1_schema.specs.declared.name.Name.{Name}
+use Rattle.asn1_schema.specs.declared.open_type.OpenType.{OpenType}
+
+pub record Table : Type 0 where
+  pub nodes : List Node
+  pub fields : List Field
+  pub limits : List Limit
+  pub names : List Name
+  pub opens : List OpenType
+  pub pool : List ℕ
+
+-- the rows of a size from an offset on, so many of them
+abbrev pub rows : {A : Type 0} → (List ℕ → ℕ → A) → ℕ → ℕ → ℕ → List ℕ → List A
+rows row size at zero octets = []
+rows row size at (suc count) octets = row octets at ∷ rows row size (at + size) count octets
+
+-- the octets after the rows
+abbrev pub pool_in : Counts → List ℕ → List ℕ
+pool_in c octets = drop (pool_at c) octets
+
+-- the table with these counts
+abbrev pub table_with : Counts → List ℕ → Table
+table_with c octets = record {
+  nodes = rows node_at 40 nodes_at c.nodes octets;
+  fields = rows field_at 28 (fields_at c) c.fields octets;
+  limits = rows limit_at 20 (limits_at c) c.limits octets;
+  names = rows name_at 16 (names_at c) c.names octets;
+  opens = rows open_type_at 12 (opens_at c) c.opens octets;
+  pool = pool_in c octets;
+}
+
+-- the table that octets are
+abbrev pub table_in : List ℕ → Table
+table_in octets = table_with (counts_in octets) octets
+
+-- a fact holds of the offset of each row
+abbrev pub EachRow : (ℕ → Type 0) → ℕ → ℕ → ℕ → Type 0
+EachRow Fact size at count = (i : ℕ) → i < count → Fact (at + size * i)
+
+-- each row is well-formed
+pub record AreRows (c : Counts) (octets : List ℕ) : Type 0 where
+  pub nodes : EachRow (IsNodeRow c (pool_in c octets) octets) 40 nodes_at c.nodes
+  pub fields : EachRow (IsFieldRow c (pool_in c octets) octets) 28 (fields_at c) c.fields
+  pub limits : EachRow (IsLimitRow octets) 20 (limits_at c) c.limits
+  pub names : EachRow (IsNameRow (pool_in c octets) octets) 16 (names_at c) c.names
+  pub opens : EachRow (IsOpenTypeRow c (pool_in c octets) octets) 12 (opens_at c) c.opens
