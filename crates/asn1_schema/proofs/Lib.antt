@@ -1,2 +1,3 @@
 pub mod TestLemmas
 pub mod FaultLemmas
+pub mod RowLemmas

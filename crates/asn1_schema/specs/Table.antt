@@ -1,5 +1,5 @@
 -- Tables: the lists that rows of octets are. Rows name each other by index.
-use Rattle.std.specs.Prelude.{◌≡◌, ℕ, zero, suc, ◌+◌, ◌*◌, ◌<◌, List, [], ◌∷◌, drop}
+use Rattle.std.specs.Prelude.{◌≡◌, ℕ, zero, suc, ◌+◌, ◌*◌, ◌<◌, List, [], ◌∷◌, length, drop}
 use Rattle.asn1_schema.specs.Counts.{counts_in, nodes_at, fields_at, limits_at, names_at, opens_at, pool_at}
 use Rattle.asn1_schema.specs.Node.{node_at, IsNodeRow}
 use Rattle.asn1_schema.specs.Field.{field_at, IsFieldRow}
@@ -44,6 +44,17 @@ table_with c octets = record {
 -- the table that octets are
 abbrev pub table_in : List ℕ → Table
 table_in octets = table_with (counts_in octets) octets
+
+-- how many there are
+abbrev pub counts_of : Table → Counts
+counts_of t = record {
+  nodes = length t.nodes;
+  fields = length t.fields;
+  limits = length t.limits;
+  names = length t.names;
+  opens = length t.opens;
+  pool = length t.pool;
+}
 
 -- a fact holds of the offset of each row
 abbrev pub EachRow : (ℕ → Type 0) → ℕ → ℕ → ℕ → Type 0

@@ -23,6 +23,15 @@ pub(crate) fn is_text(pool: &[u8], span: Span) -> bool
     span.is_within(pool.len()) && is_utf8(octets_of(pool, span))
 }
 
+// The text of a range of the pool.
+#[inline(always)]
+pub(crate) fn text_of(pool: &[u8], span: Span) -> &str
+    requires { IsText pool.now span }
+    ensures { result.now ≡ octets_of pool.now span }
+{
+    unsafe { std::str::from_utf8_unchecked(octets_of(pool, span)) }
+}
+
 fn is_utf8(octets: &[u8]) -> bool
     ensures { result ≡ is_utf8 octets.now }
 {

@@ -1,14 +1,21 @@
 //! Tables of types.
-ghost use Rattle.std.specs.Prelude.{◌≡◌};
+ghost use Rattle.std.specs.Prelude.{◌≡◌, length};
 ghost use Rattle.std.proofs.Props.{props};
-ghost use Rattle.asn1_schema.specs.Counts.{counts_in};
+ghost use Rattle.asn1_schema.specs.Counts.{counts_in, size_of};
 ghost use Rattle.asn1_schema.specs.Table.{pool_in, AreRows};
 ghost use Rattle.asn1_schema.specs.Schema.{IsHeader};
 
 use crate::counts::Counts;
 use crate::fault::Fault;
+use crate::field::Field;
 use crate::header::read_header;
+use crate::limit::Limit;
+use crate::name::Name;
+use crate::node::Node;
+use crate::open_type::OpenType;
+use crate::pool::{octets_of, text_of};
 use crate::sections::check_rows;
+use crate::span::Span;
 
 /// A table of types, read from octets without copying them.
 #[derive(Debug, Clone, Copy, PartialEq, Eq)]
@@ -18,13 +25,20 @@ pub struct Schema<'a> {
     pool: &'a [u8],
     ghost header: { IsHeader octets.now } by { Prim.hlevel props },
     ghost counted: { counts ≡ counts_in octets.now } by { Prim.hlevel props },
+    ghost sized: { size_of counts ≡ length octets.now },
     ghost pooled: { pool.now ≡ pool_in counts octets.now },
     ghost rows: { AreRows counts octets.now } by { Prim.hlevel props },
 }
 
 impl<'a> Schema<'a> {
-    ghost use Rattle.std.specs.Prelude.{IfOk, IfErr};
-    ghost use Rattle.asn1_schema.specs.Table.{Table, table_in};
+    ghost use Rattle.std.specs.Prelude.{◌<◌, slice_get, Some, IfOk, IfErr, IsOk};
+    ghost use Rattle.asn1_schema.specs.Span.{IsWithin};
+    ghost use Rattle.asn1_schema.specs.Pool.{octets_of, IsText};
+    ghost use Rattle.asn1_schema.specs.Node.{IsNode};
+    ghost use Rattle.asn1_schema.specs.Field.{IsField};
+    ghost use Rattle.asn1_schema.specs.Name.{IsName};
+    ghost use Rattle.asn1_schema.specs.OpenType.{IsOpenType};
+    ghost use Rattle.asn1_schema.specs.Table.{Table, table_in, counts_of};
     ghost use Rattle.asn1_schema.specs.Schema.{IsSchema, IsFault};
 
     /// Reads a table.
@@ -35,7 +49,7 @@ impl<'a> Schema<'a> {
     pub fn new(octets: &'a [u8]) -> Result<Self, Fault>
         ensures ok { IfOk result (λ s. IsSchema octets.now (table_in s.octets.now)) }
         ensures same { IfOk result (λ s. s.octets.now ≡ octets.now) }
-        ensures none { IfErr result (λ f. (t : Table) → IsSchema octets.now t → ⊥) }
+        ensures complete { (t : Table) → IsSchema octets.now t → IsOk result }
         ensures fault { IfErr result (λ f. IsFault octets.now f) }
     {
         let counts = read_header(octets)?;
@@ -46,5 +60,82 @@ impl<'a> Schema<'a> {
             counts,
             pool,
         })
+    }
+    /// How many rows each section has, and how many octets the pool has.
+    #[inline(always)]
+    pub fn counts(&self) -> Counts
+        ensures value { result ≡ counts_of (table_in self.now.octets.now) }
+        ensures same { result ≡ self.now.counts }
+    {
+        self.counts
+    }
+
+    /// The node with this index. The caller must ensure that there is one.
+    #[inline(always)]
+    pub fn node(&self, index: u32) -> Node
+        requires { index < self.now.counts.nodes }
+        ensures value { slice_get (table_in self.now.octets.now).nodes index ≡ Some result }
+        ensures fits { IsNode self.now.counts self.now.pool.now result }
+    {
+        Node::read(self.octets, 32 + 40 * index as usize)
+    }
+
+    /// The field with this index. The caller must ensure that there is one.
+    #[inline(always)]
+    pub fn field(&self, index: u32) -> Field
+        requires { index < self.now.counts.fields }
+        ensures value { slice_get (table_in self.now.octets.now).fields index ≡ Some result }
+        ensures fits { IsField self.now.counts self.now.pool.now result }
+    {
+        Field::read(self.octets, self.counts.fields_at() + 28 * index as usize)
+    }
+
+    /// The limit with this index. The caller must ensure that there is one.
+    #[inline(always)]
+    pub fn limit(&self, index: u32) -> Limit
+        requires { index < self.now.counts.limits }
+        ensures { slice_get (table_in self.now.octets.now).limits index ≡ Some result }
+    {
+        Limit::read(self.octets, self.counts.limits_at() + 20 * index as usize)
+    }
+
+    /// The name with this index. The caller must ensure that there is one.
+    #[inline(always)]
+    pub fn name(&self, index: u32) -> Name
+        requires { index < self.now.counts.names }
+        ensures value { slice_get (table_in self.now.octets.now).names index ≡ Some result }
+        ensures fits { IsName self.now.pool.now result }
+    {
+        Name::read(self.octets, self.counts.names_at() + 16 * index as usize)
+    }
+
+    /// The type of an open type with this index. The caller must ensure that there is one.
+    #[inline(always)]
+    pub fn open_type(&self, index: u32) -> OpenType
+        requires { index < self.now.counts.opens }
+        ensures value { slice_get (table_in self.now.octets.now).opens index ≡ Some result }
+        ensures fits { IsOpenType self.now.counts self.now.pool.now result }
+    {
+        OpenType::read(self.octets, self.counts.opens_at() + 12 * index as usize)
+    }
+
+    /// The octets of a range of the pool. The caller must ensure that it is one, as those of this
+    /// table are.
+    #[inline(always)]
+    pub fn octets_of(&self, span: Span) -> &'a [u8]
+        requires { IsWithin span (length self.now.pool.now) }
+        ensures { result.now ≡ octets_of (table_in self.now.octets.now).pool span }
+    {
+        octets_of(self.pool, span)
+    }
+
+    /// The text of a range of the pool. The caller must ensure that it is one, as those of the names
+    /// of this table are.
+    #[inline(always)]
+    pub fn text_of(&self, span: Span) -> &'a str
+        requires { IsText self.now.pool.now span }
+        ensures { result.now ≡ octets_of (table_in self.now.octets.now).pool span }
+    {
+        text_of(self.pool, span)
     }
 }
