@@ -5,11 +5,12 @@ use Rattle.asn1_schema.specs.Node.{IsNodeRow, IsNodeFault, unknown_kind, no_clas
 use Rattle.asn1_schema.specs.Field.{IsFieldRow, IsFieldFault, unknown_presence, no_field_name, no_field_node, no_default}
 use Rattle.asn1_schema.specs.Limit.{IsLimitRow, IsLimitFault, unknown_limit}
 use Rattle.asn1_schema.specs.Name.{IsNameRow, IsNameFault, no_name as no_row_name}
-use Rattle.asn1_schema.specs.OpenType.{IsOpenTypeRow, IsOpenTypeFault, no_identifier, no_type}
-use Rattle.asn1_schema.specs.Table.{Table, pool_in, AreRows}
-use Rattle.asn1_schema.specs.Schema.{IsHeader, IsHeaderFault, too_short, other_magic, other_version, other_size, IsRowFault, no_node, no_field, no_limit, no_name, no_open_type, IsSchema, IsFault, no_header, no_row}
+use Rattle.asn1_schema.specs.OpenType.{IsOpenTypeRow, IsOpenTypeFault, no_identifier, no_type, Ascends, IsOrderFault, not_before}
+use Rattle.asn1_schema.specs.Table.{Table, AreRows, AreAscending}
+use Rattle.asn1_schema.specs.Schema.{IsHeader, IsHeaderFault, too_short, other_magic, other_version, other_size, IsRowFault, no_node, no_field, no_limit, no_name, no_open_type, no_order, IsSchema, IsFault, no_header, no_row}
 use Rattle.asn1_schema.specs.declared.counts.Counts.{Counts}
 use Rattle.asn1_schema.specs.declared.fault.Fault.{Fault}
+use Rattle.asn1_schema.specs.declared.span.Span.{Span}
 
 -- something is there and nothing is
 never : {A : Type 0} {o : Option A} → o ≡ None → is_some o ≡ true → ⊥
@@ -42,13 +43,17 @@ open_type_never : {c : Counts} {pool octets : List ℕ} {at : ℕ} {f : Fault} �
 open_type_never (no_identifier n) row = n row.identifier
 open_type_never (no_type h) row = omega (arith, h, row.node)
 
+order_never : {c : Counts} {octets : List ℕ} {types : Span} {f : Fault} → IsOrderFault c octets types f → Ascends c octets types → ⊥
+order_never (not_before k h more n) ascends = n (ascends k h more)
+
 -- rows of which one has a fault are not all well-formed
-pub rows_never : {c : Counts} {octets : List ℕ} {f : Fault} → IsRowFault c octets f → AreRows c octets → ⊥
-rows_never (no_node i h fault) rows = node_never fault (rows.nodes i h)
-rows_never (no_field i h fault) rows = field_never fault (rows.fields i h)
-rows_never (no_limit i h fault) rows = limit_never fault (rows.limits i h)
-rows_never (no_name i h fault) rows = name_never fault (rows.names i h)
-rows_never (no_open_type i h fault) rows = open_type_never fault (rows.opens i h)
+pub rows_never : {c : Counts} {octets : List ℕ} {f : Fault} → IsRowFault c octets f → AreRows c octets → AreAscending c octets → ⊥
+rows_never (no_node i h fault) rows order = node_never fault (rows.nodes i h)
+rows_never (no_field i h fault) rows order = field_never fault (rows.fields i h)
+rows_never (no_limit i h fault) rows order = limit_never fault (rows.limits i h)
+rows_never (no_name i h fault) rows order = name_never fault (rows.names i h)
+rows_never (no_open_type i h fault) rows order = open_type_never fault (rows.opens i h)
+rows_never (no_order i h open_kind fault) rows order = order_never fault (order.nodes i h open_kind)
 
 header_never : {octets : List ℕ} {f : Fault} → IsHeaderFault octets f → IsHeader octets → ⊥
 header_never (too_short h) is = omega (arith, h, is.long)
@@ -59,4 +64,4 @@ header_never (other_size long n) is = n is.size
 -- octets with a fault are no table
 pub schema_never : {octets : List ℕ} {t : Table} {f : Fault} → IsFault octets f → IsSchema octets t → ⊥
 schema_never (no_header fault) is = header_never fault is.header
-schema_never (no_row header fault) is = rows_never fault is.rows
+schema_never (no_row header fault) is = rows_never fault is.rows is.ascending

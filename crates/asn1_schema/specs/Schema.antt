@@ -3,14 +3,16 @@ use Rattle.std.specs.Prelude.{◌≡◌, ℕ, ◌+◌, ◌*◌, ◌<◌, ◌≤�
 use Rattle.asn1_schema.specs.Numbers.{number_at}
 use Rattle.asn1_schema.specs.Counts.{counts_in, nodes_at, fields_at, limits_at, names_at, opens_at, size_of}
 use Rattle.asn1_schema.specs.Fault.{fault_at}
-use Rattle.asn1_schema.specs.Node.{IsNodeFault}
+use Rattle.asn1_schema.specs.Pool.{pool_in}
+use Rattle.asn1_schema.specs.Node.{node_at, IsNodeFault}
 use Rattle.asn1_schema.specs.Field.{IsFieldFault}
 use Rattle.asn1_schema.specs.Limit.{IsLimitFault}
 use Rattle.asn1_schema.specs.Name.{IsNameFault}
-use Rattle.asn1_schema.specs.OpenType.{IsOpenTypeFault}
-use Rattle.asn1_schema.specs.Table.{Table, table_in, pool_in, AreRows}
+use Rattle.asn1_schema.specs.OpenType.{IsOpenTypeFault, IsOrderFault}
+use Rattle.asn1_schema.specs.Table.{Table, table_in, AreRows, AreAscending}
 use Rattle.asn1_schema.specs.declared.counts.Counts.{Counts}
 use Rattle.asn1_schema.specs.declared.fault.Fault.{Fault}
+use Rattle.asn1_schema.specs.declared.node_kind.NodeKind.TheVariants.{Open}
 use Rattle.asn1_schema.specs.declared.fault_kind.FaultKind.TheVariants.{TooShort, Magic, Version, Size}
 
 -- the number of the first four octets, `YSCH`
@@ -32,6 +34,7 @@ pub record IsHeader (octets : List ℕ) : Type 0 where
 pub record IsSchema (octets : List ℕ) (t : Table) : Type 0 where
   pub header : IsHeader octets
   pub rows : AreRows (counts_in octets) octets
+  pub ascending : AreAscending (counts_in octets) octets
   pub table : t ≡ table_in octets
 
 -- why octets with these counts have a row that is not well-formed
@@ -46,6 +49,8 @@ pub data IsRowFault (c : Counts) (octets : List ℕ) : Fault → Type 0 where
       → IsNameFault (pool_in c octets) octets (names_at c + 16 * i) f → IsRowFault c octets f
   no_open_type : {f : Fault} (i : ℕ) → i < c.opens
       → IsOpenTypeFault c (pool_in c octets) octets (opens_at c + 12 * i) f → IsRowFault c octets f
+  no_order : {f : Fault} (i : ℕ) → i < c.nodes → (node_at octets (nodes_at + 40 * i)).kind ≡ Open
+      → IsOrderFault c octets (node_at octets (nodes_at + 40 * i)).parts f → IsRowFault c octets f
 
 -- why octets have no header
 pub data IsHeaderFault (octets : List ℕ) : Fault → Type 0 where

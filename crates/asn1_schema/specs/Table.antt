@@ -1,16 +1,18 @@
 -- Tables: the lists that rows of octets are. Rows name each other by index.
-use Rattle.std.specs.Prelude.{◌≡◌, ℕ, zero, suc, ◌+◌, ◌*◌, ◌<◌, List, [], ◌∷◌, length, drop}
-use Rattle.asn1_schema.specs.Counts.{counts_in, nodes_at, fields_at, limits_at, names_at, opens_at, pool_at}
+use Rattle.std.specs.Prelude.{◌≡◌, ℕ, zero, suc, ◌+◌, ◌*◌, ◌<◌, List, [], ◌∷◌, length}
+use Rattle.asn1_schema.specs.Counts.{counts_in, nodes_at, fields_at, limits_at, names_at, opens_at}
+use Rattle.asn1_schema.specs.Pool.{pool_in}
 use Rattle.asn1_schema.specs.Node.{node_at, IsNodeRow}
 use Rattle.asn1_schema.specs.Field.{field_at, IsFieldRow}
 use Rattle.asn1_schema.specs.Limit.{limit_at, IsLimitRow}
 use Rattle.asn1_schema.specs.Name.{name_at, IsNameRow}
-use Rattle.asn1_schema.specs.OpenType.{open_type_at, IsOpenTypeRow}
+use Rattle.asn1_schema.specs.OpenType.{open_type_at, IsOpenTypeRow, Ascends}
 use Rattle.asn1_schema.specs.declared.counts.Counts.{Counts}
 use Rattle.asn1_schema.specs.declared.node.Node.{Node}
 use Rattle.asn1_schema.specs.declared.field.Field.{Field}
 use Rattle.asn1_schema.specs.declared.limit.Limit.{Limit}
 use Rattle.asn1_schema.specs.declared.name.Name.{Name}
+use Rattle.asn1_schema.specs.declared.node_kind.NodeKind.TheVariants.{Open}
 use Rattle.asn1_schema.specs.declared.open_type.OpenType.{OpenType}
 
 pub record Table : Type 0 where
@@ -25,10 +27,6 @@ pub record Table : Type 0 where
 abbrev pub rows : {A : Type 0} → (List ℕ → ℕ → A) → ℕ → ℕ → ℕ → List ℕ → List A
 rows row size at zero octets = []
 rows row size at (suc count) octets = row octets at ∷ rows row size (at + size) count octets
-
--- the octets after the rows
-abbrev pub pool_in : Counts → List ℕ → List ℕ
-pool_in c octets = drop (pool_at c) octets
 
 -- the table with these counts
 abbrev pub table_with : Counts → List ℕ → Table
@@ -60,6 +58,10 @@ counts_of t = record {
 abbrev pub EachRow : (ℕ → Type 0) → ℕ → ℕ → ℕ → Type 0
 EachRow Fact size at count = (i : ℕ) → i < count → Fact (at + size * i)
 
+-- the types of an open type ascend
+abbrev pub IsAscending : Counts → List ℕ → Node → Type 0
+IsAscending c octets n = n.kind ≡ Open → Ascends c octets n.parts
+
 -- each row is well-formed
 pub record AreRows (c : Counts) (octets : List ℕ) : Type 0 where
   pub nodes : EachRow (IsNodeRow c (pool_in c octets) octets) 40 nodes_at c.nodes
@@ -67,3 +69,7 @@ pub record AreRows (c : Counts) (octets : List ℕ) : Type 0 where
   pub limits : EachRow (IsLimitRow octets) 20 (limits_at c) c.limits
   pub names : EachRow (IsNameRow (pool_in c octets) octets) 16 (names_at c) c.names
   pub opens : EachRow (IsOpenTypeRow c (pool_in c octets) octets) 12 (opens_at c) c.opens
+
+-- the types of each open type ascend
+pub record AreAscending (c : Counts) (octets : List ℕ) : Type 0 where
+  pub nodes : EachRow (λ at. IsAscending c octets (node_at octets at)) 40 nodes_at c.nodes

@@ -38,4 +38,6 @@ pub enum FaultKind {
     Limit,
     /// The octets of an OBJECT IDENTIFIER are no range of the pool.
     Identifier,
+    /// The OBJECT IDENTIFIER of a type of an open type is not after the one before it.
+    Order,
 }

@@ -13,6 +13,7 @@ mod node;
 mod node_kind;
 mod numbers;
 mod open_type;
+mod order;
 mod pool;
 mod presence;
 mod schema;

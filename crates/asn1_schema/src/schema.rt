@@ -2,7 +2,8 @@
 ghost use Rattle.std.specs.Prelude.{◌≡◌, length};
 ghost use Rattle.std.proofs.Props.{props};
 ghost use Rattle.asn1_schema.specs.Counts.{counts_in, size_of};
-ghost use Rattle.asn1_schema.specs.Table.{pool_in, AreRows};
+ghost use Rattle.asn1_schema.specs.Pool.{pool_in};
+ghost use Rattle.asn1_schema.specs.Table.{AreRows};
 ghost use Rattle.asn1_schema.specs.Schema.{IsHeader};
 
 use crate::counts::Counts;

@@ -6,7 +6,8 @@ ghost use Rattle.asn1_schema.specs.Field.{IsFieldRow};
 ghost use Rattle.asn1_schema.specs.Limit.{IsLimitRow};
 ghost use Rattle.asn1_schema.specs.Name.{IsNameRow};
 ghost use Rattle.asn1_schema.specs.OpenType.{IsOpenTypeRow};
-ghost use Rattle.asn1_schema.specs.Table.{pool_in, EachRow, AreRows};
+ghost use Rattle.asn1_schema.specs.Pool.{pool_in};
+ghost use Rattle.asn1_schema.specs.Table.{EachRow, AreRows, AreAscending};
 ghost use Rattle.asn1_schema.specs.Schema.{IsRowFault};
 
 use crate::counts::Counts;
@@ -16,12 +17,14 @@ use crate::limit::Limit;
 use crate::name::Name;
 use crate::node::Node;
 use crate::open_type::OpenType;
+use crate::order::check_order;
 
 // Whether each row is well-formed.
 pub(crate) fn check_rows(octets: &[u8], counts: Counts, pool: &[u8]) -> Result<(), Fault>
     requires room { pool_at counts ≤ length octets.now }
     requires pooled { pool.now ≡ pool_in counts octets.now }
     ensures ok { IfOk result (λ _. AreRows counts octets.now) }
+    ensures ascending { IfOk result (λ _. AreAscending counts octets.now) }
     ensures fault { IfErr result (λ f. IsRowFault counts octets.now f) }
 {
     check_nodes(octets, counts, pool)?;
@@ -29,6 +32,7 @@ pub(crate) fn check_rows(octets: &[u8], counts: Counts, pool: &[u8]) -> Result<(
     check_limits(octets, counts)?;
     check_names(octets, counts, pool)?;
     check_open_types(octets, counts, pool)?;
+    check_order(octets, counts, pool)?;
     Ok(())
 }
 

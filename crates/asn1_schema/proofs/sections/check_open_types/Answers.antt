@@ -1,7 +1,7 @@
 use Rattle.std.proofs.Common.{ℕ, ◌+◌, ◌*◌, List, subst, arith}
 use Rattle.std.proofs.lemmas.Result.{err_from_is_err_and}
 use Rattle.asn1_schema.specs.OpenType.{IsOpenTypeFault}
-use Rattle.asn1_schema.specs.Table.{pool_in}
+use Rattle.asn1_schema.specs.Pool.{pool_in}
 use Rattle.asn1_schema.specs.Schema.{no_open_type}
 use Rattle.asn1_schema.proofs.sections.check_open_types.Goals as goal
 

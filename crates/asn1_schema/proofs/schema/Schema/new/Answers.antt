@@ -16,7 +16,7 @@ returns-in_err-counts-clause-complete c t is = absurd (schema_never (no_header c
 pub returns-in_err-check_rows-clause-complete : goal.returns-in_err-check_rows-clause-complete
 returns-in_err-check_rows-clause-complete c t is =
     let fault = subst (λ (n : Counts). IsRowFault n c.args.octets.now c.in_err-check_rows.field-0.0) c.in_ok-counts.ensures.ok.1 c.in_err-check_rows.ensures.fault in
-    absurd (rows_never fault is.rows)
+    absurd (rows_never fault is.rows is.ascending)
 
 pub returns-in_err-check_rows-clause-fault : goal.returns-in_err-check_rows-clause-fault
 returns-in_err-check_rows-clause-fault c =
