@@ -53,7 +53,7 @@ rows_never (no_field i h fault) rows order = field_never fault (rows.fields i h)
 rows_never (no_limit i h fault) rows order = limit_never fault (rows.limits i h)
 rows_never (no_name i h fault) rows order = name_never fault (rows.names i h)
 rows_never (no_open_type i h fault) rows order = open_type_never fault (rows.opens i h)
-rows_never (no_order i h open_kind fault) rows order = order_never fault (order.nodes i h open_kind)
+rows_never (no_order i h open_kind fault) rows order = order_never fault (order i h open_kind)
 
 header_never : {octets : List ℕ} {f : Fault} → IsHeaderFault octets f → IsHeader octets → ⊥
 header_never (too_short h) is = omega (arith, h, is.long)

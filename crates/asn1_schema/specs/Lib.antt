@@ -13,3 +13,4 @@ pub mod Name
 pub mod OpenType
 pub mod Table
 pub mod Schema
+pub mod Laws

@@ -1,12 +1,15 @@
 -- Tables: the lists that rows of octets are. Rows name each other by index.
-use Rattle.std.specs.Prelude.{◌≡◌, ℕ, zero, suc, ◌+◌, ◌*◌, ◌<◌, List, [], ◌∷◌, length}
+use Rattle.std.specs.Prelude.{◌≡◌, ℕ, zero, suc, ◌+◌, ◌*◌, ◌<◌, ◌≤◌, Bool, true, List, [], ◌∷◌, length}
+use Rattle.std.specs.Ordering.{is_lt}
+use Rattle.std.proofs.Props.{props}
+use Rattle.der_base.specs.Order.{byte_order}
 use Rattle.asn1_schema.specs.Counts.{counts_in, nodes_at, fields_at, limits_at, names_at, opens_at}
 use Rattle.asn1_schema.specs.Pool.{pool_in}
 use Rattle.asn1_schema.specs.Node.{node_at, IsNodeRow}
 use Rattle.asn1_schema.specs.Field.{field_at, IsFieldRow}
 use Rattle.asn1_schema.specs.Limit.{limit_at, IsLimitRow}
 use Rattle.asn1_schema.specs.Name.{name_at, IsNameRow}
-use Rattle.asn1_schema.specs.OpenType.{open_type_at, IsOpenTypeRow, Ascends}
+use Rattle.asn1_schema.specs.OpenType.{open_type_at, IsOpenTypeRow, identifier_in, Ascends}
 use Rattle.asn1_schema.specs.declared.counts.Counts.{Counts}
 use Rattle.asn1_schema.specs.declared.node.Node.{Node}
 use Rattle.asn1_schema.specs.declared.field.Field.{Field}
@@ -71,5 +74,18 @@ pub record AreRows (c : Counts) (octets : List ℕ) : Type 0 where
   pub opens : EachRow (IsOpenTypeRow c (pool_in c octets) octets) 12 (opens_at c) c.opens
 
 -- the types of each open type ascend
-pub record AreAscending (c : Counts) (octets : List ℕ) : Type 0 where
-  pub nodes : EachRow (λ at. IsAscending c octets (node_at octets at)) 40 nodes_at c.nodes
+abbrev pub AreAscending : Counts → List ℕ → Type 0
+AreAscending c octets = EachRow (λ at. IsAscending c octets (node_at octets at)) 40 nodes_at c.nodes
+
+each_prop : (n : ℕ) (D : ℕ → Type 0) (low high : ℕ → ℕ) (test : ℕ → Bool)
+    → IsProp ((i : ℕ) → i < n → D i → (k : ℕ) → low i ≤ k → k + 1 < high i → test k ≡ true)
+each_prop n D low high test = Prim.hlevel props
+
+-- there is one proof of it
+pub AreAscending-prop : (c : Counts) (octets : List ℕ) → IsProp (AreAscending c octets)
+AreAscending-prop c octets =
+    each_prop c.nodes (λ i. (node_at octets (nodes_at + 40 * i)).kind ≡ Open)
+    (λ i. (node_at octets (nodes_at + 40 * i)).parts.start)
+    (λ i. (node_at octets (nodes_at + 40 * i)).parts.start
+    + (node_at octets (nodes_at + 40 * i)).parts.count)
+    (λ k. is_lt (byte_order (identifier_in c octets k) (identifier_in c octets (k + 1))))

@@ -43,12 +43,7 @@ impl Field {
     }
 
     // Whether the 28 octets from `at` on are a field.
-    pub(crate) fn check(
-        octets: &[u8],
-        at: usize,
-        counts: Counts,
-        pool: &[u8],
-    ) -> Result<(), Fault>
+    pub(crate) fn check(octets: &[u8], at: usize, counts: Counts, pool: &[u8]) -> Result<(), Fault>
         requires { at + 28 ≤ length octets.now }
         ensures ok { IfOk result (λ _. IsFieldRow counts pool.now octets.now at) }
         ensures fault { IfErr result (λ f. IsFieldFault counts pool.now octets.now at f) }
@@ -63,7 +58,10 @@ impl Field {
         if field.node >= counts.nodes {
             return Err(Fault::new(FaultKind::Node, at + 16));
         }
-        if !field.default.is_within(field.presence.default_room(pool.len())) {
+        if !field
+            .default
+            .is_within(field.presence.default_room(pool.len()))
+        {
             return Err(Fault::new(FaultKind::Default, at + 20));
         }
         Ok(())

@@ -56,12 +56,7 @@ impl Node {
     }
 
     // Whether the 40 octets from `at` on are a node.
-    pub(crate) fn check(
-        octets: &[u8],
-        at: usize,
-        counts: Counts,
-        pool: &[u8],
-    ) -> Result<(), Fault>
+    pub(crate) fn check(octets: &[u8], at: usize, counts: Counts, pool: &[u8]) -> Result<(), Fault>
         requires { at + 40 ≤ length octets.now }
         ensures ok { IfOk result (λ _. IsNodeRow counts pool.now octets.now at) }
         ensures fault { IfErr result (λ f. IsNodeFault counts pool.now octets.now at f) }

@@ -31,12 +31,7 @@ impl OpenType {
     }
 
     // Whether the 12 octets from `at` on are such a type.
-    pub(crate) fn check(
-        octets: &[u8],
-        at: usize,
-        counts: Counts,
-        pool: &[u8],
-    ) -> Result<(), Fault>
+    pub(crate) fn check(octets: &[u8], at: usize, counts: Counts, pool: &[u8]) -> Result<(), Fault>
         requires { at + 12 ≤ length octets.now }
         ensures ok { IfOk result (λ _. IsOpenTypeRow counts pool.now octets.now at) }
         ensures fault { IfErr result (λ f. IsOpenTypeFault counts pool.now octets.now at f) }

@@ -86,10 +86,7 @@ fn check_types(octets: &[u8], counts: Counts, pool: &[u8], types: Span) -> Resul
     let start = types.start as usize;
     for k in start..(start + types.count as usize).saturating_sub(1) {
         if !is_before_next(octets, counts, pool, k) {
-            return Err(Fault::new(
-                FaultKind::Order,
-                counts.opens_at() + 12 * (k + 1),
-            ));
+            return Err(Fault::new(FaultKind::Order, counts.opens_at() + 12 * (k + 1)));
         }
     }
     Ok(())

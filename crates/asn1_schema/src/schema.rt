@@ -3,7 +3,7 @@ ghost use Rattle.std.specs.Prelude.{◌≡◌, length};
 ghost use Rattle.std.proofs.Props.{props};
 ghost use Rattle.asn1_schema.specs.Counts.{counts_in, size_of};
 ghost use Rattle.asn1_schema.specs.Pool.{pool_in};
-ghost use Rattle.asn1_schema.specs.Table.{AreRows};
+ghost use Rattle.asn1_schema.specs.Table.{AreRows, AreAscending, AreAscending-prop};
 ghost use Rattle.asn1_schema.specs.Schema.{IsHeader};
 
 use crate::counts::Counts;
@@ -29,6 +29,7 @@ pub struct Schema<'a> {
     ghost sized: { size_of counts ≡ length octets.now },
     ghost pooled: { pool.now ≡ pool_in counts octets.now },
     ghost rows: { AreRows counts octets.now } by { Prim.hlevel props },
+    ghost ascending: { AreAscending counts octets.now } by { AreAscending-prop counts octets.now },
 }
 
 impl<'a> Schema<'a> {
@@ -39,14 +40,16 @@ impl<'a> Schema<'a> {
     ghost use Rattle.asn1_schema.specs.Field.{IsField};
     ghost use Rattle.asn1_schema.specs.Name.{IsName};
     ghost use Rattle.asn1_schema.specs.OpenType.{IsOpenType};
-    ghost use Rattle.asn1_schema.specs.Table.{Table, table_in, counts_of};
+    ghost use Rattle.asn1_schema.specs.Table.{Table, table_in, counts_of, IsAscending};
     ghost use Rattle.asn1_schema.specs.Schema.{IsSchema, IsFault};
 
-    /// Reads a table.
+    /// Reads a table of types.
     ///
     /// # Errors
     ///
-    /// A fault, if the octets are no table.
+    /// A fault of the octets, if they are no table, with its offset: of the header; else of the first
+    /// row that is not well-formed, section by section; else of the first OBJECT IDENTIFIER of an open
+    /// type that is not after the one before it.
     pub fn new(octets: &'a [u8]) -> Result<Self, Fault>
         ensures ok { IfOk result (λ s. IsSchema octets.now (table_in s.octets.now)) }
         ensures same { IfOk result (λ s. s.octets.now ≡ octets.now) }
@@ -77,6 +80,7 @@ impl<'a> Schema<'a> {
         requires { index < self.now.counts.nodes }
         ensures value { slice_get (table_in self.now.octets.now).nodes index ≡ Some result }
         ensures fits { IsNode self.now.counts self.now.pool.now result }
+        ensures ascending { IsAscending self.now.counts self.now.octets.now result }
     {
         Node::read(self.octets, 32 + 40 * index as usize)
     }
