@@ -91,3 +91,29 @@ fn open_type(rt: HostRuntime) {
     same_octets(&rt, schema.octets_of(usage.identifier), b"\x55\x1D\x0F");
     same(&rt, usage.node, 9);
 }
+
+#[test]
+fn chosen(rt: HostRuntime) {
+    let Ok(schema) = Schema::new(&TABLE) else {
+        holds(&rt, false);
+        return;
+    };
+    if schema.counts().nodes < 11 {
+        holds(&rt, false);
+        return;
+    }
+    let value = schema.node(8);
+    if value.kind != NodeKind::Open {
+        holds(&rt, false);
+        return;
+    }
+    for (identifier, node) in [(b"\x55\x1D\x0F", 9), (b"\x55\x1D\x13", 10)] {
+        match schema.find_open_type(value.parts, identifier) {
+            Some(chosen) => same(&rt, chosen.node, node),
+            None => holds(&rt, false),
+        }
+    }
+    for identifier in [b"\x55\x1D\x0E", b"\x55\x1D\x10", b"\x55\x1D\x14"] {
+        holds(&rt, schema.find_open_type(value.parts, identifier).is_none());
+    }
+}

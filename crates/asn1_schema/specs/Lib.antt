@@ -14,3 +14,4 @@ pub mod OpenType
 pub mod Table
 pub mod Schema
 pub mod Laws
+pub mod Chosen

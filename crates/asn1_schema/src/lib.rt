@@ -32,6 +32,7 @@ mod counts;
 mod fault;
 mod fault_kind;
 mod field;
+mod find;
 mod header;
 mod laws;
 mod limit;

@@ -9,6 +9,7 @@ ghost use Rattle.asn1_schema.specs.Schema.{IsHeader};
 use crate::counts::Counts;
 use crate::fault::Fault;
 use crate::field::Field;
+use crate::find::find_open_type;
 use crate::header::read_header;
 use crate::limit::Limit;
 use crate::name::Name;
@@ -33,13 +34,14 @@ pub struct Schema<'a> {
 }
 
 impl<'a> Schema<'a> {
-    ghost use Rattle.std.specs.Prelude.{◌<◌, slice_get, Some, IfOk, IfErr, IsOk};
+    ghost use Rattle.std.specs.Prelude.{◌<◌, slice_get, Some, IfOk, IfErr, IsOk, IfSome, IfNone};
     ghost use Rattle.asn1_schema.specs.Span.{IsWithin};
     ghost use Rattle.asn1_schema.specs.Pool.{octets_of, IsText};
     ghost use Rattle.asn1_schema.specs.Node.{IsNode};
     ghost use Rattle.asn1_schema.specs.Field.{IsField};
     ghost use Rattle.asn1_schema.specs.Name.{IsName};
-    ghost use Rattle.asn1_schema.specs.OpenType.{IsOpenType};
+    ghost use Rattle.asn1_schema.specs.OpenType.{IsOpenType, Ascends};
+    ghost use Rattle.asn1_schema.specs.Chosen.{IsChosen, ChoosesNone};
     ghost use Rattle.asn1_schema.specs.Table.{Table, table_in, counts_of, IsAscending};
     ghost use Rattle.asn1_schema.specs.Schema.{IsSchema, IsFault};
 
@@ -122,6 +124,20 @@ impl<'a> Schema<'a> {
         ensures fits { IsOpenType self.now.counts self.now.pool.now result }
     {
         OpenType::read(self.octets, self.counts.opens_at() + 12 * index as usize)
+    }
+
+    /// The type that the contents octets of an OBJECT IDENTIFIER choose among the types of an open type,
+    /// which are its parts. The caller must ensure that these are a range of types that ascend, as
+    /// [`Schema::node`] promises.
+    pub fn find_open_type(&self, types: Span, identifier: &[u8]) -> Option<OpenType>
+        requires there { IsWithin types self.now.counts.opens }
+        requires ascending { Ascends self.now.counts self.now.octets.now types }
+        ensures found { IfSome result
+            (λ o. IsChosen self.now.counts self.now.octets.now types identifier.now o) }
+        ensures none { IfNone result
+            (ChoosesNone self.now.counts self.now.octets.now types identifier.now) }
+    {
+        find_open_type(self.octets, self.counts, self.pool, types, identifier)
     }
 
     /// The octets of a range of the pool. The caller must ensure that it is one, as those of this
