@@ -1,6 +1,5 @@
 -- A row with a fault is not well-formed, and octets with a fault are no table.
-use Rattle.std.proofs.Common.{◌≡◌, ℕ, ◌+◌, ◌*◌, ◌<◌, ◌≤◌, Bool, true, false, List, Option, None, is_some, length, refl, sym, ap, ◌∙◌, arith}
-use Rattle.asn1_schema.specs.Counts.{counts_in}
+use Rattle.std.proofs.Common.{◌≡◌, ℕ, true, false, List, Option, None, is_some, sym, ap, ◌∙◌, arith}
 use Rattle.asn1_schema.specs.Node.{IsNodeRow, IsNodeFault, unknown_kind, no_class, no_flag, no_inner_flag, no_node_name, no_inner, no_parts, no_limits, no_chooser}
 use Rattle.asn1_schema.specs.Field.{IsFieldRow, IsFieldFault, unknown_presence, no_field_name, no_field_node, no_default}
 use Rattle.asn1_schema.specs.Limit.{IsLimitRow, IsLimitFault, unknown_limit}

@@ -6,7 +6,7 @@ use Rattle.std.specs.Ordering.{is_lt, is_eq, ordering_reverse}
 use Rattle.std.specs.declared.cmp.Ordering.{Ordering}
 use Rattle.std.specs.declared.cmp.Ordering.TheVariants.{Less, Equal, Greater}
 use Rattle.der_base.specs.Order.{byte_order}
-use Rattle.der_base.proofs.OrderLemmas.{same_octets, equal_octets}
+use Rattle.der_base.proofs.OrderLemmas.{equal_octets}
 
 pub less_from : (o : Ordering) → is_lt o ≡ true → o ≡ Less
 less_from Less e = refl

@@ -1,5 +1,5 @@
 -- Rows by their index.
-use Rattle.std.proofs.Common.{◌≡◌, ℕ, zero, suc, ◌+◌, ◌*◌, ◌<◌, List, [], ◌∷◌, length, length-drop, slice_get, Some, refl, ap, ◌∙◌, arith}
+use Rattle.std.proofs.Common.{◌≡◌, ℕ, zero, suc, ◌+◌, ◌*◌, ◌<◌, List, length, length-drop, slice_get, Some, refl, ap, ◌∙◌, arith}
 use Rattle.asn1_schema.specs.Counts.{nodes_at, fields_at, limits_at, names_at, opens_at, pool_at, size_of}
 use Rattle.asn1_schema.specs.Node.{node_at}
 use Rattle.asn1_schema.specs.Field.{field_at}

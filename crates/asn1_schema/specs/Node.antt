@@ -1,5 +1,5 @@
 -- Nodes: a row of 40 octets (`node_at`), and a node that is well-formed (`IsNode`).
-use Rattle.std.specs.Prelude.{◌≡◌, ℕ, ◌+◌, ◌/◌, ◌%◌, ◌<◌, ◌≤◌, nat_eq, not, Bool, true, false, List, slice_index, Option, Some, None, IsSome, unwrap_or, if◌then◌else◌}
+use Rattle.std.specs.Prelude.{◌≡◌, ℕ, ◌+◌, ◌/◌, ◌%◌, ◌<◌, ◌≤◌, nat_eq, not, Bool, true, List, slice_index, Option, Some, None, IsSome, unwrap_or, if◌then◌else◌}
 use Rattle.der_base.specs.declared.tag.class.Class.{Class}
 use Rattle.der_base.specs.declared.tag.class.Class.TheVariants.{Universal, Application, ContextSpecific, Private}
 use Rattle.asn1_schema.specs.Numbers.{number_at}

@@ -1,7 +1,6 @@
 -- Kinds of nodes, by their numbers, and what nodes of a kind have.
-use Rattle.std.specs.Prelude.{ℕ, nat_eq, Bool, true, false, ◌||◌, List, Option, Some, None, option_map, if◌then◌else◌}
+use Rattle.std.specs.Prelude.{ℕ, nat_eq, Bool, true, false, Option, Some, option_map, if◌then◌else◌}
 use Rattle.ber.specs.Universal.{universal_at}
-use Rattle.ber.specs.declared.universal.Universal.{Universal}
 use Rattle.ber.specs.declared.universal.Universal.TheVariants.{Integer, BitString, OctetString, Enumerated, Sequence, Set}
 use Rattle.asn1_schema.specs.declared.counts.Counts.{Counts}
 use Rattle.asn1_schema.specs.declared.node_kind.NodeKind.{NodeKind}

@@ -1,4 +1,4 @@
-use Rattle.std.proofs.Common.{◌≡◌, ◌+◌, ◌*◌, subst, below_more, arith}
+use Rattle.std.proofs.Common.{◌≡◌, subst, below_more, arith}
 use Rattle.std.proofs.lemmas.Result.{err_from_is_err_and}
 use Rattle.asn1_schema.specs.OpenType.{IsOrderFault}
 use Rattle.asn1_schema.specs.Table.{IsAscending}

@@ -1,4 +1,4 @@
-use Rattle.std.proofs.Common.{ℕ, ◌+◌, ◌*◌, List, subst, arith}
+use Rattle.std.proofs.Common.{ℕ, ◌+◌, ◌*◌, subst, arith}
 use Rattle.std.proofs.lemmas.Result.{err_from_is_err_and}
 use Rattle.asn1_schema.specs.Limit.{IsLimitFault}
 use Rattle.asn1_schema.specs.Schema.{no_limit}

@@ -1,4 +1,4 @@
-use Rattle.std.proofs.Common.{subst, length}
+use Rattle.std.proofs.Common.{subst}
 use Rattle.asn1_schema.specs.Pool.{IsText}
 use Rattle.asn1_schema.specs.Name.{no_name}
 use Rattle.asn1_schema.specs.declared.span.Span.{Span}

@@ -1,4 +1,4 @@
-use Rattle.std.proofs.Common.{◌≤◌, subst, length, arith}
+use Rattle.std.proofs.Common.{◌≤◌, subst, arith}
 use Rattle.asn1_schema.specs.NodeKind.{parts_room, chooser_room}
 use Rattle.asn1_schema.specs.Span.{IsWithin}
 use Rattle.asn1_schema.specs.Pool.{IsText}

@@ -1,4 +1,4 @@
-use Rattle.std.proofs.Common.{◌≤◌, ℕ, subst, length, arith}
+use Rattle.std.proofs.Common.{◌≤◌, ℕ, subst, length}
 use Rattle.asn1_schema.specs.Span.{IsWithin}
 use Rattle.asn1_schema.specs.OpenType.{no_identifier, no_type}
 use Rattle.asn1_schema.specs.declared.span.Span.{Span}

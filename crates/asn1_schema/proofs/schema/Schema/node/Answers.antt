@@ -1,4 +1,4 @@
-use Rattle.std.proofs.Common.{◌≡◌, ◌+◌, ◌*◌, ◌∙◌, slice_get, Some, sym, ap, subst}
+use Rattle.std.proofs.Common.{◌≡◌, ◌∙◌, slice_get, Some, sym, ap, subst}
 use Rattle.asn1_schema.specs.Counts.{nodes_at}
 use Rattle.asn1_schema.specs.Node.{node_at}
 use Rattle.asn1_schema.specs.Table.{rows, table_with}
