@@ -117,3 +117,14 @@ fn chosen(rt: HostRuntime) {
         holds(&rt, schema.find_open_type(value.parts, identifier).is_none());
     }
 }
+
+#[test]
+fn named(rt: HostRuntime) {
+    let Ok(schema) = Schema::new(&TABLE) else {
+        holds(&rt, false);
+        return;
+    };
+    same(&rt, schema.find_node("Certificate"), Some(0));
+    same(&rt, schema.find_node("KeyUsage"), Some(9));
+    same(&rt, schema.find_node("Certificates"), None);
+}

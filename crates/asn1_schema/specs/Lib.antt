@@ -15,3 +15,4 @@ pub mod Table
 pub mod Schema
 pub mod Laws
 pub mod Chosen
+pub mod Named

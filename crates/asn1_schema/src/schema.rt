@@ -9,7 +9,7 @@ ghost use Rattle.asn1_schema.specs.Schema.{IsHeader};
 use crate::counts::Counts;
 use crate::fault::Fault;
 use crate::field::Field;
-use crate::find::find_open_type;
+use crate::find::{find_node, find_open_type};
 use crate::header::read_header;
 use crate::limit::Limit;
 use crate::name::Name;
@@ -42,6 +42,7 @@ impl<'a> Schema<'a> {
     ghost use Rattle.asn1_schema.specs.Name.{IsName};
     ghost use Rattle.asn1_schema.specs.OpenType.{IsOpenType, Ascends};
     ghost use Rattle.asn1_schema.specs.Chosen.{IsChosen, ChoosesNone};
+    ghost use Rattle.asn1_schema.specs.Named.{IsNamed, NoneIsNamed};
     ghost use Rattle.asn1_schema.specs.Table.{Table, table_in, counts_of, IsAscending};
     ghost use Rattle.asn1_schema.specs.Schema.{IsSchema, IsFault};
 
@@ -124,6 +125,16 @@ impl<'a> Schema<'a> {
         ensures fits { IsOpenType self.now.counts self.now.pool.now result }
     {
         OpenType::read(self.octets, self.counts.opens_at() + 12 * index as usize)
+    }
+
+    /// The index of the first node with this name.
+    pub fn find_node(&self, name: &str) -> Option<u32>
+        ensures found { IfSome result
+            (λ i. IsNamed self.now.counts self.now.octets.now name.now i) }
+        ensures none { IfNone result
+            (NoneIsNamed self.now.counts self.now.octets.now name.now self.now.counts.nodes) }
+    {
+        find_node(self.octets, self.counts, self.pool, name.as_bytes())
     }
 
     /// The type that the contents octets of an OBJECT IDENTIFIER choose among the types of an open type,
