@@ -1,0 +1,4 @@
+pub mod TestLemmas
+pub mod FaultLemmas
+pub mod RowLemmas
+pub mod FindLemmas

@@ -1,0 +1,30 @@
+use Rattle.std.proofs.Common.{◌≤◌, subst, arith}
+use Rattle.asn1_schema.specs.NodeKind.{parts_room, chooser_room}
+use Rattle.asn1_schema.specs.Span.{IsWithin}
+use Rattle.asn1_schema.specs.Pool.{IsText}
+use Rattle.asn1_schema.specs.Node.{IsInner, no_node_name, no_inner, no_parts, no_limits, no_chooser}
+use Rattle.asn1_schema.specs.declared.node.Node.{Node}
+use Rattle.asn1_schema.proofs.TestLemmas.{refuted}
+use Rattle.asn1_schema.proofs.node.Node.check_parts.Goals as goal
+
+pub returns-then-not-is_text-clause-fault : goal.returns-then-not-is_text-clause-fault
+returns-then-not-is_text-clause-fault c =
+    rw c.new.ensures (no_node_name (subst (λ (n : Node). IsText c.args.pool.now n.name → ⊥) c.read-node.ensures (refuted c.is_text.ensures c.if-not-is_text.true)))
+
+pub returns-then-not-is_inner-clause-fault : goal.returns-then-not-is_inner-clause-fault
+returns-then-not-is_inner-clause-fault c =
+    rw c.new-then-not-is_inner.ensures (no_inner (subst (λ (n : Node). IsInner n.kind n.inner c.args.counts.nodes → ⊥) c.read-node.ensures (refuted c.is_inner.ensures c.if-not-is_inner.true)))
+
+pub returns-then-not-is_within-clause-fault : goal.returns-then-not-is_within-clause-fault
+returns-then-not-is_within-clause-fault c =
+    let room = c.parts_room.ensures in
+    rw c.new-then-not-is_within.ensures (no_parts (subst (λ (n : Node). IsWithin n.parts (parts_room c.args.counts n.kind) → ⊥) c.read-node.ensures (λ w. refuted c.is_within.ensures c.if-not-is_within.true (rw room w))))
+
+pub returns-then-not-is_within-2-clause-fault : goal.returns-then-not-is_within-2-clause-fault
+returns-then-not-is_within-2-clause-fault c =
+    rw c.new-then-not-is_within-2.ensures (no_limits (subst (λ (n : Node). IsWithin n.limits c.args.counts.limits → ⊥) c.read-node.ensures (refuted c.is_within-2.ensures c.if-not-is_within-2.true)))
+
+pub returns-then-node-chooser_room-clause-fault : goal.returns-then-node-chooser_room-clause-fault
+returns-then-node-chooser_room-clause-fault c =
+    let room = c.chooser_room.ensures in
+    rw c.new-then-node-chooser_room.ensures (no_chooser (subst (λ (n : Node). chooser_room c.args.counts n.kind ≤ n.chooser) c.read-node.ensures (omega arith)))

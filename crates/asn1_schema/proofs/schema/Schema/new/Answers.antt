@@ -1,0 +1,25 @@
+use Rattle.std.proofs.Common.{subst}
+use Rattle.std.proofs.lemmas.Result.{err_from_is_err_and}
+use Rattle.asn1_schema.specs.Schema.{IsRowFault, no_header, no_row}
+use Rattle.asn1_schema.specs.declared.counts.Counts.{Counts}
+use Rattle.asn1_schema.proofs.FaultLemmas.{rows_never, schema_never}
+use Rattle.asn1_schema.proofs.schema.Schema.new.Goals as goal
+
+pub returns-in_err-counts-clause-fault : goal.returns-in_err-counts-clause-fault
+returns-in_err-counts-clause-fault c =
+    let p = err_from_is_err_and c.from_residual.result c.from_residual.ensures.1 in
+    rw (p.1, p.2) (no_header c.in_err-counts.ensures.fault)
+
+pub returns-in_err-counts-clause-complete : goal.returns-in_err-counts-clause-complete
+returns-in_err-counts-clause-complete c t is = absurd (schema_never (no_header c.in_err-counts.ensures.fault) is)
+
+pub returns-in_err-check_rows-clause-complete : goal.returns-in_err-check_rows-clause-complete
+returns-in_err-check_rows-clause-complete c t is =
+    let fault = subst (λ (n : Counts). IsRowFault n c.args.octets.now c.in_err-check_rows.field-0.0) c.in_ok-counts.ensures.ok.1 c.in_err-check_rows.ensures.fault in
+    absurd (rows_never fault is.rows is.ascending)
+
+pub returns-in_err-check_rows-clause-fault : goal.returns-in_err-check_rows-clause-fault
+returns-in_err-check_rows-clause-fault c =
+    let p = err_from_is_err_and c.from_residual-in_err-check_rows.result c.from_residual-in_err-check_rows.ensures.1 in
+    let fault = subst (λ (n : Counts). IsRowFault n c.args.octets.now c.in_err-check_rows.field-0.0) c.in_ok-counts.ensures.ok.1 c.in_err-check_rows.ensures.fault in
+    rw (p.1, p.2) (no_row c.in_ok-counts.ensures.ok.0 fault)

@@ -1,0 +1,20 @@
+-- Which type an OBJECT IDENTIFIER chooses among those of an open type.
+use Rattle.std.specs.Prelude.{◌≡◌, ◌≢◌, ℕ, ◌+◌, ◌*◌, ◌<◌, ◌≤◌, List}
+use Rattle.asn1_schema.specs.Counts.{opens_at}
+use Rattle.asn1_schema.specs.OpenType.{open_type_at, identifier_in}
+use Rattle.asn1_schema.specs.declared.counts.Counts.{Counts}
+use Rattle.asn1_schema.specs.declared.open_type.OpenType.{OpenType}
+use Rattle.asn1_schema.specs.declared.span.Span.{Span}
+
+-- an identifier chooses a row of a range
+pub record IsChosen (c : Counts) (octets : List ℕ) (types : Span) (identifier : List ℕ) (o : OpenType) : Type 0 where
+  pub index : ℕ
+  pub first : types.start ≤ index
+  pub last : index < types.start + types.count
+  pub row : o ≡ open_type_at octets (opens_at c + 12 * index)
+  pub same : identifier_in c octets index ≡ identifier
+
+-- it chooses none
+abbrev pub ChoosesNone : Counts → List ℕ → Span → List ℕ → Type 0
+ChoosesNone c octets types identifier =
+    (k : ℕ) → types.start ≤ k → k < types.start + types.count → identifier_in c octets k ≢ identifier

@@ -1,0 +1,11 @@
+//! Laws of tables. Each function does nothing; its contract is a law that `specs/Laws.antt` defines.
+//! Nothing calls the functions of this module.
+ghost use Rattle.asn1_schema.specs.Laws.{NoTableAtAFault, TablesAreSingle};
+
+fn no_table_at_a_fault()
+    ensures { NoTableAtAFault }
+{}
+
+fn tables_are_single()
+    ensures { TablesAreSingle }
+{}

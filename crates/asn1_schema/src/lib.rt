@@ -1,0 +1,64 @@
+//! Types of ASN.1 as data: a table of types in a binary form, read without copying, without memory
+//! and without trust.
+//!
+//! A [`Schema`] is made of octets by [`Schema::new`], which accepts exactly the well-formed tables, and
+//! otherwise returns a [`Fault`] with its offset. A type is a [`Node`], and nodes name each other by
+//! index, so types may contain themselves. A node has a kind ([`NodeKind`]), a tag, and ranges of
+//! fields ([`Field`]), of limits ([`Limit`]), of names ([`Name`]) or of types that an open type may be
+//! ([`OpenType`]). Nothing here allocates.
+//!
+//! # The form
+//!
+//! Numbers have four octets, the highest first. A header of 32 octets has `YSCH`, the version 1, and the
+//! numbers of nodes, fields, limits, names and types of open types, and of octets of the pool. The
+//! sections follow in this order:
+//!
+//! | Row | Octets | Columns |
+//! |---|---|---|
+//! | node | 40 | an octet each: kind, class in bits 8 and 7, whether extensible, whether there is a node inside; number of the tag, name, node inside, parts (8 octets), limits (8 octets), field that chooses |
+//! | field | 28 | presence, extension addition, name, node, default |
+//! | limit | 20 | kind, lowest and highest number (8 octets each, two's complement) |
+//! | name | 16 | number (8 octets, two's complement), name |
+//! | type of an open type | 12 | OBJECT IDENTIFIER, node |
+//!
+//! Names, defaults and OBJECT IDENTIFIERs are ranges of the pool, at the end, and ranges of rows and of
+//! octets have a start and a count.
+//!
+//! Proved: octets are accepted exactly if they are a table; each row by its index; all that a row names
+//! is there.
+#![tactic(auto)]
+
+mod counts;
+mod fault;
+mod fault_kind;
+mod field;
+mod find;
+mod header;
+mod laws;
+mod limit;
+mod limit_kind;
+mod name;
+mod node;
+mod node_kind;
+mod numbers;
+mod open_type;
+mod order;
+mod pool;
+mod presence;
+mod schema;
+mod sections;
+mod span;
+
+pub use counts::Counts;
+pub use fault::Fault;
+pub use fault_kind::FaultKind;
+pub use field::Field;
+pub use limit::Limit;
+pub use limit_kind::LimitKind;
+pub use name::Name;
+pub use node::Node;
+pub use node_kind::NodeKind;
+pub use open_type::OpenType;
+pub use presence::Presence;
+pub use schema::Schema;
+pub use span::Span;

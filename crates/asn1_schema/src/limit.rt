@@ -1,0 +1,47 @@
+//! Limits.
+ghost use Rattle.std.specs.Prelude.{◌≡◌, ◌+◌, ◌≤◌, length, IfOk, IfErr};
+ghost use Rattle.asn1_schema.specs.Limit.{limit_at, IsLimitRow, IsLimitFault};
+
+use crate::fault::Fault;
+use crate::fault_kind::FaultKind;
+use crate::limit_kind::LimitKind;
+use crate::numbers::{number_at, signed_at};
+
+/// A limit of the values of a type: one range of a constraint. The ranges of one kind that a node has
+/// are alternatives.
+#[derive(Debug, Clone, Copy, PartialEq, Eq)]
+pub struct Limit {
+    /// What it limits.
+    pub kind: LimitKind,
+    /// The lowest number; -9223372036854775808 for MIN.
+    pub low: i64,
+    /// The highest number; 9223372036854775807 for MAX, and for numbers above it.
+    pub high: i64,
+}
+
+impl Limit {
+    // The limit in the 20 octets from `at` on.
+    #[inline(always)]
+    pub(crate) fn read(octets: &[u8], at: usize) -> Self
+        requires { at + 20 ≤ length octets.now }
+        ensures { result ≡ limit_at octets.now at }
+    {
+        Limit {
+            kind: LimitKind::from_number(number_at(octets, at)).unwrap_or(LimitKind::Value),
+            low: signed_at(octets, at + 4),
+            high: signed_at(octets, at + 12),
+        }
+    }
+
+    // Whether the 20 octets from `at` on are a limit.
+    pub(crate) fn check(octets: &[u8], at: usize) -> Result<(), Fault>
+        requires { at + 20 ≤ length octets.now }
+        ensures ok { IfOk result (λ _. IsLimitRow octets.now at) }
+        ensures fault { IfErr result (λ f. IsLimitFault octets.now at f) }
+    {
+        match LimitKind::from_number(number_at(octets, at)) {
+            Some(_) => Ok(()),
+            None => Err(Fault::new(FaultKind::Limit, at)),
+        }
+    }
+}

@@ -1,0 +1,96 @@
+//! Kinds of nodes.
+ghost use Rattle.std.specs.Prelude.{◌≡◌, IsTrue};
+ghost use Rattle.asn1_schema.specs.NodeKind.{kind_at, parts_room, chooser_room, needs_inner, allows_inner};
+
+use crate::counts::Counts;
+use ber::Universal;
+
+/// What kind of type a node is.
+#[derive(Debug, Clone, Copy, PartialEq, Eq)]
+pub enum NodeKind {
+    /// A type with a universal tag, such as `INTEGER` or `SEQUENCE`, but no `SEQUENCE OF` or
+    /// `SET OF`. The number in a table is that of its tag.
+    Universal(Universal),
+    /// `SEQUENCE OF`, number 64.
+    SequenceOf,
+    /// `SET OF`, number 65.
+    SetOf,
+    /// `CHOICE`, number 66.
+    Choice,
+    /// A type inside an EXPLICIT tag, number 67.
+    Explicit,
+    /// Any type, number 68.
+    Any,
+    /// An open type, which an OBJECT IDENTIFIER chooses, number 69.
+    Open,
+}
+
+impl NodeKind {
+    /// The kind with this number, if there is one.
+    pub fn from_octet(octet: u8) -> Option<Self>
+        ensures { result ≡ kind_at octet }
+    {
+        match octet {
+            64 => Some(NodeKind::SequenceOf),
+            65 => Some(NodeKind::SetOf),
+            66 => Some(NodeKind::Choice),
+            67 => Some(NodeKind::Explicit),
+            68 => Some(NodeKind::Any),
+            69 => Some(NodeKind::Open),
+            _ => match Universal::from_number(octet as u32) {
+                Some(universal) => Some(NodeKind::Universal(universal)),
+                None => None,
+            },
+        }
+    }
+
+    // How many rows there are of which the parts of a node may be: fields, names or types.
+    pub(crate) fn parts_room(self, counts: Counts) -> u32
+        ensures { result ≡ parts_room counts self }
+    {
+        match self {
+            NodeKind::Universal(Universal::Integer) => counts.names,
+            NodeKind::Universal(Universal::BitString) => counts.names,
+            NodeKind::Universal(Universal::Enumerated) => counts.names,
+            NodeKind::Universal(Universal::Sequence) => counts.fields,
+            NodeKind::Universal(Universal::Set) => counts.fields,
+            NodeKind::Choice => counts.fields,
+            NodeKind::Open => counts.opens,
+            _ => 0,
+        }
+    }
+
+    // How many numbers there are of which the field that chooses may be.
+    pub(crate) fn chooser_room(self, counts: Counts) -> u32
+        ensures { result ≡ chooser_room counts self }
+    {
+        match self {
+            NodeKind::Open => counts.fields,
+            _ => 1,
+        }
+    }
+
+    // Whether a node has another node inside it.
+    pub(crate) fn needs_inner(self) -> bool
+        ensures { result ≡ needs_inner self }
+    {
+        matches!(
+            self,
+            NodeKind::SequenceOf | NodeKind::SetOf | NodeKind::Explicit
+        )
+    }
+
+    // Whether a node may have another node inside it.
+    pub(crate) fn allows_inner(self) -> bool
+        ensures { result ≡ allows_inner self }
+    {
+        matches!(
+            self,
+            NodeKind::SequenceOf
+                | NodeKind::SetOf
+                | NodeKind::Explicit
+                | NodeKind::Universal(Universal::OctetString)
+                | NodeKind::Universal(Universal::BitString)
+        )
+    }
+}

@@ -1,0 +1,38 @@
+//! Whether fields may be absent.
+ghost use Rattle.std.specs.Prelude.{◌≡◌};
+ghost use Rattle.asn1_schema.specs.Presence.{presence_at, default_room};
+
+/// Whether a field may be absent (X.680 25.1).
+#[derive(Debug, Clone, Copy, PartialEq, Eq)]
+pub enum Presence {
+    /// It is there, number 0; also the alternatives of a CHOICE.
+    Required,
+    /// It is `OPTIONAL`, number 1.
+    Optional,
+    /// It has a `DEFAULT`, number 2.
+    Default,
+}
+
+impl Presence {
+    /// The presence with this number, if there is one.
+    pub fn from_number(number: u32) -> Option<Self>
+        ensures { result ≡ presence_at number }
+    {
+        match number {
+            0 => Some(Presence::Required),
+            1 => Some(Presence::Optional),
+            2 => Some(Presence::Default),
+            _ => None,
+        }
+    }
+
+    // How many octets of a pool there are of which a default may be.
+    pub(crate) fn default_room(self, pool: usize) -> usize
+        ensures { result ≡ default_room pool self }
+    {
+        match self {
+            Presence::Default => pool,
+            _ => 0,
+        }
+    }
+}

@@ -1,0 +1,173 @@
+//! Tables of types.
+ghost use Rattle.std.specs.Prelude.{◌≡◌, length};
+ghost use Rattle.std.proofs.Props.{props};
+ghost use Rattle.asn1_schema.specs.Counts.{counts_in, size_of};
+ghost use Rattle.asn1_schema.specs.Pool.{pool_in};
+ghost use Rattle.asn1_schema.specs.Table.{AreRows, AreAscending, AreAscending-prop};
+ghost use Rattle.asn1_schema.specs.Schema.{IsHeader};
+
+use crate::counts::Counts;
+use crate::fault::Fault;
+use crate::field::Field;
+use crate::find::{find_node, find_open_type};
+use crate::header::read_header;
+use crate::limit::Limit;
+use crate::name::Name;
+use crate::node::Node;
+use crate::open_type::OpenType;
+use crate::pool::{octets_of, text_of};
+use crate::sections::check_rows;
+use crate::span::Span;
+
+/// A table of types, read from octets without copying them.
+#[derive(Debug, Clone, Copy, PartialEq, Eq)]
+pub struct Schema<'a> {
+    octets: &'a [u8],
+    counts: Counts,
+    pool: &'a [u8],
+    ghost header: { IsHeader octets.now } by { Prim.hlevel props },
+    ghost counted: { counts ≡ counts_in octets.now } by { Prim.hlevel props },
+    ghost sized: { size_of counts ≡ length octets.now },
+    ghost pooled: { pool.now ≡ pool_in counts octets.now },
+    ghost rows: { AreRows counts octets.now } by { Prim.hlevel props },
+    ghost ascending: { AreAscending counts octets.now } by { AreAscending-prop counts octets.now },
+}
+
+impl<'a> Schema<'a> {
+    ghost use Rattle.std.specs.Prelude.{◌<◌, slice_get, Some, IfOk, IfErr, IsOk, IfSome, IfNone};
+    ghost use Rattle.asn1_schema.specs.Span.{IsWithin};
+    ghost use Rattle.asn1_schema.specs.Pool.{octets_of, IsText};
+    ghost use Rattle.asn1_schema.specs.Node.{IsNode};
+    ghost use Rattle.asn1_schema.specs.Field.{IsField};
+    ghost use Rattle.asn1_schema.specs.Name.{IsName};
+    ghost use Rattle.asn1_schema.specs.OpenType.{IsOpenType, Ascends};
+    ghost use Rattle.asn1_schema.specs.Chosen.{IsChosen, ChoosesNone};
+    ghost use Rattle.asn1_schema.specs.Named.{IsNamed, NoneIsNamed};
+    ghost use Rattle.asn1_schema.specs.Table.{Table, table_in, counts_of, IsAscending};
+    ghost use Rattle.asn1_schema.specs.Schema.{IsSchema, IsFault};
+
+    /// Reads a table of types.
+    ///
+    /// # Errors
+    ///
+    /// A fault of the octets, if they are no table, with its offset: of the header; else of the first
+    /// row that is not well-formed, section by section; else of the first OBJECT IDENTIFIER of an open
+    /// type that is not after the one before it.
+    pub fn new(octets: &'a [u8]) -> Result<Self, Fault>
+        ensures ok { IfOk result (λ s. IsSchema octets.now (table_in s.octets.now)) }
+        ensures same { IfOk result (λ s. s.octets.now ≡ octets.now) }
+        ensures complete { (t : Table) → IsSchema octets.now t → IsOk result }
+        ensures fault { IfErr result (λ f. IsFault octets.now f) }
+    {
+        let counts = read_header(octets)?;
+        let pool = &octets[counts.pool_at()..];
+        check_rows(octets, counts, pool)?;
+        Ok(Schema {
+            octets,
+            counts,
+            pool,
+        })
+    }
+    /// How many rows each section has, and how many octets the pool has.
+    #[inline(always)]
+    pub fn counts(&self) -> Counts
+        ensures value { result ≡ counts_of (table_in self.now.octets.now) }
+        ensures same { result ≡ self.now.counts }
+    {
+        self.counts
+    }
+
+    /// The node with this index. The caller must ensure that there is one.
+    #[inline(always)]
+    pub fn node(&self, index: u32) -> Node
+        requires { index < self.now.counts.nodes }
+        ensures value { slice_get (table_in self.now.octets.now).nodes index ≡ Some result }
+        ensures fits { IsNode self.now.counts self.now.pool.now result }
+        ensures ascending { IsAscending self.now.counts self.now.octets.now result }
+    {
+        Node::read(self.octets, 32 + 40 * index as usize)
+    }
+
+    /// The field with this index. The caller must ensure that there is one.
+    #[inline(always)]
+    pub fn field(&self, index: u32) -> Field
+        requires { index < self.now.counts.fields }
+        ensures value { slice_get (table_in self.now.octets.now).fields index ≡ Some result }
+        ensures fits { IsField self.now.counts self.now.pool.now result }
+    {
+        Field::read(self.octets, self.counts.fields_at() + 28 * index as usize)
+    }
+
+    /// The limit with this index. The caller must ensure that there is one.
+    #[inline(always)]
+    pub fn limit(&self, index: u32) -> Limit
+        requires { index < self.now.counts.limits }
+        ensures { slice_get (table_in self.now.octets.now).limits index ≡ Some result }
+    {
+        Limit::read(self.octets, self.counts.limits_at() + 20 * index as usize)
+    }
+
+    /// The name with this index. The caller must ensure that there is one.
+    #[inline(always)]
+    pub fn name(&self, index: u32) -> Name
+        requires { index < self.now.counts.names }
+        ensures value { slice_get (table_in self.now.octets.now).names index ≡ Some result }
+        ensures fits { IsName self.now.pool.now result }
+    {
+        Name::read(self.octets, self.counts.names_at() + 16 * index as usize)
+    }
+
+    /// The type of an open type with this index. The caller must ensure that there is one.
+    #[inline(always)]
+    pub fn open_type(&self, index: u32) -> OpenType
+        requires { index < self.now.counts.opens }
+        ensures value { slice_get (table_in self.now.octets.now).opens index ≡ Some result }
+        ensures fits { IsOpenType self.now.counts self.now.pool.now result }
+    {
+        OpenType::read(self.octets, self.counts.opens_at() + 12 * index as usize)
+    }
+
+    /// The index of the first node with this name.
+    pub fn find_node(&self, name: &str) -> Option<u32>
+        ensures found { IfSome result
+            (λ i. IsNamed self.now.counts self.now.octets.now name.now i) }
+        ensures none { IfNone result
+            (NoneIsNamed self.now.counts self.now.octets.now name.now self.now.counts.nodes) }
+    {
+        find_node(self.octets, self.counts, self.pool, name.as_bytes())
+    }
+
+    /// The type that the contents octets of an OBJECT IDENTIFIER choose among the types of an open type,
+    /// which are its parts. The caller must ensure that these are a range of types that ascend, as
+    /// [`Schema::node`] promises.
+    pub fn find_open_type(&self, types: Span, identifier: &[u8]) -> Option<OpenType>
+        requires there { IsWithin types self.now.counts.opens }
+        requires ascending { Ascends self.now.counts self.now.octets.now types }
+        ensures found { IfSome result
+            (λ o. IsChosen self.now.counts self.now.octets.now types identifier.now o) }
+        ensures none { IfNone result
+            (ChoosesNone self.now.counts self.now.octets.now types identifier.now) }
+    {
+        find_open_type(self.octets, self.counts, self.pool, types, identifier)
+    }
+
+    /// The octets of a range of the pool. The caller must ensure that it is one, as those of this
+    /// table are.
+    #[inline(always)]
+    pub fn octets_of(&self, span: Span) -> &'a [u8]
+        requires { IsWithin span (length self.now.pool.now) }
+        ensures { result.now ≡ octets_of (table_in self.now.octets.now).pool span }
+    {
+        octets_of(self.pool, span)
+    }
+
+    /// The text of a range of the pool. The caller must ensure that it is one, as those of the names
+    /// of this table are.
+    #[inline(always)]
+    pub fn text_of(&self, span: Span) -> &'a str
+        requires { IsText self.now.pool.now span }
+        ensures { result.now ≡ octets_of (table_in self.now.octets.now).pool span }
+    {
+        text_of(self.pool, span)
+    }
+}

@@ -1,0 +1,36 @@
+//! Ranges of rows, and of octets of the pool.
+ghost use Rattle.std.specs.Prelude.{◌≡◌, ◌+◌, ◌≤◌, ◌↔◌, IsTrue, length};
+ghost use Rattle.asn1_schema.specs.Span.{span_at, IsWithin};
+
+use crate::numbers::number_at;
+
+/// A range of rows of a section, or of octets of the pool.
+#[derive(Debug, Clone, Copy, PartialEq, Eq)]
+pub struct Span {
+    /// The index of the first.
+    pub start: u32,
+    /// How many there are.
+    pub count: u32,
+}
+
+impl Span {
+    // The range in the eight octets from `at` on.
+    #[inline(always)]
+    pub(crate) fn read(octets: &[u8], at: usize) -> Self
+        requires { at + 8 ≤ length octets.now }
+        ensures { result ≡ span_at octets.now at }
+    {
+        Span {
+            start: number_at(octets, at),
+            count: number_at(octets, at + 4),
+        }
+    }
+
+    // Whether the range is one of so many rows or octets.
+    #[inline(always)]
+    pub(crate) fn is_within(self, room: usize) -> bool
+        ensures { IsTrue result ↔ IsWithin self room }
+    {
+        self.start as usize + self.count as usize <= room
+    }
+}
