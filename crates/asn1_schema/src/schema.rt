@@ -50,9 +50,7 @@ impl<'a> Schema<'a> {
     ///
     /// # Errors
     ///
-    /// A fault of the octets, if they are no table, with its offset: of the header; else of the first
-    /// row that is not well-formed, section by section; else of the first OBJECT IDENTIFIER of an open
-    /// type that is not after the one before it.
+    /// A fault that the octets have, with its offset, if they are no table.
     pub fn new(octets: &'a [u8]) -> Result<Self, Fault>
         ensures ok { IfOk result (λ s. IsSchema octets.now (table_in s.octets.now)) }
         ensures same { IfOk result (λ s. s.octets.now ≡ octets.now) }
