@@ -12,6 +12,9 @@ pub mod Limit
 pub mod Name
 pub mod OpenType
 pub mod Table
+pub mod Tags
+pub mod Distinct
+pub mod Sought
 pub mod Schema
 pub mod Laws
 pub mod Chosen

@@ -40,4 +40,9 @@ pub enum FaultKind {
     Identifier,
     /// The OBJECT IDENTIFIER of a type of an open type is not after the one before it.
     Order,
+    /// A CHOICE that is an alternative of a CHOICE does not come before it.
+    Choice,
+    /// A component or an alternative begins with a tag with which an earlier one begins that may be
+    /// missing.
+    Tag,
 }

@@ -29,6 +29,7 @@
 #![tactic(auto)]
 
 mod counts;
+mod distinct;
 mod fault;
 mod fault_kind;
 mod field;
@@ -38,6 +39,7 @@ mod laws;
 mod limit;
 mod limit_kind;
 mod name;
+mod nesting;
 mod node;
 mod node_kind;
 mod numbers;
@@ -45,8 +47,13 @@ mod open_type;
 mod order;
 mod pool;
 mod presence;
+mod rows;
 mod schema;
 mod sections;
+mod select;
+mod selected;
+mod shared;
+mod sought;
 mod span;
 
 pub use counts::Counts;
@@ -61,4 +68,5 @@ pub use node_kind::NodeKind;
 pub use open_type::OpenType;
 pub use presence::Presence;
 pub use schema::Schema;
+pub use selected::Selected;
 pub use span::Span;

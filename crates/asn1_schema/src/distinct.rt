@@ -1,0 +1,103 @@
+//! Checks that components of which one may be missing where the other is have distinct tags.
+ghost use Rattle.std.specs.Prelude.{◌≡◌, ℕ, ◌<◌, slice_get, Some, IfOk, IfErr};
+ghost use Rattle.asn1_schema.specs.Span.{IsWithin};
+ghost use Rattle.asn1_schema.specs.Table.{table_in};
+ghost use Rattle.asn1_schema.specs.Tags.{IsPart};
+ghost use Rattle.asn1_schema.specs.Distinct.{AreNested, AreDistinct, IsDistinct, may_lack, is_required, IsTagFault};
+
+use crate::fault::Fault;
+use crate::fault_kind::FaultKind;
+use crate::field::Field;
+use crate::node::Node;
+use crate::node_kind::NodeKind;
+use crate::presence::Presence;
+use crate::rows::Rows;
+use crate::shared::share_tag;
+use ber::Universal;
+
+// Whether the tags of the fields of each node are distinct.
+pub(crate) fn check_distinct(rows: &Rows) -> Result<(), Fault>
+    requires { AreNested (table_in rows.now.octets.now) }
+    ensures ok { IfOk result (λ _. AreDistinct (table_in rows.now.octets.now)) }
+    ensures fault { IfErr result (λ f. IsTagFault rows.now.counts (table_in rows.now.octets.now) f) }
+{
+    for i in 0..rows.counts.nodes {
+        check_node(rows, i, rows.node(i))?;
+    }
+    Ok(())
+}
+
+// Whether the tags of the fields of a node, if it has fields, are distinct.
+fn check_node(rows: &Rows, index: u32, node: Node) -> Result<(), Fault>
+    requires nested { AreNested (table_in rows.now.octets.now) }
+    requires there { slice_get (table_in rows.now.octets.now).nodes index ≡ Some node }
+    ensures ok { IfOk result (λ _. (k : ℕ) → IsDistinct (table_in rows.now.octets.now) node k) }
+    ensures fault { IfErr result (λ f. IsTagFault rows.now.counts (table_in rows.now.octets.now) f) }
+{
+    match node.kind {
+        NodeKind::Choice => check_fields(rows, index, node),
+        NodeKind::Universal(Universal::Sequence) => check_fields(rows, index, node),
+        NodeKind::Universal(Universal::Set) => check_fields(rows, index, node),
+        _ => Ok(()),
+    }
+}
+
+// Whether the tags of the fields of a node are distinct.
+fn check_fields(rows: &Rows, index: u32, node: Node) -> Result<(), Fault>
+    requires nested { AreNested (table_in rows.now.octets.now) }
+    requires there { slice_get (table_in rows.now.octets.now).nodes index ≡ Some node }
+    requires fields { IsWithin node.parts rows.now.counts.fields }
+    ensures ok { IfOk result (λ _. (k : ℕ) → IsDistinct (table_in rows.now.octets.now) node k) }
+    ensures fault { IfErr result (λ f. IsTagFault rows.now.counts (table_in rows.now.octets.now) f) }
+{
+    let start = node.parts.start;
+    for k in start..start + node.parts.count {
+        check_field(rows, index, node, k)?;
+    }
+    Ok(())
+}
+
+// Whether the tags of a field and of those that it may follow are distinct.
+fn check_field(rows: &Rows, index: u32, node: Node, k: u32) -> Result<(), Fault>
+    requires nested { AreNested (table_in rows.now.octets.now) }
+    requires there { slice_get (table_in rows.now.octets.now).nodes index ≡ Some node }
+    requires fields { IsWithin node.parts rows.now.counts.fields }
+    requires part { IsPart node.parts k }
+    ensures ok { IfOk result (λ _. IsDistinct (table_in rows.now.octets.now) node k) }
+    ensures fault { IfErr result (λ f. IsTagFault rows.now.counts (table_in rows.now.octets.now) f) }
+{
+    let later = rows.field(k);
+    let mut j = k;
+    'earlier: while j > node.parts.start {
+        let earlier = rows.field(j - 1);
+        if !may_lack(node.kind, earlier, later) {
+            return Ok(());
+        }
+        if share_tag(rows, earlier.node, later.node) {
+            let at = rows.counts.fields_at() + 28 * k as usize;
+            return Err(Fault::new(FaultKind::Tag, at));
+        }
+        j -= 1;
+    }
+    Ok(())
+}
+
+// Whether a field of a node of this kind may be missing where a later one is.
+fn may_lack(kind: NodeKind, earlier: Field, later: Field) -> bool
+    ensures { result ≡ may_lack kind earlier later }
+{
+    match kind {
+        NodeKind::Choice => true,
+        NodeKind::Universal(Universal::Set) => true,
+        NodeKind::Universal(Universal::Sequence) => {
+            !is_required(earlier.presence) || (earlier.addition != 0 && later.addition == 0)
+        }
+        _ => false,
+    }
+}
+
+fn is_required(presence: Presence) -> bool
+    ensures { result ≡ is_required presence }
+{
+    matches!(presence, Presence::Required)
+}
