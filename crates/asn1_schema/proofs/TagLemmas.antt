@@ -1,11 +1,14 @@
 -- What nodes select, which tags they share, and that a tag selects one node.
-use Rattle.std.proofs.Common.{◌≡◌, ◌≢◌, ℕ, ◌<◌, ◌⊎◌, inl, inr, true, false, List, slice_get, Option, Some, None, unwrap_or, refl, sym, ap, ◌∙◌, subst, ⊎_elim, arith}
+use Rattle.std.proofs.Common.{◌≡◌, ◌≢◌, ℕ, ◌<◌, ◌⊎◌, inl, inr, ◌↔◌, Bool, true, false, IsTrue, IfSome, IfNone, is_some, List, slice_get, Option, Some, None, unwrap_or, refl, sym, ap, ◌∙◌, subst, ⊎_elim, arith}
 use Rattle.std.proofs.lemmas.Bool.{cases_lt}
 use Rattle.der_base.specs.declared.tag.class.Class.{Class}
+use Rattle.asn1_schema.specs.NodeKind.{parts_room}
+use Rattle.asn1_schema.specs.Span.{IsWithin}
 use Rattle.asn1_schema.specs.Table.{Table}
 use Rattle.asn1_schema.specs.Tags.{IsPart, IsFieldOf, Selects, itself, alternative, is_untagged, HasTag, own, each, SelectsOne, IsSelected, Begins, ShareTag, AreApart}
 use Rattle.asn1_schema.specs.Distinct.{may_lack, MayFollow, IsDistinct, AreDistinct}
 use Rattle.asn1_schema.specs.Sought.{tags_of, IsMet, IsFound, FindsNone}
+use Rattle.asn1_schema.specs.declared.counts.Counts.{Counts}
 use Rattle.asn1_schema.specs.declared.field.Field.{Field}
 use Rattle.asn1_schema.specs.declared.node.Node.{Node}
 use Rattle.asn1_schema.specs.declared.node_kind.NodeKind.{NodeKind}
@@ -16,21 +19,25 @@ some_same : {A : Type 0} {x y : A} → Some x ≡ Some y → x ≡ y
 some_same e = cc
 
 -- an index has one row
-pub same_row : {A : Type 0} {l : List A} {k : ℕ} {x y : A} → slice_get l k ≡ Some x → slice_get l k ≡ Some y → x ≡ y
-same_row a b = some_same (sym a ∙ b)
+pub same_row : {A : Type 0} (l : List A) (k : ℕ) {x y : A} → slice_get l k ≡ Some x → slice_get l k ≡ Some y → x ≡ y
+same_row l k a b = some_same (sym a ∙ b)
+
+-- the parts of a node of a kind are among the rows that the kind names
+pub kind_parts : (c : Counts) (n : Node) (kind : NodeKind) → n.kind ≡ kind → IsWithin n.parts (parts_room c n.kind) → IsWithin n.parts (parts_room c kind)
+kind_parts c n kind e within = subst (λ (x : NodeKind). IsWithin n.parts (parts_room c x)) e within
 
 module _ {t : Table} {i : ℕ} {n : Node} (row : slice_get t.nodes i ≡ Some n) (Fact : Node → Type 0) where
   -- a node that is no CHOICE selects itself
   pub selects_itself : n.kind ≢ Choice → Fact n → SelectsOne t Fact i None i
-  selects_itself no fact = record { node = n; selects = itself row no; row = row; fact = fact }
+  selects_itself isnt fact = record { node = n; selects = itself row isnt; row = row; fact = fact }
 
   -- and nothing else
   pub selects_no_other : n.kind ≢ Choice → (Fact n → ⊥) → (via : Option ℕ) (m : ℕ) → SelectsOne t Fact i via m → ⊥
-  selects_no_other no none via m s = go s.selects s.row
+  selects_no_other isnt none via m s = go s.selects s.row
     where
       go : {via : Option ℕ} {m : ℕ} → Selects t i via m → slice_get t.nodes m ≡ Some s.node → ⊥
-      go (itself _ _) e = none (subst Fact (same_row e row) s.fact)
-      go (alternative other choice _ _) e = no (ap (λ (x : Node). x.kind) (same_row row other) ∙ choice)
+      go (itself _ _) e = none (subst Fact (same_row t.nodes i e row) s.fact)
+      go (alternative other choice _ _) e = isnt (ap (λ (x : Node). x.kind) (same_row t.nodes i row other) ∙ choice)
 
   -- a CHOICE selects what its alternatives select
   pub selects_through : {k : ℕ} {f : Field} {via : Option ℕ} {m : ℕ} → n.kind ≡ Choice → IsFieldOf t n k f → SelectsOne t Fact f.node via m → SelectsOne t Fact i (Some (unwrap_or via k)) m
@@ -41,9 +48,9 @@ module _ {t : Table} {i : ℕ} {n : Node} (row : slice_get t.nodes i ≡ Some n)
   selects_none_through choice none via m s = go s.selects s.row
     where
       go : {via : Option ℕ} {m : ℕ} → Selects t i via m → slice_get t.nodes m ≡ Some s.node → ⊥
-      go (itself other no) e = no (ap (λ (x : Node). x.kind) (same_row other row) ∙ choice)
+      go (itself other isnt) e = isnt (ap (λ (x : Node). x.kind) (same_row t.nodes i other row) ∙ choice)
       go (alternative {k = k} {f = f} {via = via} other _ field inner) e =
-          none k f (subst (λ (x : Node). IsFieldOf t x k f) (same_row other row) field) via _ (record { node = s.node; selects = inner; row = e; fact = s.fact })
+          none k f (subst (λ (x : Node). IsFieldOf t x k f) (same_row t.nodes i other row) field) via _ (record { node = s.node; selects = inner; row = e; fact = s.fact })
 
 -- a node that may have a tag of another shares one with it
 meets : (n m : Node) → IsMet (tags_of n) m → (class : Class) × (number : ℕ) × HasTag n class number × HasTag m class number
@@ -57,20 +64,20 @@ met n m (each any) tag = inl any
 
 -- a tag that a node shares with one that another selects
 pub share_found : {t : Table} {i j : ℕ} {n : Node} {s : Selected} → slice_get t.nodes i ≡ Some n → n.kind ≢ Choice → IsFound t j (tags_of n) s → ShareTag t i j
-share_found {n = n} {s = s} row no found =
+share_found {n = n} {s = s} row isnt found =
     let m = meets n found.node found.fact in
     record {
       class = m.0;
       number = m.1;
-      first = record { via = None; node = _; selected = selects_itself row (λ x. HasTag x m.0 m.1) no m.2 };
+      first = record { via = None; node = _; selected = selects_itself row (λ x. HasTag x m.0 m.1) isnt m.2 };
       second = record { via = s.field; node = s.node; selected = record { node = found.node; selects = found.selects; row = found.row; fact = m.3 } };
     }
 
 -- there is none if the other selects none that has such a tag
 pub share_none : {t : Table} {i j : ℕ} {n : Node} → slice_get t.nodes i ≡ Some n → n.kind ≢ Choice → FindsNone t j (tags_of n) → ShareTag t i j → ⊥
-share_none {t} {i} {j} {n} row no none share =
+share_none {t} {i} {j} {n} row isnt none share =
     let s = share.second.selected in
-    selects_no_other row (λ x. HasTag x share.class share.number) no
+    selects_no_other row (λ x. HasTag x share.class share.number) isnt
     (λ tag. none share.second.via share.second.node (record { node = s.node; selects = s.selects; row = s.row; fact = met n s.node tag s.fact }))
     share.first.via share.first.node share.first.selected
 
@@ -92,8 +99,8 @@ share_none_through row choice none share =
     share.first.via share.first.node share.first.selected
 
 -- alternatives are apart
-apart : {t : Table} → AreDistinct t → {i j k : ℕ} {n : Node} {f g : Field} → slice_get t.nodes i ≡ Some n → n.kind ≡ Choice → IsFieldOf t n j f → IsFieldOf t n k g → j < k → AreApart t f.node g.node
-apart distinct {i} {j} {k} {n} {f} {g} row choice first second before =
+apart : {t : Table} → AreDistinct t → (i : ℕ) {j k : ℕ} {n : Node} {f g : Field} → slice_get t.nodes i ≡ Some n → n.kind ≡ Choice → IsFieldOf t n j f → IsFieldOf t n k g → j < k → AreApart t f.node g.node
+apart distinct i {j} {k} {n} {f} {g} row choice first second before =
     distinct i n row k j f g
     (record { earlier = first; later = second; before = before; lack = λ l h _ _ _. ap (λ (x : NodeKind). may_lack x h g) choice })
 
@@ -105,18 +112,23 @@ one_selected {t} distinct {class = class} {number = number} s u = go s.selects s
     starts selects row tag = record { via = _; node = _; selected = record { node = _; selects = selects; row = row; fact = tag } }
 
     go : {i m o : ℕ} {via also : Option ℕ} {x y : Node} → Selects t i via m → slice_get t.nodes m ≡ Some x → HasTag x class number → Selects t i also o → slice_get t.nodes o ≡ Some y → HasTag y class number → (via ≡ also) × (m ≡ o)
-    go (itself _ _) e tag (itself _ _) f other = (refl, refl)
-    go (itself row no) e tag (alternative row' choice _ _) f other = absurd (no (ap (λ (x : Node). x.kind) (same_row row row') ∙ choice))
-    go (alternative row choice _ _) e tag (itself row' no) f other = absurd (no (ap (λ (x : Node). x.kind) (same_row row' row) ∙ choice))
-    go (alternative {k = k} {n = n} {f = f} {via = via} row choice field inner) e tag (alternative {k = k'} {f = f'} {via = also} row' choice' field' inner') e' tag' =
-        let there : IsFieldOf t n k' f' = subst (λ (x : Node). IsFieldOf t x k' f') (same_row row' row) field' in
+    go (itself _ _) e tag (itself _ _) e' tag' = (refl, refl)
+    go {i} (itself row isnt) e tag (alternative row' choice _ _) e' tag' = absurd (isnt (ap (λ (x : Node). x.kind) (same_row t.nodes i row row') ∙ choice))
+    go {i} (alternative row choice _ _) e tag (itself row' isnt) e' tag' = absurd (isnt (ap (λ (x : Node). x.kind) (same_row t.nodes i row' row) ∙ choice))
+    go {i} {o = m'} (alternative {k = k} {n = n} {f = f} {via = via} row choice field inner) e tag (alternative {k = k'} {f = f'} {via = also} row' choice' field' inner') e' tag' =
+        let there : IsFieldOf t n k' f' = subst (λ (x : Node). IsFieldOf t x k' f') (same_row t.nodes i row' row) field' in
         ⊎_elim
-        (λ lt. absurd (apart distinct row choice field there lt (record { class = class; number = number; first = starts inner e tag; second = starts inner' e' tag' })))
+        (λ lt. absurd (apart distinct i row choice field there lt (record { class = class; number = number; first = starts inner e tag; second = starts inner' e' tag' })))
         (λ ge. ⊎_elim
-          (λ gt. absurd (apart distinct row choice there field gt (record { class = class; number = number; first = starts inner' e' tag'; second = starts inner e tag })))
+          (λ gt. absurd (apart distinct i row choice there field gt (record { class = class; number = number; first = starts inner' e' tag'; second = starts inner e tag })))
           (λ le. let q : k' ≡ k = omega arith in
-            let r : f' ≡ f = same_row (subst (λ (x : ℕ). slice_get t.fields x ≡ Some f') q there.row) field.row in
-            let p = go inner e tag (subst (λ (x : Field). Selects t x.node also _) r inner') e' tag' in
-            ((ap (λ x. Some (unwrap_or x k)) p.0 ∙ ap (λ x. Some (unwrap_or also x)) (sym q)), p.1))
+            let r : f' ≡ f = same_row t.fields k (subst (λ (x : ℕ). slice_get t.fields x ≡ Some f') q there.row) field.row in
+            let p = go inner e tag (subst (λ (x : Field). Selects t x.node also m') r inner') e' tag' in
+            (ap (λ x. Some (unwrap_or x k)) p.0 ∙ ap (λ x. Some (unwrap_or also x)) (sym q), p.1))
           (cases_lt k' k))
         (cases_lt k k')
+
+-- whether a search finds one tells whether it shares a tag
+pub share_if_found : {t : Table} {i j : ℕ} {n : Node} {b : Bool} (o : Option Selected) → slice_get t.nodes i ≡ Some n → n.kind ≢ Choice → IfSome o (IsFound t j (tags_of n)) → IfNone o (FindsNone t j (tags_of n)) → b ≡ is_some o → IsTrue b ↔ ShareTag t i j
+share_if_found (Some s) row isnt found none e = (λ _. share_found row isnt found, λ _. e)
+share_if_found None row isnt found none e = (λ f. absurd (let g : false ≡ true = sym e ∙ f in cc), λ share. absurd (share_none row isnt none share))

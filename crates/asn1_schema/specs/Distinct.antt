@@ -62,13 +62,13 @@ pub record IsNested (t : Table) (i k : ℕ) (f : Field) : Type 0 where
   pub inner_row : slice_get t.nodes f.node ≡ Some inner
   pub inner_choice : inner.kind ≡ Choice
 
--- those of a CHOICE come before it
-abbrev pub IsAfterNested : Table → ℕ → Type 0
-IsAfterNested t i = (k : ℕ) (f : Field) → IsNested t i k f → f.node < i
+-- it comes before the CHOICE that it is in
+abbrev pub IsAfter : Table → ℕ → ℕ → Type 0
+IsAfter t i k = (f : Field) → IsNested t i k f → f.node < i
 
--- those of each CHOICE, so no CHOICE is an alternative of itself, at any depth
+-- each does, so no CHOICE is an alternative of itself, at any depth
 abbrev pub AreNested : Table → Type 0
-AreNested t = (i : ℕ) → IsAfterNested t i
+AreNested t = (i k : ℕ) → IsAfter t i k
 
 -- one does not; the offset is that of the number of its node
 pub data IsNestingFault (c : Counts) (t : Table) : Fault → Type 0 where

@@ -1,5 +1,5 @@
 -- Tags that are sought.
-use Rattle.std.specs.Prelude.{◌≡◌, ℕ, ◌⊎◌, true, Option, Some, None, unwrap_or}
+use Rattle.std.specs.Prelude.{◌≡◌, ℕ, ◌⊎◌, true, Option, Some, unwrap_or}
 use Rattle.asn1_schema.specs.Table.{Table}
 use Rattle.asn1_schema.specs.Tags.{is_untagged, HasTag, SelectsOne}
 use Rattle.asn1_schema.specs.declared.node.Node.{Node}
@@ -21,10 +21,6 @@ IsFound t i sought s = SelectsOne t (IsMet sought) i s.field s.node
 -- it selects none
 abbrev pub FindsNone : Table → ℕ → Sought → Type 0
 FindsNone t i sought = (via : Option ℕ) (m : ℕ) → SelectsOne t (IsMet sought) i via m → ⊥
-
--- what a node that is no CHOICE selects
-abbrev pub itself_at : ℕ → Selected
-itself_at i = record { node = i; field = None }
 
 -- what a CHOICE selects through a field that is its alternative
 abbrev pub through_field : Selected → ℕ → Selected

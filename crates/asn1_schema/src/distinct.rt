@@ -1,6 +1,7 @@
 //! Checks that components of which one may be missing where the other is have distinct tags.
 ghost use Rattle.std.specs.Prelude.{◌≡◌, ℕ, ◌<◌, slice_get, Some, IfOk, IfErr};
 ghost use Rattle.asn1_schema.specs.Span.{IsWithin};
+ghost use Rattle.asn1_schema.specs.Node.{IsNode};
 ghost use Rattle.asn1_schema.specs.Table.{table_in};
 ghost use Rattle.asn1_schema.specs.Tags.{IsPart};
 ghost use Rattle.asn1_schema.specs.Distinct.{AreNested, AreDistinct, IsDistinct, may_lack, is_required, IsTagFault};
@@ -31,6 +32,7 @@ pub(crate) fn check_distinct(rows: &Rows) -> Result<(), Fault>
 fn check_node(rows: &Rows, index: u32, node: Node) -> Result<(), Fault>
     requires nested { AreNested (table_in rows.now.octets.now) }
     requires there { slice_get (table_in rows.now.octets.now).nodes index ≡ Some node }
+    requires fits { IsNode rows.now.counts rows.now.pool.now node }
     ensures ok { IfOk result (λ _. (k : ℕ) → IsDistinct (table_in rows.now.octets.now) node k) }
     ensures fault { IfErr result (λ f. IsTagFault rows.now.counts (table_in rows.now.octets.now) f) }
 {
@@ -50,8 +52,7 @@ fn check_fields(rows: &Rows, index: u32, node: Node) -> Result<(), Fault>
     ensures ok { IfOk result (λ _. (k : ℕ) → IsDistinct (table_in rows.now.octets.now) node k) }
     ensures fault { IfErr result (λ f. IsTagFault rows.now.counts (table_in rows.now.octets.now) f) }
 {
-    let start = node.parts.start;
-    for k in start..start + node.parts.count {
+    for k in node.parts.start..node.parts.end(rows.counts.fields) {
         check_field(rows, index, node, k)?;
     }
     Ok(())

@@ -1,8 +1,9 @@
 //! Checks that a CHOICE that is an alternative comes before the CHOICE that it is in.
-ghost use Rattle.std.specs.Prelude.{◌≡◌, ◌<◌, slice_get, Some, IfOk, IfErr};
+ghost use Rattle.std.specs.Prelude.{◌≡◌, ℕ, ◌<◌, slice_get, Some, IfOk, IfErr};
 ghost use Rattle.asn1_schema.specs.Span.{IsWithin};
 ghost use Rattle.asn1_schema.specs.Table.{table_in};
-ghost use Rattle.asn1_schema.specs.Distinct.{AreNested, IsAfterNested, IsNestingFault};
+ghost use Rattle.asn1_schema.specs.Tags.{IsPart};
+ghost use Rattle.asn1_schema.specs.Distinct.{IsAfter, AreNested, IsNestingFault};
 
 use crate::fault::Fault;
 use crate::fault_kind::FaultKind;
@@ -25,7 +26,7 @@ pub(crate) fn check_nesting(rows: &Rows) -> Result<(), Fault>
 // Whether the alternatives of a node, if it is a CHOICE, do.
 fn check_node(rows: &Rows, index: u32) -> Result<(), Fault>
     requires { index < rows.now.counts.nodes }
-    ensures ok { IfOk result (λ _. IsAfterNested (table_in rows.now.octets.now) index) }
+    ensures ok { IfOk result (λ _. (k : ℕ) → IsAfter (table_in rows.now.octets.now) index k) }
     ensures fault { IfErr result
         (λ f. IsNestingFault rows.now.counts (table_in rows.now.octets.now) f) }
 {
@@ -41,19 +42,35 @@ fn check_alternatives(rows: &Rows, index: u32, choice: Node) -> Result<(), Fault
     requires there { slice_get (table_in rows.now.octets.now).nodes index ≡ Some choice }
     requires kind { choice.kind ≡ NodeKind.Choice }
     requires fields { IsWithin choice.parts rows.now.counts.fields }
-    ensures ok { IfOk result (λ _. IsAfterNested (table_in rows.now.octets.now) index) }
+    ensures ok { IfOk result (λ _. (k : ℕ) → IsAfter (table_in rows.now.octets.now) index k) }
     ensures fault { IfErr result
         (λ f. IsNestingFault rows.now.counts (table_in rows.now.octets.now) f) }
 {
-    let start = choice.parts.start;
-    for k in start..start + choice.parts.count {
-        let alternative = rows.field(k).node;
-        if alternative >= index && rows.node(alternative).kind == NodeKind::Choice {
-            return Err(Fault::new(
-                FaultKind::Choice,
-                rows.counts.fields_at() + 28 * k as usize + 16,
-            ));
-        }
+    for k in choice.parts.start..choice.parts.end(rows.counts.fields) {
+        check_alternative(rows, index, choice, k)?;
     }
     Ok(())
+}
+
+// Whether an alternative of a CHOICE does.
+fn check_alternative(rows: &Rows, index: u32, choice: Node, k: u32) -> Result<(), Fault>
+    requires there { slice_get (table_in rows.now.octets.now).nodes index ≡ Some choice }
+    requires kind { choice.kind ≡ NodeKind.Choice }
+    requires fields { IsWithin choice.parts rows.now.counts.fields }
+    requires part { IsPart choice.parts k }
+    ensures ok { IfOk result (λ _. IsAfter (table_in rows.now.octets.now) index k) }
+    ensures fault { IfErr result
+        (λ f. IsNestingFault rows.now.counts (table_in rows.now.octets.now) f) }
+{
+    let alternative = rows.field(k).node;
+    if alternative < index {
+        return Ok(());
+    }
+    match rows.node(alternative).kind {
+        NodeKind::Choice => {
+            let at = rows.counts.fields_at() + 28 * k as usize + 16;
+            Err(Fault::new(FaultKind::Choice, at))
+        }
+        _ => Ok(()),
+    }
 }

@@ -1,9 +1,9 @@
 //! The node that a tag selects.
-ghost use Rattle.std.specs.Prelude.{◌≡◌, ◌<◌, slice_get, Some, IfSome, IfNone};
+ghost use Rattle.std.specs.Prelude.{◌≡◌, ◌≢◌, ◌<◌, slice_get, Some, IfSome, IfNone};
 ghost use Rattle.asn1_schema.specs.Span.{IsWithin};
 ghost use Rattle.asn1_schema.specs.Table.{table_in};
 ghost use Rattle.asn1_schema.specs.Distinct.{AreNested};
-ghost use Rattle.asn1_schema.specs.Sought.{IsMet, IsFound, FindsNone, itself_at, through_field};
+ghost use Rattle.asn1_schema.specs.Sought.{IsFound, FindsNone, through_field};
 
 use crate::node::Node;
 use crate::node_kind::NodeKind;
@@ -22,7 +22,7 @@ pub(crate) fn find_selected(rows: &Rows, index: u32, sought: Sought) -> Option<S
     let node = rows.node(index);
     match node.kind {
         NodeKind::Choice => find_in_choice(rows, index, node, sought),
-        _ => itself(index, node, sought),
+        _ => find_itself(rows, index, node, sought),
     }
 }
 
@@ -35,13 +35,12 @@ fn find_in_choice(rows: &Rows, index: u32, choice: Node, sought: Sought) -> Opti
     ensures found { IfSome result (IsFound (table_in rows.now.octets.now) index sought) }
     ensures none { IfNone result (FindsNone (table_in rows.now.octets.now) index sought) }
 {
-    let start = choice.parts.start;
-    for k in start..start + choice.parts.count {
+    for k in choice.parts.start..choice.parts.end(rows.counts.fields) {
         let alternative = rows.field(k).node;
         let node = rows.node(alternative);
         let found = match node.kind {
             NodeKind::Choice => find_in_choice(rows, alternative, node, sought),
-            _ => itself(alternative, node, sought),
+            _ => find_itself(rows, alternative, node, sought),
         };
         if let Some(selected) = found {
             return Some(through(selected, k));
@@ -52,9 +51,11 @@ fn find_in_choice(rows: &Rows, index: u32, choice: Node, sought: Sought) -> Opti
 
 // A node that is no CHOICE, if it may have a tag that is sought.
 #[inline(always)]
-fn itself(index: u32, node: Node, sought: Sought) -> Option<Selected>
-    ensures found { IfSome result (λ s. (s ≡ itself_at index) × IsMet sought node) }
-    ensures none { IfNone result (IsMet sought node → ⊥) }
+fn find_itself(rows: &Rows, index: u32, node: Node, sought: Sought) -> Option<Selected>
+    requires there { slice_get (table_in rows.now.octets.now).nodes index ≡ Some node }
+    requires kind { node.kind ≢ NodeKind.Choice }
+    ensures found { IfSome result (IsFound (table_in rows.now.octets.now) index sought) }
+    ensures none { IfNone result (FindsNone (table_in rows.now.octets.now) index sought) }
 {
     if sought.is_met(node) {
         Some(Selected {

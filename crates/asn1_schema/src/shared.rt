@@ -34,8 +34,7 @@ fn choice_shares_tag(rows: &Rows, index: u32, choice: Node, second: u32) -> bool
     requires also { second < rows.now.counts.nodes }
     ensures { IsTrue result ↔ ShareTag (table_in rows.now.octets.now) index second }
 {
-    let start = choice.parts.start;
-    for k in start..start + choice.parts.count {
+    for k in choice.parts.start..choice.parts.end(rows.counts.fields) {
         let alternative = rows.field(k).node;
         let node = rows.node(alternative);
         let shares = match node.kind {

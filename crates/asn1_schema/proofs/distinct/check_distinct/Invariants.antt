@@ -5,4 +5,4 @@ use Rattle.asn1_schema.specs.declared.node.Node.{Node}
 use Rattle.asn1_schema.proofs.distinct.check_distinct.Given as goal
 
 abbrev pub invariant-loop-i : goal.invariant-loop-i
-invariant-loop-i l = (i : ℕ) (n : Node) → i < l.i → slice_get (table_in l.rows.octets.now).nodes i ≡ Some n → (k : ℕ) → IsDistinct (table_in l.rows.octets.now) n k
+invariant-loop-i l = (i : ℕ) → i < l.i → (n : Node) → slice_get (table_in l.rows.octets.now).nodes i ≡ Some n → (k : ℕ) → IsDistinct (table_in l.rows.octets.now) n k
