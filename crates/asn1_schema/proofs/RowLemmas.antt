@@ -8,6 +8,7 @@ use Rattle.asn1_schema.specs.Name.{name_at}
 use Rattle.asn1_schema.specs.OpenType.{open_type_at}
 use Rattle.asn1_schema.specs.Table.{rows, table_with, table_in, counts_of}
 use Rattle.asn1_schema.specs.declared.counts.Counts.{Counts}
+use Rattle.asn1_schema.specs.declared.field.Field.{Field}
 use Rattle.asn1_schema.specs.declared.node.Node.{Node}
 
 -- there are as many as were asked for
@@ -31,6 +32,9 @@ rows_there row size at (suc count) (suc i) octets e = let h = rows_there row siz
 
 pub node_there : {c : Counts} (octets : List ℕ) (i : ℕ) {n : Node} → c ≡ counts_in octets → slice_get (table_in octets).nodes i ≡ Some n → i < c.nodes
 node_there octets i e row = subst (λ (x : Counts). i < x.nodes) (sym e) (rows_there node_at 40 nodes_at (counts_in octets).nodes i octets row)
+
+pub field_there : {c : Counts} (octets : List ℕ) (k : ℕ) {f : Field} → c ≡ counts_in octets → slice_get (table_in octets).fields k ≡ Some f → k < c.fields
+field_there octets k e row = subst (λ (x : Counts). k < x.fields) (sym e) (rows_there field_at 28 (fields_at (counts_in octets)) (counts_in octets).fields k octets row)
 
 same_counts : (a b : Counts) → a.nodes ≡ b.nodes → a.fields ≡ b.fields → a.limits ≡ b.limits → a.names ≡ b.names → a.opens ≡ b.opens → a.pool ≡ b.pool → a ≡ b
 same_counts a b n f l m o p =

@@ -4,16 +4,19 @@ use Rattle.std.proofs.lemmas.Bool.{cases_lt}
 use Rattle.der_base.specs.declared.tag.class.Class.{Class}
 use Rattle.asn1_schema.specs.NodeKind.{parts_room}
 use Rattle.asn1_schema.specs.Span.{IsWithin}
-use Rattle.asn1_schema.specs.Table.{Table}
+use Rattle.asn1_schema.specs.Counts.{counts_in}
+use Rattle.asn1_schema.specs.Table.{Table, table_in}
 use Rattle.asn1_schema.specs.Tags.{IsPart, IsFieldOf, Selects, itself, alternative, is_untagged, HasTag, own, each, SelectsOne, IsSelected, Begins, ShareTag, AreApart}
 use Rattle.asn1_schema.specs.Distinct.{may_lack, MayFollow, IsDistinct, AreDistinct}
-use Rattle.asn1_schema.specs.Sought.{tags_of, IsMet, IsFound, FindsNone}
+use Rattle.asn1_schema.specs.Sought.{one_tag, tags_of, IsMet, IsFound, FindsNone}
 use Rattle.asn1_schema.specs.declared.counts.Counts.{Counts}
 use Rattle.asn1_schema.specs.declared.field.Field.{Field}
 use Rattle.asn1_schema.specs.declared.node.Node.{Node}
 use Rattle.asn1_schema.specs.declared.node_kind.NodeKind.{NodeKind}
 use Rattle.asn1_schema.specs.declared.node_kind.NodeKind.TheVariants.{Choice}
 use Rattle.asn1_schema.specs.declared.selected.Selected.{Selected}
+use Rattle.asn1_schema.specs.declared.sought.Sought.{Sought}
+use Rattle.asn1_schema.proofs.RowLemmas.{node_there, field_there}
 
 some_same : {A : Type 0} {x y : A} → Some x ≡ Some y → x ≡ y
 some_same e = cc
@@ -132,3 +135,32 @@ one_selected {t} distinct {class = class} {number = number} s u = go s.selects s
 pub share_if_found : {t : Table} {i j : ℕ} {n : Node} {b : Bool} (o : Option Selected) → slice_get t.nodes i ≡ Some n → n.kind ≢ Choice → IfSome o (IsFound t j (tags_of n)) → IfNone o (FindsNone t j (tags_of n)) → b ≡ is_some o → IsTrue b ↔ ShareTag t i j
 share_if_found (Some s) row isnt found none e = (λ _. share_found row isnt found, λ _. e)
 share_if_found None row isnt found none e = (λ f. absurd (let g : false ≡ true = sym e ∙ f in cc), λ share. absurd (share_none row isnt none share))
+
+-- one tag is sought
+pub one_met : {class : Class} {number : ℕ} {n : Node} → IsMet (one_tag class number) n → HasTag n class number
+one_met (inl e) = cc
+one_met (inr tag) = tag
+
+-- a field on the way is there
+via_there : (octets : List ℕ) {c : Counts} {i m : ℕ} {via : Option ℕ} → c ≡ counts_in octets → Selects (table_in octets) i via m → IfSome via (λ k. k < c.fields)
+via_there octets e (itself _ _) = tt
+via_there octets e (alternative {k = k} {via = None} _ _ field _) = field_there octets k e field.row
+via_there octets e (alternative {via = Some x} _ _ _ inner) = via_there octets e inner
+
+-- what a search for one tag finds
+pub tag_found : (t : Table) (i : ℕ) (class : Class) (number : ℕ) (o : Option Selected) → IfSome o (IsFound t i (one_tag class number)) → IfSome o (λ s. IsSelected t i class number s.field s.node)
+tag_found t i class number (Some s) f = record { node = f.node; selects = f.selects; row = f.row; fact = one_met f.fact }
+tag_found t i class number None f = tt
+
+pub tag_not_found : (t : Table) (i : ℕ) (class : Class) (number : ℕ) (o : Option Selected) → IfNone o (FindsNone t i (one_tag class number)) → IfNone o (Begins t i class number → ⊥)
+tag_not_found t i class number (Some s) f = tt
+tag_not_found t i class number None f = λ b. f b.via b.node (record { node = b.selected.node; selects = b.selected.selects; row = b.selected.row; fact = inr b.selected.fact })
+
+-- what a search finds is there
+pub node_found : (octets : List ℕ) {c : Counts} (i : ℕ) (sought : Sought) (o : Option Selected) → c ≡ counts_in octets → IfSome o (IsFound (table_in octets) i sought) → IfSome o (λ s. s.node < c.nodes)
+node_found octets i sought (Some s) e f = node_there octets s.node e f.row
+node_found octets i sought None e f = tt
+
+pub via_found : (octets : List ℕ) {c : Counts} (i : ℕ) (sought : Sought) (o : Option Selected) → c ≡ counts_in octets → IfSome o (IsFound (table_in octets) i sought) → IfSome o (λ s. IfSome s.field (λ k. k < c.fields))
+via_found octets i sought (Some s) e f = via_there octets e f.selects
+via_found octets i sought None e f = tt

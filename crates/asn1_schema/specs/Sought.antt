@@ -1,10 +1,15 @@
 -- Tags that are sought.
-use Rattle.std.specs.Prelude.{◌≡◌, ℕ, ◌⊎◌, true, Option, Some, unwrap_or}
+use Rattle.std.specs.Prelude.{◌≡◌, ℕ, ◌⊎◌, true, false, Option, Some, unwrap_or}
+use Rattle.der_base.specs.declared.tag.class.Class.{Class}
 use Rattle.asn1_schema.specs.Table.{Table}
 use Rattle.asn1_schema.specs.Tags.{is_untagged, HasTag, SelectsOne}
 use Rattle.asn1_schema.specs.declared.node.Node.{Node}
 use Rattle.asn1_schema.specs.declared.selected.Selected.{Selected}
 use Rattle.asn1_schema.specs.declared.sought.Sought.{Sought}
+
+-- one tag
+abbrev pub one_tag : Class → ℕ → Sought
+one_tag class number = record { any = false; class = class; number = number }
 
 -- the tags that a node, which is no CHOICE, may have
 abbrev pub tags_of : Node → Sought

@@ -10,6 +10,7 @@ use crate::field::Field;
 use crate::node::Node;
 
 // The octets of a table, with the counts in them.
+#[derive(Clone, Copy)]
 pub(crate) struct Rows<'a> {
     pub(crate) octets: &'a [u8],
     pub(crate) counts: Counts,

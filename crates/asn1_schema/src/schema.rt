@@ -3,21 +3,29 @@ ghost use Rattle.std.specs.Prelude.{◌≡◌, length};
 ghost use Rattle.std.proofs.Props.{props};
 ghost use Rattle.asn1_schema.specs.Counts.{counts_in, size_of};
 ghost use Rattle.asn1_schema.specs.Pool.{pool_in};
-ghost use Rattle.asn1_schema.specs.Table.{AreRows, AreAscending, AreAscending-prop};
+ghost use Rattle.asn1_schema.specs.Table.{table_in, AreRows, AreAscending, AreAscending-prop};
+ghost use Rattle.asn1_schema.specs.Distinct.{AreNested, AreDistinct};
 ghost use Rattle.asn1_schema.specs.Schema.{IsHeader};
 
 use crate::counts::Counts;
+use crate::distinct::check_distinct;
 use crate::fault::Fault;
 use crate::field::Field;
 use crate::find::{find_node, find_open_type};
 use crate::header::read_header;
 use crate::limit::Limit;
 use crate::name::Name;
+use crate::nesting::check_nesting;
 use crate::node::Node;
 use crate::open_type::OpenType;
 use crate::pool::{octets_of, text_of};
+use crate::rows::Rows;
 use crate::sections::check_rows;
+use crate::select::find_selected;
+use crate::selected::Selected;
+use crate::sought::Sought;
 use crate::span::Span;
+use der_base::Class;
 
 /// A table of types, read from octets without copying them.
 #[derive(Debug, Clone, Copy, PartialEq, Eq)]
@@ -31,6 +39,8 @@ pub struct Schema<'a> {
     ghost pooled: { pool.now ≡ pool_in counts octets.now },
     ghost rows: { AreRows counts octets.now } by { Prim.hlevel props },
     ghost ascending: { AreAscending counts octets.now } by { AreAscending-prop counts octets.now },
+    ghost nested: { AreNested (table_in octets.now) } by { Prim.hlevel props },
+    ghost distinct: { AreDistinct (table_in octets.now) } by { Prim.hlevel props },
 }
 
 impl<'a> Schema<'a> {
@@ -45,6 +55,7 @@ impl<'a> Schema<'a> {
     ghost use Rattle.asn1_schema.specs.Named.{IsNamed, NoneIsNamed};
     ghost use Rattle.asn1_schema.specs.Table.{Table, table_in, counts_of, IsAscending};
     ghost use Rattle.asn1_schema.specs.Schema.{IsSchema, IsFault};
+    ghost use Rattle.asn1_schema.specs.Tags.{IsSelected, Begins};
 
     /// Reads a table of types.
     ///
@@ -60,6 +71,13 @@ impl<'a> Schema<'a> {
         let counts = read_header(octets)?;
         let pool = &octets[counts.pool_at()..];
         check_rows(octets, counts, pool)?;
+        let rows = Rows {
+            octets,
+            counts,
+            pool,
+        };
+        check_nesting(&rows)?;
+        check_distinct(&rows)?;
         Ok(Schema {
             octets,
             counts,
@@ -147,6 +165,26 @@ impl<'a> Schema<'a> {
             (ChoosesNone self.now.counts self.now.octets.now types identifier.now) }
     {
         find_open_type(self.octets, self.counts, self.pool, types, identifier)
+    }
+
+    /// The node of which a value of a node is one, if the value begins with this tag; the field is the
+    /// alternative through which a CHOICE selects it. The caller must ensure that there is a node with
+    /// this index.
+    #[inline(always)]
+    pub fn select(&self, index: u32, class: Class, number: u32) -> Option<Selected>
+        requires { index < self.now.counts.nodes }
+        ensures found { IfSome result (λ s.
+            IsSelected (table_in self.now.octets.now) index class number s.field s.node) }
+        ensures there { IfSome result (λ s. s.node < self.now.counts.nodes) }
+        ensures field_there { IfSome result (λ s. IfSome s.field (λ k. k < self.now.counts.fields)) }
+        ensures none { IfNone result (Begins (table_in self.now.octets.now) index class number → ⊥) }
+    {
+        let rows = Rows {
+            octets: self.octets,
+            counts: self.counts,
+            pool: self.pool,
+        };
+        find_selected(&rows, index, Sought::tag(class, number))
     }
 
     /// The octets of a range of the pool. The caller must ensure that it is one, as those of this

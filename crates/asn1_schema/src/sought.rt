@@ -17,7 +17,19 @@ pub(crate) struct Sought {
 
 impl Sought {
     ghost use Rattle.std.specs.Prelude.{◌↔◌, IsTrue};
-    ghost use Rattle.asn1_schema.specs.Sought.{tags_of, IsMet};
+    ghost use Rattle.asn1_schema.specs.Sought.{one_tag, tags_of, IsMet};
+
+    // One tag.
+    #[inline(always)]
+    pub(crate) fn tag(class: Class, number: u32) -> Self
+        ensures { result ≡ one_tag class number }
+    {
+        Sought {
+            any: false,
+            class,
+            number,
+        }
+    }
 
     // The tags that a node, which is no CHOICE, may have.
     #[inline(always)]
