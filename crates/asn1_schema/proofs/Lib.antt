@@ -3,3 +3,4 @@ pub mod FaultLemmas
 pub mod RowLemmas
 pub mod FindLemmas
 pub mod TagLemmas
+pub mod TableLemmas

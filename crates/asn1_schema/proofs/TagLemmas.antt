@@ -1,13 +1,13 @@
 -- What nodes select, which tags they share, and that a tag selects one node.
-use Rattle.std.proofs.Common.{◌≡◌, ◌≢◌, ℕ, ◌<◌, ◌⊎◌, inl, inr, ◌↔◌, Bool, true, false, IsTrue, IfSome, IfNone, is_some, List, slice_get, Option, Some, None, unwrap_or, refl, sym, ap, ◌∙◌, subst, ⊎_elim, arith}
+use Rattle.std.proofs.Common.{◌≡◌, ◌≢◌, ℕ, ◌<◌, inl, inr, ◌↔◌, Bool, true, false, IsTrue, IfSome, IfNone, is_some, List, slice_get, Option, Some, None, unwrap_or, refl, sym, ap, ◌∙◌, subst, ⊎_elim, arith}
 use Rattle.std.proofs.lemmas.Bool.{cases_lt}
 use Rattle.der_base.specs.declared.tag.class.Class.{Class}
 use Rattle.asn1_schema.specs.NodeKind.{parts_room}
 use Rattle.asn1_schema.specs.Span.{IsWithin}
 use Rattle.asn1_schema.specs.Counts.{counts_in}
 use Rattle.asn1_schema.specs.Table.{Table, table_in}
-use Rattle.asn1_schema.specs.Tags.{IsPart, IsFieldOf, Selects, itself, alternative, is_untagged, HasTag, own, each, SelectsOne, IsSelected, Begins, ShareTag, AreApart}
-use Rattle.asn1_schema.specs.Distinct.{may_lack, MayFollow, IsDistinct, AreDistinct}
+use Rattle.asn1_schema.specs.Tags.{IsFieldOf, Selects, itself, alternative, HasTag, own, each, SelectsOne, IsSelected, Begins, ShareTag, AreApart}
+use Rattle.asn1_schema.specs.Distinct.{may_lack, AreDistinct}
 use Rattle.asn1_schema.specs.Sought.{one_tag, tags_of, IsMet, IsFound, FindsNone}
 use Rattle.asn1_schema.specs.declared.counts.Counts.{Counts}
 use Rattle.asn1_schema.specs.declared.field.Field.{Field}
@@ -123,12 +123,12 @@ one_selected {t} distinct {class = class} {number = number} s u = go s.selects s
         ⊎_elim
         (λ lt. absurd (apart distinct i row choice field there lt (record { class = class; number = number; first = starts inner e tag; second = starts inner' e' tag' })))
         (λ ge. ⊎_elim
-          (λ gt. absurd (apart distinct i row choice there field gt (record { class = class; number = number; first = starts inner' e' tag'; second = starts inner e tag })))
-          (λ le. let q : k' ≡ k = omega arith in
-            let r : f' ≡ f = same_row t.fields k (subst (λ (x : ℕ). slice_get t.fields x ≡ Some f') q there.row) field.row in
-            let p = go inner e tag (subst (λ (x : Field). Selects t x.node also m') r inner') e' tag' in
-            (ap (λ x. Some (unwrap_or x k)) p.0 ∙ ap (λ x. Some (unwrap_or also x)) (sym q), p.1))
-          (cases_lt k' k))
+        (λ gt. absurd (apart distinct i row choice there field gt (record { class = class; number = number; first = starts inner' e' tag'; second = starts inner e tag })))
+        (λ le. let q : k' ≡ k = omega arith in
+        let r : f' ≡ f = same_row t.fields k (subst (λ (x : ℕ). slice_get t.fields x ≡ Some f') q there.row) field.row in
+        let p = go inner e tag (subst (λ (x : Field). Selects t x.node also m') r inner') e' tag' in
+        (ap (λ x. Some (unwrap_or x k)) p.0 ∙ ap (λ x. Some (unwrap_or also x)) (sym q), p.1))
+        (cases_lt k' k))
         (cases_lt k k')
 
 -- whether a search finds one tells whether it shares a tag

@@ -19,3 +19,5 @@ pub mod Schema
 pub mod Laws
 pub mod Chosen
 pub mod Named
+pub mod Numbered
+pub mod Allowed

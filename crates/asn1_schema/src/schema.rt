@@ -14,6 +14,7 @@ use crate::field::Field;
 use crate::find::{find_node, find_open_type};
 use crate::header::read_header;
 use crate::limit::Limit;
+use crate::limit_kind::LimitKind;
 use crate::name::Name;
 use crate::nesting::check_nesting;
 use crate::node::Node;
@@ -44,18 +45,20 @@ pub struct Schema<'a> {
 }
 
 impl<'a> Schema<'a> {
-    ghost use Rattle.std.specs.Prelude.{◌<◌, slice_get, Some, IfOk, IfErr, IsOk, IfSome, IfNone};
+    ghost use Rattle.std.specs.Prelude.{◌↔◌, ◌<◌, slice_get, Some, IsTrue, IfOk, IfErr, IsOk, IfSome, IfNone};
     ghost use Rattle.asn1_schema.specs.Span.{IsWithin};
     ghost use Rattle.asn1_schema.specs.Pool.{octets_of, IsText};
     ghost use Rattle.asn1_schema.specs.Node.{IsNode};
     ghost use Rattle.asn1_schema.specs.Field.{IsField};
     ghost use Rattle.asn1_schema.specs.Name.{IsName};
     ghost use Rattle.asn1_schema.specs.OpenType.{IsOpenType, Ascends};
-    ghost use Rattle.asn1_schema.specs.Chosen.{IsChosen, ChoosesNone};
+    ghost use Rattle.asn1_schema.specs.Chosen.{IsChosen, ChoosesNone, ChoosesRow, ChoosesNoRow};
     ghost use Rattle.asn1_schema.specs.Named.{IsNamed, NoneIsNamed};
     ghost use Rattle.asn1_schema.specs.Table.{Table, table_in, counts_of, IsAscending};
     ghost use Rattle.asn1_schema.specs.Schema.{IsSchema, IsFault};
     ghost use Rattle.asn1_schema.specs.Tags.{IsSelected, Begins};
+    ghost use Rattle.asn1_schema.specs.Numbered.{IsFirstNamed, NoneHasNumber};
+    ghost use Rattle.asn1_schema.specs.Allowed.{IsAllowed};
 
     /// Reads a table of types.
     ///
@@ -163,6 +166,11 @@ impl<'a> Schema<'a> {
             (λ o. IsChosen self.now.counts self.now.octets.now types identifier.now o) }
         ensures none { IfNone result
             (ChoosesNone self.now.counts self.now.octets.now types identifier.now) }
+        ensures row { IfSome result
+            (ChoosesRow (table_in self.now.octets.now) types identifier.now) }
+        ensures no_row { IfNone result
+            (ChoosesNoRow (table_in self.now.octets.now) types identifier.now) }
+        ensures fits { IfSome result (λ o. IsOpenType self.now.counts self.now.pool.now o) }
     {
         find_open_type(self.octets, self.counts, self.pool, types, identifier)
     }
@@ -185,6 +193,44 @@ impl<'a> Schema<'a> {
             pool: self.pool,
         };
         find_selected(&rows, index, Sought::tag(class, number))
+    }
+
+    /// The first name of a number among the names of an ENUMERATED, an INTEGER or the bits of a
+    /// BIT STRING, which are its parts. The caller must ensure that these are a range of names.
+    pub fn name_of_number(&self, names: Span, number: i64) -> Option<Name>
+        requires { IsWithin names self.now.counts.names }
+        ensures found { IfSome result
+            (IsFirstNamed (table_in self.now.octets.now) names number) }
+        ensures none { IfNone result
+            (NoneHasNumber (table_in self.now.octets.now) names number) }
+        ensures fits { IfSome result (λ n. IsName self.now.pool.now n) }
+    {
+        for k in names.start..names.end(self.counts.names) {
+            let name = self.name(k);
+            if name.number == number {
+                return Some(name);
+            }
+        }
+        None
+    }
+
+    /// Whether the limits of a node allow a number: one limit of this kind does, or there is none of
+    /// this kind. The caller must ensure that these are a range of limits.
+    pub fn is_within_limits(&self, limits: Span, kind: LimitKind, number: i64) -> bool
+        requires { IsWithin limits self.now.counts.limits }
+        ensures { IsTrue result ↔ IsAllowed (table_in self.now.octets.now) limits kind number }
+    {
+        let mut limited = false;
+        for k in limits.start..limits.end(self.counts.limits) {
+            let limit = self.limit(k);
+            if limit.is_of(kind) {
+                if limit.allows(number) {
+                    return true;
+                }
+                limited = true;
+            }
+        }
+        !limited
     }
 
     /// The octets of a range of the pool. The caller must ensure that it is one, as those of this

@@ -1,4 +1,4 @@
-use Rattle.std.proofs.Common.{ℕ, sym, subst, below_more, arith}
+use Rattle.std.proofs.Common.{ℕ, subst, below_more, arith}
 use Rattle.asn1_schema.specs.Table.{table_in}
 use Rattle.asn1_schema.specs.Distinct.{IsDistinct}
 use Rattle.asn1_schema.specs.declared.node.Node.{Node}

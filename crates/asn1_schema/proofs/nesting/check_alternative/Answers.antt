@@ -1,4 +1,3 @@
-use Rattle.std.proofs.Common.{arith}
 use Rattle.asn1_schema.specs.Distinct.{not_before}
 use Rattle.asn1_schema.proofs.nesting.check_alternative.Goals as goal
 
