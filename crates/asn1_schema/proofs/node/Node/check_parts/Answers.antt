@@ -27,4 +27,4 @@ returns-then-not-is_within-2-clause-fault c =
 pub returns-then-node-chooser_room-clause-fault : goal.returns-then-node-chooser_room-clause-fault
 returns-then-node-chooser_room-clause-fault c =
     let room = c.chooser_room.ensures in
-    rw c.new-then-node-chooser_room.ensures (no_chooser (subst (λ (n : Node). chooser_room c.args.counts n.kind ≤ n.chooser) c.read-node.ensures (omega arith)))
+    rw c.new-then-node-chooser_room.ensures (no_chooser (subst (λ (n : Node). chooser_room c.args.counts n.kind n.extensible n.parts.count ≤ n.chooser) c.read-node.ensures (omega arith)))
