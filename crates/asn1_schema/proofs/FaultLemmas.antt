@@ -1,6 +1,6 @@
 -- A row with a fault is not well-formed, and octets with a fault are no table.
 use Rattle.std.proofs.Common.{◌≡◌, ℕ, true, false, List, Option, None, is_some, sym, ap, subst, ◌∙◌, arith}
-use Rattle.asn1_schema.specs.Node.{IsNodeRow, IsNodeFault, unknown_kind, no_class, no_flag, no_inner_flag, no_node_name, no_inner, no_parts, no_limits, no_chooser}
+use Rattle.asn1_schema.specs.Node.{IsNodeRow, IsNodeFault, unknown_kind, no_class, no_flag, no_inner_flag, no_node_name, no_inner, no_parts, no_alternative, no_limits, no_chooser}
 use Rattle.asn1_schema.specs.Field.{IsFieldRow, IsFieldFault, unknown_presence, no_field_name, no_field_node, no_default}
 use Rattle.asn1_schema.specs.Limit.{IsLimitRow, IsLimitFault, unknown_limit}
 use Rattle.asn1_schema.specs.Name.{IsNameRow, IsNameFault, no_name as no_row_name}
@@ -24,6 +24,7 @@ node_never (no_inner_flag h) row = omega (arith, row.inner)
 node_never (no_node_name n) row = n row.fits.name
 node_never (no_inner n) row = n row.fits.inner
 node_never (no_parts n) row = n row.fits.parts
+node_never (no_alternative e h) row = omega (arith, h, row.fits.alternative e)
 node_never (no_limits n) row = n row.fits.limits
 node_never (no_chooser h) row = omega (arith, h, row.fits.chooser)
 

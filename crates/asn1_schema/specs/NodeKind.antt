@@ -58,3 +58,8 @@ allows_inner (Universally OctetString) = true
 allows_inner (Universally BitString) = true
 allows_inner (Universally _) = false
 allows_inner k = needs_inner k
+
+-- a CHOICE has an alternative (X.680 29.1)
+abbrev pub is_choice : NodeKind → Bool
+is_choice Choice = true
+is_choice _ = false

@@ -1,6 +1,7 @@
 //! Checks that components of which one may be missing where the other is have distinct tags.
 ghost use Rattle.std.specs.Prelude.{◌≡◌, ℕ, ◌<◌, slice_get, Some, IfOk, IfErr};
 ghost use Rattle.asn1_schema.specs.Span.{IsWithin};
+ghost use Rattle.asn1_schema.specs.NodeKind.{is_choice};
 ghost use Rattle.asn1_schema.specs.Node.{IsNode};
 ghost use Rattle.asn1_schema.specs.Table.{table_in};
 ghost use Rattle.asn1_schema.specs.Tags.{IsPart};
@@ -16,14 +17,31 @@ use crate::rows::Rows;
 use crate::shared::share_tag;
 use ber::Universal;
 
-// Whether the tags of the fields of each node are distinct.
+// Whether the tags of the fields of each node are distinct. Those of CHOICEs are checked first: then a
+// walk over the alternatives of a CHOICE passes as many nodes as there are, and not more.
 pub(crate) fn check_distinct(rows: &Rows) -> Result<(), Fault>
     requires { AreNested (table_in rows.now.octets.now) }
     ensures ok { IfOk result (λ _. AreDistinct (table_in rows.now.octets.now)) }
     ensures fault { IfErr result (λ f. IsTagFault rows.now.counts (table_in rows.now.octets.now) f) }
 {
+    check_nodes(rows, true)?;
+    check_nodes(rows, false)?;
+    Ok(())
+}
+
+// Whether the tags of the fields of each node that is a CHOICE, or of each that is none, are distinct.
+fn check_nodes(rows: &Rows, choices: bool) -> Result<(), Fault>
+    requires { AreNested (table_in rows.now.octets.now) }
+    ensures ok { IfOk result (λ _. (i : ℕ) (n : Node)
+        → slice_get (table_in rows.now.octets.now).nodes i ≡ Some n → is_choice n.kind ≡ choices
+        → (k : ℕ) → IsDistinct (table_in rows.now.octets.now) n k) }
+    ensures fault { IfErr result (λ f. IsTagFault rows.now.counts (table_in rows.now.octets.now) f) }
+{
     for i in 0..rows.counts.nodes {
-        check_node(rows, i, rows.node(i))?;
+        let node = rows.node(i);
+        if node.kind.is_choice() == choices {
+            check_node(rows, i, node)?;
+        }
     }
     Ok(())
 }

@@ -24,7 +24,7 @@ pub enum FaultKind {
     /// A node has another node inside it though its kind has none, lacks one though its kind has
     /// one, or names one that there is not.
     Inner,
-    /// The parts of a node are no rows of the section that its kind names.
+    /// The parts of a node are no rows of the section that its kind names, or a CHOICE has none.
     Parts,
     /// The limits of a node are no rows.
     Limits,

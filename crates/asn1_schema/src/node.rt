@@ -111,6 +111,9 @@ impl Node {
         if !node.parts.is_within(node.kind.parts_room(counts) as usize) {
             return Err(Fault::new(FaultKind::Parts, at + 20));
         }
+        if node.kind.is_choice() && node.parts.count == 0 {
+            return Err(Fault::new(FaultKind::Parts, at + 20));
+        }
         if !node.limits.is_within(counts.limits as usize) {
             return Err(Fault::new(FaultKind::Limits, at + 28));
         }

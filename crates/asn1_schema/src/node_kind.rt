@@ -1,6 +1,6 @@
 //! Kinds of nodes.
 ghost use Rattle.std.specs.Prelude.{◌≡◌, IsTrue};
-ghost use Rattle.asn1_schema.specs.NodeKind.{kind_at, parts_room, chooser_room, insertion_in, needs_inner, allows_inner};
+ghost use Rattle.asn1_schema.specs.NodeKind.{kind_at, parts_room, chooser_room, insertion_in, needs_inner, allows_inner, is_choice};
 
 use crate::counts::Counts;
 use ber::Universal;
@@ -106,5 +106,13 @@ impl NodeKind {
                 | NodeKind::Universal(Universal::OctetString)
                 | NodeKind::Universal(Universal::BitString)
         )
+    }
+
+    // Whether it is a CHOICE.
+    #[inline(always)]
+    pub(crate) fn is_choice(self) -> bool
+        ensures { result ≡ is_choice self }
+    {
+        matches!(self, NodeKind::Choice)
     }
 }
