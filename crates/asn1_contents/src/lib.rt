@@ -1,0 +1,29 @@
+//! Contents octets of primitive encodings, of every universal type (X.690 8.2 to 8.26, 11): the rules
+//! that the Basic and the Distinguished Encoding Rules have for them, and the first one that is broken.
+//!
+//! [`broken_rule`] is for any type, [`named_bits_rule`] for a BIT STRING with named bits. A
+//! [`ContentsRule`] has its section, and says whether contents that break it are still BER. Nothing
+//! here allocates.
+#![tactic(auto)]
+
+mod bits;
+mod broken;
+mod characters;
+mod contents_rule;
+mod decimal;
+mod decimal_text;
+mod digits;
+mod generalized_time;
+mod identifiers;
+mod kept;
+mod laws;
+mod real;
+mod rules;
+mod small;
+mod useful_times;
+mod utc_time;
+mod zone;
+
+pub use broken::{broken_rule, named_bits_rule};
+pub use contents_rule::ContentsRule;
+pub use rules::{named_bits_rules, rules_of};
