@@ -1,0 +1,3 @@
+pub mod RuleLemmas
+pub mod LastLemmas
+pub mod Utf8Lemmas

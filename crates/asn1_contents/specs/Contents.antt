@@ -9,7 +9,7 @@ use Rattle.asn1_contents.specs.Codes.{universal_form}
 use Rattle.asn1_contents.specs.Digits.{are_digits}
 use Rattle.asn1_contents.specs.Forms.{boolean_form, integer_form, bits_form, null_form, oid_form, printable_form, ia5_form}
 use Rattle.asn1_contents.specs.GeneralizedTime.{generalized_time_form, generalized_time_exists, generalized_time_ends_in_z, generalized_time_has_seconds, has_short_fraction, has_full_stop}
-use Rattle.asn1_contents.specs.NamedBits.{last_bit_is_one}
+use Rattle.asn1_contents.specs.NamedBits.{named_bits_form}
 use Rattle.asn1_contents.specs.Real.{special_form, base_form, exponent_form, decimal_field_form, nonzero_form, base_two_form, short_exponent_form, odd_form, nr3_form, short_decimal_form}
 use Rattle.asn1_contents.specs.Small.{has_one_octet, has_octets, has_unused_bits, has_none_unused, ends_whole, begins_with_solidus, begins_without_solidus, is_printing}
 use Rattle.asn1_contents.specs.UsefulTimes.{date_exists, time_exists_at, date_time_exists}
@@ -29,7 +29,7 @@ keeps BitStringEmpty octets = has_octets octets
 keeps UnusedBits octets = has_unused_bits octets
 keeps UnusedBitsOfNone octets = has_none_unused octets
 keeps UnusedBitsNotZero octets = bits_form octets
-keeps TrailingZeroBits octets = last_bit_is_one octets
+keeps TrailingZeroBits octets = named_bits_form octets
 keeps NullLength octets = null_form octets
 keeps IdentifierEmpty octets = has_octets octets
 keeps IdentifierCut octets = ends_whole octets

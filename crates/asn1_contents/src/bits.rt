@@ -1,7 +1,7 @@
 //! BIT STRING.
-ghost use Rattle.std.specs.Prelude.{◌≡◌, ◌<◌};
+ghost use Rattle.std.specs.Prelude.{◌≡◌, ◌<◌, true};
 ghost use Rattle.asn1_contents.specs.Forms.{bits_form, has_low_zeros};
-ghost use Rattle.asn1_contents.specs.NamedBits.{last_bit_is_one, ends_in_one};
+ghost use Rattle.asn1_contents.specs.NamedBits.{named_bits_form, last_bit_is_one, ends_in_one};
 ghost use Rattle.asn1_contents.specs.Small.{has_unused_bits, has_none_unused};
 
 // Whether the initial octet is from zero to seven.
@@ -45,8 +45,16 @@ fn ends_in_zeros(unused: u8, bits: &[u8]) -> bool
     }
 }
 
+// Whether these are the contents of a BIT STRING whose last bit is one, or that has no bits.
+pub(crate) fn has_no_trailing_zeros(contents: &[u8]) -> bool
+    ensures { result ≡ named_bits_form contents.now }
+{
+    are_bits(contents) && last_bit_is_one(contents)
+}
+
 // Whether the last bit is one, or there are no bits.
-pub(crate) fn last_bit_is_one(contents: &[u8]) -> bool
+fn last_bit_is_one(contents: &[u8]) -> bool
+    requires { bits_form contents.now ≡ true }
     ensures { result ≡ last_bit_is_one contents.now }
 {
     match contents {
@@ -57,10 +65,11 @@ pub(crate) fn last_bit_is_one(contents: &[u8]) -> bool
 
 // Whether the last octet's bit with this number is one, or there are no octets.
 fn ends_in_one(number: u8, bits: &[u8]) -> bool
+    requires { number < 8 }
     ensures { result ≡ ends_in_one number bits.now }
 {
     match bits {
         [] => true,
-        [.., last] => number < 8 && (*last >> number) % 2 == 1,
+        [.., last] => (*last >> number) % 2 == 1,
     }
 }

@@ -1,4 +1,6 @@
 //! The rules of contents octets.
+ghost use Rattle.std.specs.Prelude.{◌≡◌};
+
 use std::fmt;
 
 /// A rule of the contents octets of a primitive encoding (X.690 8.2 to 8.26, 11). Each is what the

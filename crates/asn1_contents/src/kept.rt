@@ -1,7 +1,7 @@
 //! Whether contents keep a rule.
 ghost use Rattle.std.specs.Prelude.{◌≡◌};
 
-use crate::bits::{are_bits, has_none_unused, has_unused_bits, last_bit_is_one};
+use crate::bits::{are_bits, has_no_trailing_zeros, has_none_unused, has_unused_bits};
 use crate::characters::{
     is_bmp, is_ia5, is_numeric, is_printable, is_printing, is_universal, is_utf8, is_visible,
 };
@@ -44,7 +44,7 @@ impl ContentsRule {
             ContentsRule::UnusedBits => has_unused_bits(contents),
             ContentsRule::UnusedBitsOfNone => has_none_unused(contents),
             ContentsRule::UnusedBitsNotZero => are_bits(contents),
-            ContentsRule::TrailingZeroBits => last_bit_is_one(contents),
+            ContentsRule::TrailingZeroBits => has_no_trailing_zeros(contents),
             ContentsRule::NullLength => is_empty(contents),
             ContentsRule::IdentifierCut => ends_whole(contents),
             ContentsRule::IdentifierLong => is_identifier(contents),
