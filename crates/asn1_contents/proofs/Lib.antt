@@ -1,3 +1,2 @@
 pub mod RuleLemmas
 pub mod LastLemmas
-pub mod Utf8Lemmas

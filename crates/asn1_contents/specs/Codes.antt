@@ -1,7 +1,7 @@
 -- Contents octets of a UniversalString (X.690 8.23.8): `universal_form`.
 use Rattle.std.specs.Prelude.{ℕ, ◌==◌, ◌&&◌, not, Bool, true, false, nat_lt, List, [], ◌∷◌}
 use Rattle.std.specs.Prelude.{if◌then◌else◌}
-use Rattle.asn1_contents.specs.Alphabets.{is_surrogate}
+use Rattle.der_asn1.specs.Alphabets.{is_surrogate}
 
 -- the code of a character of ISO/IEC 10646, from its first three octets: at most 10FFFF, and no
 -- surrogate

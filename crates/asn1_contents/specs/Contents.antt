@@ -4,12 +4,12 @@ use Rattle.std.specs.Prelude.{◌≡◌, ℕ, ⊤, Bool, true, false, List, [], 
 use Rattle.std.specs.Str.{is_utf8}
 use Rattle.ber.specs.declared.universal.Universal.{Universal}
 use Rattle.der_base.specs.declared.encoding_rules.EncodingRules.{EncodingRules}
-use Rattle.asn1_contents.specs.Alphabets.{numeric_form, visible_form, bmp_form}
+use Rattle.der_asn1.specs.Alphabets.{numeric_form, visible_form, bmp_form}
 use Rattle.asn1_contents.specs.Codes.{universal_form}
 use Rattle.asn1_contents.specs.Digits.{are_digits}
-use Rattle.asn1_contents.specs.Forms.{boolean_form, integer_form, bits_form, null_form, oid_form, printable_form, ia5_form}
+use Rattle.der_asn1.specs.Forms.{boolean_form, integer_form, bits_form, null_form, oid_form, printable_form, ia5_form}
 use Rattle.asn1_contents.specs.GeneralizedTime.{generalized_time_form, generalized_time_exists, generalized_time_ends_in_z, generalized_time_has_seconds, has_short_fraction, has_full_stop}
-use Rattle.asn1_contents.specs.NamedBits.{named_bits_form}
+use Rattle.der_asn1.specs.NamedBits.{named_bits_form}
 use Rattle.asn1_contents.specs.Real.{special_form, base_form, exponent_form, decimal_field_form, nonzero_form, base_two_form, short_exponent_form, odd_form, nr3_form, short_decimal_form}
 use Rattle.asn1_contents.specs.Small.{has_one_octet, has_octets, has_unused_bits, has_none_unused, ends_whole, begins_with_solidus, begins_without_solidus, is_printing}
 use Rattle.asn1_contents.specs.UsefulTimes.{date_exists, time_exists_at, date_time_exists}

@@ -4,7 +4,7 @@ use Rattle.std.specs.Prelude.{if◌then◌else◌, slice_index_or}
 use Rattle.asn1_contents.specs.Decimal.{begins_with_mark, after_fraction}
 use Rattle.asn1_contents.specs.Digits.{digit_count, after_digits}
 use Rattle.asn1_contents.specs.Small.{has_octets}
-use Rattle.asn1_contents.specs.Times.{two_at}
+use Rattle.der_asn1.specs.Times.{two_at}
 use Rattle.asn1_contents.specs.Zone.{is_z, is_offset, exists_offset, exists_date, exists_time}
 
 -- what comes after the digits of date and time: a fraction or not, and the zone

@@ -1,7 +1,3 @@
-pub mod Forms
-pub mod NamedBits
-pub mod Alphabets
-pub mod Times
 pub mod Digits
 pub mod Small
 pub mod Codes

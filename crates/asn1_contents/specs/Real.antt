@@ -4,7 +4,7 @@ use Rattle.std.specs.Prelude.{ℕ, ◌+◌, ◌/◌, ◌%◌, ◌==◌, ◌&&◌
 use Rattle.std.specs.Prelude.{nat_le, List, [], ◌∷◌, drop, take, length, if◌then◌else◌}
 use Rattle.std.specs.Prelude.{slice_index_or}
 use Rattle.asn1_contents.specs.Decimal.{decimal_form, der_decimal_form, is_nonzero_decimal}
-use Rattle.asn1_contents.specs.Forms.{integer_form}
+use Rattle.der_asn1.specs.Forms.{integer_form}
 use Rattle.asn1_contents.specs.Small.{has_octets}
 
 -- the first octet announces the binary form, a special value, or the decimal form (8.5.6)

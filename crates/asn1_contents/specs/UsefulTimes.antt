@@ -1,6 +1,6 @@
 -- The useful time types (X.690 8.26): DATE, TIME-OF-DAY and DATE-TIME, without hyphens and colons.
 use Rattle.std.specs.Prelude.{ℕ, ◌+◌, ◌*◌, ◌==◌, ◌&&◌, ◌||◌, Bool, nat_le, List}
-use Rattle.asn1_contents.specs.Times.{two_at}
+use Rattle.der_asn1.specs.Times.{two_at}
 use Rattle.asn1_contents.specs.Zone.{exists_date, exists_time}
 
 -- a date from the year 1582 on, in which the Gregorian calendar begins

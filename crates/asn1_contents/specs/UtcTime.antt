@@ -2,7 +2,7 @@
 use Rattle.std.specs.Prelude.{ℕ, ◌-◌, ◌==◌, ◌&&◌, ◌||◌, Bool, List}
 use Rattle.asn1_contents.specs.Digits.{digit_count, after_digits}
 use Rattle.asn1_contents.specs.Zone.{is_z, is_offset, exists_offset, exists_date, exists_time}
-use Rattle.asn1_contents.specs.Times.{two_at, utc_year}
+use Rattle.der_asn1.specs.Times.{two_at, utc_year}
 
 -- YYMMDDhhmm or YYMMDDhhmmss, and Z or a difference of four digits (X.680 47)
 abbrev pub utc_time_form : List ℕ → Bool

@@ -3,7 +3,7 @@ use Rattle.std.specs.Prelude.{ℕ, ◌+◌, ◌==◌, ◌&&◌, ◌||◌, not, B
 use Rattle.std.specs.Prelude.{List, [], ◌∷◌, length, slice_index_or}
 use Rattle.asn1_contents.specs.Digits.{are_digits}
 use Rattle.asn1_contents.specs.Small.{has_octets}
-use Rattle.asn1_contents.specs.Times.{two_at, days_of}
+use Rattle.der_asn1.specs.Times.{two_at, days_of}
 
 abbrev pub is_z : List ℕ → Bool
 is_z [] = false

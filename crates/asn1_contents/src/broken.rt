@@ -1,5 +1,5 @@
 //! The first rule that is broken.
-ghost use Rattle.std.specs.Prelude.{◌≡◌, ◌↔◌, IsTrue, IfSome, IfNone};
+ghost use Rattle.std.specs.Prelude.{◌↔◌, IsTrue, IfSome, IfNone};
 ghost use Rattle.der_base.specs.declared.encoding_rules.EncodingRules.{EncodingRules};
 ghost use Rattle.asn1_contents.specs.Contents.{IsContents, IsNamedBits, Breaks, BreaksNamedBits};
 ghost use Rattle.asn1_contents.specs.Contents.{KeepsAll, BreaksFirst};

@@ -1,10 +1,7 @@
 //! Whether contents keep a rule.
 ghost use Rattle.std.specs.Prelude.{◌≡◌};
 
-use crate::bits::{are_bits, has_no_trailing_zeros, has_none_unused, has_unused_bits};
-use crate::characters::{
-    is_bmp, is_ia5, is_numeric, is_printable, is_printing, is_universal, is_utf8, is_visible,
-};
+use crate::characters::{is_printing, is_universal};
 use crate::contents_rule::ContentsRule;
 use crate::decimal::{has_decimal_form, has_nr3_form, has_short_decimal};
 use crate::digits::are_digits;
@@ -12,18 +9,22 @@ use crate::generalized_time::{
     generalized_time_ends_in_z, generalized_time_exists, generalized_time_has_seconds,
     has_full_stop, has_generalized_time_form, has_short_fraction,
 };
-use crate::identifiers::{ends_whole, is_identifier};
 use crate::real::{
     has_base, has_base_two, has_odd_mantissa, has_short_exponent, has_special_form, has_value,
     has_whole_exponent,
 };
 use crate::small::{
-    begins_with_solidus, begins_without_solidus, has_octets, has_one_octet, is_boolean, is_empty,
-    is_integer,
+    begins_with_solidus, begins_without_solidus, ends_whole, has_none_unused, has_octets,
+    has_one_octet, has_unused_bits,
 };
 use crate::useful_times::{date_exists, date_time_exists, time_exists_at};
 use crate::utc_time::{
     has_utc_time_form, utc_time_ends_in_z, utc_time_exists, utc_time_has_seconds,
+};
+use der_asn1::{
+    BitStringGrammar, BmpStringGrammar, BooleanGrammar, ContentsGrammar, Ia5StringGrammar,
+    IntegerGrammar, NamedBitsGrammar, NullGrammar, NumericStringGrammar, ObjectIdentifierGrammar,
+    PrintableStringGrammar, Utf8StringGrammar, VisibleStringGrammar,
 };
 
 impl ContentsRule {
@@ -36,18 +37,18 @@ impl ContentsRule {
     {
         match self {
             ContentsRule::BooleanLength => has_one_octet(contents),
-            ContentsRule::BooleanValue => is_boolean(contents),
+            ContentsRule::BooleanValue => BooleanGrammar::matches_grammar(contents),
             ContentsRule::IntegerEmpty
             | ContentsRule::BitStringEmpty
             | ContentsRule::IdentifierEmpty => has_octets(contents),
-            ContentsRule::IntegerLong => is_integer(contents),
+            ContentsRule::IntegerLong => IntegerGrammar::matches_grammar(contents),
             ContentsRule::UnusedBits => has_unused_bits(contents),
             ContentsRule::UnusedBitsOfNone => has_none_unused(contents),
-            ContentsRule::UnusedBitsNotZero => are_bits(contents),
-            ContentsRule::TrailingZeroBits => has_no_trailing_zeros(contents),
-            ContentsRule::NullLength => is_empty(contents),
+            ContentsRule::UnusedBitsNotZero => BitStringGrammar::matches_grammar(contents),
+            ContentsRule::TrailingZeroBits => NamedBitsGrammar::matches_grammar(contents),
+            ContentsRule::NullLength => NullGrammar::matches_grammar(contents),
             ContentsRule::IdentifierCut => ends_whole(contents),
-            ContentsRule::IdentifierLong => is_identifier(contents),
+            ContentsRule::IdentifierLong => ObjectIdentifierGrammar::matches_grammar(contents),
             ContentsRule::RealSpecial => has_special_form(contents),
             ContentsRule::RealBase => has_base(contents),
             ContentsRule::RealExponent => has_whole_exponent(contents),
@@ -58,13 +59,14 @@ impl ContentsRule {
             ContentsRule::RealMantissa => has_odd_mantissa(contents),
             ContentsRule::RealForm => has_nr3_form(contents),
             ContentsRule::RealDigits => has_short_decimal(contents),
-            ContentsRule::Utf8Characters | ContentsRule::IriUtf8 => is_utf8(contents),
-            ContentsRule::NumericCharacters => is_numeric(contents),
-            ContentsRule::PrintableCharacters => is_printable(contents),
-            ContentsRule::Ia5Characters => is_ia5(contents),
-            ContentsRule::VisibleCharacters => is_visible(contents),
+            ContentsRule::Utf8Characters | ContentsRule::IriUtf8 =>
+                Utf8StringGrammar::matches_grammar(contents),
+            ContentsRule::NumericCharacters => NumericStringGrammar::matches_grammar(contents),
+            ContentsRule::PrintableCharacters => PrintableStringGrammar::matches_grammar(contents),
+            ContentsRule::Ia5Characters => Ia5StringGrammar::matches_grammar(contents),
+            ContentsRule::VisibleCharacters => VisibleStringGrammar::matches_grammar(contents),
             ContentsRule::UniversalCharacters => is_universal(contents),
-            ContentsRule::BmpCharacters => is_bmp(contents),
+            ContentsRule::BmpCharacters => BmpStringGrammar::matches_grammar(contents),
             ContentsRule::UtcTimeForm => has_utc_time_form(contents),
             ContentsRule::UtcTimeExists => utc_time_exists(contents),
             ContentsRule::UtcTimeZone => utc_time_ends_in_z(contents),

@@ -6,7 +6,6 @@
 //! here allocates.
 #![tactic(auto)]
 
-mod bits;
 mod broken;
 mod characters;
 mod contents_rule;
@@ -14,7 +13,6 @@ mod decimal;
 mod decimal_text;
 mod digits;
 mod generalized_time;
-mod identifiers;
 mod kept;
 mod laws;
 mod real;

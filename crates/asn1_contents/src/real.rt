@@ -1,13 +1,13 @@
 //! REAL.
-ghost use Rattle.std.specs.Prelude.{◌≡◌, ◌≤◌, length};
-ghost use Rattle.asn1_contents.specs.Real.{is_binary, is_special, special_form, base_form};
+ghost use Rattle.std.specs.Prelude.{◌≡◌};
+ghost use Rattle.asn1_contents.specs.Real.{is_special, special_form, base_form};
 ghost use Rattle.asn1_contents.specs.Real.{is_counted, exponent_size, after_count, exponent_of};
 ghost use Rattle.asn1_contents.specs.Real.{mantissa_of, has_exponent, exponent_form, is_nonzero};
 ghost use Rattle.asn1_contents.specs.Real.{nonzero_form, base_two_form, short_exponent_form};
 ghost use Rattle.asn1_contents.specs.Real.{is_odd, is_shortest_odd, odd_form};
 
 use crate::decimal_text::{after_first, is_nonzero_decimal};
-use crate::small::is_integer;
+use der_asn1::{ContentsGrammar, IntegerGrammar};
 
 // Whether the first octet announces a special value.
 fn is_special(first: u8) -> bool
@@ -111,7 +111,7 @@ fn has_exponent(first: u8, octets: &[u8]) -> bool
     let size = exponent_size(first, octets);
     size > 0
         && size <= after_count(first, octets).len()
-        && (!is_counted(first) || is_integer(exponent_of(first, octets)))
+        && (!is_counted(first) || IntegerGrammar::matches_grammar(exponent_of(first, octets)))
 }
 
 // The same of the binary form alone.
@@ -132,7 +132,7 @@ pub(crate) fn has_short_exponent(contents: &[u8]) -> bool
         [] => true,
         [first, octets @ ..] => {
             *first < 0x80
-                || is_integer(exponent_of(*first, octets))
+                || IntegerGrammar::matches_grammar(exponent_of(*first, octets))
                     && (!is_counted(*first) || exponent_size(*first, octets) > 3)
         }
     }

@@ -1,7 +1,7 @@
-//! BOOLEAN, INTEGER, NULL and the first octets of others.
+//! The first and the last of the octets.
 ghost use Rattle.std.specs.Prelude.{◌≡◌};
-ghost use Rattle.asn1_contents.specs.Forms.{boolean_form, integer_form, null_form};
-ghost use Rattle.asn1_contents.specs.Small.{has_octets, has_one_octet};
+ghost use Rattle.asn1_contents.specs.Small.{has_octets, has_one_octet, has_unused_bits};
+ghost use Rattle.asn1_contents.specs.Small.{has_none_unused, ends_whole};
 ghost use Rattle.asn1_contents.specs.Small.{begins_with_solidus, begins_without_solidus};
 
 // Whether there are octets.
@@ -21,36 +21,6 @@ pub(crate) fn has_one_octet(contents: &[u8]) -> bool
     matches!(contents, [_])
 }
 
-// Whether these are the contents of a NULL.
-pub(crate) fn is_empty(contents: &[u8]) -> bool
-    ensures { result ≡ null_form contents.now }
-{
-    matches!(contents, [])
-}
-
-// Whether these are the contents of a BOOLEAN.
-pub(crate) fn is_boolean(contents: &[u8]) -> bool
-    ensures { result ≡ boolean_form contents.now }
-{
-    match contents {
-        [octet] => *octet == 0 || *octet == 0xFF,
-        _ => false,
-    }
-}
-
-// Whether these are the contents of an INTEGER.
-pub(crate) fn is_integer(contents: &[u8]) -> bool
-    ensures { result ≡ integer_form contents.now }
-{
-    match contents {
-        [] => false,
-        [_] => true,
-        [first, second, ..] => {
-            !(*first == 0 && *second < 0x80 || *first == 0xFF && !(*second < 0x80))
-        }
-    }
-}
-
 // Whether the first octet is a solidus.
 pub(crate) fn begins_with_solidus(contents: &[u8]) -> bool
     ensures { result ≡ begins_with_solidus contents.now }
@@ -68,5 +38,35 @@ pub(crate) fn begins_without_solidus(contents: &[u8]) -> bool
     match contents {
         [] => false,
         [first, ..] => *first != b'/',
+    }
+}
+
+// Whether the initial octet is from zero to seven.
+pub(crate) fn has_unused_bits(contents: &[u8]) -> bool
+    ensures { result ≡ has_unused_bits contents.now }
+{
+    match contents {
+        [] => true,
+        [unused, ..] => *unused < 8,
+    }
+}
+
+// Whether an initial octet that is the only one is zero.
+pub(crate) fn has_none_unused(contents: &[u8]) -> bool
+    ensures { result ≡ has_none_unused contents.now }
+{
+    match contents {
+        [unused] => *unused == 0,
+        _ => true,
+    }
+}
+
+// Whether bit 8 of the last octet is zero, or there are no octets.
+pub(crate) fn ends_whole(contents: &[u8]) -> bool
+    ensures { result ≡ ends_whole contents.now }
+{
+    match contents {
+        [] => true,
+        [.., last] => *last < 0x80,
     }
 }

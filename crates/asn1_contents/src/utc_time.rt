@@ -1,6 +1,6 @@
 //! UTCTime.
 ghost use Rattle.std.specs.Prelude.{◌≡◌};
-ghost use Rattle.asn1_contents.specs.Times.{utc_year};
+ghost use Rattle.der_asn1.specs.Times.{utc_year};
 ghost use Rattle.asn1_contents.specs.UtcTime.{utc_time_form, utc_time_exists, utc_time_ends_in_z, utc_time_has_seconds};
 
 use crate::digits::{after_digits, digit_count};

@@ -1,6 +1,6 @@
 //! Dates and times of day, and differences from UTC.
-ghost use Rattle.std.specs.Prelude.{◌≡◌, ◌+◌, ◌<◌, ◌≤◌, length, slice_index_or};
-ghost use Rattle.asn1_contents.specs.Times.{two_at, is_leap_year, days_of};
+ghost use Rattle.std.specs.Prelude.{◌≡◌, ◌≤◌, slice_index_or};
+ghost use Rattle.der_asn1.specs.Times.{two_at, is_leap_year, days_of};
 ghost use Rattle.asn1_contents.specs.Zone.{is_z, is_offset, exists_offset, exists_date, exists_time};
 
 use crate::digits::are_digits;
