@@ -10,4 +10,6 @@ pub mod UsefulTimes
 pub mod Rules
 pub mod Words
 pub mod Contents
+pub mod Values
+pub mod Characters
 pub mod Laws

@@ -6,6 +6,7 @@
 //! here allocates.
 #![tactic(auto)]
 
+mod alphabet;
 mod broken;
 mod characters;
 mod contents_rule;
@@ -15,13 +16,18 @@ mod digits;
 mod generalized_time;
 mod kept;
 mod laws;
+mod range;
 mod real;
 mod rules;
+mod size;
 mod small;
 mod useful_times;
 mod utc_time;
 mod zone;
 
+pub use alphabet::are_characters_in;
 pub use broken::{broken_rule, named_bits_rule};
 pub use contents_rule::ContentsRule;
+pub use range::is_in_range;
 pub use rules::{named_bits_rules, rules_of};
+pub use size::size_of;
