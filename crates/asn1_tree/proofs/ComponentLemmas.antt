@@ -10,8 +10,9 @@ use Rattle.asn1_schema.specs.declared.node.Node.{Node}
 use Rattle.asn1_schema.specs.declared.node_kind.NodeKind.TheVariants.{Universal as Universally}
 use Rattle.asn1_schema.specs.declared.presence.Presence.{Presence}
 use Rattle.asn1_schema.specs.declared.presence.Presence.TheVariants.{Required, Optional, Default}
-use Rattle.asn1_tree.specs.Tags.{IsPart, IsFieldOf, Begins, ShareTag, AreApart, IsBegun, NoneBegins}
-use Rattle.asn1_tree.specs.Distinct.{is_required, may_lack, MayFollow, IsDistinct}
+use Rattle.asn1_schema.specs.Tags.{IsPart, IsFieldOf, Begins, ShareTag, AreApart}
+use Rattle.asn1_tree.specs.Tags.{IsBegun, NoneBegins}
+use Rattle.asn1_schema.specs.Distinct.{is_required, may_lack, MayFollow, IsDistinct}
 use Rattle.asn1_tree.specs.Verdict.{holds, worst}
 use Rattle.asn1_tree.specs.Enclosed.{IsEnclosed}
 use Rattle.asn1_tree.specs.Known.{Known, Follows}

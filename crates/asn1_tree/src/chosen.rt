@@ -7,6 +7,7 @@ ghost use Rattle.asn1_schema.specs.declared.node_kind.NodeKind.TheVariants.{Open
 ghost use Rattle.asn1_tree.specs.Known.{IsChosen, IsUnknown, known_in};
 
 use crate::known::Known;
+use crate::types::find_type;
 use asn1_schema::{Node, Schema};
 
 /// The node that the OBJECT IDENTIFIER chooses for an open type.
@@ -22,7 +23,7 @@ pub(crate) fn chosen(schema: &Schema<'_>, node: &Node, known: Option<Known<'_>>)
 {
     match known {
         Some(known) if known.field == node.chooser => {
-            match schema.find_open_type(node.parts, known.identifier) {
+            match find_type(schema, node, known.identifier) {
                 Some(chosen) => Some(chosen.node),
                 None => None,
             }

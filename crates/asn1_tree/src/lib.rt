@@ -2,7 +2,6 @@
 #![tactic(auto)]
 
 mod chosen;
-mod contents;
 mod departure;
 mod entry;
 mod known;
@@ -15,6 +14,7 @@ mod reading;
 mod role;
 mod rule;
 mod select;
+mod shape;
 mod tests;
 mod tree;
 mod typed;

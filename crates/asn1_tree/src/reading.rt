@@ -2,7 +2,7 @@
 ghost use Rattle.std.specs.Prelude.{◌≡◌, ◌↔◌, ◌<◌, true, None, [], IfOk};
 ghost use Rattle.der_base.specs.declared.encoding_rules.EncodingRules.{EncodingRules};
 ghost use Rattle.asn1_tree.specs.Types.{types_in};
-ghost use Rattle.asn1_tree.specs.Distinct.{AreDistinct};
+ghost use Rattle.asn1_schema.specs.Distinct.{AreDistinct};
 ghost use Rattle.asn1_tree.specs.Verdict.{holds};
 ghost use Rattle.asn1_tree.specs.Value.{IsValue};
 ghost use Rattle.asn1_tree.specs.Reading.{verdict_of};

@@ -7,10 +7,10 @@ ghost use Rattle.asn1_tree.specs.Verdict.{holds};
 ghost use Rattle.asn1_tree.specs.Rule.{verdict_of_option};
 ghost use Rattle.asn1_tree.specs.Value.{IsNoDefault, MayBeConstructed, IsPrimitive};
 
-use crate::contents::broken_rule;
 use crate::rule::Rule;
 use crate::types::default_of;
 use asn1_schema::{Field, Presence, Schema};
+use asn1_contents::broken_rule;
 use ber::{Form, Universal};
 
 /// The rule that a component breaks if it has the value of its DEFAULT.
@@ -59,7 +59,10 @@ pub(crate) fn primitive_rule(universal: Option<Universal>, contents: &[u8]) -> O
     match universal {
         Some(universal) => {
             if universal.form().allows(false) {
-                broken_rule(universal, contents)
+                match broken_rule(universal, contents) {
+                    Some(rule) => Some(Rule::Contents(rule)),
+                    None => None,
+                }
             } else {
                 Some(Rule::Form)
             }
