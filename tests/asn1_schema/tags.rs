@@ -88,7 +88,7 @@ fn same_tags(rt: HostRuntime) {
     faulty(&rt, 239, 2, FaultKind::Tag, 516);
     // [1] of the second component becomes [2], as the third is
     faulty(&rt, 279, 2, FaultKind::Tag, 600);
-    // the third component, an extension addition, becomes NULL, as the last of the root is
+    // the third component, a required extension addition, becomes NULL, as the last is
     faulty(&rt, 619, 8, FaultKind::Tag, 628);
     // both components of a SET are flags
     faulty(&rt, 703, 3, FaultKind::Tag, 684);

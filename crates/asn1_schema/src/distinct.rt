@@ -5,7 +5,7 @@ ghost use Rattle.asn1_schema.specs.NodeKind.{is_choice};
 ghost use Rattle.asn1_schema.specs.Node.{IsNode};
 ghost use Rattle.asn1_schema.specs.Table.{table_in};
 ghost use Rattle.asn1_schema.specs.Tags.{IsPart};
-ghost use Rattle.asn1_schema.specs.Distinct.{AreNested, AreDistinct, IsDistinct, may_lack, is_required, IsTagFault};
+ghost use Rattle.asn1_schema.specs.Distinct.{AreNested, AreDistinct, IsDistinct, may_be_missing, is_required, IsTagFault};
 
 use crate::fault::Fault;
 use crate::fault_kind::FaultKind;
@@ -94,7 +94,7 @@ fn check_field(rows: &Rows, index: u32, node: Node, k: u32) -> Result<(), Fault>
     let mut j = k;
     'earlier: while j > node.parts.start {
         let earlier = rows.field(j - 1);
-        if !may_lack(node.kind, earlier, later) {
+        if !may_be_missing(node.kind, earlier) {
             return Ok(());
         }
         if share_tag(rows, earlier.node, later.node) {
@@ -107,14 +107,14 @@ fn check_field(rows: &Rows, index: u32, node: Node, k: u32) -> Result<(), Fault>
 }
 
 // Whether a field of a node of this kind may be missing where a later one is.
-fn may_lack(kind: NodeKind, earlier: Field, later: Field) -> bool
-    ensures { result ≡ may_lack kind earlier later }
+fn may_be_missing(kind: NodeKind, field: Field) -> bool
+    ensures { result ≡ may_be_missing kind field }
 {
     match kind {
         NodeKind::Choice => true,
         NodeKind::Universal(Universal::Set) => true,
         NodeKind::Universal(Universal::Sequence) => {
-            !is_required(earlier.presence) || (earlier.addition != 0 && later.addition == 0)
+            !is_required(field.presence) || field.addition != 0
         }
         _ => false,
     }
