@@ -1,0 +1,5 @@
+pub mod RuleLemmas
+pub mod LastLemmas
+pub mod RangeLemmas
+pub mod MagnitudeLemmas
+pub mod SizeLemmas
