@@ -7,7 +7,7 @@ use Rattle.asn1_schema.specs.Span.{IsWithin}
 use Rattle.asn1_schema.specs.Counts.{counts_in}
 use Rattle.asn1_schema.specs.Table.{Table, table_in}
 use Rattle.asn1_schema.specs.Tags.{IsFieldOf, Selects, itself, alternative, HasTag, own, each, SelectsOne, IsSelected, Begins, ShareTag, AreApart}
-use Rattle.asn1_schema.specs.Distinct.{may_lack, AreDistinct}
+use Rattle.asn1_schema.specs.Distinct.{may_be_missing, AreDistinct}
 use Rattle.asn1_schema.specs.Sought.{one_tag, tags_of, IsMet, IsFound, FindsNone}
 use Rattle.asn1_schema.specs.declared.counts.Counts.{Counts}
 use Rattle.asn1_schema.specs.declared.field.Field.{Field}
@@ -105,7 +105,7 @@ share_none_through row choice none share =
 apart : {t : Table} → AreDistinct t → (i : ℕ) {j k : ℕ} {n : Node} {f g : Field} → slice_get t.nodes i ≡ Some n → n.kind ≡ Choice → IsFieldOf t n j f → IsFieldOf t n k g → j < k → AreApart t f.node g.node
 apart distinct i {j} {k} {n} {f} {g} row choice first second before =
     distinct i n row k j f g
-    (record { earlier = first; later = second; before = before; lack = λ l h _ _ _. ap (λ (x : NodeKind). may_lack x h g) choice })
+    (record { earlier = first; later = second; before = before; missing = λ l h _ _ _. ap (λ (x : NodeKind). may_be_missing x h) choice })
 
 -- a tag selects one node, through one field
 pub one_selected : {t : Table} → AreDistinct t → {i : ℕ} {class : Class} {number : ℕ} {via also : Option ℕ} {m o : ℕ} → IsSelected t i class number via m → IsSelected t i class number also o → (via ≡ also) × (m ≡ o)

@@ -7,7 +7,8 @@ use Rattle.asn1_schema.specs.declared.limit_kind.LimitKind.{LimitKind}
 use Rattle.asn1_schema.specs.declared.span.Span.{Span}
 
 -- a limit is one of a range, of this kind
-pub record IsLimitOf (t : Table) (limits : Span) (kind : LimitKind) (k : ℕ) (l : Limit) : Type 0 where
+pub record IsLimitOf (t : Table) (limits : Span) (kind : LimitKind) (k : ℕ) (l : Limit)
+    : Type 0 where
   pub part : IsPart limits k
   pub row : slice_get t.limits k ≡ Some l
   pub kind_is : l.kind ≡ kind

@@ -1,5 +1,5 @@
 -- Which components must have distinct tags (`AreDistinct`), and which have one tag (`IsTagFault`).
-use Rattle.std.specs.Prelude.{◌≡◌, ℕ, ◌+◌, ◌*◌, ◌<◌, ◌≤◌, Bool, true, false, not, ◌&&◌, ◌||◌, nat_eq, slice_get, Some}
+use Rattle.std.specs.Prelude.{◌≡◌, ℕ, ◌+◌, ◌*◌, ◌<◌, ◌≤◌, Bool, true, false, not, ◌||◌, nat_eq, slice_get, Some}
 use Rattle.ber.specs.declared.universal.Universal.TheVariants.{Sequence, Set}
 use Rattle.asn1_schema.specs.Counts.{fields_at}
 use Rattle.asn1_schema.specs.Fault.{fault_at}
@@ -19,16 +19,15 @@ abbrev pub is_required : Presence → Bool
 is_required Required = true
 is_required _ = false
 
--- a field may be missing where a later one is: an alternative of a CHOICE (29.3) and a component of a
--- SET (27.3) always; a component of a SEQUENCE if it is OPTIONAL or has a DEFAULT (25.6), or if it is
--- an extension addition and the later one is in the root (25.7). Other nodes have no fields
-abbrev pub may_lack : NodeKind → Field → Field → Bool
-may_lack Choice earlier later = true
-may_lack (Universally Set) earlier later = true
-may_lack (Universally Sequence) earlier later =
-    not (is_required earlier.presence)
-    || (not (nat_eq earlier.addition 0) && nat_eq later.addition 0)
-may_lack _ earlier later = false
+-- a field may be missing where a later one is: an alternative of a CHOICE (29.3) and a component of
+-- a SET (27.3) always; a component of a SEQUENCE if it is OPTIONAL, has a DEFAULT, or is an extension
+-- addition (25.6, 25.7). Other nodes have no fields
+abbrev pub may_be_missing : NodeKind → Field → Bool
+may_be_missing Choice f = true
+may_be_missing (Universally Set) f = true
+may_be_missing (Universally Sequence) f =
+    not (is_required f.presence) || not (nat_eq f.addition 0)
+may_be_missing _ f = false
 
 -- a field and a later one of a node: a value may have the later one where the first was expected,
 -- since all fields from the first on may be missing there
@@ -36,7 +35,8 @@ pub record MayFollow (t : Table) (n : Node) (j k : ℕ) (f g : Field) : Type 0 w
   pub earlier : IsFieldOf t n j f
   pub later : IsFieldOf t n k g
   pub before : j < k
-  pub lack : (l : ℕ) (h : Field) → j ≤ l → l < k → IsFieldOf t n l h → may_lack n.kind h g ≡ true
+  pub missing : (l : ℕ) (h : Field) → j ≤ l → l < k → IsFieldOf t n l h
+      → may_be_missing n.kind h ≡ true
 
 -- the tags of a field and of those that it may follow are distinct
 abbrev pub IsDistinct : Table → Node → ℕ → Type 0

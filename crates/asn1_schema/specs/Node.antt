@@ -49,6 +49,10 @@ IsInner kind inner nodes =
     (needs_inner kind ≡ true → IsSome inner)
     × ((node : ℕ) → inner ≡ Some node → (allows_inner kind ≡ true) × (node < nodes))
 
+-- how many numbers there are of which the chooser of a node may be
+abbrev pub room_of : Counts → Node → ℕ
+room_of c n = chooser_room c n.kind n.extensible n.parts.count
+
 -- what a node names is there
 pub record IsNode (c : Counts) (pool : List ℕ) (n : Node) : Type 0 where
   pub name : IsText pool n.name
@@ -56,7 +60,7 @@ pub record IsNode (c : Counts) (pool : List ℕ) (n : Node) : Type 0 where
   pub parts : IsWithin n.parts (parts_room c n.kind)
   pub alternative : is_choice n.kind ≡ true → 1 ≤ n.parts.count
   pub limits : IsWithin n.limits c.limits
-  pub chooser : n.chooser < chooser_room c n.kind n.extensible n.parts.count
+  pub chooser : n.chooser < room_of c n
 
 -- how many of its fields come before its extension insertion point, if it has one
 abbrev pub insertion_of : Node → Option ℕ
@@ -89,5 +93,5 @@ pub data IsNodeFault (c : Counts) (pool octets : List ℕ) (at : ℕ) : Fault �
       → IsNodeFault c pool octets at (fault_at NoParts (at + 20))
   no_limits : (IsWithin (node_at octets at).limits c.limits → ⊥)
       → IsNodeFault c pool octets at (fault_at NoLimits (at + 28))
-  no_chooser : chooser_room c (node_at octets at).kind (node_at octets at).extensible (node_at octets at).parts.count ≤ (node_at octets at).chooser
+  no_chooser : room_of c (node_at octets at) ≤ (node_at octets at).chooser
       → IsNodeFault c pool octets at (fault_at NoChooser (at + 36))

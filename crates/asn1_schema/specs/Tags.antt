@@ -38,7 +38,8 @@ pub data HasTag (n : Node) (class : Class) (number : ℕ) : Type 0 where
   each : is_untagged n.kind ≡ true → HasTag n class number
 
 -- node i selects node m, of which a fact holds, through this field
-pub record SelectsOne (t : Table) (Fact : Node → Type 0) (i : ℕ) (via : Option ℕ) (m : ℕ) : Type 0 where
+pub record SelectsOne (t : Table) (Fact : Node → Type 0) (i : ℕ) (via : Option ℕ) (m : ℕ)
+    : Type 0 where
   pub node : Node
   pub selects : Selects t i via m
   pub row : slice_get t.nodes m ≡ Some node

@@ -33,9 +33,9 @@
 //!
 //! Where one field may be missing and the other is read in its place, their tags are distinct: those of
 //! the alternatives of a CHOICE (X.680 29.3), of the components of a SET (27.3), and in a SEQUENCE of an
-//! OPTIONAL or DEFAULT component and the later ones up to the first that is required (25.6), and of an
-//! extension addition and the later ones of the root (25.7). Any type and an open type begin with every
-//! tag. So [`Schema::select`] finds the only node of which a value with a tag is one.
+//! OPTIONAL or DEFAULT component or an extension addition and the later ones up to the first of the
+//! root that is required (25.6, 25.7). Any type and an open type begin with every tag. So
+//! [`Schema::select`] finds the only node of which a value with a tag is one.
 //!
 //! Proved: octets are accepted exactly if they are a table; each row by its index; all that a row names
 //! is there; what a tag selects.

@@ -1,7 +1,6 @@
 //! Nodes.
 ghost use Rattle.std.specs.Prelude.{◌≡◌, ◌↔◌, ◌+◌, ◌≤◌, length, IsTrue, IfOk, IfErr};
-ghost use Rattle.asn1_schema.specs.NodeKind.{chooser_room};
-ghost use Rattle.asn1_schema.specs.Node.{class_at, flag_at, inner_at, insertion_of, node_at, IsInner, IsNode, IsNodeRow, IsNodeFault};
+ghost use Rattle.asn1_schema.specs.Node.{class_at, flag_at, inner_at, insertion_of, room_of, node_at, IsInner, IsNode, IsNodeRow, IsNodeFault};
 
 use crate::counts::Counts;
 use crate::fault::Fault;
@@ -68,7 +67,7 @@ impl Node {
 
     // How many numbers there are of which its chooser may be.
     fn chooser_room(self, counts: Counts) -> usize
-        ensures { result ≡ chooser_room counts self.kind self.extensible self.parts.count }
+        ensures { result ≡ room_of counts self }
     {
         self.kind
             .chooser_room(counts, self.extensible, self.parts.count)

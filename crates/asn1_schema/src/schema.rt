@@ -184,8 +184,10 @@ impl<'a> Schema<'a> {
         ensures found { IfSome result (λ s.
             IsSelected (table_in self.now.octets.now) index class number s.field s.node) }
         ensures there { IfSome result (λ s. s.node < self.now.counts.nodes) }
-        ensures field_there { IfSome result (λ s. IfSome s.field (λ k. k < self.now.counts.fields)) }
-        ensures none { IfNone result (Begins (table_in self.now.octets.now) index class number → ⊥) }
+        ensures field_there { IfSome result
+            (λ s. IfSome s.field (λ k. k < self.now.counts.fields)) }
+        ensures none { IfNone result
+            (Begins (table_in self.now.octets.now) index class number → ⊥) }
     {
         let rows = Rows {
             octets: self.octets,

@@ -39,6 +39,6 @@ impl Span {
         requires { IsWithin self room }
         ensures { result ≡ self.start + self.count }
     {
-        self.start + self.count
+        self.count + self.start
     }
 }

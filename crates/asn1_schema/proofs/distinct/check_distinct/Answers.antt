@@ -1,4 +1,4 @@
-use Rattle.std.proofs.Common.{◌≡◌, ℕ, Bool, true, false, refl}
+use Rattle.std.proofs.Common.{◌≡◌, Bool, true, false, refl}
 use Rattle.asn1_schema.specs.NodeKind.{is_choice}
 use Rattle.asn1_schema.proofs.distinct.check_distinct.Goals as goal
 

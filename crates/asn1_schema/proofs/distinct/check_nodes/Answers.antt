@@ -1,4 +1,4 @@
-use Rattle.std.proofs.Common.{◌≡◌, ◌∙◌, Bool, true, false, ℕ, sym, ap, subst, below_more, arith}
+use Rattle.std.proofs.Common.{◌≡◌, ◌∙◌, Bool, true, false, ℕ, ap, subst, below_more, arith}
 use mathlib.Core.Bool.{beq}
 use Rattle.asn1_schema.specs.NodeKind.{is_choice}
 use Rattle.asn1_schema.specs.Table.{table_in}
@@ -18,12 +18,12 @@ loop-i-preserved c =
     let t = table_in c.args.rows.now.octets.now in
     below_more _ _ c.loop-i.invariant
     (λ n row is.
-      let same = same_row t.nodes c.loop-i.i c.node-node.ensures.value row in
-      let kind : is_choice c.node-node.result.kind ≡ c.args.choices = ap (λ (x : Node). is_choice x.kind) same ∙ is in
-      elim c.if-is_choice-choices.branch [
-        then-is_choice-choices+in_ok-check_node w ↦ subst (λ (x : Node). (k : ℕ) → IsDistinct t x k) same w.in_ok-check_node.ensures.ok
+    let same = same_row t.nodes c.loop-i.i c.node-node.ensures.value row in
+    let kind : is_choice c.node-node.result.kind ≡ c.args.choices = ap (λ (x : Node). is_choice x.kind) same ∙ is in
+    elim c.if-is_choice-choices.branch [
+      | then-is_choice-choices+in_ok-check_node w ↦ subst (λ (x : Node). (k : ℕ) → IsDistinct t x k) same w.in_ok-check_node.ensures.ok
       | else-is_choice-choices w ↦ absurd (differ c.args.choices (rw (c.is_choice.ensures, kind) at w.if-is_choice-choices.false))
-      ])
+    ])
 
 pub returns-clause-ok : goal.returns-clause-ok
 returns-clause-ok c i n row is =

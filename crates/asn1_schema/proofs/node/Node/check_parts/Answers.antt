@@ -1,8 +1,8 @@
 use Rattle.std.proofs.Common.{◌≡◌, ◌∙◌, ◌<◌, ◌≤◌, true, sym, subst, arith}
-use Rattle.asn1_schema.specs.NodeKind.{parts_room, chooser_room, is_choice}
+use Rattle.asn1_schema.specs.NodeKind.{parts_room, is_choice}
 use Rattle.asn1_schema.specs.Span.{IsWithin}
 use Rattle.asn1_schema.specs.Pool.{IsText}
-use Rattle.asn1_schema.specs.Node.{IsInner, no_node_name, no_inner, no_parts, no_alternative, no_limits, no_chooser}
+use Rattle.asn1_schema.specs.Node.{room_of, IsInner, no_node_name, no_inner, no_parts, no_alternative, no_limits, no_chooser}
 use Rattle.asn1_schema.specs.declared.node.Node.{Node}
 use Rattle.asn1_schema.proofs.TestLemmas.{refuted}
 use Rattle.asn1_schema.proofs.node.Node.check_parts.Goals as goal
@@ -32,4 +32,4 @@ returns-then-not-is_within-2-clause-fault c =
 pub returns-then-node-chooser_room-clause-fault : goal.returns-then-node-chooser_room-clause-fault
 returns-then-node-chooser_room-clause-fault c =
     let room = c.chooser_room.ensures in
-    rw c.new-then-node-chooser_room.ensures (no_chooser (subst (λ (n : Node). chooser_room c.args.counts n.kind n.extensible n.parts.count ≤ n.chooser) c.read-node.ensures (omega arith)))
+    rw c.new-then-node-chooser_room.ensures (no_chooser (subst (λ (n : Node). room_of c.args.counts n ≤ n.chooser) c.read-node.ensures (omega arith)))
