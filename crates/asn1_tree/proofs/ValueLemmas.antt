@@ -211,11 +211,11 @@ identifier_element t (suc d) rules known i x id is = at (slice_get t.nodes i) re
                 absurd (cc)
 
 -- the encoding of a component
-pub component_finds : {t : Table} {Child : Values} {known : Known} {f : Field} {v a : Verdict} {octets rest : List ℕ} (here : List ℕ)
+pub component_finds : (t : Table) (Child : Values) (known : Known) (f : Field) {v a : Verdict} {octets rest : List ℕ} (here : List ℕ)
     → Finds (λ rules. Front (Child rules known f.node) octets) v rest → ((x : List ℕ) → octets ≡ x ++ rest → here ≡ x)
     → ((rules : EncodingRules) → (holds rules a ≡ true) ↔ IsNoDefault rules t f here)
     → Finds (λ rules. Front (IsComponent Child rules t known f) octets) (worst v a) rest
-component_finds {t} {Child} {known} {f} {v} {a} {octets} {rest} here finds same test = record { exact = exact; none = none }
+component_finds t Child known f {v} {a} {octets} {rest} here finds same test = record { exact = exact; none = none }
   where
     exact : (rules : EncodingRules) → holds rules (worst v a) ≡ true → (r : List ℕ) → Front (IsComponent Child rules t known f) octets r ↔ (r ≡ rest)
     exact rules on r = (forward, backward)
@@ -242,23 +242,23 @@ component_finds {t} {Child} {known} {f} {v} {a} {octets} {rest} here finds same 
             absurd (cc)
 
 -- contents that are constructed
-pub finds_given : {P : EncodingRules → List ℕ → Type 0} {A : Type 0} {m : Bool} {b octets rest : List ℕ} {v : Verdict} → A
+pub finds_given : {P : EncodingRules → List ℕ → Type 0} {A : Type 0} (m : Bool) (b octets : List ℕ) {rest : List ℕ} {v : Verdict} → A
     → Finds (λ rules. Body m b (P rules) octets) v rest → Finds (λ rules. Body m b (λ i. A × P rules i) octets) v rest
-finds_given {m = m} {b = b} {octets = octets} a f = finds_as (λ rules r. body_as m b octets r (λ x. ((λ p. (a, p)), (λ p. p.1)))) f
+finds_given m b octets a f = finds_as (λ rules r. body_as m b octets r (λ x. ((λ p. (a, p)), (λ p. p.1)))) f
 
-pub finds_inner : (P : EncodingRules → ℕ → List ℕ → Type 0) {A : Type 0} {m : Bool} {b octets rest : List ℕ} {v : Verdict} (o : Option ℕ) (i : ℕ) → A → o ≡ Some i
+pub finds_inner : (P : EncodingRules → ℕ → List ℕ → Type 0) {A : Type 0} (m : Bool) (b octets : List ℕ) {rest : List ℕ} {v : Verdict} (o : Option ℕ) (i : ℕ) → A → o ≡ Some i
     → Finds (λ rules. Body m b (P rules i) octets) v rest → Finds (λ rules. Body m b (λ x. A × ((j : ℕ) × (o ≡ Some j) × P rules j x)) octets) v rest
-finds_inner P {A} {m} {b} {octets} o i a e f = finds_as (λ rules r. body_as m b octets r (λ x. ((λ p. (a, (i, e, p))), (λ p. same rules x p.1)))) f
+finds_inner P {A} m b octets o i a e f = finds_as (λ rules r. body_as m b octets r (λ x. ((λ p. (a, (i, e, p))), (λ p. same rules x p.1)))) f
   where
     same : (rules : EncodingRules) (x : List ℕ) → ((j : ℕ) × (o ≡ Some j) × P rules j x) → P rules i x
     same rules x (j, e2, p) = let both : Some j ≡ Some i = sym e2 ∙ e in let it : j ≡ i = cc in subst (λ k. P rules k x) it p
 
-pub needs_constructed : {rules : EncodingRules} {t : Table} {Child : Values} {Item : Elements} {known : Known} {n : Node} {h : Header} {inner : List ℕ} (s : Shape) → is_constructed s ≡ true
+pub needs_constructed : (rules : EncodingRules) (t : Table) (Child : Values) (Item : Elements) (known : Known) (n : Node) (h : Header) (inner : List ℕ) (s : Shape) → is_constructed s ≡ true
     → AreContents s rules t Child Item known n h inner → h.constructed ≡ true
-needs_constructed Components e are = are.0
-needs_constructed (Of u) e are = absurd (cc)
-needs_constructed Items e are = are.0
-needs_constructed SortedItems e are = are.0
-needs_constructed Inner e are = are.0
-needs_constructed Untyped e are = absurd (cc)
-needs_constructed Nothing e are = absurd are
+needs_constructed rules t Child Item known n h inner Components e are = are.0
+needs_constructed rules t Child Item known n h inner (Of u) e are = absurd (cc)
+needs_constructed rules t Child Item known n h inner Items e are = are.0
+needs_constructed rules t Child Item known n h inner SortedItems e are = are.0
+needs_constructed rules t Child Item known n h inner Inner e are = are.0
+needs_constructed rules t Child Item known n h inner Untyped e are = absurd (cc)
+needs_constructed rules t Child Item known n h inner Nothing e are = absurd are
