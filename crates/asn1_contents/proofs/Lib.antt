@@ -3,3 +3,4 @@ pub mod LastLemmas
 pub mod RangeLemmas
 pub mod MagnitudeLemmas
 pub mod SizeLemmas
+pub mod FormLemmas
