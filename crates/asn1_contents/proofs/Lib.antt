@@ -4,3 +4,5 @@ pub mod RangeLemmas
 pub mod MagnitudeLemmas
 pub mod SizeLemmas
 pub mod FormLemmas
+pub mod TimeFormLemmas
+pub mod TimeLawLemmas

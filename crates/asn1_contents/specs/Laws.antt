@@ -1,5 +1,5 @@
 -- Laws of contents octets.
-use Rattle.std.specs.Prelude.{◌≡◌, ◌↔◌, Bool, true, ℕ, List}
+use Rattle.std.specs.Prelude.{◌≡◌, ◌↔◌, Bool, true, false, ℕ, List}
 use Rattle.std.specs.Str.{is_utf8}
 use Rattle.ber.specs.declared.universal.Universal.{Universal}
 use Rattle.ber.specs.declared.universal.Universal.TheVariants as type
@@ -7,6 +7,8 @@ use Rattle.der_base.specs.declared.encoding_rules.EncodingRules.TheVariants.{Ber
 use Rattle.der_asn1.specs.Alphabets.{visible_form, numeric_form, bmp_form}
 use Rattle.der_asn1.specs.Forms.{boolean_form, integer_form, bits_form, octets_form, null_form, oid_form, ia5_form, printable_form}
 use Rattle.der_asn1.specs.NamedBits.{named_bits_form}
+use Rattle.der_asn1.specs.Times.{utc_form, generalized_form}
+use Rattle.asn1_contents.specs.GeneralizedTime.{has_fraction}
 use Rattle.asn1_contents.specs.Contents.{IsContents, IsNamedBits, Breaks}
 use Rattle.asn1_contents.specs.Rules.{is_of_der}
 use Rattle.asn1_contents.specs.declared.contents_rule.ContentsRule.{ContentsRule}
@@ -44,6 +46,7 @@ pub data IsForm : Universal → (List ℕ → Bool) → Type 0 where
   ia5_string : IsForm type.Ia5String ia5_form
   visible_string : IsForm type.VisibleString visible_form
   bmp_string : IsForm type.BmpString bmp_form
+  utc_time : IsForm type.UtcTime utc_form
 
 abbrev pub ContentsHaveForms : Type 0
 ContentsHaveForms =
@@ -53,3 +56,9 @@ ContentsHaveForms =
 abbrev pub NamedBitsHaveForm : Type 0
 NamedBitsHaveForm =
     (octets : List ℕ) → IsNamedBits Der octets ↔ (named_bits_form octets ≡ true)
+
+-- `der_asn1` has the GeneralizedTimes without a fraction of a second
+abbrev pub TimesWithoutFractionHaveForm : Type 0
+TimesWithoutFractionHaveForm =
+    (octets : List ℕ) → (IsContents Der type.GeneralizedTime octets × (has_fraction octets ≡ false))
+    ↔ (generalized_form octets ≡ true)

@@ -1,7 +1,7 @@
 //! Laws of contents octets. Each function does nothing; its contract is a law that `specs/Laws.antt`
 //! defines. Nothing calls the functions of this module.
 ghost use Rattle.asn1_contents.specs.Laws.{WhatDerAllowsBerAllows, BrokenIsNotDer, FirstBrokenOfDerIsBer};
-ghost use Rattle.asn1_contents.specs.Laws.{ContentsHaveForms, NamedBitsHaveForm};
+ghost use Rattle.asn1_contents.specs.Laws.{ContentsHaveForms, NamedBitsHaveForm, TimesWithoutFractionHaveForm};
 
 fn what_der_allows_ber_allows()
     ensures { WhatDerAllowsBerAllows }
@@ -21,4 +21,8 @@ fn contents_have_forms()
 
 fn named_bits_have_form()
     ensures { NamedBitsHaveForm }
+{}
+
+fn times_without_fraction_have_form()
+    ensures { TimesWithoutFractionHaveForm }
 {}
