@@ -1,5 +1,5 @@
 -- What a word of `der_asn1` for contents says of the rules of its type.
-use Rattle.std.proofs.Common.{◌≡◌, ℕ, Bool, true, false, ◌↔◌, ◌+◌, ◌-◌, ◌*◌, drop, ap, ◌&&◌, ◌||◌, not, ◌==◌, List, [], ◌∷◌, nat_lt, refl, sym, ◌∙◌, if◌then◌else◌, ⊎_elim}
+use Rattle.std.proofs.Common.{◌≡◌, ℕ, Bool, true, false, ◌+◌, ◌-◌, ◌*◌, drop, ap, ◌&&◌, ◌||◌, not, ◌==◌, List, [], ◌∷◌, nat_lt, refl, ⊎_elim}
 use Rattle.std.proofs.lemmas.Bool.{cases_Bool, and_parts, eqb-true}
 use Rattle.std.specs.Cmp.Derive.{both_true}
 use Rattle.ber.specs.declared.universal.Universal.TheVariants as type
@@ -9,10 +9,10 @@ use Rattle.asn1_contents.specs.GeneralizedTime.{has_fraction, fraction_digits, z
 use Rattle.der_asn1.specs.Times.{two_at, utc_year, utc_form, generalized_form}
 use Rattle.asn1_contents.specs.Zone.{exists_date, exists_time, exists_offset}
 use Rattle.der_base.specs.declared.encoding_rules.EncodingRules.TheVariants.{Der}
-use Rattle.asn1_contents.specs.Contents.{IsContents, IsNamedBits}
+use Rattle.asn1_contents.specs.Contents.{IsContents}
 use Rattle.der_asn1.specs.Forms.{boolean_form, integer_form, bits_form, oid_form, ends_subidentifiers, has_low_zeros}
 use Rattle.asn1_contents.specs.Laws.{IsForm, ContentsHaveForms, NamedBitsHaveForm, TimesWithoutFractionHaveForm}
-use Rattle.der_asn1.specs.NamedBits.{named_bits_form, last_bit_is_one}
+use Rattle.der_asn1.specs.NamedBits.{last_bit_is_one}
 use Rattle.asn1_contents.specs.Small.{has_octets, has_one_octet, has_unused_bits, has_none_unused, ends_whole}
 
 one_octet : (octets : List ℕ) → boolean_form octets ≡ true → has_one_octet octets ≡ true

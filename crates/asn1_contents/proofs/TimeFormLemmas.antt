@@ -1,10 +1,10 @@
 -- Times of fourteen or twelve digits and Z: the words of `der_asn1` and those of this crate.
-use Rattle.std.proofs.Common.{◌≡◌, ℕ, zero, suc, Bool, true, false, not, ◌+◌, ◌-◌, ◌*◌, ◌/◌, ◌%◌, ◌<◌, ◌≤◌, ◌==◌, ◌&&◌, ◌||◌, List, [], ◌∷◌, ◌++◌, length, drop, refl, sym, subst, ap, ◌∙◌, nat_lt, nat_le, if◌then◌else◌, slice_index_or, ⊎_elim, arith}
+use Rattle.std.proofs.Common.{◌≡◌, ℕ, zero, suc, true, false, ◌+◌, ◌*◌, ◌/◌, ◌%◌, ◌<◌, ◌≤◌, ◌==◌, List, [], ◌∷◌, ◌++◌, length, drop, refl, sym, ap, ◌∙◌, nat_lt, slice_index_or, ⊎_elim, arith}
 use Rattle.std.proofs.Math.Seq.{drop-cons}
 use Rattle.std.proofs.lemmas.Bool.{cases_Bool, and_parts, ltb-true, lt-ltb, eq-eqb, eqb-true}
 use Rattle.std.specs.Str.{bytes_eq}
-use Rattle.asn1_contents.specs.Digits.{is_digit, digit_count, after_digits}
-use Rattle.der_asn1.specs.Times.{two_at, two_digits, utc_year}
+use Rattle.asn1_contents.specs.Digits.{is_digit, digit_count}
+use Rattle.der_asn1.specs.Times.{two_at, two_digits}
 use Rattle.asn1_contents.specs.Zone.{is_z}
 
 -- an octet before the first one that is no digit is a digit

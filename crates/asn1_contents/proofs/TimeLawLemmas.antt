@@ -1,6 +1,6 @@
 -- Times of twelve or fourteen digits and Z are those that `der_asn1` reads.
-use Rattle.std.proofs.Common.{◌≡◌, ℕ, Bool, true, false, ◌+◌, ◌-◌, ◌*◌, ◌/◌, ◌%◌, ◌<◌, ◌≤◌, ◌==◌, ◌&&◌, List, [], ◌∷◌, ◌++◌, length, drop, refl, sym, subst, ap, ◌∙◌, nat_lt, nat_le, slice_index_or, arith}
-use Rattle.std.proofs.lemmas.Bool.{and_parts, ltb-true, lt-ltb, eq-eqb, eqb-true}
+use Rattle.std.proofs.Common.{◌≡◌, ℕ, Bool, true, false, ◌+◌, ◌*◌, ◌/◌, ◌%◌, ◌<◌, ◌==◌, ◌&&◌, List, [], ◌∷◌, ◌++◌, length, drop, refl, sym, subst, ap, ◌∙◌, nat_lt, nat_le, slice_index_or, arith}
+use Rattle.std.proofs.lemmas.Bool.{and_parts, lt-ltb, eq-eqb, eqb-true}
 use Rattle.std.proofs.lemmas.List.{length-drop}
 use Rattle.std.specs.Cmp.Derive.{both_true}
 use Rattle.std.specs.Str.{bytes_eq}
@@ -9,7 +9,7 @@ use Rattle.der_asn1.proofs.TimeLemmas.{bounded}
 use Rattle.der_asn1.specs.declared.date_time.DateTime.{DateTime}
 use Rattle.asn1_contents.specs.Digits.{digit_count}
 use Rattle.der_asn1.specs.Times.{two_at, two_digits, utc_year, is_date_time, days_of, time_octets, time_from, utc_form, utc_octets, utc_reading, generalized_form, generalized_octets, generalized_reading}
-use Rattle.asn1_contents.specs.Zone.{is_z, exists_date, exists_time, exists_offset}
+use Rattle.asn1_contents.specs.Zone.{is_z, exists_date, exists_time}
 
 -- the number of two digits before the first octet that is none is below 100
 two_small : (os : List ℕ) (i : ℕ) → i + 1 < digit_count os → two_at i os < 100
