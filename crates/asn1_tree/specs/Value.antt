@@ -18,7 +18,8 @@ use Rattle.asn1_schema.specs.declared.field.Field.{Field}
 use Rattle.asn1_schema.specs.declared.node.Node.{Node}
 use Rattle.asn1_schema.specs.declared.node_kind.NodeKind.{NodeKind}
 use Rattle.asn1_schema.specs.declared.node_kind.NodeKind.TheVariants.{Universal as Universally, SequenceOf, SetOf, Choice, Explicit, Any, Open}
-use Rattle.asn1_schema.specs.declared.presence.Presence.TheVariants.{Required, Default}
+use Rattle.asn1_schema.specs.declared.presence.Presence.TheVariants.{Default}
+use Rattle.asn1_schema.specs.Distinct.{may_be_missing}
 use Rattle.asn1_schema.specs.Tags.{SelectsOne, HasTag}
 use Rattle.asn1_tree.specs.declared.shape.Shape.{Shape}
 use Rattle.asn1_tree.specs.declared.shape.Shape.TheVariants.{Components, Of, Items, SortedItems, Inner, Untyped, Nothing}
@@ -62,8 +63,12 @@ IsNoDefault rules t f x =
 abbrev pub IsComponent : Values → EncodingRules → Table → Known → Field → List ℕ → Type 0
 IsComponent Child rules t known f x = Child rules known f.node x × IsNoDefault rules t f x
 
--- so many components from a field on, in order, of which those that are OPTIONAL or have a DEFAULT
--- may be absent (8.9.2, 8.9.3)
+-- a component of a SEQUENCE that may be absent
+abbrev pub MayBeAbsent : Field → Type 0
+MayBeAbsent f = may_be_missing (Universally Sequence) f ≡ true
+
+-- so many components from a field on, in order, of which those that are OPTIONAL, have a DEFAULT or
+-- are extension additions may be absent (8.9.2, 8.9.3)
 abbrev pub AreComponents : Values → EncodingRules → Table → ℕ → ℕ → Known → List ℕ → Type 0
 AreComponents Child rules t zero k known octets = octets ≡ []
 AreComponents Child rules t (suc n) k known octets =
@@ -71,7 +76,7 @@ AreComponents Child rules t (suc n) k known octets =
     × (((x : List ℕ) × (rest : List ℕ) × (after : Known) × (octets ≡ x ++ rest)
     × IsComponent Child rules t known f x × Follows (slice_get t.nodes f.node) k x known after
     × AreComponents Child rules t n (suc k) after rest)
-    ⊎ ((f.presence ≢ Required) × AreComponents Child rules t n (suc k) known octets))
+    ⊎ (MayBeAbsent f × AreComponents Child rules t n (suc k) known octets))
 
 -- a universal type that may be constructed under DER
 abbrev pub MayBeConstructed : Option Universal → Type 0

@@ -3,6 +3,9 @@ ghost use Rattle.std.specs.Prelude.{◌≡◌, ◌↔◌, true};
 ghost use Rattle.der_base.specs.declared.encoding_rules.EncodingRules.{EncodingRules};
 ghost use Rattle.asn1_tree.specs.Types.{types_in};
 ghost use Rattle.asn1_schema.specs.Field.{IsField};
+ghost use Rattle.asn1_schema.specs.Distinct.{may_be_missing};
+ghost use Rattle.asn1_schema.specs.declared.node_kind.NodeKind.TheVariants.{Universal as Universally};
+ghost use Rattle.ber.specs.declared.universal.Universal.TheVariants.{Sequence};
 ghost use Rattle.asn1_tree.specs.Verdict.{holds};
 ghost use Rattle.asn1_tree.specs.Rule.{verdict_of_option};
 ghost use Rattle.asn1_tree.specs.Value.{IsNoDefault, MayBeConstructed, IsPrimitive};
@@ -68,5 +71,15 @@ pub(crate) fn primitive_rule(universal: Option<Universal>, contents: &[u8]) -> O
             }
         }
         None => None,
+    }
+}
+
+/// Whether a component of a SEQUENCE may be absent.
+pub(crate) fn may_be_absent(field: Field) -> bool
+    ensures { result ≡ may_be_missing (Universally Sequence) field }
+{
+    match field.presence {
+        Presence::Required => field.addition != 0,
+        _ => true,
     }
 }

@@ -29,11 +29,11 @@ use crate::role::{NO_INDEX, Role};
 use crate::rule::Rule;
 use crate::select::begins;
 use crate::shape::Shape;
-use crate::tests::default_rule;
+use crate::tests::{default_rule, may_be_absent};
 use crate::tree::Tree;
 use crate::verdict::Verdict;
 use crate::types::{field_of, node_of, select};
-use asn1_schema::{Node, NodeKind, Presence, Schema};
+use asn1_schema::{Node, NodeKind, Schema};
 use ber::{Header, is_end_of_contents, read_header};
 use std::alloc::AllocError;
 
@@ -298,7 +298,7 @@ fn component<'a>(
             known: known_after(schema, field.node, index, octets, known),
         });
     }
-    if field.presence != Presence::Required {
+    if may_be_absent(field) {
         return Ok(Step {
             verdict: Verdict::Der,
             rest: place.octets,

@@ -1,5 +1,6 @@
 use Rattle.std.proofs.Common.{◌≡◌, ◌≢◌, ◌∙◌, ℕ, List, Option, Some, None, refl, sym, ap}
 use Rattle.asn1_tree.specs.Known.{known_in}
+use Rattle.asn1_tree.proofs.KnownLemmas.{same_identifier}
 use Rattle.asn1_tree.proofs.chosen.chosen.Goals as goal
 
 pub returns-in-Some-find_type-clause-found : goal.returns-in-Some-find_type-clause-found
@@ -13,6 +14,5 @@ returns-in-Some-find_type-clause-found c = record {
 
 pub returns-in-None-clause-none : goal.returns-in-None-clause-none
 returns-in-None-clause-none c m is =
-    let both : Some (c.in-Some.known.field, c.in-Some.known.identifier.now) ≡ Some (c.args.node.now.chooser, is.identifier) = sym (ap known_in c.in-Some.is) ∙ is.by in
-    let same : c.in-Some.known.identifier.now ≡ is.identifier = cc in
+    let same : c.in-Some.known.identifier.now ≡ is.identifier = same_identifier (ap known_in c.in-Some.is) is.by in
     c.in-None.ensures.none is.row.index is.type is.row.part is.row.row (is.row.same ∙ sym same)
