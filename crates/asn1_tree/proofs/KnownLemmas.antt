@@ -1,0 +1,14 @@
+-- The OBJECT IDENTIFIER that chooses an open type is the only one, and so is what it chooses.
+use Rattle.std.proofs.Common.{◌≡◌, ◌≢◌, ℕ, ◌+◌, ◌<◌, ◌≤◌, List, [], ◌++◌, Option, Some, None, slice_get, refl, sym, ap, ◌∙◌, append-nil}
+use Rattle.ber.specs.Element.{IsElement}
+use Rattle.ber.proofs.ElementLemmas.{one_element}
+use Rattle.asn1_schema.specs.Table.{Table}
+use Rattle.asn1_schema.specs.declared.node.Node.{Node}
+use Rattle.asn1_tree.specs.Known.{Known, IsIdentifier, Follows, changed, same, IsChosen, IsUnknown}
+
+-- there is one after a component
+pub one_follows : {node : Option Node} {k : ℕ} {x : List ℕ} {before a b : Known} → Follows node k x before a → Follows node k x before b → a ≡ b
+one_follows {k = k} {x = x} (changed {inner = c} p e) (changed {inner = d} q f) = ap (λ i. Some (k, i)) (one_element [] [] e f refl).1
+one_follows (changed p e) (same q) = absurd (q p)
+one_follows (same q) (changed p e) = absurd (q p)
+one_follows (same p) (same q) = refl

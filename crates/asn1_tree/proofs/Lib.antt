@@ -1,0 +1,10 @@
+pub mod VerdictLemmas
+pub mod FindsLemmas
+pub mod EnclosedLemmas
+pub mod ItemLemmas
+pub mod KnownLemmas
+pub mod ComponentLemmas
+pub mod StandLemmas
+pub mod UntypedLemmas
+pub mod ValueLemmas
+pub mod DefaultLemmas

@@ -1,0 +1,11 @@
+pub mod Verdict
+pub mod Rule
+pub mod Enclosed
+pub mod Types
+pub mod Tags
+pub mod Distinct
+pub mod Known
+pub mod Contents
+pub mod Opened
+pub mod Value
+pub mod Reading

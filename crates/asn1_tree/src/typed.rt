@@ -1,0 +1,392 @@
+//! The reader of values.
+ghost use Rattle.std.specs.Prelude.{◌≡◌, ◌≢◌, ◌↔◌, ◌+◌, ◌*◌, ◌<◌, ◌≤◌, ℕ, suc, true, false, List, [], Option, Some, None, slice_get, length, vec_len, IsTrue, IsSome, IfOk, OnOk};
+ghost use Rattle.der_base.specs.declared.encoding_rules.EncodingRules.{EncodingRules};
+ghost use Rattle.ber.specs.Header.{IsNext, end_header};
+ghost use Rattle.asn1_schema.specs.Table.{IsAscending};
+ghost use Rattle.asn1_tree.specs.Types.{types_in};
+ghost use Rattle.asn1_schema.specs.Node.{IsNode as IsRow};
+ghost use Rattle.asn1_schema.specs.Span.{IsWithin as IsRange};
+ghost use Rattle.asn1_schema.specs.declared.node.Node.{Node as ANode};
+ghost use Rattle.asn1_schema.specs.declared.node_kind.NodeKind.TheVariants.{Universal as Universally, Open};
+ghost use Rattle.ber.specs.declared.universal.Universal.TheVariants.{Sequence};
+ghost use Rattle.asn1_tree.specs.Verdict.{holds};
+ghost use Rattle.asn1_tree.specs.Tags.{Begins, HasTag};
+ghost use Rattle.asn1_tree.specs.Distinct.{AreDistinct};
+ghost use Rattle.asn1_tree.specs.Enclosed.{IsAllowed};
+ghost use Rattle.asn1_tree.specs.Known.{known_in, IsUnknown};
+ghost use Rattle.asn1_tree.specs.Value.{IsValue, IsAny, IsNode, AreContents, AreComponents, SomeItems, is_constructed_kind};
+ghost use Rattle.asn1_tree.specs.Reading.{Front, Body, Finds, Status, Logs};
+
+use crate::untyped::{any, finish, unknown_contents};
+use crate::chosen::chosen;
+use crate::entry::Entry;
+use crate::known::{Known, known_after};
+use crate::opened::{Opened, after_header};
+use crate::order::order_rule;
+use crate::outcome::{Outcome, Step};
+use crate::place::Place;
+use crate::role::{NO_INDEX, Role};
+use crate::rule::Rule;
+use crate::select::{begins, select};
+use crate::tests::default_rule;
+use crate::tree::Tree;
+use crate::verdict::Verdict;
+use crate::types::{field_of, node_of};
+use asn1_schema::{Node, NodeKind, Presence, Schema};
+use ber::{Header, Universal, is_end_of_contents, read_header};
+use std::alloc::AllocError;
+
+// Reads the value of a node at the front.
+#[cycle(typed)]
+pub(crate) fn value<'a>(
+    tree: &mut Tree,
+    schema: &Schema<'_>,
+    depth: usize,
+    known: Option<Known<'_>>,
+    node: u32,
+    role: Role,
+    place: Place<'a>,
+) -> Result<Outcome<'a>, AllocError>
+    requires there { node < schema.now.counts.nodes }
+    requires distinct { AreDistinct (types_in schema.now.octets.now) }
+    ensures finds { IfOk result (λ o. Finds (λ rules. Front
+        (IsValue (types_in schema.now.octets.now) depth rules (known_in known.entry) node) place.entry.octets.now)
+        o.verdict o.rest.now) }
+    ensures log { IfOk result (λ o. Logs o.verdict tree.old.departures.items tree.new.departures.items) }
+    ensures shorter { IfOk result (λ o. length o.rest.now ≤ length place.entry.octets.now) }
+    ensures moves { IfOk result
+        (λ o. 0 < length place.entry.octets.now → length o.rest.now < length place.entry.octets.now) }
+    ensures grows { OnOk result (vec_len tree.old.entries ≤ vec_len tree.new.entries) }
+{
+    let header = match read_header(place.octets) {
+        Ok(header) => header,
+        Err(_) => {
+            let verdict = tree.depart(Rule::Header, place.offset(), role.parent)?;
+            return Ok(Outcome { verdict, rest: &[] });
+        }
+    };
+    if is_end_of_contents(place.octets) {
+        let verdict = tree.depart(Rule::EndOfContents, place.offset(), role.parent)?;
+        return Ok(Outcome {
+            verdict,
+            rest: &place.octets[2..],
+        });
+    }
+    if depth == 0 {
+        let verdict = tree.depart(Rule::Depth, place.offset(), role.parent)?;
+        return Ok(Outcome { verdict, rest: &[] });
+    }
+    match select(schema, node, header.class, header.number) {
+        Some(selected) => {
+            selected_value(tree, schema, depth - 1, known, selected.node, role, header, place)
+        }
+        None => {
+            let verdict = tree.depart(Rule::Tag, place.offset(), role.parent)?;
+            let outcome = any(tree, depth, role, place)?;
+            Ok(Outcome {
+                verdict: verdict.and(outcome.verdict),
+                rest: outcome.rest,
+            })
+        }
+    }
+}
+
+// Reads the value of a node that is no CHOICE, and has the tag of the header at the front.
+#[cycle(typed)]
+fn selected_value<'a>(
+    tree: &mut Tree,
+    schema: &Schema<'_>,
+    depth: usize,
+    known: Option<Known<'_>>,
+    index: u32,
+    role: Role,
+    header: Header,
+    place: Place<'a>,
+) -> Result<Outcome<'a>, AllocError>
+    requires there { index < schema.now.counts.nodes }
+    requires distinct { AreDistinct (types_in schema.now.octets.now) }
+    requires next { IsNext header place.octets.now }
+    requires real { header ≢ end_header }
+    requires tagged { (n : ANode) → slice_get (types_in schema.now.octets.now).nodes index ≡ Some n
+        → HasTag n header.class header.number }
+    ensures finds { IfOk result (λ o. (n : ANode)
+        → slice_get (types_in schema.now.octets.now).nodes index ≡ Some n → Finds (λ rules. Front
+        (IsNode rules (types_in schema.now.octets.now) (IsValue (types_in schema.now.octets.now) depth)
+        (IsAny depth) (known_in known.entry) n) place.entry.octets.now) o.verdict o.rest.now) }
+    ensures log { IfOk result (λ o. Logs o.verdict tree.old.departures.items tree.new.departures.items) }
+    ensures moves { IfOk result (λ o. length o.rest.now < length place.entry.octets.now) }
+    ensures grows { OnOk result (vec_len tree.old.entries ≤ vec_len tree.new.entries) }
+{
+    let node = node_of(schema, index);
+    let inner = match node.kind {
+        NodeKind::Open => chosen(schema, &node, known),
+        _ => None,
+    };
+    match inner {
+        Some(inner) => value(tree, schema, depth, known, inner, role, place),
+        None => {
+            let at = tree.enter(Entry::new(header, place, role, index))?;
+            let allowed = tree.judge_lengths(header, place.offset(), at)?;
+            match after_header(header, place) {
+                Some(opened) => {
+                    let outcome = contents(tree, schema, depth, known, node, at, header, opened)?;
+                    Ok(Outcome {
+                        verdict: allowed.and(outcome.verdict),
+                        rest: outcome.rest,
+                    })
+                }
+                None => {
+                    let cut = tree.depart(Rule::Truncated, place.offset(), at)?;
+                    Ok(Outcome {
+                        verdict: allowed.and(cut),
+                        rest: &[],
+                    })
+                }
+            }
+        }
+    }
+}
+
+// Reads the contents of an element with the tag of a node.
+#[cycle(typed)]
+fn contents<'a>(
+    tree: &mut Tree,
+    schema: &Schema<'_>,
+    depth: usize,
+    known: Option<Known<'_>>,
+    node: Node,
+    at: usize,
+    header: Header,
+    opened: Opened<'a>,
+) -> Result<Outcome<'a>, AllocError>
+    requires fits { IsRow schema.now.counts schema.now.pool.now node }
+    requires distinct { AreDistinct (types_in schema.now.octets.now) }
+    requires row { (i : ℕ) × (slice_get (types_in schema.now.octets.now).nodes i ≡ Some node) }
+    requires known { node.kind ≡ Open → IsUnknown (types_in schema.now.octets.now) node (known_in known) }
+    requires form { header.constructed ≡ false → opened.marked ≡ false }
+    ensures finds { IfOk result (λ o. Finds (λ rules. Body opened.entry.marked opened.entry.beyond.now
+        (AreContents node.kind rules (types_in schema.now.octets.now)
+        (IsValue (types_in schema.now.octets.now) depth) (IsAny depth) (known_in known.entry) node header)
+        opened.entry.inside.octets.now) o.verdict o.rest.now) }
+    ensures shorter { IfOk result (λ o. length o.rest.now
+        ≤ length opened.entry.inside.octets.now + length opened.entry.beyond.now) }
+    ensures log { IfOk result (λ o. Logs o.verdict tree.old.departures.items tree.new.departures.items) }
+    ensures grows { OnOk result (vec_len tree.old.entries ≤ vec_len tree.new.entries) }
+{
+    if is_constructed(node.kind) && !header.constructed {
+        let verdict = tree.depart(Rule::Form, opened.inside.offset(), at)?;
+        return Ok(Outcome {
+            verdict,
+            rest: opened.beyond,
+        });
+    }
+    match node.kind {
+        NodeKind::Universal(Universal::Sequence) => {
+            components(tree, schema, depth, node, at, opened)
+        }
+        NodeKind::Universal(universal) => {
+            unknown_contents(tree, depth, Some(universal), header.constructed, at, opened)
+        }
+        NodeKind::SequenceOf => items(tree, schema, depth, known, inner_of(node), false, at, opened),
+        NodeKind::SetOf => items(tree, schema, depth, known, inner_of(node), true, at, opened),
+        NodeKind::Explicit => explicit(tree, schema, depth, known, inner_of(node), at, opened),
+        _ => unknown_contents(tree, depth, header.universal(), header.constructed, at, opened),
+    }
+}
+
+// The node inside a node that has one.
+fn inner_of(node: Node) -> u32
+    requires { IsSome node.inner }
+    ensures { node.inner ≡ Some result }
+{
+    node.inner.unwrap_or(0)
+}
+
+// Whether values of a kind are constructed, whatever their tag is.
+fn is_constructed(kind: NodeKind) -> bool
+    ensures { result ≡ is_constructed_kind kind }
+{
+    matches!(
+        kind,
+        NodeKind::Universal(Universal::Sequence)
+            | NodeKind::SequenceOf
+            | NodeKind::SetOf
+            | NodeKind::Explicit
+    )
+}
+
+// Reads the components of a SEQUENCE.
+#[cycle(typed)]
+fn components<'a>(
+    tree: &mut Tree,
+    schema: &Schema<'_>,
+    depth: usize,
+    node: Node,
+    at: usize,
+    opened: Opened<'a>,
+) -> Result<Outcome<'a>, AllocError>
+    requires kind { node.kind ≡ Universally Sequence }
+    requires there { IsRange node.parts schema.now.counts.fields }
+    requires distinct { AreDistinct (types_in schema.now.octets.now) }
+    requires row { (i : ℕ) × (slice_get (types_in schema.now.octets.now).nodes i ≡ Some node) }
+    ensures finds { IfOk result (λ o. Finds (λ rules. Body opened.entry.marked opened.entry.beyond.now
+        (AreComponents (IsValue (types_in schema.now.octets.now) depth) rules
+        (types_in schema.now.octets.now) node.parts.count node.parts.start None) opened.entry.inside.octets.now)
+        o.verdict o.rest.now) }
+    ensures shorter { IfOk result (λ o. length o.rest.now
+        ≤ length opened.entry.inside.octets.now + length opened.entry.beyond.now) }
+    ensures log { IfOk result (λ o. Logs o.verdict tree.old.departures.items tree.new.departures.items) }
+    ensures grows { OnOk result (vec_len tree.old.entries ≤ vec_len tree.new.entries) }
+{
+    let mut verdict = Verdict::Der;
+    let mut rest = opened.inside.octets;
+    let mut known = None;
+    let mut left = node.parts.count;
+    'fields: while left > 0 {
+        let field = node.parts.start + (node.parts.count - left);
+        left -= 1;
+        let step = component(tree, schema, depth, known, node, field, left, at, opened.at(rest))?;
+        verdict = verdict.and(step.verdict);
+        rest = step.rest;
+        known = step.known;
+    }
+    let end = finish(tree, depth, at, opened.at(rest))?;
+    Ok(Outcome {
+        verdict: verdict.and(end.verdict),
+        rest: end.rest,
+    })
+}
+
+// Reads the component of a field, if it is there. So many fields follow it.
+#[cycle(typed)]
+fn component<'a>(
+    tree: &mut Tree,
+    schema: &Schema<'_>,
+    depth: usize,
+    known: Option<Known<'a>>,
+    node: Node,
+    index: u32,
+    left: u32,
+    at: usize,
+    opened: Opened<'a>,
+) -> Result<Step<'a>, AllocError>
+    requires kind { node.kind ≡ Universally Sequence }
+    requires there { IsRange node.parts schema.now.counts.fields }
+    requires part { (node.parts.start ≤ index) × (index + left + 1 ≡ node.parts.start + node.parts.count) }
+    requires distinct { AreDistinct (types_in schema.now.octets.now) }
+    requires row { (i : ℕ) × (slice_get (types_in schema.now.octets.now).nodes i ≡ Some node) }
+    ensures status { IfOk result (λ s. Status s.verdict
+        (λ rules. Body opened.entry.marked opened.entry.beyond.now
+        (AreComponents (IsValue (types_in schema.now.octets.now) depth) rules
+        (types_in schema.now.octets.now) left (index + 1) (known_in s.known)) s.rest.now)
+        (λ rules. Body opened.entry.marked opened.entry.beyond.now
+        (AreComponents (IsValue (types_in schema.now.octets.now) depth) rules
+        (types_in schema.now.octets.now) (left + 1) index (known_in known.entry)) opened.entry.inside.octets.now)) }
+    ensures log { IfOk result (λ s. Logs s.verdict tree.old.departures.items tree.new.departures.items) }
+    ensures shorter { IfOk result (λ s. length s.rest.now ≤ length opened.entry.inside.octets.now) }
+    ensures grows { OnOk result (vec_len tree.old.entries ≤ vec_len tree.new.entries) }
+{
+    let field = field_of(schema, index);
+    let place = opened.inside;
+    if begins(schema, field.node, place.octets) {
+        let role = Role {
+            field: index,
+            parent: at,
+        };
+        let outcome = value(tree, schema, depth, known, field.node, role, place)?;
+        let octets = &place.octets[..place.octets.len() - outcome.rest.len()];
+        let rule = default_rule(schema, field, octets);
+        let verdict = tree.judge(rule, place.offset(), at)?;
+        return Ok(Step {
+            verdict: outcome.verdict.and(verdict),
+            rest: outcome.rest,
+            known: known_after(schema, field.node, index, octets, known),
+        });
+    }
+    if field.presence != Presence::Required {
+        return Ok(Step {
+            verdict: Verdict::Der,
+            rest: place.octets,
+            known,
+        });
+    }
+    let verdict = tree.depart(Rule::Missing, place.offset(), at)?;
+    Ok(Step {
+        verdict,
+        rest: place.octets,
+        known,
+    })
+}
+
+// Reads the values of a SEQUENCE OF or a SET OF.
+#[cycle(typed)]
+fn items<'a>(
+    tree: &mut Tree,
+    schema: &Schema<'_>,
+    depth: usize,
+    known: Option<Known<'_>>,
+    item: u32,
+    sorted: bool,
+    at: usize,
+    opened: Opened<'a>,
+) -> Result<Outcome<'a>, AllocError>
+    requires there { item < schema.now.counts.nodes }
+    requires distinct { AreDistinct (types_in schema.now.octets.now) }
+    ensures finds { IfOk result (λ o. Finds (λ rules. Body opened.entry.marked opened.entry.beyond.now
+        (SomeItems sorted rules
+        (IsValue (types_in schema.now.octets.now) depth rules (known_in known.entry) item))
+        opened.entry.inside.octets.now) o.verdict o.rest.now) }
+    ensures shorter { IfOk result (λ o. length o.rest.now
+        ≤ length opened.entry.inside.octets.now + length opened.entry.beyond.now) }
+    ensures log { IfOk result (λ o. Logs o.verdict tree.old.departures.items tree.new.departures.items) }
+    ensures grows { OnOk result (vec_len tree.old.entries ≤ vec_len tree.new.entries) }
+{
+    let role = Role { field: NO_INDEX, parent: at };
+    let mut verdict = Verdict::Der;
+    let mut rest = opened.inside.octets;
+    let mut before: &[u8] = &[];
+    'items: while !opened.at(rest).is_ended() {
+        let place = opened.inside.at(rest);
+        let outcome = value(tree, schema, depth, known, item, role, place)?;
+        let octets = &rest[..rest.len() - outcome.rest.len()];
+        let order = tree.judge(order_rule(sorted, before, octets), place.offset(), at)?;
+        verdict = verdict.and(outcome.verdict).and(order);
+        rest = outcome.rest;
+        before = octets;
+    }
+    let end = finish(tree, depth, at, opened.at(rest))?;
+    Ok(Outcome {
+        verdict: verdict.and(end.verdict),
+        rest: end.rest,
+    })
+}
+
+// Reads the value inside an EXPLICIT tag.
+#[cycle(typed)]
+fn explicit<'a>(
+    tree: &mut Tree,
+    schema: &Schema<'_>,
+    depth: usize,
+    known: Option<Known<'_>>,
+    inner: u32,
+    at: usize,
+    opened: Opened<'a>,
+) -> Result<Outcome<'a>, AllocError>
+    requires there { inner < schema.now.counts.nodes }
+    requires distinct { AreDistinct (types_in schema.now.octets.now) }
+    ensures finds { IfOk result (λ o. Finds (λ rules. Body opened.entry.marked opened.entry.beyond.now
+        (IsValue (types_in schema.now.octets.now) depth rules (known_in known.entry) inner)
+        opened.entry.inside.octets.now) o.verdict o.rest.now) }
+    ensures shorter { IfOk result (λ o. length o.rest.now
+        ≤ length opened.entry.inside.octets.now + length opened.entry.beyond.now) }
+    ensures log { IfOk result (λ o. Logs o.verdict tree.old.departures.items tree.new.departures.items) }
+    ensures grows { OnOk result (vec_len tree.old.entries ≤ vec_len tree.new.entries) }
+{
+    let role = Role { field: NO_INDEX, parent: at };
+    let outcome = value(tree, schema, depth, known, inner, role, opened.inside)?;
+    let end = finish(tree, depth, at, opened.at(outcome.rest))?;
+    Ok(Outcome {
+        verdict: outcome.verdict.and(end.verdict),
+        rest: end.rest,
+    })
+}
