@@ -158,3 +158,13 @@ none_later {t} {Child} well node kind distinct m b octets h next real j f field 
             let both : Some i ≡ Some g = sym here ∙ grow in
             let it : i ≡ g = cc in
             subst MayBeAbsent (sym it) may
+
+-- the same of numbers of components and of indices that are sums
+pub status_next : (t : Table) (Child : Values) (m : Bool) (b octets rest : List ℕ) (n k : ℕ) (known after : Known) {v : Verdict}
+    → Status v (λ rules. Body m b (AreComponents Child rules t n (suc k) after) rest) (λ rules. Body m b (AreComponents Child rules t (suc n) k known) octets)
+    → Status v (λ rules. Body m b (AreComponents Child rules t n (k + 1) after) rest) (λ rules. Body m b (AreComponents Child rules t (n + 1) k known) octets)
+status_next t Child m b octets rest n k known after {v} s =
+    let e : suc k ≡ k + 1 = omega arith in
+    let f : suc n ≡ n + 1 = omega arith in
+    subst (λ i. Status v (λ rules. Body m b (AreComponents Child rules t n (k + 1) after) rest) (λ rules. Body m b (AreComponents Child rules t i k known) octets)) f
+    (subst (λ j. Status v (λ rules. Body m b (AreComponents Child rules t n j after) rest) (λ rules. Body m b (AreComponents Child rules t (suc n) k known) octets)) e s)

@@ -7,3 +7,4 @@ pub mod ComponentLemmas
 pub mod UntypedLemmas
 pub mod ValueLemmas
 pub mod DefaultLemmas
+pub mod ChosenLemmas

@@ -1,4 +1,5 @@
 -- Values of nodes: each is an element that begins as the table says, and what its contents are.
+use Rattle.std.specs.Prelude.{Result, Ok, Err, IfOk}
 use Rattle.std.proofs.Common.{◌≡◌, ◌≢◌, ◌↔◌, ℕ, zero, suc, ◌+◌, ◌-◌, ◌<◌, ◌≤◌, Bool, true, false, length, List, [], ◌++◌, Option, Some, None, slice_get, refl, sym, ap, ◌∙◌, subst, append-nil, arith}
 use Rattle.der_base.specs.declared.tag.class.Class.{Class}
 use Rattle.der_base.specs.declared.encoding_rules.EncodingRules.{EncodingRules}
@@ -33,7 +34,7 @@ use Rattle.asn1_tree.specs.declared.shape.Shape.{Shape}
 use Rattle.asn1_tree.specs.declared.shape.Shape.TheVariants.{Components, Of, Items, SortedItems, Inner, Untyped, Nothing}
 use Rattle.asn1_tree.proofs.ItemLemmas.{OfElements}
 use Rattle.asn1_tree.proofs.FindsLemmas.{finds_as, body_as, Cases, both, first, second, cases, worst_true, worst_both}
-use Rattle.asn1_tree.proofs.EnclosedLemmas.{Elem, front_next, same_next}
+use Rattle.asn1_tree.proofs.EnclosedLemmas.{Elem, front_next, same_next, no_element_cut}
 use Rattle.asn1_tree.proofs.ComponentLemmas.{BeginWell}
 use Rattle.asn1_schema.proofs.TagLemmas.{one_selected}
 
@@ -262,3 +263,20 @@ needs_constructed rules t Child Item known n h inner SortedItems e are = are.0
 needs_constructed rules t Child Item known n h inner Inner e are = are.0
 needs_constructed rules t Child Item known n h inner Untyped e are = absurd (cc)
 needs_constructed rules t Child Item known n h inner Nothing e are = absurd are
+
+pub finds_shape : (t : Table) (Child : Values) (Item : Elements) (known : Known) (n : Node) (h : Header) (m : Bool) (b octets : List ℕ) {s k : Shape} {v : Verdict} {rest : List ℕ} → k ≡ s
+    → Finds (λ rules. Body m b (AreContents s rules t Child Item known n h) octets) v rest
+    → Finds (λ rules. Body m b (AreContents k rules t Child Item known n h) octets) v rest
+finds_shape t Child Item known n h m b octets {s} {k} {v} {rest} e f =
+    subst (λ q. Finds (λ rules. Body m b (AreContents q rules t Child Item known n h) octets) v rest) (sym e) f
+
+pub if_ok : {A E : Type 0} {P Q : A → Type 0} (r : Result A E) → ((a : A) → P a → Q a) → IfOk r P → IfOk r Q
+if_ok (Ok a) f p = f a p
+if_ok (Err e) f p = tt
+
+-- an element whose contents are cut off is no value of a node
+pub no_node_cut : (t : Table) {h : Header} {octets : List ℕ} (d : ℕ) (known : Known) (n : Node) (l : ℕ) → IsNext h octets → h.length ≡ Definite l → length octets < h.header_len + l
+    → (rules : EncodingRules) (r : List ℕ) → Front (IsNode rules t (IsValue t d) (IsAny d) known n) octets r → ⊥
+no_node_cut t d known n l next definite short rules r (x, e, is) =
+    let b = node_begins (value_begins t d) rules known n x is in
+    no_element_cut (λ rules g inner. Unit {0}) l next definite short rules r (x, e, (b.0, b.1, b.2, tt))

@@ -1,5 +1,5 @@
 //! Shapes of contents.
-ghost use Rattle.std.specs.Prelude.{◌≡◌};
+ghost use Rattle.std.specs.Prelude.{◌≡◌, true, false};
 ghost use Rattle.asn1_tree.specs.Value.{shape_of, is_constructed};
 
 use asn1_schema::NodeKind;
@@ -41,13 +41,14 @@ impl Shape {
         }
     }
 
-    /// Whether such contents are constructed, whatever the tag is.
-    pub fn is_constructed(self) -> bool
-        ensures { result ≡ is_constructed self }
+    /// Whether an encoding is primitive, though such contents are constructed.
+    pub fn has_wrong_form(self, constructed: bool) -> bool
+        ensures right { (result ≡ false) → is_constructed self ≡ true → constructed ≡ true }
+        ensures wrong { (result ≡ true) → (is_constructed self ≡ true) × (constructed ≡ false) }
     {
-        matches!(
-            self,
-            Shape::Components | Shape::Items | Shape::SortedItems | Shape::Inner
-        )
+        match self {
+            Shape::Components | Shape::Items | Shape::SortedItems | Shape::Inner => !constructed,
+            _ => false,
+        }
     }
 }

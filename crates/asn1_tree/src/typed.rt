@@ -33,7 +33,7 @@ use crate::tests::{default_rule, may_be_absent};
 use crate::tree::Tree;
 use crate::verdict::Verdict;
 use crate::types::{field_of, node_of, select};
-use asn1_schema::{Node, NodeKind, Schema};
+use asn1_schema::{Node, Schema, Span};
 use ber::{Header, is_end_of_contents, read_header};
 use std::alloc::AllocError;
 
@@ -119,11 +119,7 @@ fn selected_value<'a>(
     ensures grows { OnOk result (vec_len tree.old.entries ≤ vec_len tree.new.entries) }
 {
     let node = node_of(schema, index);
-    let inner = match node.kind {
-        NodeKind::Open => chosen(schema, &node, known),
-        _ => None,
-    };
-    match inner {
+    match chosen(schema, &node, known) {
         Some(inner) => value(tree, schema, depth, known, inner, role, place),
         None => {
             let at = tree.enter(Entry::new(header, place, role, index))?;
@@ -174,7 +170,7 @@ fn contents<'a>(
     ensures grows { OnOk result (vec_len tree.old.entries ≤ vec_len tree.new.entries) }
 {
     let shape = Shape::of(node.kind);
-    if shape.is_constructed() && !header.constructed {
+    if shape.has_wrong_form(header.constructed) {
         let verdict = tree.depart(Rule::Form, opened.inside.offset(), at)?;
         return Ok(Outcome {
             verdict,
@@ -238,7 +234,7 @@ fn components<'a>(
     let mut known = None;
     let mut left = node.parts.count;
     'fields: while left > 0 {
-        let field = node.parts.start + (node.parts.count - left);
+        let field = index_of(node.parts, node.parts.count - left, schema.counts().fields);
         left -= 1;
         let step = component(tree, schema, depth, known, node, field, left, at, opened.at(rest))?;
         verdict = verdict.and(step.verdict);
@@ -250,6 +246,14 @@ fn components<'a>(
         verdict: verdict.and(end.verdict),
         rest: end.rest,
     })
+}
+
+// The index of a row of a range, which is one of so many rows.
+fn index_of(span: Span, index: u32, rows: u32) -> u32
+    requires { span.start + index < rows }
+    ensures { result ≡ span.start + index }
+{
+    span.start + index
 }
 
 // Reads the component of a field, if it is there. So many fields follow it.

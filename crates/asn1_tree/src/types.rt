@@ -8,6 +8,7 @@ ghost use Rattle.asn1_schema.specs.declared.presence.Presence.TheVariants.{Defau
 ghost use Rattle.asn1_schema.specs.Tags.{IsSelected, Begins};
 ghost use Rattle.asn1_schema.specs.Chosen.{ChoosesRow, ChoosesNoRow};
 ghost use Rattle.asn1_schema.specs.declared.node_kind.NodeKind.TheVariants.{Open};
+ghost use Rattle.asn1_schema.specs.declared.open_type.OpenType.{OpenType as Other};
 ghost use Rattle.asn1_tree.specs.Types.{types_in};
 
 use asn1_schema::{Field, Node, OpenType, Schema, Selected};
@@ -65,8 +66,13 @@ pub(crate) fn find_type(schema: &Schema<'_>, node: &Node, identifier: &[u8]) -> 
     ensures found { IfSome result
         (ChoosesRow (types_in schema.now.octets.now) node.now.parts identifier.now) }
     ensures there { IfSome result (λ o. o.node < schema.now.counts.nodes) }
+    ensures single { IfSome result (λ o. (p : Other)
+        → ChoosesRow (types_in schema.now.octets.now) node.now.parts identifier.now p → p ≡ o) }
     ensures none { IfNone result
         (ChoosesNoRow (types_in schema.now.octets.now) node.now.parts identifier.now) }
 {
-    schema.find_open_type(node.parts, identifier)
+    match schema.find_open_type(node.parts, identifier) {
+        Some(chosen) => Some(chosen),
+        None => None,
+    }
 }
