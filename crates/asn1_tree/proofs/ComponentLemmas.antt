@@ -168,3 +168,16 @@ status_next t Child m b octets rest n k known after {v} s =
     let f : suc n ≡ n + 1 = omega arith in
     subst (λ i. Status v (λ rules. Body m b (AreComponents Child rules t n (k + 1) after) rest) (λ rules. Body m b (AreComponents Child rules t i k known) octets)) f
     (subst (λ j. Status v (λ rules. Body m b (AreComponents Child rules t n j after) rest) (λ rules. Body m b (AreComponents Child rules t (suc n) k known) octets)) e s)
+
+-- the same at octets, at numbers and at indices that are equal
+pub status_at : (t : Table) (Child : Values) {m p : Bool} {b c octets others : List ℕ} {n o j k q l : ℕ} (left : ℕ) (rest : List ℕ) (known after : Known) {v : Verdict}
+    → m ≡ p → b ≡ c → octets ≡ others → n ≡ o → j ≡ k → q ≡ l
+    → Status v (λ rules. Body m b (AreComponents Child rules t left q after) rest) (λ rules. Body m b (AreComponents Child rules t n j known) octets)
+    → Status v (λ rules. Body p c (AreComponents Child rules t left l after) rest) (λ rules. Body p c (AreComponents Child rules t o k known) others)
+status_at t Child {m} {p} {b} {c} {octets} {others} {n} {o} {j} {k} {q} {l} left rest known after {v} e f g h i a s =
+    subst (λ x. Status v (λ rules. Body p c (AreComponents Child rules t left x after) rest) (λ rules. Body p c (AreComponents Child rules t o k known) others)) a
+    (subst (λ x. Status v (λ rules. Body p c (AreComponents Child rules t left q after) rest) (λ rules. Body p c (AreComponents Child rules t o x known) others)) i
+    (subst (λ x. Status v (λ rules. Body p c (AreComponents Child rules t left q after) rest) (λ rules. Body p c (AreComponents Child rules t x j known) others)) h
+    (subst (λ x. Status v (λ rules. Body p c (AreComponents Child rules t left q after) rest) (λ rules. Body p c (AreComponents Child rules t n j known) x)) g
+    (subst (λ x. Status v (λ rules. Body p x (AreComponents Child rules t left q after) rest) (λ rules. Body p x (AreComponents Child rules t n j known) octets)) f
+    (subst (λ x. Status v (λ rules. Body x b (AreComponents Child rules t left q after) rest) (λ rules. Body x b (AreComponents Child rules t n j known) octets)) e s)))))

@@ -8,3 +8,4 @@ pub mod UntypedLemmas
 pub mod ValueLemmas
 pub mod DefaultLemmas
 pub mod ChosenLemmas
+pub mod WholeLemmas

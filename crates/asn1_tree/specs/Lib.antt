@@ -7,3 +7,4 @@ pub mod Known
 pub mod Opened
 pub mod Value
 pub mod Reading
+pub mod Departures

@@ -19,7 +19,7 @@ use Rattle.asn1_tree.proofs.FindsLemmas.{finds_is, finds_never, finds_at, finds_
 use Rattle.asn1_tree.proofs.EnclosedLemmas.{Elem, finds_element, no_element_cut, real_header, taken}
 use Rattle.asn1_tree.proofs.ItemLemmas.{items_end, item_found, inner_found, goes_on, has_ended}
 use Rattle.asn1_tree.proofs.UntypedLemmas.{test_is}
-use Rattle.asn1_tree.proofs.ComponentLemmas.{component_found, component_absent, component_missing, none_later, status_next}
+use Rattle.asn1_tree.proofs.ComponentLemmas.{component_found, component_absent, component_missing, none_later, status_next, status_at}
 use Rattle.asn1_tree.proofs.ValueLemmas.{value_begins, finds_selected, finds_node, finds_chosen, no_value, no_value_at_end, no_value_of_tag, no_value_at_depth, no_node_cut, value_elements, identifier_element, component_finds, finds_given, finds_inner, finds_shape, if_ok}
 use Rattle.asn1_tree.proofs.typed.+typed.Goals as goal
 
@@ -167,10 +167,28 @@ component-returns-clause-status t c =
     (status_is c.in_ok-verdict-2.ensures.verdict (component_missing (value_begins (types_in c.args.schema.now.octets.now) c.args.depth) c.args.opened.marked c.args.opened.beyond.now c.args.opened.inside.octets.now c.args.opened.inside.octets.now c.args.left c.args.index c.field_of-field.result (known_in c.args.known) (known_in c.args.known) c.field_of-field.ensures.value (c.begins.ensures.none c.if-begins.false) (sym c.may_be_absent.ensures ∙ c.if-may_be_absent.false)))
 
 pub components-fields-preserved : goal.components-fields-preserved
-components-fields-preserved t c = ?
+components-fields-preserved t c =
+    let parts = c.args.node.parts in
+    let left = c.fields.left in
+    let n : (left - 1) + 1 ≡ left = omega (arith, c.fields-test.true) in
+    let k : c.index_of-field.result + 1 ≡ parts.start + (parts.count - (left - 1)) = omega (arith, c.index_of-field.ensures, c.fields-test.true, c.fields.invariant.part) in
+    record {
+      status = status_is c.and-verdict.ensures (status_then c.fields.invariant.status
+          (status_at (types_in c.args.schema.now.octets.now) (IsValue (types_in c.args.schema.now.octets.now) c.args.depth) (left - 1) c.in_ok-step.step.rest.now (known_in c.fields.known) (known_in c.in_ok-step.step.known) c.at.ensures.marked c.at.ensures.beyond c.at.ensures.octets n c.index_of-field.ensures k c.in_ok-step.ensures.status));
+      part = omega (arith, c.fields.invariant.part);
+      log = logs_is c.and-verdict.ensures (logs_then c.fields.invariant.log c.in_ok-step.ensures.log);
+      shorter = omega (arith, c.fields.invariant.shorter, c.in_ok-step.ensures.shorter, ap length c.at.ensures.octets);
+      grows = omega (arith, c.fields.invariant.grows, c.in_ok-step.ensures.grows);
+    }
 
 pub components-returns-clause-finds : goal.components-returns-clause-finds
-components-returns-clause-finds t c = ?
+components-returns-clause-finds t c =
+    let parts = c.args.node.parts in
+    let left = c.fields.left in
+    let none : 0 ≡ left = omega (arith, c.fields-test.false) in
+    let end = body_at (λ rules inner. inner ≡ []) c.at-2.ensures.marked c.at-2.ensures.beyond c.at-2.ensures.octets c.in_ok-end.ensures.finds in
+    finds_is c.and.ensures (status_ends c.fields.invariant.status
+    (subst (λ n. Finds (λ rules. Body c.args.opened.marked c.args.opened.beyond.now (AreComponents (IsValue (types_in c.args.schema.now.octets.now) c.args.depth) rules (types_in c.args.schema.now.octets.now) n (parts.start + (parts.count - left)) (known_in c.fields.known)) c.fields.rest.now) c.in_ok-end.end.verdict c.in_ok-end.end.rest.now) none end))
 
 pub components-returns-clause-log : goal.components-returns-clause-log
 components-returns-clause-log t c =
