@@ -9,3 +9,4 @@ pub mod ValueLemmas
 pub mod DefaultLemmas
 pub mod ChosenLemmas
 pub mod WholeLemmas
+pub mod SizeLemmas

@@ -5,6 +5,7 @@ pub mod Types
 pub mod Tags
 pub mod Known
 pub mod Opened
+pub mod Constraints
 pub mod Value
 pub mod Reading
 pub mod Departures

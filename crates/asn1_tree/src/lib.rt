@@ -1,7 +1,9 @@
 //! Values of any type of ASN.1, read by a table of types, by DER and by BER.
 #![tactic(auto)]
 
+mod bound;
 mod chosen;
+mod constraints;
 mod departure;
 mod entry;
 mod known;

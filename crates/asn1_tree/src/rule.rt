@@ -34,6 +34,12 @@ pub enum Rule {
     Missing,
     /// An element follows the last component, or the value.
     Unexpected,
+    /// A number is in none of the value ranges (X.680 51.4).
+    ValueRange,
+    /// A size is none of the sizes (51.5).
+    Size,
+    /// The number of an ENUMERATED is none of its items (20).
+    Unlisted,
     /// Elements are nested more than 64 deep.
     Depth,
 }
