@@ -10,3 +10,4 @@ pub mod DefaultLemmas
 pub mod ChosenLemmas
 pub mod WholeLemmas
 pub mod SizeLemmas
+pub mod KindLemmas

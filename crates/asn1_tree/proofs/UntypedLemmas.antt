@@ -6,7 +6,7 @@ use Rattle.ber.specs.Header.{IsNext, end_header, label_of_header}
 use Rattle.ber.specs.declared.header.Header.{Header}
 use Rattle.ber.specs.declared.universal.Universal.{Universal}
 use Rattle.asn1_tree.specs.Enclosed.{IsEnclosed}
-use Rattle.asn1_tree.specs.Value.{Elements, MayBeConstructed, SomeItems, IsPrimitive, IsUnknownType, IsElementOfAny, IsAny}
+use Rattle.asn1_tree.specs.Value.{Elements, MayBeConstructed, IsAnyCount, SomeItems, IsPrimitive, IsUnknownType, IsElementOfAny, IsAny}
 use Rattle.asn1_tree.specs.Verdict.{holds, worst}
 use Rattle.asn1_tree.specs.Reading.{Front, Body, Finds}
 use Rattle.asn1_tree.specs.declared.verdict.Verdict.{Verdict}
@@ -58,7 +58,7 @@ test_is {v} {w} {P} e test rules = subst (λ u. (holds rules u ≡ true) ↔ P r
 -- the contents of a constructed encoding
 pub finds_constructed : (d : ℕ) (u : Option Universal) (c m : Bool) (b octets : List ℕ) {a v : Verdict} {rest : List ℕ} → c ≡ true
     → ((rules : EncodingRules) → (holds rules a ≡ true) ↔ MayBeConstructed u)
-    → Finds (λ rules. Body m b (SomeItems false rules (IsAny d rules)) octets) v rest
+    → Finds (λ rules. Body m b (SomeItems false rules (IsAny d rules) IsAnyCount) octets) v rest
     → Finds (λ rules. Body m b (IsUnknownType rules (IsAny d) u c) octets) (worst a v) rest
 finds_constructed d u c m b octets {a} {v} {rest} on test f =
     subst (λ k. Finds (λ rules. Body m b (IsUnknownType rules (IsAny d) u k) octets) (worst a v) rest) (sym on)

@@ -26,10 +26,11 @@ use Rattle.ber.specs.Universal.{form_of}
 use Rattle.ber.specs.declared.form.Form.TheVariants.{Constructed}
 use Rattle.ber.specs.declared.length.Length.{Length}
 use Rattle.ber.specs.declared.length.Length.TheVariants.{Definite, Indefinite}
+use Rattle.ber.specs.declared.universal.Universal.{Universal}
 use Rattle.ber.specs.declared.universal.Universal.TheVariants.{ObjectIdentifier}
 use Rattle.asn1_tree.specs.Enclosed.{IsCounted, ending}
 use Rattle.asn1_tree.specs.Known.{IsIdentifier}
-use Rattle.asn1_tree.specs.Value.{IsNoDefault, IsComponent, IsUnknownType, is_constructed}
+use Rattle.asn1_tree.specs.Value.{IsNoDefault, IsComponent, IsUnknownType, AreBounded, is_constructed}
 use Rattle.asn1_tree.specs.declared.shape.Shape.{Shape}
 use Rattle.asn1_tree.specs.declared.shape.Shape.TheVariants.{Components, Of, Items, SortedItems, Inner, Untyped, Nothing}
 use Rattle.asn1_tree.proofs.ItemLemmas.{OfElements}
@@ -204,7 +205,7 @@ identifier_element t (suc d) rules known i x id is = at (slice_get t.nodes i) re
         of (element h inner en has unknown are) = primitive h.constructed refl
           where
             contents : IsUnknownType rules (IsAny (suc d - 1)) (Some ObjectIdentifier) h.constructed inner
-            contents = subst (λ k. AreContents (shape_of k) rules t (IsValue t (suc d - 1)) (IsAny (suc d - 1)) known s.2.node h inner) its are
+            contents = (subst (λ k. AreContents (shape_of k) rules t (IsValue t (suc d - 1)) (IsAny (suc d - 1)) known s.2.node h inner) its are).0
             primitive : (b : Bool) → h.constructed ≡ b → (g : Header) × (c : List ℕ) × IsElement g c x
             primitive false off = (h, inner, definite_element en off)
             primitive true on =
@@ -280,3 +281,19 @@ pub no_node_cut : (t : Table) {h : Header} {octets : List ℕ} (d : ℕ) (known 
 no_node_cut t d known n l next definite short rules r (x, e, is) =
     let b = node_begins (value_begins t d) rules known n x is in
     no_element_cut (λ rules g inner. Unit {0}) l next definite short rules r (x, e, (b.0, b.1, b.2, tt))
+
+-- a constructed encoding has no constraints
+pub finds_unbounded : (t : Table) (Child : Values) (known : Known) (n : Node) (u : Universal) (P : EncodingRules → List ℕ → Type 0) (c m : Bool) (b octets : List ℕ) {v : Verdict} {rest : List ℕ} → c ≡ true
+    → Finds (λ rules. Body m b (P rules) octets) v rest
+    → Finds (λ rules. Body m b (λ i. P rules i × AreBounded c rules t Child known n u i) octets) v rest
+finds_unbounded t Child known n u P c m b octets {v} {rest} on f =
+    subst (λ k. Finds (λ rules. Body m b (λ i. P rules i × AreBounded k rules t Child known n u i) octets) v rest) (sym on)
+    (finds_as (λ rules r. body_as m b octets r (λ x. ((λ p. (p, tt)), (λ p. p.0)))) f)
+
+-- items of the node that is inside
+pub finds_items : (P : EncodingRules → ℕ → List ℕ → Type 0) (m : Bool) (b octets : List ℕ) {rest : List ℕ} {v : Verdict} (o : Option ℕ) (i : ℕ) → o ≡ Some i
+    → Finds (λ rules. Body m b (P rules i) octets) v rest → Finds (λ rules. Body m b (λ x. (j : ℕ) × (o ≡ Some j) × P rules j x) octets) v rest
+finds_items P m b octets o i e f = finds_as (λ rules r. body_as m b octets r (λ x. ((λ p. (i, e, p)), (λ p. same rules x p)))) f
+  where
+    same : (rules : EncodingRules) (x : List ℕ) → ((j : ℕ) × (o ≡ Some j) × P rules j x) → P rules i x
+    same rules x (j, e2, p) = let both : Some j ≡ Some i = sym e2 ∙ e in let it : j ≡ i = cc in subst (λ k. P rules k x) it p

@@ -80,3 +80,14 @@ kept is r = ((λ on. is r), (λ p. holds_der r))
 
 pub broken : {P : EncodingRules → Type 0} → ((r : EncodingRules) → P r → ⊥) → (r : EncodingRules) → (holds r Neither ≡ true) ↔ P r
 broken never r = ((λ on. let off = holds_neither r in absurd (cc)), (λ p. absurd (never r p)))
+
+pub worst_comm : (v w : Verdict) → worst v w ≡ worst w v
+worst_comm Der Der = refl
+worst_comm Der Ber = refl
+worst_comm Der Neither = refl
+worst_comm Ber Der = refl
+worst_comm Ber Ber = refl
+worst_comm Ber Neither = refl
+worst_comm Neither Der = refl
+worst_comm Neither Ber = refl
+worst_comm Neither Neither = refl

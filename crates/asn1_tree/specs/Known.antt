@@ -8,7 +8,7 @@ use Rattle.asn1_schema.specs.Table.{Table}
 use Rattle.asn1_schema.specs.Chosen.{ChoosesRow}
 use Rattle.asn1_schema.specs.declared.node.Node.{Node}
 use Rattle.asn1_schema.specs.declared.node_kind.NodeKind.{NodeKind}
-use Rattle.asn1_schema.specs.declared.node_kind.NodeKind.TheVariants.{Universal}
+use Rattle.asn1_schema.specs.declared.node_kind.NodeKind.TheVariants.{Universal, Open}
 use Rattle.asn1_schema.specs.declared.open_type.OpenType.{OpenType}
 use Rattle.asn1_tree.specs.declared.known.Known.{Known as Stored}
 
@@ -42,3 +42,7 @@ pub record IsChosen (t : Table) (n : Node) (known : Known) (chosen : ℕ) : Type
 -- the table does not know the type
 abbrev pub IsUnknown : Table → Node → Known → Type 0
 IsUnknown t n known = (m : ℕ) → IsChosen t n known m → ⊥
+
+-- a node is an open type that the table does not know
+abbrev pub IsUnknownOpen : Table → Known → ℕ → Type 0
+IsUnknownOpen t known i = (n : Node) × (slice_get t.nodes i ≡ Some n) × (n.kind ≡ Open) × IsUnknown t n known

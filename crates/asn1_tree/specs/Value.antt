@@ -23,7 +23,8 @@ use Rattle.asn1_schema.specs.Distinct.{may_be_missing}
 use Rattle.asn1_schema.specs.Tags.{SelectsOne, HasTag}
 use Rattle.asn1_tree.specs.declared.shape.Shape.{Shape}
 use Rattle.asn1_tree.specs.declared.shape.Shape.TheVariants.{Components, Of, Items, SortedItems, Inner, Untyped, Nothing}
-use Rattle.asn1_tree.specs.Known.{Known, Follows, IsChosen, IsUnknown}
+use Rattle.asn1_tree.specs.Known.{Known, Follows, IsChosen, IsUnknown, IsUnknownOpen}
+use Rattle.asn1_tree.specs.Constraints.{IsAllowedSize, IsConstrained}
 use Rattle.asn1_tree.specs.Enclosed.{IsEnclosed}
 use Rattle.asn1_contents.specs.Contents.{IsContents}
 
@@ -51,8 +52,14 @@ AreItems sorted rules IsItem before (suc n) octets =
     (x : List ℕ) × (rest : List ℕ) × (octets ≡ x ++ rest) × IsItem x × IsInOrder rules sorted before x
     × AreItems sorted rules IsItem x n rest
 
-abbrev pub SomeItems : Bool → EncodingRules → (List ℕ → Type 0) → List ℕ → Type 0
-SomeItems sorted rules IsItem octets = (n : ℕ) × AreItems sorted rules IsItem [] n octets
+-- any number of elements, of which this is said
+abbrev pub SomeItems : Bool → EncodingRules → (List ℕ → Type 0) → (ℕ → Type 0) → List ℕ → Type 0
+SomeItems sorted rules IsItem IsCount octets =
+    (n : ℕ) × AreItems sorted rules IsItem [] n octets × IsCount n
+
+-- all numbers of elements
+abbrev pub IsAnyCount : ℕ → Type 0
+IsAnyCount n = Unit {0}
 
 -- a value is not that of a DEFAULT, under DER (11.5)
 abbrev pub IsNoDefault : EncodingRules → Table → Field → List ℕ → Type 0
@@ -113,7 +120,7 @@ IsPrimitive rules (Some u) inner = (allows (form_of u) false ≡ true) × IsCont
 abbrev pub IsUnknownType : EncodingRules → Elements → Option Universal → Bool → List ℕ → Type 0
 IsUnknownType rules Item u false inner = IsPrimitive rules u inner
 IsUnknownType rules Item u true inner =
-    MayBeConstructed u × SomeItems false rules (Item rules) inner
+    MayBeConstructed u × SomeItems false rules (Item rules) IsAnyCount inner
 
 -- an element of any type
 abbrev pub IsElementOfAny : EncodingRules → Elements → List ℕ → Type 0
@@ -125,16 +132,39 @@ unfoldable pub IsAny : ℕ → EncodingRules → List ℕ → Type 0
 IsAny zero rules x = ⊥
 IsAny (suc d) rules x = IsElementOfAny rules (IsAny d) x
 
+-- a string with a constraint CONTAINING is the encoding of a value (X.682 11); of an open type that
+-- the table does not know, any octets
+pub data Contains (rules : EncodingRules) (t : Table) (Child : Values) (known : Known) (i : ℕ) (inner : List ℕ) : Type 0 where
+  typed : Child rules known i inner → Contains rules t Child known i inner
+  untyped : IsUnknownOpen t known i → Contains rules t Child known i inner
+
+-- the node of the value in it
+abbrev pub contained_in : Universal → Node → Option ℕ
+contained_in OctetString n = n.inner
+contained_in u n = None
+
+abbrev pub IsContained : EncodingRules → Table → Values → Known → Option ℕ → List ℕ → Type 0
+IsContained rules t Child known None inner = Unit {0}
+IsContained rules t Child known (Some i) inner = Contains rules t Child known i inner
+
+-- a primitive encoding keeps the constraints of a node
+abbrev pub AreBounded : Bool → EncodingRules → Table → Values → Known → Node → Universal → List ℕ → Type 0
+AreBounded true rules t Child known n u inner = Unit {0}
+AreBounded false rules t Child known n u inner =
+    IsConstrained rules t n u inner
+    × IsContained rules t Child known (contained_in u n) inner
+
 -- the contents of an element whose tag is that of a node of a shape
 abbrev pub AreContents : Shape → EncodingRules → Table → Values → Elements → Known → Node → Header → List ℕ → Type 0
 AreContents Components rules t Child Item known n h inner =
     (h.constructed ≡ true) × AreComponents Child rules t n.parts.count n.parts.start None inner
 AreContents (Of u) rules t Child Item known n h inner =
     IsUnknownType rules Item (Some u) h.constructed inner
+    × AreBounded h.constructed rules t Child known n u inner
 AreContents Items rules t Child Item known n h inner =
-    (h.constructed ≡ true) × ((i : ℕ) × (n.inner ≡ Some i) × SomeItems false rules (Child rules known i) inner)
+    (h.constructed ≡ true) × ((i : ℕ) × (n.inner ≡ Some i) × SomeItems false rules (Child rules known i) (IsAllowedSize t n.limits) inner)
 AreContents SortedItems rules t Child Item known n h inner =
-    (h.constructed ≡ true) × ((i : ℕ) × (n.inner ≡ Some i) × SomeItems true rules (Child rules known i) inner)
+    (h.constructed ≡ true) × ((i : ℕ) × (n.inner ≡ Some i) × SomeItems true rules (Child rules known i) (IsAllowedSize t n.limits) inner)
 AreContents Inner rules t Child Item known n h inner =
     (h.constructed ≡ true) × ((i : ℕ) × (n.inner ≡ Some i) × Child rules known i inner)
 AreContents Untyped rules t Child Item known n h inner =

@@ -171,3 +171,16 @@ fn names_rule(names: u32, contents: &[u8]) -> Option<Rule>
         None => None,
     }
 }
+
+/// The constraint that a number of values breaks.
+pub(crate) fn count_rule(schema: &Schema<'_>, limits: Span, count: usize) -> Option<Rule>
+    requires { IsWithin limits schema.now.counts.limits }
+    ensures { (rules : EncodingRules) → (holds rules (verdict_of_option result) ≡ true)
+        ↔ IsAllowedSize (types_in schema.now.octets.now) limits count }
+{
+    if is_size_allowed(schema, limits, count) {
+        None
+    } else {
+        Some(Rule::Size)
+    }
+}

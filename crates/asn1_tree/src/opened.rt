@@ -12,6 +12,8 @@ use ber::{Header, Length, is_end_of_contents};
 #[derive(Clone, Copy)]
 pub(crate) struct Opened<'a> {
     pub inside: Place<'a>,
+    /// The offset of the element.
+    pub start: usize,
     /// Whether end-of-contents octets end them.
     pub marked: bool,
     /// The octets after the element, unless end-of-contents octets end it.
@@ -30,6 +32,7 @@ impl<'a> Opened<'a> {
     {
         Opened {
             inside: self.inside.at(rest),
+            start: self.start,
             marked: self.marked,
             beyond: self.beyond,
         }
@@ -67,12 +70,14 @@ pub(crate) fn after_header<'a>(header: Header, place: Place<'a>) -> Option<Opene
                     octets: &after[..length],
                     end: place.end - beyond.len(),
                 },
+                start: place.offset(),
                 marked: false,
                 beyond,
             })
         }
         Length::Indefinite => Some(Opened {
             inside: place.at(after),
+            start: place.offset(),
             marked: true,
             beyond: &[],
         }),

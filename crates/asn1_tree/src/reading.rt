@@ -38,6 +38,7 @@ pub fn read(alloc: Global, schema: &Schema<'_>, node: u32, octets: &[u8]) -> Res
     let outcome = value(&mut tree, schema, 64, None, node, role, place)?;
     let rest = Opened {
         inside: place.at(outcome.rest),
+        start: 0,
         marked: false,
         beyond: &[],
     };

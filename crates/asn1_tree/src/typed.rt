@@ -7,18 +7,21 @@ ghost use Rattle.asn1_tree.specs.Types.{types_in};
 ghost use Rattle.asn1_schema.specs.Node.{IsNode as IsRow};
 ghost use Rattle.asn1_schema.specs.Span.{IsWithin as IsRange};
 ghost use Rattle.asn1_schema.specs.declared.node.Node.{Node as ANode};
-ghost use Rattle.asn1_schema.specs.declared.node_kind.NodeKind.TheVariants.{Universal as Universally};
+ghost use Rattle.asn1_schema.specs.declared.node_kind.NodeKind.TheVariants.{Universal as Universally, Open};
 ghost use Rattle.ber.specs.declared.universal.Universal.TheVariants.{Sequence};
 ghost use Rattle.asn1_tree.specs.Verdict.{holds};
 ghost use Rattle.asn1_schema.specs.Tags.{Begins, HasTag};
 ghost use Rattle.asn1_schema.specs.Distinct.{AreDistinct};
 ghost use Rattle.asn1_tree.specs.Enclosed.{IsAllowed};
-ghost use Rattle.asn1_tree.specs.Known.{known_in};
-ghost use Rattle.asn1_tree.specs.Value.{IsValue, IsAny, IsNode, AreContents, AreComponents, SomeItems, shape_of};
+ghost use Rattle.asn1_tree.specs.Constraints.{IsAllowedSize, bound_of};
+ghost use Rattle.asn1_tree.specs.declared.bound.Bound.TheVariants.{Items};
+ghost use Rattle.asn1_tree.specs.Known.{IsUnknownOpen, known_in};
+ghost use Rattle.asn1_tree.specs.Value.{IsValue, IsAny, IsNode, AreContents, AreComponents, AreBounded, IsUnknownType, Contains, IsContained, SomeItems, contained_in, shape_of};
 ghost use Rattle.asn1_tree.specs.Reading.{Front, Body, Finds, Status, Logs};
 
 use crate::untyped::{any, finish, unknown_contents};
 use crate::chosen::chosen;
+use crate::constraints::{constraint_rule, count_rule};
 use crate::entry::Entry;
 use crate::known::{Known, known_after};
 use crate::opened::{Opened, after_header};
@@ -33,8 +36,8 @@ use crate::tests::{default_rule, may_be_absent};
 use crate::tree::Tree;
 use crate::verdict::Verdict;
 use crate::types::{field_of, node_of, select};
-use asn1_schema::{Node, Schema, Span};
-use ber::{Header, is_end_of_contents, read_header};
+use asn1_schema::{Node, NodeKind, Schema, Span};
+use ber::{Header, Universal, is_end_of_contents, read_header};
 use std::alloc::AllocError;
 
 // Reads the value of a node at the front.
@@ -171,7 +174,7 @@ fn contents<'a>(
 {
     let shape = Shape::of(node.kind);
     if shape.has_wrong_form(header.constructed) {
-        let verdict = tree.depart(Rule::Form, opened.inside.offset(), at)?;
+        let verdict = tree.depart(Rule::Form, opened.start, at)?;
         return Ok(Outcome {
             verdict,
             rest: opened.beyond,
@@ -179,22 +182,154 @@ fn contents<'a>(
     }
     match shape {
         Shape::Components => components(tree, schema, depth, node, at, opened),
-        Shape::Of(universal) => {
-            unknown_contents(tree, depth, Some(universal), header.constructed, at, opened)
-        }
-        Shape::Items => items(tree, schema, depth, known, inner_of(node), false, at, opened),
-        Shape::SortedItems => items(tree, schema, depth, known, inner_of(node), true, at, opened),
+        Shape::Of(universal) => of_type(tree, schema, depth, known, node, universal, at, header, opened),
+        Shape::Items => items(tree, schema, depth, known, node, false, at, opened),
+        Shape::SortedItems => items(tree, schema, depth, known, node, true, at, opened),
         Shape::Inner => explicit(tree, schema, depth, known, inner_of(node), at, opened),
         Shape::Untyped => {
             unknown_contents(tree, depth, header.universal(), header.constructed, at, opened)
         }
         Shape::Nothing => {
-            let verdict = tree.depart(Rule::Tag, opened.inside.offset(), at)?;
+            let verdict = tree.depart(Rule::Tag, opened.start, at)?;
             Ok(Outcome {
                 verdict,
                 rest: opened.beyond,
             })
         }
+    }
+}
+
+// Reads the contents of a universal type that has no components.
+#[cycle(typed)]
+fn of_type<'a>(
+    tree: &mut Tree,
+    schema: &Schema<'_>,
+    depth: usize,
+    known: Option<Known<'_>>,
+    node: Node,
+    universal: Universal,
+    at: usize,
+    header: Header,
+    opened: Opened<'a>,
+) -> Result<Outcome<'a>, AllocError>
+    requires fits { IsRow schema.now.counts schema.now.pool.now node }
+    requires names { bound_of universal ≡ Items → IsRange node.parts schema.now.counts.names }
+    requires distinct { AreDistinct (types_in schema.now.octets.now) }
+    requires form { header.constructed ≡ false → opened.marked ≡ false }
+    ensures finds { IfOk result (λ o. Finds (λ rules. Body opened.entry.marked opened.entry.beyond.now
+        (λ inner. IsUnknownType rules (IsAny depth) (Some universal) header.constructed inner
+        × AreBounded header.constructed rules (types_in schema.now.octets.now)
+        (IsValue (types_in schema.now.octets.now) depth) (known_in known.entry) node universal inner)
+        opened.entry.inside.octets.now) o.verdict o.rest.now) }
+    ensures shorter { IfOk result (λ o. length o.rest.now
+        ≤ length opened.entry.inside.octets.now + length opened.entry.beyond.now) }
+    ensures log { IfOk result (λ o. Logs o.verdict tree.old.departures.items tree.new.departures.items) }
+    ensures grows { OnOk result (vec_len tree.old.entries ≤ vec_len tree.new.entries) }
+{
+    let outcome = unknown_contents(tree, depth, Some(universal), header.constructed, at, opened)?;
+    if header.constructed {
+        return Ok(outcome);
+    }
+    let rule = constraint_rule(schema, node, universal, opened.inside.octets);
+    let kept = tree.judge(rule, opened.start, at)?;
+    let inner = contained_in(universal, node);
+    let value = contained(tree, schema, depth, known, inner, at, opened.inside)?;
+    Ok(Outcome {
+        verdict: outcome.verdict.and(kept.and(value)),
+        rest: outcome.rest,
+    })
+}
+
+// The node of the value in a string with a constraint CONTAINING.
+fn contained_in(universal: Universal, node: Node) -> Option<u32>
+    ensures { result ≡ contained_in universal node }
+{
+    match universal {
+        Universal::OctetString => node.inner,
+        _ => None,
+    }
+}
+
+// Reads the value in a string with a constraint CONTAINING, if it has one.
+#[cycle(typed)]
+fn contained<'a>(
+    tree: &mut Tree,
+    schema: &Schema<'_>,
+    depth: usize,
+    known: Option<Known<'_>>,
+    inner: Option<u32>,
+    at: usize,
+    place: Place<'a>,
+) -> Result<Verdict, AllocError>
+    requires there { (i : ℕ) → inner ≡ Some i → i < schema.now.counts.nodes }
+    requires distinct { AreDistinct (types_in schema.now.octets.now) }
+    ensures exact { IfOk result (λ v. (rules : EncodingRules) → (holds rules v ≡ true)
+        ↔ IsContained rules (types_in schema.now.octets.now)
+        (IsValue (types_in schema.now.octets.now) depth) (known_in known.entry) inner place.entry.octets.now) }
+    ensures log { IfOk result (λ v. Logs v tree.old.departures.items tree.new.departures.items) }
+    ensures grows { OnOk result (vec_len tree.old.entries ≤ vec_len tree.new.entries) }
+{
+    match inner {
+        Some(index) => contained_value(tree, schema, depth, known, index, at, place),
+        None => Ok(Verdict::Der),
+    }
+}
+
+// Reads the value of a node in a string.
+#[cycle(typed)]
+fn contained_value<'a>(
+    tree: &mut Tree,
+    schema: &Schema<'_>,
+    depth: usize,
+    known: Option<Known<'_>>,
+    index: u32,
+    at: usize,
+    place: Place<'a>,
+) -> Result<Verdict, AllocError>
+    requires there { index < schema.now.counts.nodes }
+    requires distinct { AreDistinct (types_in schema.now.octets.now) }
+    ensures exact { IfOk result (λ v. (rules : EncodingRules) → (holds rules v ≡ true)
+        ↔ Contains rules (types_in schema.now.octets.now)
+        (IsValue (types_in schema.now.octets.now) depth) (known_in known.entry) index place.entry.octets.now) }
+    ensures log { IfOk result (λ v. Logs v tree.old.departures.items tree.new.departures.items) }
+    ensures grows { OnOk result (vec_len tree.old.entries ≤ vec_len tree.new.entries) }
+{
+    if is_unknown(schema, index, known) {
+        return Ok(Verdict::Der);
+    }
+    let role = Role {
+        field: NO_INDEX,
+        parent: at,
+    };
+    let outcome = value(tree, schema, depth, known, index, role, place)?;
+    let rest = Opened {
+        inside: place.at(outcome.rest),
+        start: place.offset(),
+        marked: false,
+        beyond: &[],
+    };
+    let end = finish(tree, depth, at, rest)?;
+    Ok(outcome.verdict.and(end.verdict))
+}
+
+fn is_open(node: Node) -> bool
+    ensures { (result ≡ true) ↔ (node.kind ≡ Open) }
+{
+    node.kind == NodeKind::Open
+}
+
+// Whether a node is an open type of which the table does not know the type.
+fn is_unknown(schema: &Schema<'_>, index: u32, known: Option<Known<'_>>) -> bool
+    requires { index < schema.now.counts.nodes }
+    ensures { (result ≡ true) ↔ IsUnknownOpen (types_in schema.now.octets.now) (known_in known.entry) index }
+{
+    let node = node_of(schema, index);
+    if !is_open(node) {
+        return false;
+    }
+    match chosen(schema, &node, known) {
+        Some(_) => false,
+        None => true,
     }
 }
 
@@ -324,25 +459,28 @@ fn items<'a>(
     schema: &Schema<'_>,
     depth: usize,
     known: Option<Known<'_>>,
-    item: u32,
+    node: Node,
     sorted: bool,
     at: usize,
     opened: Opened<'a>,
 ) -> Result<Outcome<'a>, AllocError>
-    requires there { item < schema.now.counts.nodes }
+    requires inner { IsSome node.inner }
+    requires fits { IsRow schema.now.counts schema.now.pool.now node }
     requires distinct { AreDistinct (types_in schema.now.octets.now) }
     ensures finds { IfOk result (λ o. Finds (λ rules. Body opened.entry.marked opened.entry.beyond.now
-        (SomeItems sorted rules
-        (IsValue (types_in schema.now.octets.now) depth rules (known_in known.entry) item))
-        opened.entry.inside.octets.now) o.verdict o.rest.now) }
+        (λ inner. (i : ℕ) × (node.inner ≡ Some i) × SomeItems sorted rules
+        (IsValue (types_in schema.now.octets.now) depth rules (known_in known.entry) i)
+        (IsAllowedSize (types_in schema.now.octets.now) node.limits) inner) opened.entry.inside.octets.now) o.verdict o.rest.now) }
     ensures shorter { IfOk result (λ o. length o.rest.now
         ≤ length opened.entry.inside.octets.now + length opened.entry.beyond.now) }
     ensures log { IfOk result (λ o. Logs o.verdict tree.old.departures.items tree.new.departures.items) }
     ensures grows { OnOk result (vec_len tree.old.entries ≤ vec_len tree.new.entries) }
 {
     let role = Role { field: NO_INDEX, parent: at };
+    let item = inner_of(node);
     let mut verdict = Verdict::Der;
     let mut rest = opened.inside.octets;
+    let mut count = 0usize;
     let mut before: &[u8] = &[];
     'items: while !opened.at(rest).is_ended() {
         let place = opened.inside.at(rest);
@@ -352,10 +490,12 @@ fn items<'a>(
         verdict = verdict.and(outcome.verdict).and(order);
         rest = outcome.rest;
         before = octets;
+        count += 1;
     }
+    let size = tree.judge(count_rule(schema, node.limits, count), opened.start, at)?;
     let end = finish(tree, depth, at, opened.at(rest))?;
     Ok(Outcome {
-        verdict: verdict.and(end.verdict),
+        verdict: verdict.and(size.and(end.verdict)),
         rest: end.rest,
     })
 }

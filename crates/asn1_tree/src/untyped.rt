@@ -1,6 +1,6 @@
 //! The reader of values of any type.
 ghost use Rattle.std.specs.Prelude.{◌≡◌, ◌*◌, ◌+◌, ◌<◌, ◌≤◌, false, [], length, vec_len, IfOk, OnOk};
-ghost use Rattle.asn1_tree.specs.Value.{IsAny, IsUnknownType, SomeItems};
+ghost use Rattle.asn1_tree.specs.Value.{IsAny, IsAnyCount, IsUnknownType, SomeItems};
 ghost use Rattle.asn1_tree.specs.Reading.{Front, Body, Finds, Logs};
 
 use crate::tests::{form_rule, primitive_rule};
@@ -89,7 +89,7 @@ pub(crate) fn unknown_contents<'a>(
     ensures grows { OnOk result (vec_len tree.old.entries ≤ vec_len tree.new.entries) }
 {
     if constructed {
-        let verdict = tree.judge(form_rule(universal), opened.inside.offset(), at)?;
+        let verdict = tree.judge(form_rule(universal), opened.start, at)?;
         let outcome = elements(tree, depth, at, opened)?;
         return Ok(Outcome {
             verdict: verdict.and(outcome.verdict),
@@ -97,7 +97,7 @@ pub(crate) fn unknown_contents<'a>(
         });
     }
     let rule = primitive_rule(universal, opened.inside.octets);
-    let verdict = tree.judge(rule, opened.inside.offset(), at)?;
+    let verdict = tree.judge(rule, opened.start, at)?;
     Ok(Outcome {
         verdict,
         rest: opened.beyond,
@@ -113,7 +113,7 @@ fn elements<'a>(
     opened: Opened<'a>,
 ) -> Result<Outcome<'a>, AllocError>
     ensures finds { IfOk result (λ o. Finds (λ rules. Body opened.entry.marked opened.entry.beyond.now
-        (SomeItems false rules (IsAny depth rules)) opened.entry.inside.octets.now) o.verdict o.rest.now) }
+        (SomeItems false rules (IsAny depth rules) IsAnyCount) opened.entry.inside.octets.now) o.verdict o.rest.now) }
     ensures shorter { IfOk result (λ o. length o.rest.now
         ≤ length opened.entry.inside.octets.now + length opened.entry.beyond.now) }
     ensures log { IfOk result (λ o. Logs o.verdict tree.old.departures.items tree.new.departures.items) }

@@ -1,4 +1,4 @@
-use Rattle.std.proofs.Common.{rules, ◌≡◌, ◌≢◌, ◌*◌, ◌+◌, ◌-◌, ◌<◌, ◌≤◌, ◌∙◌, false, true, [], length, take, drop, sym, ap, subst, ℕ, suc, List, Some, None, slice_get, arith}
+use Rattle.std.proofs.Common.{rules, ◌≡◌, ◌≢◌, ◌↔◌, ◌*◌, ◌+◌, ◌-◌, ◌<◌, ◌≤◌, ◌∙◌, false, true, [], length, take, drop, refl, sym, ap, subst, ℕ, suc, List, Some, None, slice_get, arith}
 use Rattle.ber.specs.Element.{IsElement}
 use Rattle.ber.specs.Der.{type_of}
 use Rattle.ber.specs.Header.{IsNext, end_header, label_of_header}
@@ -7,20 +7,25 @@ use Rattle.ber.proofs.HeaderLemmas.{end_header_next}
 use Rattle.asn1_schema.specs.Tags.{HasTag, Begins}
 use Rattle.asn1_schema.specs.declared.node.Node.{Node}
 use Rattle.asn1_schema.specs.declared.field.Field.{Field}
+use Rattle.asn1_tree.specs.Constraints.{IsAllowedSize}
 use Rattle.asn1_tree.specs.Types.{types_in}
 use Rattle.asn1_tree.specs.Known.{known_in, Follows}
-use Rattle.asn1_tree.specs.Verdict.{worst}
-use Rattle.asn1_tree.specs.Value.{Values, MayBeAbsent, IsValue, IsAny, IsNode, AreContents, AreComponents, SomeItems, IsUnknownType, shape_of, is_constructed}
+use Rattle.asn1_tree.specs.Verdict.{holds, worst}
+use Rattle.asn1_tree.specs.Value.{Values, MayBeAbsent, IsValue, IsAny, IsNode, AreContents, AreComponents, SomeItems, IsUnknownType, AreBounded, IsContained, shape_of, is_constructed}
 use Rattle.asn1_tree.specs.Reading.{Front, Body, Finds, Status, Logs}
 use Rattle.asn1_tree.specs.declared.shape.Shape.{Shape}
 use Rattle.asn1_tree.specs.declared.shape.Shape.TheVariants.{Components, Of, Items, SortedItems, Inner, Untyped}
-use Rattle.asn1_tree.proofs.VerdictLemmas.{worst_neither, worst_assoc, logs_is, logs_then, logs_after}
+use Rattle.asn1_tree.proofs.VerdictLemmas.{logs_none, worst_neither, worst_assoc, logs_is, logs_then, logs_after}
 use Rattle.asn1_tree.proofs.FindsLemmas.{finds_is, finds_never, finds_at, finds_as, finds_and, finds_whole, body_at, status_is, status_then, status_ends}
 use Rattle.asn1_tree.proofs.EnclosedLemmas.{Elem, finds_element, no_element_cut, real_header, taken}
-use Rattle.asn1_tree.proofs.ItemLemmas.{items_end, item_found, inner_found, goes_on, has_ended}
+use Rattle.asn1_tree.proofs.ItemLemmas.{items_end, item_found, item_counted, items_begin, some_left, inner_found, goes_on, has_ended}
 use Rattle.asn1_tree.proofs.UntypedLemmas.{test_is}
+use Rattle.asn1_tree.proofs.WholeLemmas.{both_tests, finds_also, whole_found, exact_of, contains_value}
+use Rattle.asn1_tree.proofs.KindLemmas.{of_universal, of_items}
+use Rattle.asn1_tree.specs.declared.verdict.Verdict.{Verdict}
+use Rattle.der_base.specs.declared.encoding_rules.EncodingRules.{EncodingRules}
 use Rattle.asn1_tree.proofs.ComponentLemmas.{component_found, component_absent, component_missing, none_later, status_next, status_at}
-use Rattle.asn1_tree.proofs.ValueLemmas.{value_begins, finds_selected, finds_node, finds_chosen, no_value, no_value_at_end, no_value_of_tag, no_value_at_depth, no_node_cut, value_elements, identifier_element, component_finds, finds_given, finds_inner, finds_shape, if_ok}
+use Rattle.asn1_tree.proofs.ValueLemmas.{value_begins, finds_selected, finds_node, finds_chosen, no_value, no_value_at_end, no_value_of_tag, no_value_at_depth, no_node_cut, value_elements, identifier_element, component_finds, finds_given, finds_inner, finds_shape, finds_unbounded, finds_items, if_ok}
 use Rattle.asn1_tree.proofs.typed.+typed.Goals as goal
 
 pub value-returns-in-Err-clause-finds : goal.value-returns-in-Err-clause-finds
@@ -97,34 +102,34 @@ contents-returns-in-Components-clause-finds t c =
 pub contents-returns-in-Of-clause-finds : goal.contents-returns-in-Of-clause-finds
 contents-returns-in-Of-clause-finds t c =
     let shape : shape_of c.args.node.kind ≡ Of c.in-Of.universal = sym c.of-shape.ensures ∙ c.in-Of.is in
-    if_ok c.unknown_contents.result (λ o f. finds_shape (types_in c.args.schema.now.octets.now) (IsValue (types_in c.args.schema.now.octets.now) c.args.depth) (IsAny c.args.depth) (known_in c.args.known) c.args.node c.args.header c.args.opened.marked c.args.opened.beyond.now c.args.opened.inside.octets.now shape f) c.unknown_contents.ensures.finds
+    if_ok c.of_type.result (λ o f. finds_shape (types_in c.args.schema.now.octets.now) (IsValue (types_in c.args.schema.now.octets.now) c.args.depth) (IsAny c.args.depth) (known_in c.args.known) c.args.node c.args.header c.args.opened.marked c.args.opened.beyond.now c.args.opened.inside.octets.now shape f) c.of_type.ensures.finds
 
 pub contents-returns-in-Items-clause-finds : goal.contents-returns-in-Items-clause-finds
 contents-returns-in-Items-clause-finds t c =
     let shape : shape_of c.args.node.kind ≡ Items = sym c.of-shape.ensures ∙ c.in-Items.is in
     let on = c.has_wrong_form.ensures.right c.if-has_wrong_form.false (ap is_constructed c.in-Items.is) in
     if_ok c.items.result (λ o f. finds_shape (types_in c.args.schema.now.octets.now) (IsValue (types_in c.args.schema.now.octets.now) c.args.depth) (IsAny c.args.depth) (known_in c.args.known) c.args.node c.args.header c.args.opened.marked c.args.opened.beyond.now c.args.opened.inside.octets.now shape
-    (finds_inner (λ rules i. SomeItems false rules (IsValue (types_in c.args.schema.now.octets.now) c.args.depth rules (known_in c.args.known) i)) c.args.opened.marked c.args.opened.beyond.now c.args.opened.inside.octets.now c.args.node.inner c.inner_of.result on c.inner_of.ensures f)) c.items.ensures.finds
+    (finds_given c.args.opened.marked c.args.opened.beyond.now c.args.opened.inside.octets.now on f)) c.items.ensures.finds
 
 pub contents-returns-in-SortedItems-clause-finds : goal.contents-returns-in-SortedItems-clause-finds
 contents-returns-in-SortedItems-clause-finds t c =
     let shape : shape_of c.args.node.kind ≡ SortedItems = sym c.of-shape.ensures ∙ c.in-SortedItems.is in
     let on = c.has_wrong_form.ensures.right c.if-has_wrong_form.false (ap is_constructed c.in-SortedItems.is) in
     if_ok c.items-in-SortedItems.result (λ o f. finds_shape (types_in c.args.schema.now.octets.now) (IsValue (types_in c.args.schema.now.octets.now) c.args.depth) (IsAny c.args.depth) (known_in c.args.known) c.args.node c.args.header c.args.opened.marked c.args.opened.beyond.now c.args.opened.inside.octets.now shape
-    (finds_inner (λ rules i. SomeItems true rules (IsValue (types_in c.args.schema.now.octets.now) c.args.depth rules (known_in c.args.known) i)) c.args.opened.marked c.args.opened.beyond.now c.args.opened.inside.octets.now c.args.node.inner c.inner_of-in-SortedItems.result on c.inner_of-in-SortedItems.ensures f)) c.items-in-SortedItems.ensures.finds
+    (finds_given c.args.opened.marked c.args.opened.beyond.now c.args.opened.inside.octets.now on f)) c.items-in-SortedItems.ensures.finds
 
 pub contents-returns-in-Inner-clause-finds : goal.contents-returns-in-Inner-clause-finds
 contents-returns-in-Inner-clause-finds t c =
     let shape : shape_of c.args.node.kind ≡ Inner = sym c.of-shape.ensures ∙ c.in-Inner.is in
     let on = c.has_wrong_form.ensures.right c.if-has_wrong_form.false (ap is_constructed c.in-Inner.is) in
     if_ok c.explicit.result (λ o f. finds_shape (types_in c.args.schema.now.octets.now) (IsValue (types_in c.args.schema.now.octets.now) c.args.depth) (IsAny c.args.depth) (known_in c.args.known) c.args.node c.args.header c.args.opened.marked c.args.opened.beyond.now c.args.opened.inside.octets.now shape
-    (finds_inner (λ rules i. IsValue (types_in c.args.schema.now.octets.now) c.args.depth rules (known_in c.args.known) i) c.args.opened.marked c.args.opened.beyond.now c.args.opened.inside.octets.now c.args.node.inner c.inner_of-in-Inner.result on c.inner_of-in-Inner.ensures f)) c.explicit.ensures.finds
+    (finds_inner (λ rules i. IsValue (types_in c.args.schema.now.octets.now) c.args.depth rules (known_in c.args.known) i) c.args.opened.marked c.args.opened.beyond.now c.args.opened.inside.octets.now c.args.node.inner c.inner_of.result on c.inner_of.ensures f)) c.explicit.ensures.finds
 
 pub contents-returns-in-Untyped-clause-finds : goal.contents-returns-in-Untyped-clause-finds
 contents-returns-in-Untyped-clause-finds t c =
     let shape : shape_of c.args.node.kind ≡ Untyped = sym c.of-shape.ensures ∙ c.in-Untyped.is in
-    if_ok c.unknown_contents-in-Untyped.result (λ o f. finds_shape (types_in c.args.schema.now.octets.now) (IsValue (types_in c.args.schema.now.octets.now) c.args.depth) (IsAny c.args.depth) (known_in c.args.known) c.args.node c.args.header c.args.opened.marked c.args.opened.beyond.now c.args.opened.inside.octets.now shape
-    (subst (λ u. Finds (λ rules. Body c.args.opened.marked c.args.opened.beyond.now (IsUnknownType rules (IsAny c.args.depth) u c.args.header.constructed) c.args.opened.inside.octets.now) o.verdict o.rest.now) c.universal.ensures f)) c.unknown_contents-in-Untyped.ensures.finds
+    if_ok c.unknown_contents.result (λ o f. finds_shape (types_in c.args.schema.now.octets.now) (IsValue (types_in c.args.schema.now.octets.now) c.args.depth) (IsAny c.args.depth) (known_in c.args.known) c.args.node c.args.header c.args.opened.marked c.args.opened.beyond.now c.args.opened.inside.octets.now shape
+    (subst (λ u. Finds (λ rules. Body c.args.opened.marked c.args.opened.beyond.now (IsUnknownType rules (IsAny c.args.depth) u c.args.header.constructed) c.args.opened.inside.octets.now) o.verdict o.rest.now) c.universal.ensures f)) c.unknown_contents.ensures.finds
 
 pub component-returns-then-begins-clause-status : goal.component-returns-then-begins-clause-status
 component-returns-then-begins-clause-status t c =
@@ -199,29 +204,37 @@ items-items-preserved t c =
     let now = c.items.rest.now in
     let after = c.in_ok-outcome.outcome.rest.now in
     let here = take (length now - length after) now in
-    let finds = finds_at (λ rules. IsValue (types_in c.args.schema.now.octets.now) c.args.depth rules (known_in c.args.known) c.args.item) c.at-place.ensures.octets c.in_ok-outcome.ensures.finds in
+    let Count : ℕ → Type 0 = IsAllowedSize (types_in c.args.schema.now.octets.now) c.args.node.limits in
+    let Item : EncodingRules → List ℕ → Type 0 = λ rules. IsValue (types_in c.args.schema.now.octets.now) c.args.depth rules (known_in c.args.known) c.inner_of-item.result in
+    let finds = finds_at (λ rules. IsValue (types_in c.args.schema.now.octets.now) c.args.depth rules (known_in c.args.known) c.inner_of-item.result) c.at-place.ensures.octets c.in_ok-outcome.ensures.finds in
     let on = goes_on c.is_ended.result c.is_ended.ensures c.at.ensures.marked c.at.ensures.octets (search rules) in
     record {
       status = status_is (c.and-verdict.ensures ∙ ap (λ v. worst v c.in_ok-order.order) c.and.ensures ∙ worst_assoc c.items.verdict c.in_ok-outcome.outcome.verdict c.in_ok-order.order)
-          (status_then c.items.invariant.status (item_found c.args.sorted c.in_ok-order.order c.args.opened.marked c.args.opened.beyond.now c.items.before.now now after here on finds (λ x e. taken now x after e) (test_is c.in_ok-order.ensures.verdict c.order_rule.ensures)));
+          (status_then c.items.invariant.status (item_counted c.args.sorted Item Count c.items.count c.args.opened.marked c.args.opened.beyond.now c.items.before.now now after here
+          (item_found c.args.sorted (λ n. Count (c.items.count + n)) c.in_ok-order.order c.args.opened.marked c.args.opened.beyond.now c.items.before.now now after here on finds (λ x e. taken now x after e) (test_is c.in_ok-order.ensures.verdict c.order_rule.ensures))));
       log = logs_is (c.and-verdict.ensures ∙ ap (λ v. worst v c.in_ok-order.order) c.and.ensures) (logs_then (logs_then c.items.invariant.log c.in_ok-outcome.ensures.log) c.in_ok-order.ensures.log);
-      shorter = omega (arith, c.items.invariant.shorter, c.in_ok-outcome.ensures.shorter, ap length c.at-place.ensures.octets);
+      few = omega (arith, c.items.invariant.few, c.in_ok-outcome.ensures.moves (omega (arith, some_left c.args.opened.marked now on, ap length c.at-place.ensures.octets)), ap length c.at-place.ensures.octets);
       grows = omega (arith, c.items.invariant.grows, c.in_ok-outcome.ensures.grows, ap length c.in_ok-order.ensures.entries);
     }
 
 pub items-returns-clause-finds : goal.items-returns-clause-finds
 items-returns-clause-finds t c =
-    let m = c.args.opened.marked in
-    let b = c.args.opened.beyond.now in
     let now = c.items.rest.now in
+    let Count : ℕ → Type 0 = IsAllowedSize (types_in c.args.schema.now.octets.now) c.args.node.limits in
     let at = has_ended c.is_ended.result c.is_ended.ensures c.at.ensures.marked c.at.ensures.octets (search rules) in
     let end = body_at (λ rules inner. inner ≡ []) c.at-2.ensures.marked c.at-2.ensures.beyond c.at-2.ensures.octets c.in_ok-end.ensures.finds in
-    finds_is c.and-2.ensures (status_ends c.items.invariant.status
-    (finds_as (items_end c.args.sorted (λ rules. IsValue (types_in c.args.schema.now.octets.now) c.args.depth rules (known_in c.args.known) c.args.item) (value_elements (types_in c.args.schema.now.octets.now) c.args.depth (known_in c.args.known) c.args.item) m b c.items.before.now now at) end))
+    finds_items (λ rules i. SomeItems c.args.sorted rules (IsValue (types_in c.args.schema.now.octets.now) c.args.depth rules (known_in c.args.known) i) Count) c.args.opened.marked c.args.opened.beyond.now c.args.opened.inside.octets.now c.args.node.inner c.inner_of-item.result c.inner_of-item.ensures
+    (finds_is (c.and-3.ensures ∙ ap (λ v. worst c.items.verdict v) c.and-2.ensures) (status_ends c.items.invariant.status
+    (items_end c.args.sorted (λ rules. IsValue (types_in c.args.schema.now.octets.now) c.args.depth rules (known_in c.args.known) c.inner_of-item.result) (λ n. Count (c.items.count + n)) (value_elements (types_in c.args.schema.now.octets.now) c.args.depth (known_in c.args.known) c.inner_of-item.result) c.args.opened.marked c.args.opened.beyond.now c.items.before.now now at (count_test c.in_ok-size.ensures.verdict c.count_rule.ensures) end)))
+  where
+    count_test : {v w : Verdict} → v ≡ w → ((r : EncodingRules) → (holds r w ≡ true) ↔ IsAllowedSize (types_in c.args.schema.now.octets.now) c.args.node.limits c.items.count) → (r : EncodingRules) → (holds r v ≡ true) ↔ IsAllowedSize (types_in c.args.schema.now.octets.now) c.args.node.limits (c.items.count + 0)
+    count_test {v} {w} e test r =
+        let none : c.items.count ≡ c.items.count + 0 = omega arith in
+        subst (λ n. (holds r v ≡ true) ↔ IsAllowedSize (types_in c.args.schema.now.octets.now) c.args.node.limits n) none (subst (λ u. (holds r u ≡ true) ↔ IsAllowedSize (types_in c.args.schema.now.octets.now) c.args.node.limits c.items.count) (sym e) (test r))
 
 pub items-returns-clause-log : goal.items-returns-clause-log
 items-returns-clause-log t c =
-    logs_is c.and-2.ensures (logs_then c.items.invariant.log c.in_ok-end.ensures.log)
+    logs_is (c.and-3.ensures ∙ ap (λ v. worst c.items.verdict v) c.and-2.ensures) (logs_then c.items.invariant.log (logs_then c.in_ok-size.ensures.log c.in_ok-end.ensures.log))
 
 pub explicit-returns-clause-finds : goal.explicit-returns-clause-finds
 explicit-returns-clause-finds t c =
@@ -232,4 +245,40 @@ explicit-returns-clause-finds t c =
 
 pub explicit-returns-clause-log : goal.explicit-returns-clause-log
 explicit-returns-clause-log t c =
+    logs_is c.and.ensures (logs_then c.in_ok-outcome.ensures.log c.in_ok-end.ensures.log)
+
+pub of_type-returns-then-header-clause-finds : goal.of_type-returns-then-header-clause-finds
+of_type-returns-then-header-clause-finds t c =
+    finds_unbounded (types_in c.args.schema.now.octets.now) (IsValue (types_in c.args.schema.now.octets.now) c.args.depth) (known_in c.args.known) c.args.node c.args.universal (λ rules. IsUnknownType rules (IsAny c.args.depth) (Some c.args.universal) c.args.header.constructed) c.args.header.constructed c.args.opened.marked c.args.opened.beyond.now c.args.opened.inside.octets.now c.if-header.true c.in_ok-outcome.ensures.finds
+
+pub items-items-init : goal.items-items-init
+items-items-init t c =
+    let Count : ℕ → Type 0 = IsAllowedSize (types_in c.args.schema.now.octets.now) c.args.node.limits in
+    record {
+      status = items_begin c.args.sorted (λ rules. IsValue (types_in c.args.schema.now.octets.now) c.args.depth rules (known_in c.args.known) c.inner_of-item.result) Count c.args.opened.marked c.args.opened.beyond.now c.args.opened.inside.octets.now;
+      log = logs_none c.args.tree.now.departures.items;
+      few = omega arith;
+      grows = omega arith;
+    }
+
+pub of_type-returns-clause-finds : goal.of_type-returns-clause-finds
+of_type-returns-clause-finds t c =
+    let test = subst (λ o. (r : EncodingRules) → (holds r c.in_ok-value.value ≡ true) ↔ IsContained r (types_in c.args.schema.now.octets.now) (IsValue (types_in c.args.schema.now.octets.now) c.args.depth) (known_in c.args.known) o c.args.opened.inside.octets.now) c.contained_in-inner.ensures c.in_ok-value.ensures.exact in
+    let tests = both_tests (test_is c.in_ok-kept.ensures.verdict c.constraint_rule-rule.ensures) test in
+    finds_is (c.and-2.ensures ∙ ap (λ v. worst c.in_ok-outcome.outcome.verdict v) c.and.ensures)
+    (finds_also (λ rules. IsUnknownType rules (IsAny c.args.depth) (Some c.args.universal) c.args.header.constructed) (λ rules. AreBounded c.args.header.constructed rules (types_in c.args.schema.now.octets.now) (IsValue (types_in c.args.schema.now.octets.now) c.args.depth) (known_in c.args.known) c.args.node c.args.universal) c.args.opened.marked c.args.opened.beyond.now c.args.opened.inside.octets.now (c.requires.form c.if-header.false) c.in_ok-outcome.ensures.finds
+    (subst (λ k. (r : EncodingRules) → (holds r (worst c.in_ok-kept.kept c.in_ok-value.value) ≡ true) ↔ AreBounded k r (types_in c.args.schema.now.octets.now) (IsValue (types_in c.args.schema.now.octets.now) c.args.depth) (known_in c.args.known) c.args.node c.args.universal c.args.opened.inside.octets.now) (sym c.if-header.false) tests))
+
+pub of_type-returns-clause-log : goal.of_type-returns-clause-log
+of_type-returns-clause-log t c =
+    logs_is (c.and-2.ensures ∙ ap (λ v. worst c.in_ok-outcome.outcome.verdict v) c.and.ensures) (logs_then c.in_ok-outcome.ensures.log (logs_then c.in_ok-kept.ensures.log c.in_ok-value.ensures.log))
+
+pub contained_value-returns-clause-exact : goal.contained_value-returns-clause-exact
+contained_value-returns-clause-exact t c =
+    let octets = c.args.place.octets.now in
+    contains_value (types_in c.args.schema.now.octets.now) (IsValue (types_in c.args.schema.now.octets.now) c.args.depth) (known_in c.args.known) c.args.index octets (λ is. let on : c.is_unknown.result ≡ true = c.is_unknown.ensures.1 is in let off = c.if-is_unknown.false in absurd (cc))
+    (exact_of (sym c.and.ensures) (whole_found octets c.in_ok-outcome.ensures.finds (body_at (λ rules inner. inner ≡ []) {b = []} {m = false} refl refl c.at.ensures.octets c.in_ok-end.ensures.finds)))
+
+pub contained_value-returns-clause-log : goal.contained_value-returns-clause-log
+contained_value-returns-clause-log t c =
     logs_is c.and.ensures (logs_then c.in_ok-outcome.ensures.log c.in_ok-end.ensures.log)

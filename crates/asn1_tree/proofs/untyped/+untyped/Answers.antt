@@ -1,9 +1,9 @@
 use Rattle.std.proofs.Common.{rules, ◌≡◌, ◌*◌, ◌+◌, ◌-◌, ◌<◌, ◌≤◌, ◌∙◌, false, true, [], length, take, drop, sym, ap, subst, ℕ, List, arith}
-use Rattle.asn1_tree.specs.Value.{IsAny, IsUnknownType, MayBeConstructed, SomeItems}
+use Rattle.asn1_tree.specs.Value.{IsAny, IsAnyCount, IsUnknownType, MayBeConstructed, SomeItems}
 use Rattle.asn1_tree.specs.Verdict.{worst}
 use Rattle.asn1_tree.specs.Reading.{Front, Body, Finds, Logs}
 use Rattle.ber.proofs.HeaderLemmas.{end_header_next}
-use Rattle.asn1_tree.proofs.VerdictLemmas.{worst_neither, logs_is, logs_then, logs_after}
+use Rattle.asn1_tree.proofs.VerdictLemmas.{kept, worst_neither, logs_is, logs_then, logs_after}
 use Rattle.asn1_tree.proofs.FindsLemmas.{finds_is, finds_never, finds_at, finds_as, finds_and, finds_whole, body_at, status_is, status_then, status_ends}
 use Rattle.asn1_tree.proofs.EnclosedLemmas.{finds_element, no_element_cut, real_header, taken}
 use Rattle.asn1_tree.proofs.ItemLemmas.{items_end, item_plain, goes_on, has_ended}
@@ -72,7 +72,7 @@ elements-returns-clause-finds t c =
     let at = has_ended c.is_ended.result c.is_ended.ensures c.at.ensures.marked c.at.ensures.octets (search rules) in
     let end = body_at (λ rules inner. inner ≡ []) c.at-2.ensures.marked c.at-2.ensures.beyond c.at-2.ensures.octets c.in_ok-end.ensures.finds in
     finds_is c.and.ensures (status_ends c.elements.invariant.status.1
-    (finds_as (items_end false (λ rules. IsAny c.args.depth rules) (any_elements c.args.depth) m b before now at) end))
+    (items_end false (λ rules. IsAny c.args.depth rules) IsAnyCount (any_elements c.args.depth) m b before now at (kept (λ r. tt)) end))
 
 pub elements-returns-clause-log : goal.elements-returns-clause-log
 elements-returns-clause-log t c =

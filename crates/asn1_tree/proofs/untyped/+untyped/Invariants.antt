@@ -1,6 +1,7 @@
 use Rattle.std.proofs.Common.{◌*◌, ◌+◌, ◌≤◌, ℕ, List, false, length, vec_len}
-use Rattle.asn1_tree.specs.Value.{IsAny, AreItems, SomeItems}
+use Rattle.asn1_tree.specs.Value.{IsAny, IsAnyCount, SomeItems}
 use Rattle.asn1_tree.specs.Reading.{Body, Status, Logs}
+use Rattle.asn1_tree.proofs.ItemLemmas.{Items}
 use Rattle.asn1_tree.proofs.untyped.+untyped.Given as goal
 
 abbrev pub decreases-any : goal.decreases-any
@@ -15,8 +16,8 @@ decreases-unknown_contents l = 3 * l.depth + 2
 abbrev pub invariant-elements-elements : goal.invariant-elements-elements
 invariant-elements-elements l = record {
   status : (before : List ℕ) × Status l.verdict
-      (λ rules. Body l.opened.marked l.opened.beyond.now (λ inner. (n : ℕ) × AreItems false rules (IsAny l.depth rules) before n inner) l.rest)
-      (λ rules. Body l.opened.marked l.opened.beyond.now (SomeItems false rules (IsAny l.depth rules)) l.opened.inside.octets.now);
+      (λ rules. Body l.opened.marked l.opened.beyond.now (Items false rules (IsAny l.depth rules) IsAnyCount before) l.rest)
+      (λ rules. Body l.opened.marked l.opened.beyond.now (SomeItems false rules (IsAny l.depth rules) IsAnyCount) l.opened.inside.octets.now);
   log : Logs l.verdict l.fn.tree.departures.items l.tree.departures.items;
   shorter : length l.rest ≤ length l.opened.inside.octets.now;
   grows : vec_len l.fn.tree.entries ≤ vec_len l.tree.entries;
