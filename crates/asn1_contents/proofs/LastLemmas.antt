@@ -1,5 +1,5 @@
 -- The last octet of a list.
-use Rattle.std.proofs.Common.{◌≡◌, ℕ, suc, ◌-◌, ◌%◌, ◌/◌, ◌^◌, ◌≤◌, nat_eq, nat_lt, List, [], ◌∷◌, length, slice_index_or, refl, ap, ◌∙◌, arith}
+use Rattle.std.proofs.Common.{◌≡◌, ℕ, suc, ◌-◌, ◌%◌, ◌≤◌, nat_eq, nat_lt, List, [], ◌∷◌, length, slice_index_or, refl, ap, ◌∙◌, arith}
 use Rattle.asn1_contents.specs.Real.{is_odd}
 use Rattle.asn1_contents.specs.Small.{ends_whole}
 

@@ -1,8 +1,8 @@
 -- Numbers in the bounds of a range.
 use Rattle.std.proofs.lemmas.Int.{ints}
-use Rattle.std.proofs.Common.{◌≡◌, ◌↔◌, ◌<◌, ◌^◌, FitsSigned, w64, arith, Bool, true, false, IsTrue, ℕ, ℤ, pos, negsuc, List, map, refl, sym, subst, ap, ◌∙◌, if◌then◌else◌}
+use Rattle.std.proofs.Common.{◌≡◌, ◌↔◌, ◌<◌, ◌^◌, FitsSigned, w64, arith, Bool, true, false, IsTrue, ℕ, ℤ, pos, negsuc, List, map, subst, ap, ◌∙◌, if◌then◌else◌}
 use Rattle.std.specs.Int.Digits.{number_from_digits}
-use Rattle.der_asn1.specs.Integer.{is_negative, magnitude, turned}
+use Rattle.der_asn1.specs.Integer.{is_negative, turned}
 use Rattle.asn1_contents.specs.Values.{integer_value, IsInRange}
 
 -- the value of contents, by their sign and magnitude

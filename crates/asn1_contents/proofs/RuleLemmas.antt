@@ -1,5 +1,5 @@
 -- Contents that keep the rules of a list, or break one: what the encoding rules say of them.
-use Rattle.std.proofs.Common.{◌≡◌, ℕ, ◌+◌, suc, zero, ◌<◌, Bool, true, false, not, Option, Some, None, IfNone, IfSome, IsTrue, ◌↔◌, List, [], ◌∷◌, ◌++◌, length, take, drop, get_or, refl, sym, subst, ap, ◌∙◌, ⊎_elim, if◌then◌else◌, add-one, drop-cons, arith}
+use Rattle.std.proofs.Common.{◌≡◌, ℕ, ◌+◌, suc, ◌<◌, Bool, true, false, not, Option, Some, None, IfNone, IfSome, IsTrue, ◌↔◌, List, [], ◌∷◌, ◌++◌, length, take, drop, get_or, refl, sym, subst, ap, ◌∙◌, ⊎_elim, if◌then◌else◌, drop-cons}
 use Rattle.std.proofs.lemmas.Bool.{cases_Bool}
 use Rattle.std.proofs.lemmas.List.{take-append-drop, take_more}
 use Rattle.ber.specs.declared.universal.Universal.{Universal}
@@ -7,7 +7,7 @@ use Rattle.ber.specs.declared.universal.Universal.TheVariants.{Boolean, Integer,
 use Rattle.der_base.specs.declared.encoding_rules.EncodingRules.{EncodingRules}
 use Rattle.der_base.specs.declared.encoding_rules.EncodingRules.TheVariants.{Ber, Der}
 use Rattle.asn1_contents.specs.Contents.{keeps, KeepsEach, KeepsAll, BreaksFirst, IsContents, Breaks}
-use Rattle.asn1_contents.specs.Rules.{is_of_der, has, allows, rules_of, named_bits_rules}
+use Rattle.asn1_contents.specs.Rules.{is_of_der, has, allows, rules_of}
 use Rattle.asn1_contents.specs.declared.contents_rule.ContentsRule.{ContentsRule}
 
 -- the rules of a list are those of the Distinguished Encoding Rules alone

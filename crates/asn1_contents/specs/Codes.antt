@@ -1,4 +1,4 @@
--- Contents octets of a UniversalString (X.690 8.23.8): `universal_form`.
+-- Contents octets of a UniversalString (X.690 8.23.7): `universal_form`.
 use Rattle.std.specs.Prelude.{ℕ, ◌==◌, ◌&&◌, not, Bool, true, false, nat_lt, List, [], ◌∷◌}
 use Rattle.std.specs.Prelude.{if◌then◌else◌}
 use Rattle.der_asn1.specs.Alphabets.{is_surrogate}

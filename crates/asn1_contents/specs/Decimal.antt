@@ -1,7 +1,7 @@
 -- REAL in decimal digits (X.690 8.5.8, 11.3.2; ISO 6093), after the first octet.
 use Rattle.std.specs.Prelude.{ℕ, ◌+◌, ◌-◌, ◌==◌, ◌&&◌, ◌||◌, not, Bool, true, false, nat_lt}
 use Rattle.std.specs.Prelude.{List, [], ◌∷◌, drop, length, if◌then◌else◌, slice_index_or}
-use Rattle.asn1_contents.specs.Digits.{is_digit, digit_count, after_digits, are_digits}
+use Rattle.asn1_contents.specs.Digits.{digit_count, after_digits, are_digits}
 use Rattle.asn1_contents.specs.Small.{has_octets}
 
 -- without the spaces at the front

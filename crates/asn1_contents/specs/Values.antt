@@ -1,5 +1,5 @@
 -- Values of contents octets that constraints are about: numbers and their bounds (X.680 51.4).
-use Rattle.std.specs.Prelude.{◌≡◌, ◌≢◌, ◌≤ℤ◌, ℤ, ℕ, pos, negsuc, List, if◌then◌else◌}
+use Rattle.std.specs.Prelude.{◌≢◌, ◌≤ℤ◌, ℤ, ℕ, pos, negsuc, List, if◌then◌else◌}
 use Rattle.der_asn1.specs.Integer.{is_negative, magnitude}
 
 -- the number that the contents of an INTEGER or ENUMERATED encode, in two's complement (X.690

@@ -1,6 +1,6 @@
 -- The ends of times (X.680 46, 47): the letter Z, or the difference from UTC.
 use Rattle.std.specs.Prelude.{ℕ, ◌+◌, ◌==◌, ◌&&◌, ◌||◌, not, Bool, false, nat_lt, nat_le}
-use Rattle.std.specs.Prelude.{List, [], ◌∷◌, length, slice_index_or}
+use Rattle.std.specs.Prelude.{List, [], ◌∷◌, length}
 use Rattle.asn1_contents.specs.Digits.{are_digits}
 use Rattle.asn1_contents.specs.Small.{has_octets}
 use Rattle.der_asn1.specs.Times.{two_at, days_of}

@@ -67,9 +67,9 @@ pub enum ContentsRule {
     /// A VisibleString has spaces and printing characters of 7 bits (X.680 41.1).
     VisibleCharacters,
     /// A UniversalString has whole characters of four octets, each at most 10FFFF and no surrogate
-    /// (8.23.8).
+    /// (8.23.7).
     UniversalCharacters,
-    /// A BMPString has whole characters of two octets, none of which is a surrogate (8.23.9).
+    /// A BMPString has whole characters of two octets, none of which is a surrogate (8.23.8).
     BmpCharacters,
     /// A UTCTime has the form `YYMMDDhhmm[ss](Z|+hhmm|-hhmm)` (X.680 47).
     UtcTimeForm,
@@ -123,8 +123,8 @@ pub enum ContentsRule {
 impl ContentsRule {
     ghost use Rattle.asn1_contents.specs.Rules.{is_of_der, section_of};
 
-    /// Whether the Basic Encoding Rules leave this to the sender: contents that break the rule, and
-    /// keep the rules of their type before it, are BER but not DER.
+    /// Whether a breach is still BER: only the Distinguished Encoding Rules have the rule. Contents
+    /// that break it, and keep the rules of their type before it, are BER but not DER.
     pub const fn is_ber(self) -> bool
         ensures { result ≡ is_of_der self }
     {
@@ -179,8 +179,8 @@ impl ContentsRule {
             ContentsRule::NumericCharacters => "X.680 41.2",
             ContentsRule::PrintableCharacters => "X.680 41.4",
             ContentsRule::Ia5Characters | ContentsRule::VisibleCharacters => "X.680 41.1",
-            ContentsRule::UniversalCharacters => "X.690 8.23.8",
-            ContentsRule::BmpCharacters => "X.690 8.23.9",
+            ContentsRule::UniversalCharacters => "X.690 8.23.7",
+            ContentsRule::BmpCharacters => "X.690 8.23.8",
             ContentsRule::UtcTimeForm | ContentsRule::UtcTimeExists => "X.680 47",
             ContentsRule::UtcTimeZone => "X.690 11.8.1",
             ContentsRule::UtcTimeSeconds => "X.690 11.8.2",

@@ -2,8 +2,13 @@
 //! that the Basic and the Distinguished Encoding Rules have for them, and the first one that is broken.
 //!
 //! [`broken_rule`] is for any type, [`named_bits_rule`] for a BIT STRING with named bits. A
-//! [`ContentsRule`] has its section, and says whether contents that break it are still BER. Nothing
-//! here allocates.
+//! [`ContentsRule`] has its section, and says whether contents that break it are still BER.
+//! [`is_in_range`], [`size_of`] and [`are_characters_in`] read what constraints are about. Nothing here
+//! allocates.
+//!
+//! Proved: the first broken rule is found exactly, so it is known which contents are DER, which are BER
+//! alone, and which are neither; and for each type that `der_asn1` reads, the contents that are DER are
+//! those that it reads.
 #![tactic(auto)]
 
 mod alphabet;

@@ -10,13 +10,14 @@ use Rattle.asn1_schema.specs.declared.node.Node.{Node}
 use Rattle.asn1_schema.specs.declared.node_kind.NodeKind.TheVariants.{Universal as Universally}
 use Rattle.asn1_schema.specs.declared.presence.Presence.{Presence}
 use Rattle.asn1_schema.specs.declared.presence.Presence.TheVariants.{Required, Optional, Default}
-use Rattle.asn1_tree.specs.Tags.{IsPart, IsFieldOf, Begins, ShareTag, AreApart, IsBegun, NoneBegins}
-use Rattle.asn1_tree.specs.Distinct.{is_required, may_lack, MayFollow, IsDistinct}
+use Rattle.asn1_schema.specs.Tags.{IsPart, IsFieldOf, Begins, ShareTag, AreApart}
+use Rattle.asn1_tree.specs.Tags.{IsBegun, NoneBegins}
+use Rattle.asn1_schema.specs.Distinct.{may_be_missing, MayFollow, IsDistinct}
 use Rattle.asn1_tree.specs.Verdict.{holds, worst}
 use Rattle.asn1_tree.specs.Enclosed.{IsEnclosed}
 use Rattle.asn1_tree.specs.Known.{Known, Follows}
 use Rattle.asn1_tree.specs.Opened.{IsEnded}
-use Rattle.asn1_tree.specs.Value.{Values, IsComponent, AreComponents}
+use Rattle.asn1_tree.specs.Value.{Values, IsComponent, MayBeAbsent, AreComponents}
 use Rattle.asn1_tree.specs.Reading.{Front, IsWithin, Body, Finds, Status}
 use Rattle.asn1_tree.specs.declared.verdict.Verdict.{Verdict}
 use Rattle.asn1_tree.specs.declared.verdict.Verdict.TheVariants.{Der, Neither}
@@ -45,7 +46,7 @@ none_there well i octets none rules known x r e child =
 pub component_found : (t : Table) (Child : Values) {w : Verdict} (m : Bool) (b octets rest : List ℕ) (n k : ℕ) (f : Field) (known after : Known)
     → slice_get t.fields k ≡ Some f → Finds (λ rules. Front (IsComponent Child rules t known f) octets) w rest
     → ((rules : EncodingRules) (x : List ℕ) → octets ≡ x ++ rest → IsComponent Child rules t known f x → Follows (slice_get t.nodes f.node) k x known after)
-    → (f.presence ≢ Required → (rules : EncodingRules) (r : List ℕ) → Body m b (AreComponents Child rules t n (suc k) known) octets r → ⊥)
+    → (MayBeAbsent f → (rules : EncodingRules) (r : List ℕ) → Body m b (AreComponents Child rules t n (suc k) known) octets r → ⊥)
     → Status w (λ rules. Body m b (AreComponents Child rules t n (suc k) after) rest) (λ rules. Body m b (AreComponents Child rules t (suc n) k known) octets)
 component_found t Child {w} m b octets rest n k f known after row finds follows never = record { good = good; bad = bad }
   where
@@ -65,7 +66,7 @@ component_found t Child {w} m b octets rest n k f known after row finds follows 
         let front = within_front m b octets x left r (subst (λ i. IsWithin m b octets i r) e within) in
         (x, front.0, front.1, subst (λ h. IsComponent Child rules t known h x) it comp, (later, subst (λ (h : Field). Follows (slice_get t.nodes h.node) k x known later) it fol, (left, front.2, comps)))
     step rules r (inner, within, (g, grow, inr (may, comps))) =
-        absurd (never (subst (λ (h : Field). h.presence ≢ Required) (same_field g grow) may) rules r (inner, within, comps))
+        absurd (never (subst MayBeAbsent (same_field g grow) may) rules r (inner, within, comps))
     good : (rules : EncodingRules) → holds rules w ≡ true → (r : List ℕ) → Rest rules r ↔ Whole rules r
     good rules on r = (forward, backward)
       where
@@ -92,7 +93,7 @@ component_found t Child {w} m b octets rest n k f known after row finds follows 
 absent_only : {t : Table} {Child : Values} → BeginWell t Child → (m : Bool) (b octets : List ℕ) (n k : ℕ) (f : Field) (known : Known)
     → slice_get t.fields k ≡ Some f → NoneBegins t f.node octets → (rules : EncodingRules) (r : List ℕ)
     → Body m b (AreComponents Child rules t (suc n) k known) octets r
-    → (f.presence ≢ Required) × Body m b (AreComponents Child rules t n (suc k) known) octets r
+    → (MayBeAbsent f) × Body m b (AreComponents Child rules t n (suc k) known) octets r
 absent_only {t} {Child} well m b octets n k f known row none rules r (inner, within, (g, grow, inl (x, left, later, e, comp, fol, comps))) =
     let both : Some g ≡ Some f = sym grow ∙ row in
     let it : g ≡ f = cc in
@@ -101,11 +102,11 @@ absent_only {t} {Child} well m b octets n k f known row none rules r (inner, wit
 absent_only {t} {Child} well m b octets n k f known row none rules r (inner, within, (g, grow, inr (may, comps))) =
     let both : Some g ≡ Some f = sym grow ∙ row in
     let it : g ≡ f = cc in
-    (subst (λ (h : Field). h.presence ≢ Required) it may, (inner, within, comps))
+    (subst MayBeAbsent it may, (inner, within, comps))
 
 -- it may be absent
 pub component_absent : {t : Table} {Child : Values} → BeginWell t Child → (m : Bool) (b octets : List ℕ) (n k : ℕ) (f : Field) (known : Known)
-    → slice_get t.fields k ≡ Some f → NoneBegins t f.node octets → f.presence ≢ Required
+    → slice_get t.fields k ≡ Some f → NoneBegins t f.node octets → MayBeAbsent f
     → Status Der (λ rules. Body m b (AreComponents Child rules t n (suc k) known) octets) (λ rules. Body m b (AreComponents Child rules t (suc n) k known) octets)
 component_absent well m b octets n k f known row none may = status_same (λ rules r. (
   (λ h. (h.0, h.1, (f, row, inr (may, h.2)))),
@@ -114,25 +115,17 @@ component_absent well m b octets n k f known row none may = status_same (λ rule
 
 -- or it is missing
 pub component_missing : {t : Table} {Child : Values} → BeginWell t Child → (m : Bool) (b octets rest : List ℕ) (n k : ℕ) (f : Field) (known after : Known)
-    → slice_get t.fields k ≡ Some f → NoneBegins t f.node octets → f.presence ≡ Required
+    → slice_get t.fields k ≡ Some f → NoneBegins t f.node octets → may_be_missing (Universally Sequence) f ≡ false
     → Status Neither (λ rules. Body m b (AreComponents Child rules t n (suc k) after) rest) (λ rules. Body m b (AreComponents Child rules t (suc n) k known) octets)
 component_missing well m b octets rest n k f known after row none must =
-    status_refused (λ rules r h. (absent_only well m b octets n k f known row none rules r h).0 must)
-
-not_required : (f g : Field) → f.presence ≢ Required → may_lack (Universally Sequence) f g ≡ true
-not_required f g may = other f.presence may
-  where
-    other : (p : Presence) → p ≢ Required → (not (is_required p) || (not (nat_eq f.addition 0) && nat_eq g.addition 0)) ≡ true
-    other Required never = absurd (never refl)
-    other Optional never = refl
-    other Default never = refl
+    status_refused (λ rules r h. let may = (absent_only well m b octets n k f known row none rules r h).0 in absurd (cc))
 
 -- after a field with which octets begin, no others can be there, if it may be absent
 pub none_later : {t : Table} {Child : Values} → BeginWell t Child → (node : Node) → node.kind ≡ Universally Sequence → ((k : ℕ) → IsDistinct t node k)
     → (m : Bool) (b octets : List ℕ) (h : Header) → IsNext h octets → h ≢ end_header
     → (j : ℕ) (f : Field) → IsFieldOf t node j f → Begins t f.node h.class h.number
     → (n k : ℕ) (known : Known) → j < k → k + n ≡ node.parts.start + node.parts.count
-    → ((l : ℕ) (g : Field) → j ≤ l → l < k → IsFieldOf t node l g → g.presence ≢ Required)
+    → ((l : ℕ) (g : Field) → j ≤ l → l < k → IsFieldOf t node l g → MayBeAbsent g)
     → (rules : EncodingRules) (r : List ℕ) → Body m b (AreComponents Child rules t n k known) octets r → ⊥
 none_later well node kind distinct m b octets h next real j f field begins zero k known before end lack rules r (inner, within, e) =
     pick (ends_here m b octets r (subst (λ i. IsWithin m b octets i r) e within))
@@ -149,19 +142,42 @@ none_later {t} {Child} well node kind distinct m b octets h next real j f field 
     let one : h ≡ there.0 = same_next front.0 next there.2 front.1 in
     let starts : Begins t g.node h.class h.number = subst (λ (i : Header). Begins t g.node i.class i.number) (sym one) there.3 in
     let part : IsFieldOf t node k g = record { part = (omega (arith, field.part), omega (arith, end)); row = grow } in
-    let lacks : (l : ℕ) (i : Field) → j ≤ l → l < k → IsFieldOf t node l i → may_lack node.kind i g ≡ true =
-        λ l i low high is. ap (λ q. may_lack q i g) kind ∙ not_required i g (lack l i low high is) in
-    distinct k j f g (record { earlier = field; later = part; before = before; lack = lacks })
+    let missing : (l : ℕ) (i : Field) → j ≤ l → l < k → IsFieldOf t node l i → may_be_missing node.kind i ≡ true =
+        λ l i low high is. ap (λ q. may_be_missing q i) kind ∙ lack l i low high is in
+    distinct k j f g (record { earlier = field; later = part; before = before; missing = missing })
     (record { class = h.class; number = h.number; first = begins; second = starts })
 none_later {t} {Child} well node kind distinct m b octets h next real j f field begins (suc n) k known before end lack rules r (inner, within, (g, grow, inr (may, comps))) =
     none_later well node kind distinct m b octets h next real j f field begins n (suc k) known (omega arith) (omega (arith, end)) lacks rules r (inner, within, comps)
   where
-    lacks : (l : ℕ) (i : Field) → j ≤ l → l < suc k → IsFieldOf t node l i → i.presence ≢ Required
+    lacks : (l : ℕ) (i : Field) → j ≤ l → l < suc k → IsFieldOf t node l i → MayBeAbsent i
     lacks l i low high is = ⊎_elim (λ less. lack l i low less is) (λ over. last (omega (arith, high, over))) (cases_lt l k)
       where
-        last : l ≡ k → i.presence ≢ Required
+        last : l ≡ k → MayBeAbsent i
         last at =
             let here : slice_get t.fields k ≡ Some i = subst (λ q. slice_get t.fields q ≡ Some i) at is.row in
             let both : Some i ≡ Some g = sym here ∙ grow in
             let it : i ≡ g = cc in
-            subst (λ (q : Field). q.presence ≢ Required) (sym it) may
+            subst MayBeAbsent (sym it) may
+
+-- the same of numbers of components and of indices that are sums
+pub status_next : (t : Table) (Child : Values) (m : Bool) (b octets rest : List ℕ) (n k : ℕ) (known after : Known) {v : Verdict}
+    → Status v (λ rules. Body m b (AreComponents Child rules t n (suc k) after) rest) (λ rules. Body m b (AreComponents Child rules t (suc n) k known) octets)
+    → Status v (λ rules. Body m b (AreComponents Child rules t n (k + 1) after) rest) (λ rules. Body m b (AreComponents Child rules t (n + 1) k known) octets)
+status_next t Child m b octets rest n k known after {v} s =
+    let e : suc k ≡ k + 1 = omega arith in
+    let f : suc n ≡ n + 1 = omega arith in
+    subst (λ i. Status v (λ rules. Body m b (AreComponents Child rules t n (k + 1) after) rest) (λ rules. Body m b (AreComponents Child rules t i k known) octets)) f
+    (subst (λ j. Status v (λ rules. Body m b (AreComponents Child rules t n j after) rest) (λ rules. Body m b (AreComponents Child rules t (suc n) k known) octets)) e s)
+
+-- the same at octets, at numbers and at indices that are equal
+pub status_at : (t : Table) (Child : Values) {m p : Bool} {b c octets others : List ℕ} {n o j k q l : ℕ} (left : ℕ) (rest : List ℕ) (known after : Known) {v : Verdict}
+    → m ≡ p → b ≡ c → octets ≡ others → n ≡ o → j ≡ k → q ≡ l
+    → Status v (λ rules. Body m b (AreComponents Child rules t left q after) rest) (λ rules. Body m b (AreComponents Child rules t n j known) octets)
+    → Status v (λ rules. Body p c (AreComponents Child rules t left l after) rest) (λ rules. Body p c (AreComponents Child rules t o k known) others)
+status_at t Child {m} {p} {b} {c} {octets} {others} {n} {o} {j} {k} {q} {l} left rest known after {v} e f g h i a s =
+    subst (λ x. Status v (λ rules. Body p c (AreComponents Child rules t left x after) rest) (λ rules. Body p c (AreComponents Child rules t o k known) others)) a
+    (subst (λ x. Status v (λ rules. Body p c (AreComponents Child rules t left q after) rest) (λ rules. Body p c (AreComponents Child rules t o x known) others)) i
+    (subst (λ x. Status v (λ rules. Body p c (AreComponents Child rules t left q after) rest) (λ rules. Body p c (AreComponents Child rules t x j known) others)) h
+    (subst (λ x. Status v (λ rules. Body p c (AreComponents Child rules t left q after) rest) (λ rules. Body p c (AreComponents Child rules t n j known) x)) g
+    (subst (λ x. Status v (λ rules. Body p x (AreComponents Child rules t left q after) rest) (λ rules. Body p x (AreComponents Child rules t n j known) octets)) f
+    (subst (λ x. Status v (λ rules. Body x b (AreComponents Child rules t left q after) rest) (λ rules. Body x b (AreComponents Child rules t n j known) octets)) e s)))))

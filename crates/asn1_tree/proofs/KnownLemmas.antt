@@ -12,3 +12,12 @@ one_follows {k = k} {x = x} (changed {inner = c} p e) (changed {inner = d} q f) 
 one_follows (changed p e) (same q) = absurd (q p)
 one_follows (same q) (changed p e) = absurd (q p)
 one_follows (same p) (same q) = refl
+
+-- the identifier that is known
+kept : Known → List ℕ
+kept None = []
+kept (Some k) = k.1
+
+pub same_identifier : {k l : ℕ} {a b : List ℕ} {known : Known} → known ≡ Some (k, a) → known ≡ Some (l, b) → a ≡ b
+unfolding kept
+same_identifier e f = ap kept (sym e ∙ f)

@@ -4,7 +4,9 @@ pub mod EnclosedLemmas
 pub mod ItemLemmas
 pub mod KnownLemmas
 pub mod ComponentLemmas
-pub mod StandLemmas
 pub mod UntypedLemmas
 pub mod ValueLemmas
 pub mod DefaultLemmas
+pub mod ChosenLemmas
+pub mod WholeLemmas
+pub mod SizeLemmas

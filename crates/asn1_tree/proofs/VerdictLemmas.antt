@@ -73,3 +73,10 @@ logs_is e s = record { added = s.added; split = s.split; verdict = e ∙ s.verdi
 
 pub logs_after : {v : Verdict} {a b c : List Departure} → b ≡ a → Logs v b c → Logs v a c
 logs_after e s = record { added = s.added; split = s.split ∙ ap (λ l. l ++ s.added) e; verdict = s.verdict }
+
+-- a rule that is kept, and one that is broken under all rules
+pub kept : {P : EncodingRules → Type 0} → ((r : EncodingRules) → P r) → (r : EncodingRules) → (holds r Der ≡ true) ↔ P r
+kept is r = ((λ on. is r), (λ p. holds_der r))
+
+pub broken : {P : EncodingRules → Type 0} → ((r : EncodingRules) → P r → ⊥) → (r : EncodingRules) → (holds r Neither ≡ true) ↔ P r
+broken never r = ((λ on. let off = holds_neither r in absurd (cc)), (λ p. absurd (never r p)))

@@ -5,12 +5,11 @@ use Rattle.ber.specs.Element.{IsElement}
 use Rattle.ber.specs.declared.header.Header.{Header}
 use Rattle.ber.specs.declared.universal.Universal.TheVariants.{ObjectIdentifier}
 use Rattle.asn1_schema.specs.Table.{Table}
-use Rattle.asn1_schema.specs.Pool.{octets_of}
+use Rattle.asn1_schema.specs.Chosen.{ChoosesRow}
 use Rattle.asn1_schema.specs.declared.node.Node.{Node}
 use Rattle.asn1_schema.specs.declared.node_kind.NodeKind.{NodeKind}
 use Rattle.asn1_schema.specs.declared.node_kind.NodeKind.TheVariants.{Universal}
 use Rattle.asn1_schema.specs.declared.open_type.OpenType.{OpenType}
-use Rattle.asn1_tree.specs.Tags.{IsPart}
 use Rattle.asn1_tree.specs.declared.known.Known.{Known as Stored}
 
 abbrev pub Known : Type 0
@@ -31,17 +30,15 @@ pub data Follows (node : Option Node) (field : ℕ) (octets : List ℕ) (before 
       → Follows node field octets before (Some (field, inner))
   same : (IsIdentifier node → ⊥) → Follows node field octets before before
 
--- an open type is the node of the row of the table that has this identifier (X.681 14, X.682 10)
+-- the OBJECT IDENTIFIER is the one that chooses an open type, and chooses this node for it
+-- (X.681 14, X.682 10)
 pub record IsChosen (t : Table) (n : Node) (known : Known) (chosen : ℕ) : Type 0 where
   pub identifier : List ℕ
   pub by : known ≡ Some (n.chooser, identifier)
-  pub index : ℕ
-  pub part : IsPart n.parts index
   pub type : OpenType
-  pub row : slice_get t.opens index ≡ Some type
-  pub same : octets_of t.pool type.identifier ≡ identifier
+  pub row : ChoosesRow t n.parts identifier type
   pub node : chosen ≡ type.node
 
--- the table does not know it
+-- the table does not know the type
 abbrev pub IsUnknown : Table → Node → Known → Type 0
 IsUnknown t n known = (m : ℕ) → IsChosen t n known m → ⊥

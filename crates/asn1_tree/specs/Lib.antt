@@ -3,9 +3,9 @@ pub mod Rule
 pub mod Enclosed
 pub mod Types
 pub mod Tags
-pub mod Distinct
 pub mod Known
-pub mod Contents
 pub mod Opened
+pub mod Constraints
 pub mod Value
 pub mod Reading
+pub mod Departures

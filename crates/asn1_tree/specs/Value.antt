@@ -18,11 +18,14 @@ use Rattle.asn1_schema.specs.declared.field.Field.{Field}
 use Rattle.asn1_schema.specs.declared.node.Node.{Node}
 use Rattle.asn1_schema.specs.declared.node_kind.NodeKind.{NodeKind}
 use Rattle.asn1_schema.specs.declared.node_kind.NodeKind.TheVariants.{Universal as Universally, SequenceOf, SetOf, Choice, Explicit, Any, Open}
-use Rattle.asn1_schema.specs.declared.presence.Presence.TheVariants.{Required, Default}
-use Rattle.asn1_tree.specs.Tags.{SelectsOne, HasTag}
+use Rattle.asn1_schema.specs.declared.presence.Presence.TheVariants.{Default}
+use Rattle.asn1_schema.specs.Distinct.{may_be_missing}
+use Rattle.asn1_schema.specs.Tags.{SelectsOne, HasTag}
+use Rattle.asn1_tree.specs.declared.shape.Shape.{Shape}
+use Rattle.asn1_tree.specs.declared.shape.Shape.TheVariants.{Components, Of, Items, SortedItems, Inner, Untyped, Nothing}
 use Rattle.asn1_tree.specs.Known.{Known, Follows, IsChosen, IsUnknown}
 use Rattle.asn1_tree.specs.Enclosed.{IsEnclosed}
-use Rattle.asn1_tree.specs.Contents.{IsContents}
+use Rattle.asn1_contents.specs.Contents.{IsContents}
 
 -- what is said of the encodings of values of nodes, after an OBJECT IDENTIFIER; and of those of any type
 abbrev pub Values : Type 1
@@ -60,8 +63,12 @@ IsNoDefault rules t f x =
 abbrev pub IsComponent : Values → EncodingRules → Table → Known → Field → List ℕ → Type 0
 IsComponent Child rules t known f x = Child rules known f.node x × IsNoDefault rules t f x
 
--- so many components from a field on, in order, of which those that are OPTIONAL or have a DEFAULT
--- may be absent (8.9.2, 8.9.3)
+-- a component of a SEQUENCE that may be absent
+abbrev pub MayBeAbsent : Field → Type 0
+MayBeAbsent f = may_be_missing (Universally Sequence) f ≡ true
+
+-- so many components from a field on, in order, of which those that are OPTIONAL, have a DEFAULT or
+-- are extension additions may be absent (8.9.2, 8.9.3)
 abbrev pub AreComponents : Values → EncodingRules → Table → ℕ → ℕ → Known → List ℕ → Type 0
 AreComponents Child rules t zero k known octets = octets ≡ []
 AreComponents Child rules t (suc n) k known octets =
@@ -69,23 +76,33 @@ AreComponents Child rules t (suc n) k known octets =
     × (((x : List ℕ) × (rest : List ℕ) × (after : Known) × (octets ≡ x ++ rest)
     × IsComponent Child rules t known f x × Follows (slice_get t.nodes f.node) k x known after
     × AreComponents Child rules t n (suc k) after rest)
-    ⊎ ((f.presence ≢ Required) × AreComponents Child rules t n (suc k) known octets))
+    ⊎ (MayBeAbsent f × AreComponents Child rules t n (suc k) known octets))
 
 -- a universal type that may be constructed under DER
 abbrev pub MayBeConstructed : Option Universal → Type 0
 MayBeConstructed None = Unit {0}
 MayBeConstructed (Some u) = form_of u ≡ Constructed
 
--- kinds whose values are constructed, whatever their tag is
-abbrev pub is_constructed_kind : NodeKind → Bool
-is_constructed_kind (Universally Sequence) = true
-is_constructed_kind (Universally _) = false
-is_constructed_kind SequenceOf = true
-is_constructed_kind SetOf = true
-is_constructed_kind Explicit = true
-is_constructed_kind Choice = false
-is_constructed_kind Any = false
-is_constructed_kind Open = false
+-- what the contents of a value of a kind are
+abbrev pub shape_of : NodeKind → Shape
+shape_of (Universally Sequence) = Components
+shape_of (Universally u) = Of u
+shape_of SequenceOf = Items
+shape_of SetOf = SortedItems
+shape_of Explicit = Inner
+shape_of Choice = Nothing
+shape_of Any = Untyped
+shape_of Open = Untyped
+
+-- contents that are constructed, whatever the tag is
+abbrev pub is_constructed : Shape → Bool
+is_constructed Components = true
+is_constructed (Of u) = false
+is_constructed Items = true
+is_constructed SortedItems = true
+is_constructed Inner = true
+is_constructed Untyped = false
+is_constructed Nothing = false
 
 -- contents of a primitive encoding of a universal type, or of one that is none
 abbrev pub IsPrimitive : EncodingRules → Option Universal → List ℕ → Type 0
@@ -108,29 +125,29 @@ unfoldable pub IsAny : ℕ → EncodingRules → List ℕ → Type 0
 IsAny zero rules x = ⊥
 IsAny (suc d) rules x = IsElementOfAny rules (IsAny d) x
 
--- the contents of an element whose tag is that of a node
-abbrev pub AreContents : NodeKind → EncodingRules → Table → Values → Elements → Known → Node → Header → List ℕ → Type 0
-AreContents (Universally Sequence) rules t Child Item known n h inner =
+-- the contents of an element whose tag is that of a node of a shape
+abbrev pub AreContents : Shape → EncodingRules → Table → Values → Elements → Known → Node → Header → List ℕ → Type 0
+AreContents Components rules t Child Item known n h inner =
     (h.constructed ≡ true) × AreComponents Child rules t n.parts.count n.parts.start None inner
-AreContents (Universally u) rules t Child Item known n h inner =
+AreContents (Of u) rules t Child Item known n h inner =
     IsUnknownType rules Item (Some u) h.constructed inner
-AreContents SequenceOf rules t Child Item known n h inner =
+AreContents Items rules t Child Item known n h inner =
     (h.constructed ≡ true) × ((i : ℕ) × (n.inner ≡ Some i) × SomeItems false rules (Child rules known i) inner)
-AreContents SetOf rules t Child Item known n h inner =
+AreContents SortedItems rules t Child Item known n h inner =
     (h.constructed ≡ true) × ((i : ℕ) × (n.inner ≡ Some i) × SomeItems true rules (Child rules known i) inner)
-AreContents Explicit rules t Child Item known n h inner =
+AreContents Inner rules t Child Item known n h inner =
     (h.constructed ≡ true) × ((i : ℕ) × (n.inner ≡ Some i) × Child rules known i inner)
-AreContents Any rules t Child Item known n h inner =
+AreContents Untyped rules t Child Item known n h inner =
     IsUnknownType rules Item (type_of (label_of_header h)) h.constructed inner
-AreContents Open rules t Child Item known n h inner =
-    IsUnknown t n known × IsUnknownType rules Item (type_of (label_of_header h)) h.constructed inner
-AreContents Choice rules t Child Item known n h inner = ⊥
+AreContents Nothing rules t Child Item known n h inner = ⊥
 
 -- a value of a node that is no CHOICE: an element with its tag, or the value of the open type that
 -- the OBJECT IDENTIFIER chooses
 pub data IsNode (rules : EncodingRules) (t : Table) (Child : Values) (Item : Elements) (known : Known) (n : Node) (x : List ℕ) : Type 0 where
   element : (h : Header) (inner : List ℕ) → IsEnclosed rules h inner x → HasTag n h.class h.number
-      → AreContents n.kind rules t Child Item known n h inner → IsNode rules t Child Item known n x
+      → (n.kind ≡ Open → IsUnknown t n known)
+      → AreContents (shape_of n.kind) rules t Child Item known n h inner
+      → IsNode rules t Child Item known n x
   chosen : (m : ℕ) → n.kind ≡ Open → IsChosen t n known m → Child rules known m x
       → IsNode rules t Child Item known n x
 

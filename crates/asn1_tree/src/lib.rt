@@ -1,8 +1,9 @@
 //! Values of any type of ASN.1, read by a table of types, by DER and by BER.
 #![tactic(auto)]
 
+mod bound;
 mod chosen;
-mod contents;
+mod constraints;
 mod departure;
 mod entry;
 mod known;
@@ -15,6 +16,7 @@ mod reading;
 mod role;
 mod rule;
 mod select;
+mod shape;
 mod tests;
 mod tree;
 mod typed;

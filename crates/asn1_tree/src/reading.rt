@@ -2,7 +2,6 @@
 ghost use Rattle.std.specs.Prelude.{◌≡◌, ◌↔◌, ◌<◌, true, None, [], IfOk};
 ghost use Rattle.der_base.specs.declared.encoding_rules.EncodingRules.{EncodingRules};
 ghost use Rattle.asn1_tree.specs.Types.{types_in};
-ghost use Rattle.asn1_tree.specs.Distinct.{AreDistinct};
 ghost use Rattle.asn1_tree.specs.Verdict.{holds};
 ghost use Rattle.asn1_tree.specs.Value.{IsValue};
 ghost use Rattle.asn1_tree.specs.Reading.{verdict_of};
@@ -17,9 +16,9 @@ use asn1_schema::Schema;
 use std::alloc::{AllocError, Global};
 
 /// Reads octets as a value of a node of the table.
+#[tactic(auto, unfolding(crate::specs::Types::types_in))]
 pub fn read(alloc: Global, schema: &Schema<'_>, node: u32, octets: &[u8]) -> Result<Tree, AllocError>
-    requires there { node < schema.now.counts.nodes }
-    requires distinct { AreDistinct (types_in schema.now.octets.now) }
+    requires { node < schema.now.counts.nodes }
     ensures exact { IfOk result (λ tree. (rules : EncodingRules)
         → (holds rules (verdict_of tree.departures.items) ≡ true)
         ↔ IsValue (types_in schema.now.octets.now) 64 rules None node octets.now) }

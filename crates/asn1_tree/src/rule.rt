@@ -1,8 +1,9 @@
 //! Rules.
 ghost use Rattle.std.specs.Prelude.{◌≡◌};
-ghost use Rattle.asn1_tree.specs.Rule.{verdict_of_rule};
+ghost use Rattle.asn1_tree.specs.Rule.{verdict_of_rule, verdict_of_contents};
 
 use crate::verdict::Verdict;
+use asn1_contents::ContentsRule;
 
 /// A rule that octets break.
 #[derive(Debug, Clone, Copy, PartialEq, Eq)]
@@ -15,8 +16,6 @@ pub enum Rule {
     SetOrder,
     /// The value of a DEFAULT is encoded (11.5).
     DefaultEncoded,
-    /// A BOOLEAN is neither 00 nor FF (11.1).
-    BooleanValue,
     /// There is no header (8.1.2, 8.1.3).
     Header,
     /// The contents of an element are cut off (8.1.4).
@@ -27,14 +26,20 @@ pub enum Rule {
     Unended,
     /// The encoding is primitive where the type is constructed, or the other way round (8.2 to 8.26).
     Form,
-    /// Contents break a rule of their type.
-    Contents,
+    /// Contents of a primitive encoding break a rule of their type.
+    Contents(ContentsRule),
     /// The tag is none of the type (X.680 31).
     Tag,
     /// A component is missing (X.680 25).
     Missing,
     /// An element follows the last component, or the value.
     Unexpected,
+    /// A number is in none of the value ranges (X.680 51.4).
+    ValueRange,
+    /// A size is none of the sizes (51.5).
+    Size,
+    /// The number of an ENUMERATED is none of its items (20).
+    Unlisted,
     /// Elements are nested more than 64 deep.
     Depth,
 }
@@ -49,8 +54,18 @@ impl Rule {
             Rule::IndefiniteLength => Verdict::Ber,
             Rule::SetOrder => Verdict::Ber,
             Rule::DefaultEncoded => Verdict::Ber,
-            Rule::BooleanValue => Verdict::Ber,
+            Rule::Contents(rule) => contents_verdict(rule),
             _ => Verdict::Neither,
         }
+    }
+}
+
+fn contents_verdict(rule: ContentsRule) -> Verdict
+    ensures { result ≡ verdict_of_contents rule }
+{
+    if rule.is_ber() {
+        Verdict::Ber
+    } else {
+        Verdict::Neither
     }
 }

@@ -3,14 +3,17 @@ ghost use Rattle.std.specs.Prelude.{◌≡◌, ◌↔◌, true};
 ghost use Rattle.der_base.specs.declared.encoding_rules.EncodingRules.{EncodingRules};
 ghost use Rattle.asn1_tree.specs.Types.{types_in};
 ghost use Rattle.asn1_schema.specs.Field.{IsField};
+ghost use Rattle.asn1_schema.specs.Distinct.{may_be_missing};
+ghost use Rattle.asn1_schema.specs.declared.node_kind.NodeKind.TheVariants.{Universal as Universally};
+ghost use Rattle.ber.specs.declared.universal.Universal.TheVariants.{Sequence};
 ghost use Rattle.asn1_tree.specs.Verdict.{holds};
 ghost use Rattle.asn1_tree.specs.Rule.{verdict_of_option};
 ghost use Rattle.asn1_tree.specs.Value.{IsNoDefault, MayBeConstructed, IsPrimitive};
 
-use crate::contents::broken_rule;
 use crate::rule::Rule;
 use crate::types::default_of;
 use asn1_schema::{Field, Presence, Schema};
+use asn1_contents::broken_rule;
 use ber::{Form, Universal};
 
 /// The rule that a component breaks if it has the value of its DEFAULT.
@@ -59,11 +62,24 @@ pub(crate) fn primitive_rule(universal: Option<Universal>, contents: &[u8]) -> O
     match universal {
         Some(universal) => {
             if universal.form().allows(false) {
-                broken_rule(universal, contents)
+                match broken_rule(universal, contents) {
+                    Some(rule) => Some(Rule::Contents(rule)),
+                    None => None,
+                }
             } else {
                 Some(Rule::Form)
             }
         }
         None => None,
+    }
+}
+
+/// Whether a component of a SEQUENCE may be absent.
+pub(crate) fn may_be_absent(field: Field) -> bool
+    ensures { result ≡ may_be_missing (Universally Sequence) field }
+{
+    match field.presence {
+        Presence::Required => field.addition != 0,
+        _ => true,
     }
 }

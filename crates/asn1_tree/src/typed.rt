@@ -7,14 +7,14 @@ ghost use Rattle.asn1_tree.specs.Types.{types_in};
 ghost use Rattle.asn1_schema.specs.Node.{IsNode as IsRow};
 ghost use Rattle.asn1_schema.specs.Span.{IsWithin as IsRange};
 ghost use Rattle.asn1_schema.specs.declared.node.Node.{Node as ANode};
-ghost use Rattle.asn1_schema.specs.declared.node_kind.NodeKind.TheVariants.{Universal as Universally, Open};
+ghost use Rattle.asn1_schema.specs.declared.node_kind.NodeKind.TheVariants.{Universal as Universally};
 ghost use Rattle.ber.specs.declared.universal.Universal.TheVariants.{Sequence};
 ghost use Rattle.asn1_tree.specs.Verdict.{holds};
-ghost use Rattle.asn1_tree.specs.Tags.{Begins, HasTag};
-ghost use Rattle.asn1_tree.specs.Distinct.{AreDistinct};
+ghost use Rattle.asn1_schema.specs.Tags.{Begins, HasTag};
+ghost use Rattle.asn1_schema.specs.Distinct.{AreDistinct};
 ghost use Rattle.asn1_tree.specs.Enclosed.{IsAllowed};
-ghost use Rattle.asn1_tree.specs.Known.{known_in, IsUnknown};
-ghost use Rattle.asn1_tree.specs.Value.{IsValue, IsAny, IsNode, AreContents, AreComponents, SomeItems, is_constructed_kind};
+ghost use Rattle.asn1_tree.specs.Known.{known_in};
+ghost use Rattle.asn1_tree.specs.Value.{IsValue, IsAny, IsNode, AreContents, AreComponents, SomeItems, shape_of};
 ghost use Rattle.asn1_tree.specs.Reading.{Front, Body, Finds, Status, Logs};
 
 use crate::untyped::{any, finish, unknown_contents};
@@ -27,13 +27,14 @@ use crate::outcome::{Outcome, Step};
 use crate::place::Place;
 use crate::role::{NO_INDEX, Role};
 use crate::rule::Rule;
-use crate::select::{begins, select};
-use crate::tests::default_rule;
+use crate::select::begins;
+use crate::shape::Shape;
+use crate::tests::{default_rule, may_be_absent};
 use crate::tree::Tree;
 use crate::verdict::Verdict;
-use crate::types::{field_of, node_of};
-use asn1_schema::{Node, NodeKind, Presence, Schema};
-use ber::{Header, Universal, is_end_of_contents, read_header};
+use crate::types::{field_of, node_of, select};
+use asn1_schema::{Node, Schema, Span};
+use ber::{Header, is_end_of_contents, read_header};
 use std::alloc::AllocError;
 
 // Reads the value of a node at the front.
@@ -118,11 +119,7 @@ fn selected_value<'a>(
     ensures grows { OnOk result (vec_len tree.old.entries ≤ vec_len tree.new.entries) }
 {
     let node = node_of(schema, index);
-    let inner = match node.kind {
-        NodeKind::Open => chosen(schema, &node, known),
-        _ => None,
-    };
-    match inner {
+    match chosen(schema, &node, known) {
         Some(inner) => value(tree, schema, depth, known, inner, role, place),
         None => {
             let at = tree.enter(Entry::new(header, place, role, index))?;
@@ -162,10 +159,9 @@ fn contents<'a>(
     requires fits { IsRow schema.now.counts schema.now.pool.now node }
     requires distinct { AreDistinct (types_in schema.now.octets.now) }
     requires row { (i : ℕ) × (slice_get (types_in schema.now.octets.now).nodes i ≡ Some node) }
-    requires known { node.kind ≡ Open → IsUnknown (types_in schema.now.octets.now) node (known_in known) }
     requires form { header.constructed ≡ false → opened.marked ≡ false }
     ensures finds { IfOk result (λ o. Finds (λ rules. Body opened.entry.marked opened.entry.beyond.now
-        (AreContents node.kind rules (types_in schema.now.octets.now)
+        (AreContents (shape_of node.kind) rules (types_in schema.now.octets.now)
         (IsValue (types_in schema.now.octets.now) depth) (IsAny depth) (known_in known.entry) node header)
         opened.entry.inside.octets.now) o.verdict o.rest.now) }
     ensures shorter { IfOk result (λ o. length o.rest.now
@@ -173,24 +169,32 @@ fn contents<'a>(
     ensures log { IfOk result (λ o. Logs o.verdict tree.old.departures.items tree.new.departures.items) }
     ensures grows { OnOk result (vec_len tree.old.entries ≤ vec_len tree.new.entries) }
 {
-    if is_constructed(node.kind) && !header.constructed {
+    let shape = Shape::of(node.kind);
+    if shape.has_wrong_form(header.constructed) {
         let verdict = tree.depart(Rule::Form, opened.inside.offset(), at)?;
         return Ok(Outcome {
             verdict,
             rest: opened.beyond,
         });
     }
-    match node.kind {
-        NodeKind::Universal(Universal::Sequence) => {
-            components(tree, schema, depth, node, at, opened)
-        }
-        NodeKind::Universal(universal) => {
+    match shape {
+        Shape::Components => components(tree, schema, depth, node, at, opened),
+        Shape::Of(universal) => {
             unknown_contents(tree, depth, Some(universal), header.constructed, at, opened)
         }
-        NodeKind::SequenceOf => items(tree, schema, depth, known, inner_of(node), false, at, opened),
-        NodeKind::SetOf => items(tree, schema, depth, known, inner_of(node), true, at, opened),
-        NodeKind::Explicit => explicit(tree, schema, depth, known, inner_of(node), at, opened),
-        _ => unknown_contents(tree, depth, header.universal(), header.constructed, at, opened),
+        Shape::Items => items(tree, schema, depth, known, inner_of(node), false, at, opened),
+        Shape::SortedItems => items(tree, schema, depth, known, inner_of(node), true, at, opened),
+        Shape::Inner => explicit(tree, schema, depth, known, inner_of(node), at, opened),
+        Shape::Untyped => {
+            unknown_contents(tree, depth, header.universal(), header.constructed, at, opened)
+        }
+        Shape::Nothing => {
+            let verdict = tree.depart(Rule::Tag, opened.inside.offset(), at)?;
+            Ok(Outcome {
+                verdict,
+                rest: opened.beyond,
+            })
+        }
     }
 }
 
@@ -200,19 +204,6 @@ fn inner_of(node: Node) -> u32
     ensures { node.inner ≡ Some result }
 {
     node.inner.unwrap_or(0)
-}
-
-// Whether values of a kind are constructed, whatever their tag is.
-fn is_constructed(kind: NodeKind) -> bool
-    ensures { result ≡ is_constructed_kind kind }
-{
-    matches!(
-        kind,
-        NodeKind::Universal(Universal::Sequence)
-            | NodeKind::SequenceOf
-            | NodeKind::SetOf
-            | NodeKind::Explicit
-    )
 }
 
 // Reads the components of a SEQUENCE.
@@ -243,7 +234,7 @@ fn components<'a>(
     let mut known = None;
     let mut left = node.parts.count;
     'fields: while left > 0 {
-        let field = node.parts.start + (node.parts.count - left);
+        let field = index_of(node.parts, node.parts.count - left, schema.counts().fields);
         left -= 1;
         let step = component(tree, schema, depth, known, node, field, left, at, opened.at(rest))?;
         verdict = verdict.and(step.verdict);
@@ -255,6 +246,14 @@ fn components<'a>(
         verdict: verdict.and(end.verdict),
         rest: end.rest,
     })
+}
+
+// The index of a row of a range, which is one of so many rows.
+fn index_of(span: Span, index: u32, rows: u32) -> u32
+    requires { span.start + index < rows }
+    ensures { result ≡ span.start + index }
+{
+    span.start + index
 }
 
 // Reads the component of a field, if it is there. So many fields follow it.
@@ -303,7 +302,7 @@ fn component<'a>(
             known: known_after(schema, field.node, index, octets, known),
         });
     }
-    if field.presence != Presence::Required {
+    if may_be_absent(field) {
         return Ok(Step {
             verdict: Verdict::Der,
             rest: place.octets,

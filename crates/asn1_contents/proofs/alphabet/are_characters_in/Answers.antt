@@ -1,4 +1,3 @@
-use Rattle.std.proofs.Common.{refl}
 use Rattle.std.proofs.lemmas.Str.{is_utf8-from_IsUtf8}
 use Rattle.der.proofs.OctetLemmas.{is_utf8_false}
 use Rattle.asn1_contents.proofs.alphabet.are_characters_in.Goals as goal

@@ -1,4 +1,4 @@
-use Rattle.std.proofs.Common.{◌≡◌, sym, ◌∙◌}
+use Rattle.std.proofs.Common.{sym, ◌∙◌}
 use Rattle.asn1_contents.proofs.RuleLemmas.{more_kept, breaks_here}
 use Rattle.asn1_contents.specs.declared.contents_rule.ContentsRule.TheVariants.{BooleanLength}
 use Rattle.asn1_contents.proofs.broken.first_broken.Goals as goal

@@ -1,6 +1,6 @@
 use Rattle.std.proofs.Common.{refl}
-use Rattle.asn1_contents.proofs.RuleLemmas.{is_allowed, rules_in_order}
-use Rattle.asn1_contents.specs.Rules.{rules_of, named_bits_rules}
+use Rattle.asn1_contents.proofs.RuleLemmas.{is_allowed}
+use Rattle.asn1_contents.specs.Rules.{named_bits_rules}
 use Rattle.asn1_contents.proofs.broken.named_bits_rule.Goals as goal
 
 pub returns-clause-allowed : goal.returns-clause-allowed

@@ -1,4 +1,4 @@
-use Rattle.std.proofs.Common.{refl, arith}
+use Rattle.std.proofs.Common.{arith}
 use Rattle.asn1_contents.proofs.SizeLemmas.{length_of_two, length_of_four}
 use Rattle.asn1_contents.proofs.size.size_of.Goals as goal
 

@@ -1,4 +1,4 @@
-use Rattle.std.proofs.Common.{◌≡◌, ◌∙◌, ◌++◌, List, [], sym, ap, subst, append-nil, slice_get, Some, ℕ}
+use Rattle.std.proofs.Common.{◌≡◌, ◌∙◌, ◌++◌, List, [], sym, ap, subst, append-nil, slice_get, Some, ℕ, true}
 use Rattle.ber.specs.Element.{IsElement}
 use Rattle.ber.proofs.ElementLemmas.{one_element}
 use Rattle.asn1_tree.specs.Known.{IsIdentifier, Follows, changed, same}
@@ -21,10 +21,5 @@ returns-in-Err c el =
     absurd (c.in-Err.ensures.none e.0 e.1 octets [] e.2 (sym (append-nil octets)))
 
 pub returns : goal.returns
-returns c el = same never
-  where
-    never : IsIdentifier _ → ⊥
-    never id =
-        let on : c.is_identifier.result ≡ true = c.is_identifier.ensures.1 (subst IsIdentifier c.node_of.ensures.value id) in
-        let off = c.if-is_identifier.false in
-        absurd (cc)
+returns c el =
+    same (λ id. let on : c.is_identifier.result ≡ true = c.is_identifier.ensures.1 (subst IsIdentifier c.node_of.ensures.value id) in let off = c.if-is_identifier.false in absurd (cc))

@@ -3,7 +3,7 @@ use Rattle.ber.specs.Header.{IsNext, end_header}
 use Rattle.ber.specs.declared.header.Header.{Header}
 use Rattle.ber.proofs.HeaderLemmas.{end_header_next}
 use Rattle.ber.proofs.GrammarLemmas.{one_header}
-use Rattle.asn1_tree.specs.Tags.{Begins}
+use Rattle.asn1_schema.specs.Tags.{Begins}
 use Rattle.asn1_tree.specs.Types.{types_in}
 use Rattle.asn1_tree.proofs.select.begins.Goals as goal
 

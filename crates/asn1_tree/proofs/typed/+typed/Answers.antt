@@ -1,0 +1,235 @@
+use Rattle.std.proofs.Common.{rules, ◌≡◌, ◌≢◌, ◌*◌, ◌+◌, ◌-◌, ◌<◌, ◌≤◌, ◌∙◌, false, true, [], length, take, drop, sym, ap, subst, ℕ, suc, List, Some, None, slice_get, arith}
+use Rattle.ber.specs.Element.{IsElement}
+use Rattle.ber.specs.Der.{type_of}
+use Rattle.ber.specs.Header.{IsNext, end_header, label_of_header}
+use Rattle.ber.specs.declared.header.Header.{Header}
+use Rattle.ber.proofs.HeaderLemmas.{end_header_next}
+use Rattle.asn1_schema.specs.Tags.{HasTag, Begins}
+use Rattle.asn1_schema.specs.declared.node.Node.{Node}
+use Rattle.asn1_schema.specs.declared.field.Field.{Field}
+use Rattle.asn1_tree.specs.Types.{types_in}
+use Rattle.asn1_tree.specs.Known.{known_in, Follows}
+use Rattle.asn1_tree.specs.Verdict.{worst}
+use Rattle.asn1_tree.specs.Value.{Values, MayBeAbsent, IsValue, IsAny, IsNode, AreContents, AreComponents, SomeItems, IsUnknownType, shape_of, is_constructed}
+use Rattle.asn1_tree.specs.Reading.{Front, Body, Finds, Status, Logs}
+use Rattle.asn1_tree.specs.declared.shape.Shape.{Shape}
+use Rattle.asn1_tree.specs.declared.shape.Shape.TheVariants.{Components, Of, Items, SortedItems, Inner, Untyped}
+use Rattle.asn1_tree.proofs.VerdictLemmas.{worst_neither, worst_assoc, logs_is, logs_then, logs_after}
+use Rattle.asn1_tree.proofs.FindsLemmas.{finds_is, finds_never, finds_at, finds_as, finds_and, finds_whole, body_at, status_is, status_then, status_ends}
+use Rattle.asn1_tree.proofs.EnclosedLemmas.{Elem, finds_element, no_element_cut, real_header, taken}
+use Rattle.asn1_tree.proofs.ItemLemmas.{items_end, item_found, inner_found, goes_on, has_ended}
+use Rattle.asn1_tree.proofs.UntypedLemmas.{test_is}
+use Rattle.asn1_tree.proofs.ComponentLemmas.{component_found, component_absent, component_missing, none_later, status_next, status_at}
+use Rattle.asn1_tree.proofs.ValueLemmas.{value_begins, finds_selected, finds_node, finds_chosen, no_value, no_value_at_end, no_value_of_tag, no_value_at_depth, no_node_cut, value_elements, identifier_element, component_finds, finds_given, finds_inner, finds_shape, if_ok}
+use Rattle.asn1_tree.proofs.typed.+typed.Goals as goal
+
+pub value-returns-in-Err-clause-finds : goal.value-returns-in-Err-clause-finds
+value-returns-in-Err-clause-finds t c =
+    finds_never c.in_ok-verdict-in-Err.ensures.verdict (no_value (types_in c.args.schema.now.octets.now) c.args.depth (known_in c.args.known) c.args.node c.in-Err.ensures.none)
+
+pub value-returns-then-is_end_of_contents-clause-finds :
+    goal.value-returns-then-is_end_of_contents-clause-finds
+value-returns-then-is_end_of_contents-clause-finds t c =
+    finds_never c.in_ok-verdict.ensures.verdict
+    (no_value_at_end (types_in c.args.schema.now.octets.now) c.args.depth (known_in c.args.known) c.args.node ((end_header_next c.args.place.octets.now).0 (c.is_end_of_contents.ensures.0 c.if-is_end_of_contents.true)))
+
+pub value-returns-then-depth-eq0-clause-finds : goal.value-returns-then-depth-eq0-clause-finds
+value-returns-then-depth-eq0-clause-finds t c =
+    finds_never c.in_ok-verdict-2.ensures.verdict
+    (no_value_at_depth (types_in c.args.schema.now.octets.now) c.args.depth (known_in c.args.known) c.args.node c.if-depth-eq0.true)
+
+pub value-returns-in-Some-clause-finds : goal.value-returns-in-Some-clause-finds
+value-returns-in-Some-clause-finds t c =
+    if_ok c.selected_value.result (λ o f. finds_selected c.args.depth (known_in c.args.known) c.args.node c.in-Some.selected.node (omega (arith, c.if-depth-eq0.false)) c.requires.distinct c.in-Ok.ensures.found c.in-Some.ensures.found f) c.selected_value.ensures.finds
+
+pub value-returns-in_ok-outcome-in-None-clause-finds :
+    goal.value-returns-in_ok-outcome-in-None-clause-finds
+value-returns-in_ok-outcome-in-None-clause-finds t c =
+    finds_never (c.and.ensures ∙ ap (λ v. worst v c.in_ok-outcome-in-None.outcome.verdict) c.in_ok-verdict-in-None.ensures.verdict)
+    (no_value_of_tag (types_in c.args.schema.now.octets.now) c.args.depth (known_in c.args.known) c.args.node c.in-Ok.ensures.found c.in-None.ensures.none)
+
+pub value-returns-in_ok-outcome-in-None-clause-log :
+    goal.value-returns-in_ok-outcome-in-None-clause-log
+value-returns-in_ok-outcome-in-None-clause-log t c =
+    logs_is c.and.ensures (logs_then c.in_ok-verdict-in-None.ensures.log c.in_ok-outcome-in-None.ensures.log)
+
+pub selected_value-returns-in-Some-clause-finds : goal.selected_value-returns-in-Some-clause-finds
+selected_value-returns-in-Some-clause-finds t c =
+    if_ok c.value.result (λ o f n row.
+    let both : Some c.node_of-node.result ≡ Some n = sym c.node_of-node.ensures.value ∙ row in
+    let it : c.node_of-node.result ≡ n = cc in
+    subst (λ q. Finds (λ rules. Front (IsNode rules (types_in c.args.schema.now.octets.now) (IsValue (types_in c.args.schema.now.octets.now) c.args.depth) (IsAny c.args.depth) (known_in c.args.known) q) c.args.place.octets.now) o.verdict o.rest.now) it
+    (finds_chosen (known_in c.args.known) c.node_of-node.result c.in-Some.inner c.in-Some.ensures.kind c.in-Some.ensures.found c.in-Some.ensures.single f)) c.value.ensures.finds
+
+pub selected_value-returns-in_ok-outcome-in-Some-after_header-clause-finds :
+    goal.selected_value-returns-in_ok-outcome-in-Some-after_header-clause-finds
+selected_value-returns-in_ok-outcome-in-Some-after_header-clause-finds t c n row =
+    let both : Some c.node_of-node.result ≡ Some n = sym c.node_of-node.ensures.value ∙ row in
+    let it : c.node_of-node.result ≡ n = cc in
+    finds_is c.and.ensures
+    (subst (λ q. Finds (λ rules. Front (IsNode rules (types_in c.args.schema.now.octets.now) (IsValue (types_in c.args.schema.now.octets.now) c.args.depth) (IsAny c.args.depth) (known_in c.args.known) q) c.args.place.octets.now) (worst c.in_ok-allowed-in-None.allowed c.in_ok-outcome-in-Some-after_header.outcome.verdict) c.in_ok-outcome-in-Some-after_header.outcome.rest.now) it
+    (finds_node (known_in c.args.known) c.node_of-node.result c.args.header c.requires.next (c.requires.tagged c.node_of-node.result c.node_of-node.ensures.value) c.in-None.ensures.none
+    (finds_element c.in_ok-allowed-in-None.allowed c.in-Some-after_header.ensures.some c.requires.real c.in_ok-allowed-in-None.ensures.verdict c.in_ok-outcome-in-Some-after_header.ensures.finds)))
+
+pub selected_value-returns-in_ok-outcome-in-Some-after_header-clause-log :
+    goal.selected_value-returns-in_ok-outcome-in-Some-after_header-clause-log
+selected_value-returns-in_ok-outcome-in-Some-after_header-clause-log t c =
+    logs_is c.and.ensures (logs_after c.in_ok-at-in-None.ensures.log (logs_then c.in_ok-allowed-in-None.ensures.log c.in_ok-outcome-in-Some-after_header.ensures.log))
+
+pub selected_value-returns-in_ok-cut-in-None-after_header-clause-finds :
+    goal.selected_value-returns-in_ok-cut-in-None-after_header-clause-finds
+selected_value-returns-in_ok-cut-in-None-after_header-clause-finds t c n row =
+    finds_never (c.and-in-None-after_header.ensures ∙ ap (λ v. worst c.in_ok-allowed-in-None.allowed v) c.in_ok-cut-in-None-after_header.ensures.verdict ∙ worst_neither c.in_ok-allowed-in-None.allowed)
+    (no_node_cut (types_in c.args.schema.now.octets.now) c.args.depth (known_in c.args.known) n c.in-None-after_header.ensures.none.0 c.requires.next c.in-None-after_header.ensures.none.1 c.in-None-after_header.ensures.none.2)
+
+pub selected_value-returns-in_ok-cut-in-None-after_header-clause-log :
+    goal.selected_value-returns-in_ok-cut-in-None-after_header-clause-log
+selected_value-returns-in_ok-cut-in-None-after_header-clause-log t c =
+    logs_is c.and-in-None-after_header.ensures (logs_after c.in_ok-at-in-None.ensures.log (logs_then c.in_ok-allowed-in-None.ensures.log c.in_ok-cut-in-None-after_header.ensures.log))
+
+pub contents-returns-in-Components-clause-finds : goal.contents-returns-in-Components-clause-finds
+contents-returns-in-Components-clause-finds t c =
+    let shape : shape_of c.args.node.kind ≡ Components = sym c.of-shape.ensures ∙ c.in-Components.is in
+    let on = c.has_wrong_form.ensures.right c.if-has_wrong_form.false (ap is_constructed c.in-Components.is) in
+    if_ok c.components.result (λ o f. finds_shape (types_in c.args.schema.now.octets.now) (IsValue (types_in c.args.schema.now.octets.now) c.args.depth) (IsAny c.args.depth) (known_in c.args.known) c.args.node c.args.header c.args.opened.marked c.args.opened.beyond.now c.args.opened.inside.octets.now shape
+    (finds_given c.args.opened.marked c.args.opened.beyond.now c.args.opened.inside.octets.now on f)) c.components.ensures.finds
+
+pub contents-returns-in-Of-clause-finds : goal.contents-returns-in-Of-clause-finds
+contents-returns-in-Of-clause-finds t c =
+    let shape : shape_of c.args.node.kind ≡ Of c.in-Of.universal = sym c.of-shape.ensures ∙ c.in-Of.is in
+    if_ok c.unknown_contents.result (λ o f. finds_shape (types_in c.args.schema.now.octets.now) (IsValue (types_in c.args.schema.now.octets.now) c.args.depth) (IsAny c.args.depth) (known_in c.args.known) c.args.node c.args.header c.args.opened.marked c.args.opened.beyond.now c.args.opened.inside.octets.now shape f) c.unknown_contents.ensures.finds
+
+pub contents-returns-in-Items-clause-finds : goal.contents-returns-in-Items-clause-finds
+contents-returns-in-Items-clause-finds t c =
+    let shape : shape_of c.args.node.kind ≡ Items = sym c.of-shape.ensures ∙ c.in-Items.is in
+    let on = c.has_wrong_form.ensures.right c.if-has_wrong_form.false (ap is_constructed c.in-Items.is) in
+    if_ok c.items.result (λ o f. finds_shape (types_in c.args.schema.now.octets.now) (IsValue (types_in c.args.schema.now.octets.now) c.args.depth) (IsAny c.args.depth) (known_in c.args.known) c.args.node c.args.header c.args.opened.marked c.args.opened.beyond.now c.args.opened.inside.octets.now shape
+    (finds_inner (λ rules i. SomeItems false rules (IsValue (types_in c.args.schema.now.octets.now) c.args.depth rules (known_in c.args.known) i)) c.args.opened.marked c.args.opened.beyond.now c.args.opened.inside.octets.now c.args.node.inner c.inner_of.result on c.inner_of.ensures f)) c.items.ensures.finds
+
+pub contents-returns-in-SortedItems-clause-finds : goal.contents-returns-in-SortedItems-clause-finds
+contents-returns-in-SortedItems-clause-finds t c =
+    let shape : shape_of c.args.node.kind ≡ SortedItems = sym c.of-shape.ensures ∙ c.in-SortedItems.is in
+    let on = c.has_wrong_form.ensures.right c.if-has_wrong_form.false (ap is_constructed c.in-SortedItems.is) in
+    if_ok c.items-in-SortedItems.result (λ o f. finds_shape (types_in c.args.schema.now.octets.now) (IsValue (types_in c.args.schema.now.octets.now) c.args.depth) (IsAny c.args.depth) (known_in c.args.known) c.args.node c.args.header c.args.opened.marked c.args.opened.beyond.now c.args.opened.inside.octets.now shape
+    (finds_inner (λ rules i. SomeItems true rules (IsValue (types_in c.args.schema.now.octets.now) c.args.depth rules (known_in c.args.known) i)) c.args.opened.marked c.args.opened.beyond.now c.args.opened.inside.octets.now c.args.node.inner c.inner_of-in-SortedItems.result on c.inner_of-in-SortedItems.ensures f)) c.items-in-SortedItems.ensures.finds
+
+pub contents-returns-in-Inner-clause-finds : goal.contents-returns-in-Inner-clause-finds
+contents-returns-in-Inner-clause-finds t c =
+    let shape : shape_of c.args.node.kind ≡ Inner = sym c.of-shape.ensures ∙ c.in-Inner.is in
+    let on = c.has_wrong_form.ensures.right c.if-has_wrong_form.false (ap is_constructed c.in-Inner.is) in
+    if_ok c.explicit.result (λ o f. finds_shape (types_in c.args.schema.now.octets.now) (IsValue (types_in c.args.schema.now.octets.now) c.args.depth) (IsAny c.args.depth) (known_in c.args.known) c.args.node c.args.header c.args.opened.marked c.args.opened.beyond.now c.args.opened.inside.octets.now shape
+    (finds_inner (λ rules i. IsValue (types_in c.args.schema.now.octets.now) c.args.depth rules (known_in c.args.known) i) c.args.opened.marked c.args.opened.beyond.now c.args.opened.inside.octets.now c.args.node.inner c.inner_of-in-Inner.result on c.inner_of-in-Inner.ensures f)) c.explicit.ensures.finds
+
+pub contents-returns-in-Untyped-clause-finds : goal.contents-returns-in-Untyped-clause-finds
+contents-returns-in-Untyped-clause-finds t c =
+    let shape : shape_of c.args.node.kind ≡ Untyped = sym c.of-shape.ensures ∙ c.in-Untyped.is in
+    if_ok c.unknown_contents-in-Untyped.result (λ o f. finds_shape (types_in c.args.schema.now.octets.now) (IsValue (types_in c.args.schema.now.octets.now) c.args.depth) (IsAny c.args.depth) (known_in c.args.known) c.args.node c.args.header c.args.opened.marked c.args.opened.beyond.now c.args.opened.inside.octets.now shape
+    (subst (λ u. Finds (λ rules. Body c.args.opened.marked c.args.opened.beyond.now (IsUnknownType rules (IsAny c.args.depth) u c.args.header.constructed) c.args.opened.inside.octets.now) o.verdict o.rest.now) c.universal.ensures f)) c.unknown_contents-in-Untyped.ensures.finds
+
+pub component-returns-then-begins-clause-status : goal.component-returns-then-begins-clause-status
+component-returns-then-begins-clause-status t c =
+    let octets = c.args.opened.inside.octets.now in
+    let rest = c.in_ok-outcome.outcome.rest.now in
+    let here = take (length octets - length rest) octets in
+    let f = c.field_of-field.result in
+    let begun = c.begins.ensures.found c.if-begins.true in
+    let finds = component_finds (types_in c.args.schema.now.octets.now) (IsValue (types_in c.args.schema.now.octets.now) c.args.depth) (known_in c.args.known) f here c.in_ok-outcome.ensures.finds (λ x e. taken octets x rest e) (test_is c.in_ok-verdict.ensures.verdict c.default_rule-rule.ensures) in
+    status_next (types_in c.args.schema.now.octets.now) (IsValue (types_in c.args.schema.now.octets.now) c.args.depth) c.args.opened.marked c.args.opened.beyond.now octets rest c.args.left c.args.index (known_in c.args.known) (known_in c.known_after.result)
+    (status_is c.and.ensures (component_found (types_in c.args.schema.now.octets.now) (IsValue (types_in c.args.schema.now.octets.now) c.args.depth) c.args.opened.marked c.args.opened.beyond.now octets rest c.args.left c.args.index f (known_in c.args.known) (known_in c.known_after.result) c.field_of-field.ensures.value finds
+    (λ rules x e is.
+    let it : here ≡ x = taken octets x rest e in
+    subst (λ y. Follows (slice_get (types_in c.args.schema.now.octets.now).nodes f.node) c.args.index y (known_in c.args.known) (known_in c.known_after.result)) it
+    (c.known_after.ensures (λ id. let el = identifier_element (types_in c.args.schema.now.octets.now) c.args.depth rules (known_in c.args.known) f.node x id is.0 in (el.0, el.1, subst (λ y. IsElement el.0 el.1 y) (sym it) el.2))))
+    (λ may. none_later (value_begins (types_in c.args.schema.now.octets.now) c.args.depth) c.args.node c.requires.kind (c.requires.distinct c.requires.row.0 c.args.node c.requires.row.1) c.args.opened.marked c.args.opened.beyond.now octets begun.0 begun.1 begun.2 c.args.index f
+    (record { part = (c.requires.part.0, omega (arith, c.requires.part.1)); row = c.field_of-field.ensures.value }) begun.3 c.args.left (suc c.args.index) (known_in c.args.known) (omega arith) (omega (arith, c.requires.part.1))
+    (λ l g low high is. only may l g (omega (arith, low, high)) is.row))))
+  where
+    only : MayBeAbsent c.field_of-field.result → (l : ℕ) (g : Field) → l ≡ c.args.index → slice_get (types_in c.args.schema.now.octets.now).fields l ≡ Some g → MayBeAbsent g
+    only may l g e row =
+        let here : slice_get (types_in c.args.schema.now.octets.now).fields c.args.index ≡ Some g = subst (λ q. slice_get (types_in c.args.schema.now.octets.now).fields q ≡ Some g) e row in
+        let both : Some c.field_of-field.result ≡ Some g = sym c.field_of-field.ensures.value ∙ here in
+        let it : c.field_of-field.result ≡ g = cc in
+        subst MayBeAbsent it may
+
+pub component-returns-then-begins-clause-log : goal.component-returns-then-begins-clause-log
+component-returns-then-begins-clause-log t c =
+    logs_is c.and.ensures (logs_then c.in_ok-outcome.ensures.log c.in_ok-verdict.ensures.log)
+
+pub component-returns-then-may_be_absent-clause-status :
+    goal.component-returns-then-may_be_absent-clause-status
+component-returns-then-may_be_absent-clause-status t c =
+    status_next (types_in c.args.schema.now.octets.now) (IsValue (types_in c.args.schema.now.octets.now) c.args.depth) c.args.opened.marked c.args.opened.beyond.now c.args.opened.inside.octets.now c.args.opened.inside.octets.now c.args.left c.args.index (known_in c.args.known) (known_in c.args.known)
+    (component_absent (value_begins (types_in c.args.schema.now.octets.now) c.args.depth) c.args.opened.marked c.args.opened.beyond.now c.args.opened.inside.octets.now c.args.left c.args.index c.field_of-field.result (known_in c.args.known) c.field_of-field.ensures.value (c.begins.ensures.none c.if-begins.false) (sym c.may_be_absent.ensures ∙ c.if-may_be_absent.true))
+
+pub component-returns-clause-status : goal.component-returns-clause-status
+component-returns-clause-status t c =
+    status_next (types_in c.args.schema.now.octets.now) (IsValue (types_in c.args.schema.now.octets.now) c.args.depth) c.args.opened.marked c.args.opened.beyond.now c.args.opened.inside.octets.now c.args.opened.inside.octets.now c.args.left c.args.index (known_in c.args.known) (known_in c.args.known)
+    (status_is c.in_ok-verdict-2.ensures.verdict (component_missing (value_begins (types_in c.args.schema.now.octets.now) c.args.depth) c.args.opened.marked c.args.opened.beyond.now c.args.opened.inside.octets.now c.args.opened.inside.octets.now c.args.left c.args.index c.field_of-field.result (known_in c.args.known) (known_in c.args.known) c.field_of-field.ensures.value (c.begins.ensures.none c.if-begins.false) (sym c.may_be_absent.ensures ∙ c.if-may_be_absent.false)))
+
+pub components-fields-preserved : goal.components-fields-preserved
+components-fields-preserved t c =
+    let parts = c.args.node.parts in
+    let left = c.fields.left in
+    let n : (left - 1) + 1 ≡ left = omega (arith, c.fields-test.true) in
+    let k : c.index_of-field.result + 1 ≡ parts.start + (parts.count - (left - 1)) = omega (arith, c.index_of-field.ensures, c.fields-test.true, c.fields.invariant.part) in
+    record {
+      status = status_is c.and-verdict.ensures (status_then c.fields.invariant.status
+          (status_at (types_in c.args.schema.now.octets.now) (IsValue (types_in c.args.schema.now.octets.now) c.args.depth) (left - 1) c.in_ok-step.step.rest.now (known_in c.fields.known) (known_in c.in_ok-step.step.known) c.at.ensures.marked c.at.ensures.beyond c.at.ensures.octets n c.index_of-field.ensures k c.in_ok-step.ensures.status));
+      part = omega (arith, c.fields.invariant.part);
+      log = logs_is c.and-verdict.ensures (logs_then c.fields.invariant.log c.in_ok-step.ensures.log);
+      shorter = omega (arith, c.fields.invariant.shorter, c.in_ok-step.ensures.shorter, ap length c.at.ensures.octets);
+      grows = omega (arith, c.fields.invariant.grows, c.in_ok-step.ensures.grows);
+    }
+
+pub components-returns-clause-finds : goal.components-returns-clause-finds
+components-returns-clause-finds t c =
+    let parts = c.args.node.parts in
+    let left = c.fields.left in
+    let none : 0 ≡ left = omega (arith, c.fields-test.false) in
+    let end = body_at (λ rules inner. inner ≡ []) c.at-2.ensures.marked c.at-2.ensures.beyond c.at-2.ensures.octets c.in_ok-end.ensures.finds in
+    finds_is c.and.ensures (status_ends c.fields.invariant.status
+    (subst (λ n. Finds (λ rules. Body c.args.opened.marked c.args.opened.beyond.now (AreComponents (IsValue (types_in c.args.schema.now.octets.now) c.args.depth) rules (types_in c.args.schema.now.octets.now) n (parts.start + (parts.count - left)) (known_in c.fields.known)) c.fields.rest.now) c.in_ok-end.end.verdict c.in_ok-end.end.rest.now) none end))
+
+pub components-returns-clause-log : goal.components-returns-clause-log
+components-returns-clause-log t c =
+    logs_is c.and.ensures (logs_then c.fields.invariant.log c.in_ok-end.ensures.log)
+
+pub items-items-preserved : goal.items-items-preserved
+items-items-preserved t c =
+    let now = c.items.rest.now in
+    let after = c.in_ok-outcome.outcome.rest.now in
+    let here = take (length now - length after) now in
+    let finds = finds_at (λ rules. IsValue (types_in c.args.schema.now.octets.now) c.args.depth rules (known_in c.args.known) c.args.item) c.at-place.ensures.octets c.in_ok-outcome.ensures.finds in
+    let on = goes_on c.is_ended.result c.is_ended.ensures c.at.ensures.marked c.at.ensures.octets (search rules) in
+    record {
+      status = status_is (c.and-verdict.ensures ∙ ap (λ v. worst v c.in_ok-order.order) c.and.ensures ∙ worst_assoc c.items.verdict c.in_ok-outcome.outcome.verdict c.in_ok-order.order)
+          (status_then c.items.invariant.status (item_found c.args.sorted c.in_ok-order.order c.args.opened.marked c.args.opened.beyond.now c.items.before.now now after here on finds (λ x e. taken now x after e) (test_is c.in_ok-order.ensures.verdict c.order_rule.ensures)));
+      log = logs_is (c.and-verdict.ensures ∙ ap (λ v. worst v c.in_ok-order.order) c.and.ensures) (logs_then (logs_then c.items.invariant.log c.in_ok-outcome.ensures.log) c.in_ok-order.ensures.log);
+      shorter = omega (arith, c.items.invariant.shorter, c.in_ok-outcome.ensures.shorter, ap length c.at-place.ensures.octets);
+      grows = omega (arith, c.items.invariant.grows, c.in_ok-outcome.ensures.grows, ap length c.in_ok-order.ensures.entries);
+    }
+
+pub items-returns-clause-finds : goal.items-returns-clause-finds
+items-returns-clause-finds t c =
+    let m = c.args.opened.marked in
+    let b = c.args.opened.beyond.now in
+    let now = c.items.rest.now in
+    let at = has_ended c.is_ended.result c.is_ended.ensures c.at.ensures.marked c.at.ensures.octets (search rules) in
+    let end = body_at (λ rules inner. inner ≡ []) c.at-2.ensures.marked c.at-2.ensures.beyond c.at-2.ensures.octets c.in_ok-end.ensures.finds in
+    finds_is c.and-2.ensures (status_ends c.items.invariant.status
+    (finds_as (items_end c.args.sorted (λ rules. IsValue (types_in c.args.schema.now.octets.now) c.args.depth rules (known_in c.args.known) c.args.item) (value_elements (types_in c.args.schema.now.octets.now) c.args.depth (known_in c.args.known) c.args.item) m b c.items.before.now now at) end))
+
+pub items-returns-clause-log : goal.items-returns-clause-log
+items-returns-clause-log t c =
+    logs_is c.and-2.ensures (logs_then c.items.invariant.log c.in_ok-end.ensures.log)
+
+pub explicit-returns-clause-finds : goal.explicit-returns-clause-finds
+explicit-returns-clause-finds t c =
+    let m = c.args.opened.marked in
+    let b = c.args.opened.beyond.now in
+    let end = body_at (λ rules inner. inner ≡ []) c.at.ensures.marked c.at.ensures.beyond c.at.ensures.octets c.in_ok-end.ensures.finds in
+    finds_is c.and.ensures (status_ends (inner_found m b c.args.opened.inside.octets.now c.in_ok-outcome.outcome.rest.now c.in_ok-outcome.ensures.finds) end)
+
+pub explicit-returns-clause-log : goal.explicit-returns-clause-log
+explicit-returns-clause-log t c =
+    logs_is c.and.ensures (logs_then c.in_ok-outcome.ensures.log c.in_ok-end.ensures.log)
