@@ -87,11 +87,13 @@ impl<'a> Schema<'a> {
             pool,
         })
     }
-    /// How many rows each section has, and how many octets the pool has.
+    /// How many rows each section has, and how many octets the pool has. The contract also says that
+    /// the octets of a `Schema` are a table.
     #[inline(always)]
     pub fn counts(&self) -> Counts
         ensures value { result ≡ counts_of (table_in self.now.octets.now) }
         ensures same { result ≡ self.now.counts }
+        ensures table { IsSchema self.now.octets.now (table_in self.now.octets.now) }
     {
         self.counts
     }
