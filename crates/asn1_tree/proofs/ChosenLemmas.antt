@@ -41,5 +41,6 @@ one_row octets c types id o p counted ascends a b =
   where
     rises : Ascends (counts_in octets) octets types
     rises = subst (λ (k : Counts). Ascends k octets types) counted ascends
+
     same : b.index ≡ a.index → p ≡ o
     same e = let both : Some p ≡ Some o = sym b.row ∙ ap (slice_get (table_in octets).opens) e ∙ a.row in cc

@@ -52,14 +52,18 @@ component_found t Child {w} m b octets rest n k f known after row finds follows 
   where
     Whole : Said
     Whole rules = Body m b (AreComponents Child rules t (suc n) k known) octets
+
     Rest : Said
     Rest rules = Body m b (AreComponents Child rules t n (suc k) after) rest
+
     Step : Said
     Step rules r =
         (x : List ℕ) × (y : List ℕ) × (octets ≡ x ++ y) × IsComponent Child rules t known f x
         × ((later : Known) × Follows (slice_get t.nodes f.node) k x known later × Body m b (AreComponents Child rules t n (suc k) later) y r)
+
     same_field : (g : Field) → slice_get t.fields k ≡ Some g → g ≡ f
     same_field g e = let both : Some g ≡ Some f = sym e ∙ row in cc
+
     step : (rules : EncodingRules) (r : List ℕ) → Whole rules r → Step rules r
     step rules r (inner, within, (g, grow, inl (x, left, later, e, comp, fol, comps))) =
         let it = same_field g grow in
@@ -67,17 +71,20 @@ component_found t Child {w} m b octets rest n k f known after row finds follows 
         (x, front.0, front.1, subst (λ h. IsComponent Child rules t known h x) it comp, (later, subst (λ (h : Field). Follows (slice_get t.nodes h.node) k x known later) it fol, (left, front.2, comps)))
     step rules r (inner, within, (g, grow, inr (may, comps))) =
         absurd (never (subst MayBeAbsent (same_field g grow) may) rules r (inner, within, comps))
+
     good : (rules : EncodingRules) → holds rules w ≡ true → (r : List ℕ) → Rest rules r ↔ Whole rules r
     good rules on r = (forward, backward)
       where
         found : Front (IsComponent Child rules t known f) octets rest
         found = (finds.exact rules on rest).1 refl
+
         forward : Rest rules r → Whole rules r
         forward (inner, within, comps) = (
           found.0 ++ inner,
           within_step m b octets found.0 rest inner r found.1 within,
           (f, row, inl (found.0, inner, after, refl, found.2, follows rules found.0 found.1 found.2, comps)),
         )
+
         backward : Whole rules r → Rest rules r
         backward whole =
             let s = step rules r whole in
@@ -86,6 +93,7 @@ component_found t Child {w} m b octets rest n k f known after row finds follows 
             let later : s.4.0 ≡ after = one_follows s.4.1 (follows rules s.0 split s.3) in
             subst (λ y. Body m b (AreComponents Child rules t n (suc k) after) y r) end
             (subst (λ a. Body m b (AreComponents Child rules t n (suc k) a) s.1 r) later s.4.2)
+
     bad : (rules : EncodingRules) → holds rules w ≡ false → (r : List ℕ) → Whole rules r → ⊥
     bad rules off r whole = let s = step rules r whole in finds.none rules off s.1 (s.0, s.2, s.3)
 
@@ -143,7 +151,7 @@ none_later {t} {Child} well node kind distinct m b octets h next real j f field 
     let starts : Begins t g.node h.class h.number = subst (λ (i : Header). Begins t g.node i.class i.number) (sym one) there.3 in
     let part : IsFieldOf t node k g = record { part = (omega (arith, field.part), omega (arith, end)); row = grow } in
     let missing : (l : ℕ) (i : Field) → j ≤ l → l < k → IsFieldOf t node l i → may_be_missing node.kind i ≡ true =
-        λ l i low high is. ap (λ q. may_be_missing q i) kind ∙ lack l i low high is in
+    λ l i low high is. ap (λ q. may_be_missing q i) kind ∙ lack l i low high is in
     distinct k j f g (record { earlier = field; later = part; before = before; missing = missing })
     (record { class = h.class; number = h.number; first = begins; second = starts })
 none_later {t} {Child} well node kind distinct m b octets h next real j f field begins (suc n) k known before end lack rules r (inner, within, (g, grow, inr (may, comps))) =

@@ -48,6 +48,7 @@ within_iff (Definite n) after inner r o are = (forward, backward)
     forward h =
         let same = same_length_front o.inside.octets.now inner o.beyond.now r (are.1 ∙ sym h.0) (sym are.0 ∙ h.1) in
         subst (λ b. IsWithin b o.beyond.now o.inside.octets.now inner r) (sym are.2) (same.0, sym same.1)
+
     backward : IsWithin o.marked o.beyond.now o.inside.octets.now inner r → IsCounted (Definite n) inner × (after ≡ inner ++ ([] ++ r))
     backward h =
         let w = subst (λ b. IsWithin b o.beyond.now o.inside.octets.now inner r) are.2 h in
@@ -69,9 +70,10 @@ finds_element {P} {h} {octets} {o} a {v} {rest} is real test f = finds_and a (λ
         let back = (within_iff h.length is.after b.0 r o is.are).1 b.1 in
         let x = is.front ++ (b.0 ++ ending h.length) in
         let whole : octets ≡ x ++ r =
-            is.split ∙ ap (λ l. is.front ++ l) (back.1 ∙ sym (append_assoc b.0 (ending h.length) r))
-            ∙ sym (append_assoc is.front (b.0 ++ ending h.length) r) in
+        is.split ∙ ap (λ l. is.front ++ l) (back.1 ∙ sym (append_assoc b.0 (ending h.length) r))
+        ∙ sym (append_assoc is.front (b.0 ++ ending h.length) r) in
         (x, whole, (h, b.0, record { front = is.front; is = is.is; counted = back.0; spelled = refl; real = real; allowed = allowed }, b.2))
+
     from : (rules : EncodingRules) (r : List ℕ) → Front (Elem P rules) octets r → IsAllowed rules h × Body o.marked o.beyond.now (P rules h) o.inside.octets.now r
     from rules r (x, e, (g, inner, en, p)) =
         let one = one_header is.is en.is is.after (inner ++ (ending g.length ++ r)) (sym is.split ∙ spread r en e) in

@@ -65,6 +65,7 @@ finds_and {Is} {Also} a {v} {rest} Fact test to from f = record { exact = exact;
     exact rules on r =
         let h = worst_true rules a v on in
         (λ also. (f.exact rules h.1 r).0 (from rules r also).1, λ e. to rules r ((test rules).0 h.0) ((f.exact rules h.1 r).1 e))
+
     decide : (rules : EncodingRules) (r : List ℕ) → Also rules r → holds rules (worst a v) ≡ true
     decide rules r also = pick (cases (holds rules a) (holds rules v))
       where
@@ -72,6 +73,7 @@ finds_and {Is} {Also} a {v} {rest} Fact test to from f = record { exact = exact;
         pick (both p q) = holds_worst rules a v ∙ rw p q
         pick (first p) = let on : holds rules a ≡ true = (test rules).1 (from rules r also).0 in absurd (cc)
         pick (second p q) = absurd (f.none rules q r (from rules r also).1)
+
     none : (rules : EncodingRules) → holds rules (worst a v) ≡ false → (r : List ℕ) → Also rules r → ⊥
     none rules off r also = let on = decide rules r also in absurd (cc)
 
@@ -80,6 +82,7 @@ status_then {A} {B} {C} {v} {w} s t = record { good = good; bad = bad }
   where
     good : (rules : EncodingRules) → holds rules (worst v w) ≡ true → (r : List ℕ) → A rules r ↔ C rules r
     good rules on r = let h = worst_true rules v w on in through (t.good rules h.1 r) (s.good rules h.0 r)
+
     bad : (rules : EncodingRules) → holds rules (worst v w) ≡ false → (r : List ℕ) → C rules r → ⊥
     bad rules off r c = pick (cases (holds rules v) (holds rules w))
       where
@@ -105,6 +108,7 @@ status_ends {A} {B} {v} {w} {rest} s f = record { exact = exact; none = none }
   where
     exact : (rules : EncodingRules) → holds rules (worst v w) ≡ true → (r : List ℕ) → B rules r ↔ (r ≡ rest)
     exact rules on r = let h = worst_true rules v w on in through (back (s.good rules h.0 r)) (f.exact rules h.1 r)
+
     none : (rules : EncodingRules) → holds rules (worst v w) ≡ false → (r : List ℕ) → B rules r → ⊥
     none rules off r b = pick (cases (holds rules v) (holds rules w))
       where

@@ -54,6 +54,7 @@ items_end sorted Item IsCount elements m b before octets ended {a} {v} {rest} te
   where
     to : (rules : EncodingRules) (r : List ℕ) → IsCount 0 → Body m b (λ inner. inner ≡ []) octets r → Body m b (Items sorted rules (Item rules) IsCount before) octets r
     to rules r count h = (h.0, h.1, (zero, h.2, count))
+
     from : (rules : EncodingRules) (r : List ℕ) → Body m b (Items sorted rules (Item rules) IsCount before) octets r → IsCount 0 × Body m b (λ inner. inner ≡ []) octets r
     from rules r (inner, within, (zero, items, count)) = (count, (inner, within, items))
     from rules r (inner, within, (suc n, items, count)) =
@@ -71,32 +72,40 @@ item_found sorted {Item} IsCount {w} a m b before octets rest here going f same 
   where
     Whole : Said
     Whole rules = Body m b (Items sorted rules (Item rules) IsCount before) octets
+
     Rest : Said
     Rest rules = Body m b (Items sorted rules (Item rules) (λ n. IsCount (suc n)) here) rest
+
     Step : Said
     Step rules r =
         (x : List ℕ) × (y : List ℕ) × (octets ≡ x ++ y) × Item rules x × IsInOrder rules sorted before x
         × Body m b (Items sorted rules (Item rules) (λ n. IsCount (suc n)) x) y r
+
     step : (rules : EncodingRules) (r : List ℕ) → Whole rules r → Step rules r
     step rules r (inner, within, (zero, items, count)) = absurd (going (ends_here m b octets r (subst (λ i. IsWithin m b octets i r) items within)))
     step rules r (inner, within, (suc n, items, count)) =
         let front = within_front m b octets items.0 items.1 r (subst (λ i. IsWithin m b octets i r) items.2 within) in
         (items.0, front.0, front.1, items.3, items.4, (items.1, front.2, (n, items.5, count)))
+
     good : (rules : EncodingRules) → holds rules (worst w a) ≡ true → (r : List ℕ) → Rest rules r ↔ Whole rules r
     good rules on r = (forward, backward)
       where
         ons : (holds rules w ≡ true) × (holds rules a ≡ true)
         ons = worst_true rules w a on
+
         found : Front (Item rules) octets rest
         found = (f.exact rules ons.0 rest).1 refl
+
         this : here ≡ found.0
         this = same found.0 found.1
+
         forward : Rest rules r → Whole rules r
         forward (inner, within, (n, items, count)) = (
           found.0 ++ inner,
           within_step m b octets found.0 rest inner r found.1 within,
           (suc n, (found.0, inner, refl, found.2, subst (IsInOrder rules sorted before) this ((test rules).0 ons.1), subst (λ x. AreItems sorted rules (Item rules) x n inner) this items), count),
         )
+
         backward : Whole rules r → Rest rules r
         backward whole =
             let s = step rules r whole in
@@ -104,11 +113,13 @@ item_found sorted {Item} IsCount {w} a m b before octets rest here going f same 
             let it : here ≡ s.0 = same s.0 (s.2 ∙ ap (λ l. s.0 ++ l) end) in
             subst (λ y. Body m b (Items sorted rules (Item rules) (λ n. IsCount (suc n)) here) y r) end
             (subst (λ x. Body m b (Items sorted rules (Item rules) (λ n. IsCount (suc n)) x) s.1 r) (sym it) s.5)
+
     bad : (rules : EncodingRules) → holds rules (worst w a) ≡ false → (r : List ℕ) → Whole rules r → ⊥
     bad rules off r whole = pick (cases (holds rules w) (holds rules a))
       where
         s : Step rules r
         s = step rules r whole
+
         pick : Cases (holds rules w) (holds rules a) → ⊥
         pick (both p q) = let on = worst_both rules w a p q in absurd (cc)
         pick (first p) = f.none rules p s.1 (s.0, s.2, s.3)
@@ -142,19 +153,23 @@ inner_found {Child} {w} m b octets rest f = record { good = good; bad = bad }
     front rules r (inner, within, child) =
         let parts = within_front m b octets inner [] r (subst (λ i. IsWithin m b octets i r) (sym (append-nil inner)) within) in
         (parts.0, (inner, parts.1, child), parts.2)
+
     good : (rules : EncodingRules) → holds rules w ≡ true → (r : List ℕ) → Body m b (λ inner. inner ≡ []) rest r ↔ Body m b (Child rules) octets r
     good rules on r = (forward, backward)
       where
         found : Front (Child rules) octets rest
         found = (f.exact rules on rest).1 refl
+
         forward : Body m b (λ inner. inner ≡ []) rest r → Body m b (Child rules) octets r
         forward (inner, within, e) =
             let there = within_step m b octets found.0 rest [] r found.1 (subst (λ i. IsWithin m b rest i r) e within) in
             (found.0, subst (λ i. IsWithin m b octets i r) (append-nil found.0) there, found.2)
+
         backward : Body m b (Child rules) octets r → Body m b (λ inner. inner ≡ []) rest r
         backward body =
             let s = front rules r body in
             ([], subst (λ y. IsWithin m b y [] r) ((f.exact rules on s.0).0 s.1) s.2, refl)
+
     bad : (rules : EncodingRules) → holds rules w ≡ false → (r : List ℕ) → Body m b (Child rules) octets r → ⊥
     bad rules off r body = let s = front rules r body in f.none rules off s.0 s.1
 

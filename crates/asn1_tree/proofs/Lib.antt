@@ -11,3 +11,4 @@ pub mod ChosenLemmas
 pub mod WholeLemmas
 pub mod SizeLemmas
 pub mod KindLemmas
+pub mod DepartureLemmas

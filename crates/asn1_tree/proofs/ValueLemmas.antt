@@ -91,6 +91,7 @@ finds_selected {t} {v} {rest} {octets} d known i m {via} {h} some distinct next 
       where
         forward : Front (IsNode rules t (IsValue t (d - 1)) (IsAny (d - 1)) known sel.node) octets r → Front (IsValue t d rules known i) octets r
         forward (x, e, is) = (x, e, (value_step t d rules known i x some).0 (via, m, record { node = sel.node; selects = sel.selects; row = sel.row; fact = is }))
+
         backward : Front (IsValue t d rules known i) octets r → Front (IsNode rules t (IsValue t (d - 1)) (IsAny (d - 1)) known sel.node) octets r
         backward (x, e, is) =
             let s = (value_step t d rules known i x some).1 is in
@@ -117,6 +118,7 @@ finds_node {t} {Child} {Item} {v} {rest} {octets} known n h next tag unknown f =
         forward (x, e, (g, inner, is, are)) =
             let one : h ≡ g = same_next r next is e in
             (x, e, element g inner is (subst (λ (k : Header). HasTag n k.class k.number) one tag) unknown are)
+
         backward : Front (IsNode rules t Child Item known n) octets r → Front (Elem (λ rules g inner. AreContents (shape_of n.kind) rules t Child Item known n g inner) rules) octets r
         backward (x, e, element g inner is has un are) = (x, e, (g, inner, is, are))
         backward (x, e, chosen m kind is child) = absurd (unknown kind m is)
@@ -133,6 +135,7 @@ finds_chosen {t} {Child} {Item} {v} {rest} {octets} known n m kind is single f =
       where
         forward : Front (Child rules known m) octets r → Front (IsNode rules t Child Item known n) octets r
         forward (x, e, child) = (x, e, chosen m kind is child)
+
         backward : Front (IsNode rules t Child Item known n) octets r → Front (Child rules known m) octets r
         backward (x, e, element g inner en has un are) = absurd (un kind m is)
         backward (x, e, chosen o also there child) = (x, e, subst (λ q. Child rules known q x) (single o there) child)
@@ -190,22 +193,27 @@ identifier_element t (suc d) rules known i x id is = at (slice_get t.nodes i) re
   where
     s : IsSelectedValue t (suc d - 1) rules known i x
     s = (value_step t (suc d) rules known i x (omega arith)).1 is
+
     at : (o : Option Node) → slice_get t.nodes i ≡ o → IsIdentifier o → (h : Header) × (inner : List ℕ) × IsElement h inner x
     at None e no_node = absurd no_node
     at (Some n) e kind = of s.2.fact
       where
         here : s.1 ≡ i
         here = selects_self s.2.selects n e (λ c. let both : Universally ObjectIdentifier ≡ Choice = sym kind ∙ c in absurd (cc))
+
         same : s.2.node ≡ n
         same = let both : Some s.2.node ≡ Some n = sym s.2.row ∙ ap (slice_get t.nodes) here ∙ e in cc
+
         its : s.2.node.kind ≡ Universally ObjectIdentifier
         its = ap (λ (q : Node). q.kind) same ∙ kind
+
         of : IsNode rules t (IsValue t (suc d - 1)) (IsAny (suc d - 1)) known s.2.node x → (h : Header) × (inner : List ℕ) × IsElement h inner x
         of (chosen m open_kind is_chosen child) = let both : Universally ObjectIdentifier ≡ Open = sym its ∙ open_kind in absurd (cc)
         of (element h inner en has unknown are) = primitive h.constructed refl
           where
             contents : IsUnknownType rules (IsAny (suc d - 1)) (Some ObjectIdentifier) h.constructed inner
             contents = (subst (λ k. AreContents (shape_of k) rules t (IsValue t (suc d - 1)) (IsAny (suc d - 1)) known s.2.node h inner) its are).0
+
             primitive : (b : Bool) → h.constructed ≡ b → (g : Header) × (c : List ℕ) × IsElement g c x
             primitive false off = (h, inner, definite_element en off)
             primitive true on =
@@ -224,13 +232,16 @@ component_finds t Child known f {v} {a} {octets} {rest} here finds same test = r
       where
         ons : (holds rules v ≡ true) × (holds rules a ≡ true)
         ons = worst_true rules v a on
+
         forward : Front (IsComponent Child rules t known f) octets r → r ≡ rest
         forward (x, e, c) = (finds.exact rules ons.0 r).0 (x, e, c.0)
+
         backward : r ≡ rest → Front (IsComponent Child rules t known f) octets r
         backward e =
             let found = (finds.exact rules ons.0 r).1 e in
             let it : here ≡ found.0 = same found.0 (found.1 ∙ ap (λ l. found.0 ++ l) e) in
             (found.0, found.1, (found.2, subst (IsNoDefault rules t f) it ((test rules).0 ons.1)))
+
     none : (rules : EncodingRules) → holds rules (worst v a) ≡ false → (r : List ℕ) → Front (IsComponent Child rules t known f) octets r → ⊥
     none rules off r (x, e, c) = pick (cases (holds rules v) (holds rules a))
       where

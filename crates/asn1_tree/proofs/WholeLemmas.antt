@@ -26,8 +26,10 @@ whole_found {Child} {v} {w} {rest} {last} octets value end rules = yes_or_no (ho
   where
     all : Finds (λ r. Body false [] (Child r) octets) (worst v w) last
     all = status_ends (inner_found false [] octets rest value) end
+
     never : holds rules (worst v w) ≡ false → Child rules octets → ⊥
     never off child = all.none rules off [] (octets, (refl, refl), child)
+
     is : holds rules (worst v w) ≡ true → Child rules octets
     is on = let there = (all.exact rules on last).1 refl in subst (Child rules) (sym there.1.0) there.2
 

@@ -9,3 +9,4 @@ pub mod Constraints
 pub mod Value
 pub mod Reading
 pub mod Departures
+pub mod Encoding

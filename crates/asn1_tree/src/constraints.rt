@@ -127,7 +127,12 @@ fn value_rule(schema: &Schema<'_>, limits: Span, contents: &[u8]) -> Option<Rule
     }
 }
 
-fn size_rule(schema: &Schema<'_>, limits: Span, universal: Universal, contents: &[u8]) -> Option<Rule>
+fn size_rule(
+    schema: &Schema<'_>,
+    limits: Span,
+    universal: Universal,
+    contents: &[u8],
+) -> Option<Rule>
     requires { IsWithin limits schema.now.counts.limits }
     ensures { (rules : EncodingRules) → (holds rules (verdict_of_option result) ≡ true)
         ↔ IsAllowedSize (types_in schema.now.octets.now) limits (size_of universal contents.now) }
@@ -139,7 +144,12 @@ fn size_rule(schema: &Schema<'_>, limits: Span, universal: Universal, contents: 
     }
 }
 
-fn has_allowed_size(schema: &Schema<'_>, limits: Span, universal: Universal, contents: &[u8]) -> bool
+fn has_allowed_size(
+    schema: &Schema<'_>,
+    limits: Span,
+    universal: Universal,
+    contents: &[u8],
+) -> bool
     requires { IsWithin limits schema.now.counts.limits }
     ensures { IsTrue result
         ↔ IsAllowedSize (types_in schema.now.octets.now) limits (size_of universal contents.now) }

@@ -11,7 +11,6 @@ mod opened;
 mod order;
 mod outcome;
 mod place;
-mod probe;
 mod reading;
 mod role;
 mod rule;

@@ -12,8 +12,8 @@ ghost use Rattle.asn1_tree.specs.Value.{IsNoDefault, MayBeConstructed, IsPrimiti
 
 use crate::rule::Rule;
 use crate::types::default_of;
-use asn1_schema::{Field, Presence, Schema};
 use asn1_contents::broken_rule;
+use asn1_schema::{Field, Presence, Schema};
 use ber::{Form, Universal};
 
 /// The rule that a component breaks if it has the value of its DEFAULT.

@@ -24,7 +24,12 @@ pub struct Tree {
 
 impl Tree {
     // Adds a departure.
-    pub(crate) fn depart(&mut self, rule: Rule, offset: usize, node: usize) -> Result<Verdict, AllocError>
+    pub(crate) fn depart(
+        &mut self,
+        rule: Rule,
+        offset: usize,
+        node: usize,
+    ) -> Result<Verdict, AllocError>
         ensures verdict { IfOk result (λ v. v ≡ verdict_of_rule rule) }
         ensures log { IfOk result (λ v. Logs v self.old.departures.items self.new.departures.items) }
         ensures entries { OnOk result (self.new.entries.items ≡ self.old.entries.items) }
@@ -34,7 +39,12 @@ impl Tree {
     }
 
     // Adds a departure, if there is one.
-    pub(crate) fn judge(&mut self, rule: Option<Rule>, offset: usize, node: usize) -> Result<Verdict, AllocError>
+    pub(crate) fn judge(
+        &mut self,
+        rule: Option<Rule>,
+        offset: usize,
+        node: usize,
+    ) -> Result<Verdict, AllocError>
         ensures verdict { IfOk result (λ v. v ≡ verdict_of_option rule) }
         ensures log { IfOk result (λ v. Logs v self.old.departures.items self.new.departures.items) }
         ensures entries { OnOk result (self.new.entries.items ≡ self.old.entries.items) }
@@ -46,7 +56,12 @@ impl Tree {
     }
 
     // Adds what a length departs in from DER.
-    pub(crate) fn judge_lengths(&mut self, header: Header, offset: usize, node: usize) -> Result<Verdict, AllocError>
+    pub(crate) fn judge_lengths(
+        &mut self,
+        header: Header,
+        offset: usize,
+        node: usize,
+    ) -> Result<Verdict, AllocError>
         ensures verdict { IfOk result (λ v. (rules : EncodingRules)
             → (holds rules v ≡ true) ↔ IsAllowed rules header) }
         ensures log { IfOk result (λ v. Logs v self.old.departures.items self.new.departures.items) }

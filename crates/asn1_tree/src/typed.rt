@@ -19,7 +19,6 @@ ghost use Rattle.asn1_tree.specs.Known.{IsUnknownOpen, known_in};
 ghost use Rattle.asn1_tree.specs.Value.{IsValue, IsAny, IsNode, AreContents, AreComponents, AreBounded, IsUnknownType, Contains, IsContained, SomeItems, contained_in, shape_of};
 ghost use Rattle.asn1_tree.specs.Reading.{Front, Body, Finds, Status, Logs};
 
-use crate::untyped::{any, finish, unknown_contents};
 use crate::chosen::chosen;
 use crate::constraints::{constraint_rule, count_rule};
 use crate::entry::Entry;
@@ -34,8 +33,9 @@ use crate::select::begins;
 use crate::shape::Shape;
 use crate::tests::{default_rule, may_be_absent};
 use crate::tree::Tree;
-use crate::verdict::Verdict;
 use crate::types::{field_of, node_of, select};
+use crate::untyped::{any, finish, unknown_contents};
+use crate::verdict::Verdict;
 use asn1_schema::{Node, NodeKind, Schema, Span};
 use ber::{Header, Universal, is_end_of_contents, read_header};
 use std::alloc::AllocError;
@@ -82,7 +82,16 @@ pub(crate) fn value<'a>(
     }
     match select(schema, node, header.class, header.number) {
         Some(selected) => {
-            selected_value(tree, schema, depth - 1, known, selected.node, role, header, place)
+            selected_value(
+                tree,
+                schema,
+                depth - 1,
+                known,
+                selected.node,
+                role,
+                header,
+                place,
+            )
         }
         None => {
             let verdict = tree.depart(Rule::Tag, place.offset(), role.parent)?;
@@ -182,12 +191,21 @@ fn contents<'a>(
     }
     match shape {
         Shape::Components => components(tree, schema, depth, node, at, opened),
-        Shape::Of(universal) => of_type(tree, schema, depth, known, node, universal, at, header, opened),
+        Shape::Of(universal) => of_type(
+            tree, schema, depth, known, node, universal, at, header, opened,
+        ),
         Shape::Items => items(tree, schema, depth, known, node, false, at, opened),
         Shape::SortedItems => items(tree, schema, depth, known, node, true, at, opened),
         Shape::Inner => explicit(tree, schema, depth, known, inner_of(node), at, opened),
         Shape::Untyped => {
-            unknown_contents(tree, depth, header.universal(), header.constructed, at, opened)
+            unknown_contents(
+                tree,
+                depth,
+                header.universal(),
+                header.constructed,
+                at,
+                opened,
+            )
         }
         Shape::Nothing => {
             let verdict = tree.depart(Rule::Tag, opened.start, at)?;
@@ -371,7 +389,17 @@ fn components<'a>(
     'fields: while left > 0 {
         let field = index_of(node.parts, node.parts.count - left, schema.counts().fields);
         left -= 1;
-        let step = component(tree, schema, depth, known, node, field, left, at, opened.at(rest))?;
+        let step = component(
+            tree,
+            schema,
+            depth,
+            known,
+            node,
+            field,
+            left,
+            at,
+            opened.at(rest),
+        )?;
         verdict = verdict.and(step.verdict);
         rest = step.rest;
         known = step.known;
@@ -476,7 +504,10 @@ fn items<'a>(
     ensures log { IfOk result (λ o. Logs o.verdict tree.old.departures.items tree.new.departures.items) }
     ensures grows { OnOk result (vec_len tree.old.entries ≤ vec_len tree.new.entries) }
 {
-    let role = Role { field: NO_INDEX, parent: at };
+    let role = Role {
+        field: NO_INDEX,
+        parent: at,
+    };
     let item = inner_of(node);
     let mut verdict = Verdict::Der;
     let mut rest = opened.inside.octets;
@@ -521,7 +552,10 @@ fn explicit<'a>(
     ensures log { IfOk result (λ o. Logs o.verdict tree.old.departures.items tree.new.departures.items) }
     ensures grows { OnOk result (vec_len tree.old.entries ≤ vec_len tree.new.entries) }
 {
-    let role = Role { field: NO_INDEX, parent: at };
+    let role = Role {
+        field: NO_INDEX,
+        parent: at,
+    };
     let outcome = value(tree, schema, depth, known, inner, role, opened.inside)?;
     let end = finish(tree, depth, at, opened.at(outcome.rest))?;
     Ok(Outcome {

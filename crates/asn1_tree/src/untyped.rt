@@ -3,13 +3,13 @@ ghost use Rattle.std.specs.Prelude.{◌≡◌, ◌*◌, ◌+◌, ◌<◌, ◌≤
 ghost use Rattle.asn1_tree.specs.Value.{IsAny, IsAnyCount, IsUnknownType, SomeItems};
 ghost use Rattle.asn1_tree.specs.Reading.{Front, Body, Finds, Logs};
 
-use crate::tests::{form_rule, primitive_rule};
 use crate::entry::Entry;
 use crate::opened::{Opened, after_header};
 use crate::outcome::Outcome;
 use crate::place::Place;
 use crate::role::{NO_INDEX, Role};
 use crate::rule::Rule;
+use crate::tests::{form_rule, primitive_rule};
 use crate::tree::Tree;
 use crate::verdict::Verdict;
 use ber::{Universal, is_end_of_contents, read_header};
@@ -53,7 +53,14 @@ pub(crate) fn any<'a>(
     let allowed = tree.judge_lengths(header, place.offset(), at)?;
     match after_header(header, place) {
         Some(opened) => {
-            let outcome = unknown_contents(tree, depth - 1, header.universal(), header.constructed, at, opened)?;
+            let outcome = unknown_contents(
+                tree,
+                depth - 1,
+                header.universal(),
+                header.constructed,
+                at,
+                opened,
+            )?;
             Ok(Outcome {
                 verdict: allowed.and(outcome.verdict),
                 rest: outcome.rest,
@@ -119,7 +126,10 @@ fn elements<'a>(
     ensures log { IfOk result (λ o. Logs o.verdict tree.old.departures.items tree.new.departures.items) }
     ensures grows { OnOk result (vec_len tree.old.entries ≤ vec_len tree.new.entries) }
 {
-    let role = Role { field: NO_INDEX, parent: at };
+    let role = Role {
+        field: NO_INDEX,
+        parent: at,
+    };
     let mut verdict = Verdict::Der;
     let mut rest = opened.inside.octets;
     'elements: while !opened.at(rest).is_ended() {
@@ -146,20 +156,34 @@ fn ended<'a>(tree: &mut Tree, at: usize, opened: Opened<'a>) -> Result<Outcome<'
     let octets = opened.inside.octets;
     if opened.marked {
         if is_end_of_contents(octets) {
-            return Ok(Outcome { verdict: Verdict::Der, rest: &octets[2..] });
+            return Ok(Outcome {
+                verdict: Verdict::Der,
+                rest: &octets[2..],
+            });
         }
         let verdict = tree.depart(Rule::Unended, opened.inside.offset(), at)?;
         return Ok(Outcome { verdict, rest: &[] });
     }
     if octets.is_empty() {
-        return Ok(Outcome { verdict: Verdict::Der, rest: opened.beyond });
+        return Ok(Outcome {
+            verdict: Verdict::Der,
+            rest: opened.beyond,
+        });
     }
     let verdict = tree.depart(Rule::Unexpected, opened.inside.offset(), at)?;
-    Ok(Outcome { verdict, rest: opened.beyond })
+    Ok(Outcome {
+        verdict,
+        rest: opened.beyond,
+    })
 }
 
 // Passes the end of contents. Elements before it are unexpected.
-pub(crate) fn finish<'a>(tree: &mut Tree, depth: usize, at: usize, opened: Opened<'a>) -> Result<Outcome<'a>, AllocError>
+pub(crate) fn finish<'a>(
+    tree: &mut Tree,
+    depth: usize,
+    at: usize,
+    opened: Opened<'a>,
+) -> Result<Outcome<'a>, AllocError>
     ensures finds { IfOk result (λ o. Finds (λ rules. Body opened.entry.marked opened.entry.beyond.now
         (λ inner. inner ≡ []) opened.entry.inside.octets.now) o.verdict o.rest.now) }
     ensures shorter { IfOk result (λ o. length o.rest.now

@@ -1,10 +1,18 @@
-use Rattle.std.proofs.Common.{◌≡◌, refl, [], false}
-use Rattle.asn1_tree.proofs.FindsLemmas.{body_at}
-use Rattle.asn1_tree.proofs.WholeLemmas.{whole_found, verdict_logged, exact_of}
+use Rattle.std.proofs.Common.{◌≡◌, ◌↔◌, [], List}
+use Rattle.der_base.specs.declared.encoding_rules.EncodingRules.TheVariants.{Der, Ber}
+use Rattle.asn1_schema.specs.Table.{table_in}
+use Rattle.asn1_tree.specs.Departures.{AreOfDer}
+use Rattle.asn1_tree.specs.Encoding.{IsDer, IsBer}
+use Rattle.asn1_tree.specs.Types.{types_in}
+use Rattle.asn1_tree.proofs.DepartureLemmas.{none_departs, some_depart}
+use Rattle.asn1_tree.proofs.FindsLemmas.{through, back}
+use Rattle.asn1_tree.proofs.ValueLemmas.{if_ok}
 use Rattle.asn1_tree.proofs.reading.read.Goals as goal
 
-pub returns : goal.returns
-returns c = record {
-  exact = exact_of (verdict_logged c.new-2.ensures.items c.in_ok-outcome.ensures.log c.in_ok-finish.ensures.log)
-      (whole_found c.args.octets.now c.in_ok-outcome.ensures.finds (body_at (λ rules inner. inner ≡ []) {b = []} {m = false} refl refl c.at.ensures.octets c.in_ok-finish.ensures.finds));
-}
+pub returns-clause-der : goal.returns-clause-der
+unfolding types_in
+returns-clause-der c = if_ok c.read_node.result (λ tree e. through (back (none_departs tree.departures.items)) (e Der)) c.read_node.ensures.exact
+
+pub returns-clause-ber : goal.returns-clause-ber
+unfolding types_in
+returns-clause-ber c = if_ok c.read_node.result (λ tree e. through (back (some_depart tree.departures.items)) (e Ber)) c.read_node.ensures.exact
