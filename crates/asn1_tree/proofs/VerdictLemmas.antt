@@ -91,3 +91,6 @@ worst_comm Ber Neither = refl
 worst_comm Neither Der = refl
 worst_comm Neither Ber = refl
 worst_comm Neither Neither = refl
+
+pub logs_left : {v : Verdict} {a b c : List Departure} → c ≡ b → Logs v a b → Logs v a c
+logs_left e s = record { added = s.added; split = e ∙ s.split; verdict = s.verdict }

@@ -27,7 +27,7 @@ use crate::opened::{Opened, after_header};
 use crate::order::order_rule;
 use crate::outcome::{Outcome, Step};
 use crate::place::Place;
-use crate::role::{NO_INDEX, Role};
+use crate::role::Role;
 use crate::rule::Rule;
 use crate::select::begins;
 use crate::shape::Shape;
@@ -134,11 +134,12 @@ fn selected_value<'a>(
     match chosen(schema, &node, known) {
         Some(inner) => value(tree, schema, depth, known, inner, role, place),
         None => {
-            let at = tree.enter(Entry::new(header, place, role, index))?;
+            let at = tree.enter(Entry::new(header, place, role, index, depth))?;
             let allowed = tree.judge_lengths(header, place.offset(), at)?;
             match after_header(header, place) {
                 Some(opened) => {
                     let outcome = contents(tree, schema, depth, known, node, at, header, opened)?;
+                    tree.leave(at, opened, outcome.rest);
                     Ok(Outcome {
                         verdict: allowed.and(outcome.verdict),
                         rest: outcome.rest,
@@ -315,10 +316,7 @@ fn contained_value<'a>(
     if is_unknown(schema, index, known) {
         return Ok(Verdict::Der);
     }
-    let role = Role {
-        field: NO_INDEX,
-        parent: at,
-    };
+    let role = Role::inside(at);
     let outcome = value(tree, schema, depth, known, index, role, place)?;
     let rest = Opened {
         inside: place.at(outcome.rest),
@@ -453,7 +451,7 @@ fn component<'a>(
     if begins(schema, field.node, place.octets) {
         let role = Role {
             field: index,
-            parent: at,
+            ..Role::inside(at)
         };
         let outcome = value(tree, schema, depth, known, field.node, role, place)?;
         let octets = &place.octets[..place.octets.len() - outcome.rest.len()];
@@ -504,10 +502,7 @@ fn items<'a>(
     ensures log { IfOk result (λ o. Logs o.verdict tree.old.departures.items tree.new.departures.items) }
     ensures grows { OnOk result (vec_len tree.old.entries ≤ vec_len tree.new.entries) }
 {
-    let role = Role {
-        field: NO_INDEX,
-        parent: at,
-    };
+    let role = Role::inside(at);
     let item = inner_of(node);
     let mut verdict = Verdict::Der;
     let mut rest = opened.inside.octets;
@@ -552,10 +547,7 @@ fn explicit<'a>(
     ensures log { IfOk result (λ o. Logs o.verdict tree.old.departures.items tree.new.departures.items) }
     ensures grows { OnOk result (vec_len tree.old.entries ≤ vec_len tree.new.entries) }
 {
-    let role = Role {
-        field: NO_INDEX,
-        parent: at,
-    };
+    let role = Role::inside(at);
     let outcome = value(tree, schema, depth, known, inner, role, opened.inside)?;
     let end = finish(tree, depth, at, opened.at(outcome.rest))?;
     Ok(Outcome {

@@ -15,7 +15,7 @@ use Rattle.asn1_tree.specs.Value.{Values, MayBeAbsent, IsValue, IsAny, IsNode, A
 use Rattle.asn1_tree.specs.Reading.{Front, Body, Finds, Status, Logs}
 use Rattle.asn1_tree.specs.declared.shape.Shape.{Shape}
 use Rattle.asn1_tree.specs.declared.shape.Shape.TheVariants.{Components, Of, Items, SortedItems, Inner, Untyped}
-use Rattle.asn1_tree.proofs.VerdictLemmas.{logs_none, worst_neither, worst_assoc, logs_is, logs_then, logs_after}
+use Rattle.asn1_tree.proofs.VerdictLemmas.{logs_none, worst_neither, worst_assoc, logs_is, logs_then, logs_after, logs_left}
 use Rattle.asn1_tree.proofs.FindsLemmas.{finds_is, finds_never, finds_at, finds_as, finds_and, finds_whole, body_at, status_is, status_then, status_ends}
 use Rattle.asn1_tree.proofs.EnclosedLemmas.{Elem, finds_element, no_element_cut, real_header, taken}
 use Rattle.asn1_tree.proofs.ItemLemmas.{items_end, item_found, item_counted, items_begin, some_left, inner_found, goes_on, has_ended}
@@ -79,7 +79,7 @@ selected_value-returns-in_ok-outcome-in-Some-after_header-clause-finds t c n row
 pub selected_value-returns-in_ok-outcome-in-Some-after_header-clause-log :
     goal.selected_value-returns-in_ok-outcome-in-Some-after_header-clause-log
 selected_value-returns-in_ok-outcome-in-Some-after_header-clause-log t c =
-    logs_is c.and.ensures (logs_after c.in_ok-at-in-None.ensures.log (logs_then c.in_ok-allowed-in-None.ensures.log c.in_ok-outcome-in-Some-after_header.ensures.log))
+    logs_is c.and.ensures (logs_left c.leave.ensures.log (logs_after c.in_ok-at-in-None.ensures.log (logs_then c.in_ok-allowed-in-None.ensures.log c.in_ok-outcome-in-Some-after_header.ensures.log)))
 
 pub selected_value-returns-in_ok-cut-in-None-after_header-clause-finds :
     goal.selected_value-returns-in_ok-cut-in-None-after_header-clause-finds
