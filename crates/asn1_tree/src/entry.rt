@@ -30,13 +30,7 @@ pub struct Entry {
 impl Entry {
     // The element of a header at a place, which so many levels may be nested in. The length of its contents
     // is known when they have been read.
-    pub(crate) fn new(
-        header: Header,
-        place: Place<'_>,
-        role: Role,
-        kind: u32,
-        depth: usize,
-    ) -> Self
+    pub(crate) fn new(header: Header, place: Place<'_>, role: Role, kind: u32, depth: usize) -> Self
         requires { IsNext header place.octets.now }
     {
         Entry {

@@ -16,7 +16,7 @@ ghost use Rattle.asn1_tree.specs.Enclosed.{IsAllowed};
 ghost use Rattle.asn1_tree.specs.Constraints.{IsAllowedSize, bound_of};
 ghost use Rattle.asn1_tree.specs.declared.bound.Bound.TheVariants.{Items};
 ghost use Rattle.asn1_tree.specs.Known.{IsUnknownOpen, known_in};
-ghost use Rattle.asn1_tree.specs.Value.{IsValue, IsAny, IsNode, AreContents, AreComponents, AreBounded, IsUnknownType, Contains, IsContained, SomeItems, contained_in, shape_of};
+ghost use Rattle.asn1_tree.specs.Value.{IsValue, IsAny, IsNode, AreContents, AreComponents, AreAll, AreBounded, IsUnknownType, Contains, IsContained, SomeItems, contained_in, is_free, shape_of};
 ghost use Rattle.asn1_tree.specs.Reading.{Front, Body, Finds, Status, Logs};
 
 use crate::chosen::chosen;
@@ -34,7 +34,7 @@ use crate::shape::Shape;
 use crate::tests::{default_rule, may_be_absent};
 use crate::tree::Tree;
 use crate::types::{field_of, node_of, select};
-use crate::untyped::{any, finish, unknown_contents};
+use crate::untyped::{any, elements, finish, unknown_contents};
 use crate::verdict::Verdict;
 use asn1_schema::{Node, NodeKind, Schema, Span};
 use ber::{Header, Universal, is_end_of_contents, read_header};
@@ -191,7 +191,7 @@ fn contents<'a>(
         });
     }
     match shape {
-        Shape::Components => components(tree, schema, depth, node, at, opened),
+        Shape::Components => all_components(tree, schema, depth, node, at, opened),
         Shape::Of(universal) => of_type(
             tree, schema, depth, known, node, universal, at, header, opened,
         ),
@@ -355,6 +355,42 @@ fn inner_of(node: Node) -> u32
     ensures { node.inner ≡ Some result }
 {
     node.inner.unwrap_or(0)
+}
+
+// Reads the components of a SEQUENCE, known or not.
+#[cycle(typed)]
+fn all_components<'a>(
+    tree: &mut Tree,
+    schema: &Schema<'_>,
+    depth: usize,
+    node: Node,
+    at: usize,
+    opened: Opened<'a>,
+) -> Result<Outcome<'a>, AllocError>
+    requires kind { node.kind ≡ Universally Sequence }
+    requires there { IsRange node.parts schema.now.counts.fields }
+    requires distinct { AreDistinct (types_in schema.now.octets.now) }
+    requires row { (i : ℕ) × (slice_get (types_in schema.now.octets.now).nodes i ≡ Some node) }
+    ensures finds { IfOk result (λ o. Finds (λ rules. Body opened.entry.marked opened.entry.beyond.now
+        (AreAll (is_free node) (IsValue (types_in schema.now.octets.now) depth) (IsAny depth) rules
+        (types_in schema.now.octets.now) node) opened.entry.inside.octets.now) o.verdict o.rest.now) }
+    ensures shorter { IfOk result (λ o. length o.rest.now
+        ≤ length opened.entry.inside.octets.now + length opened.entry.beyond.now) }
+    ensures log { IfOk result (λ o. Logs o.verdict tree.old.departures.items tree.new.departures.items) }
+    ensures grows { OnOk result (vec_len tree.old.entries ≤ vec_len tree.new.entries) }
+{
+    if is_free(node) {
+        elements(tree, depth, at, opened)
+    } else {
+        components(tree, schema, depth, node, at, opened)
+    }
+}
+
+// Whether a SEQUENCE has an extension marker and no known component.
+fn is_free(node: Node) -> bool
+    ensures { result ≡ is_free node }
+{
+    node.extensible && node.parts.count == 0
 }
 
 // Reads the components of a SEQUENCE.

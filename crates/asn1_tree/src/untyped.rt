@@ -114,7 +114,7 @@ pub(crate) fn unknown_contents<'a>(
 
 // Reads elements of any type.
 #[cycle(untyped)]
-fn elements<'a>(
+pub(crate) fn elements<'a>(
     tree: &mut Tree,
     depth: usize,
     at: usize,

@@ -11,7 +11,7 @@ use Rattle.asn1_tree.specs.Constraints.{IsAllowedSize}
 use Rattle.asn1_tree.specs.Types.{types_in}
 use Rattle.asn1_tree.specs.Known.{known_in, Follows}
 use Rattle.asn1_tree.specs.Verdict.{holds, worst}
-use Rattle.asn1_tree.specs.Value.{Values, MayBeAbsent, IsValue, IsAny, IsNode, AreContents, AreComponents, SomeItems, IsUnknownType, AreBounded, IsContained, shape_of, is_constructed}
+use Rattle.asn1_tree.specs.Value.{Values, MayBeAbsent, IsValue, IsAny, IsNode, AreContents, AreComponents, SomeItems, IsUnknownType, AreAll, AreBounded, IsContained, shape_of, is_constructed}
 use Rattle.asn1_tree.specs.Reading.{Front, Body, Finds, Status, Logs}
 use Rattle.asn1_tree.specs.declared.shape.Shape.{Shape}
 use Rattle.asn1_tree.specs.declared.shape.Shape.TheVariants.{Components, Of, Items, SortedItems, Inner, Untyped}
@@ -96,8 +96,8 @@ pub contents-returns-in-Components-clause-finds : goal.contents-returns-in-Compo
 contents-returns-in-Components-clause-finds t c =
     let shape : shape_of c.args.node.kind ≡ Components = sym c.of-shape.ensures ∙ c.in-Components.is in
     let on = c.has_wrong_form.ensures.right c.if-has_wrong_form.false (ap is_constructed c.in-Components.is) in
-    if_ok c.components.result (λ o f. finds_shape (types_in c.args.schema.now.octets.now) (IsValue (types_in c.args.schema.now.octets.now) c.args.depth) (IsAny c.args.depth) (known_in c.args.known) c.args.node c.args.header c.args.opened.marked c.args.opened.beyond.now c.args.opened.inside.octets.now shape
-    (finds_given c.args.opened.marked c.args.opened.beyond.now c.args.opened.inside.octets.now on f)) c.components.ensures.finds
+    if_ok c.all_components.result (λ o f. finds_shape (types_in c.args.schema.now.octets.now) (IsValue (types_in c.args.schema.now.octets.now) c.args.depth) (IsAny c.args.depth) (known_in c.args.known) c.args.node c.args.header c.args.opened.marked c.args.opened.beyond.now c.args.opened.inside.octets.now shape
+    (finds_given c.args.opened.marked c.args.opened.beyond.now c.args.opened.inside.octets.now on f)) c.all_components.ensures.finds
 
 pub contents-returns-in-Of-clause-finds : goal.contents-returns-in-Of-clause-finds
 contents-returns-in-Of-clause-finds t c =
@@ -282,3 +282,11 @@ contained_value-returns-clause-exact t c =
 pub contained_value-returns-clause-log : goal.contained_value-returns-clause-log
 contained_value-returns-clause-log t c =
     logs_is c.and.ensures (logs_then c.in_ok-outcome.ensures.log c.in_ok-end.ensures.log)
+
+pub all_components-returns-then-is_free-clause-finds : goal.all_components-returns-then-is_free-clause-finds
+all_components-returns-then-is_free-clause-finds t c =
+    if_ok c.elements.result (λ o f. subst (λ k. Finds (λ rules. Body c.args.opened.marked c.args.opened.beyond.now (AreAll k (IsValue (types_in c.args.schema.now.octets.now) c.args.depth) (IsAny c.args.depth) rules (types_in c.args.schema.now.octets.now) c.args.node) c.args.opened.inside.octets.now) o.verdict o.rest.now) (sym c.if-is_free.true ∙ c.is_free.ensures) f) c.elements.ensures.finds
+
+pub all_components-returns-else-is_free-clause-finds : goal.all_components-returns-else-is_free-clause-finds
+all_components-returns-else-is_free-clause-finds t c =
+    if_ok c.components.result (λ o f. subst (λ k. Finds (λ rules. Body c.args.opened.marked c.args.opened.beyond.now (AreAll k (IsValue (types_in c.args.schema.now.octets.now) c.args.depth) (IsAny c.args.depth) rules (types_in c.args.schema.now.octets.now) c.args.node) c.args.opened.inside.octets.now) o.verdict o.rest.now) (sym c.if-is_free.false ∙ c.is_free.ensures) f) c.components.ensures.finds
