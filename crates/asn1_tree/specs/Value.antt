@@ -1,17 +1,16 @@
 -- The encodings of the values of a type (X.680), under DER and under BER: `IsValue`. Types are those
 -- of a table, in which nodes name each other by index; values are nested at most `depth` levels.
-use Rattle.std.specs.Prelude.{◌≡◌, ◌≢◌, ℕ, zero, suc, ◌+◌, ◌<◌, ◌≤◌, ◌==◌, ◌&&◌, ◌||◌, nat_eq, nat_lt, Bool, true, false, IsTrue, List, [], ◌∷◌, ◌++◌, Option, Some, None, slice_get, ◌⊎◌}
+use Rattle.std.specs.Prelude.{◌≡◌, ◌≢◌, ℕ, zero, suc, ◌==◌, ◌&&◌, ◌||◌, nat_eq, nat_lt, Bool, true, false, IsTrue, List, [], ◌∷◌, ◌++◌, Option, Some, None, slice_get, ◌⊎◌}
 use Rattle.der_base.specs.declared.encoding_rules.EncodingRules.{EncodingRules}
-use Rattle.der_base.specs.declared.encoding_rules.EncodingRules.TheVariants.{Der, Ber}
+use Rattle.der_base.specs.declared.encoding_rules.EncodingRules.TheVariants.{Der}
 use Rattle.ber.specs.Der.{type_of}
 use Rattle.ber.specs.Form.{allows}
 use Rattle.ber.specs.Universal.{form_of}
 use Rattle.ber.specs.Header.{label_of_header}
-use Rattle.ber.specs.declared.form.Form.{Form}
-use Rattle.ber.specs.declared.form.Form.TheVariants.{Primitive, Constructed, Either}
+use Rattle.ber.specs.declared.form.Form.TheVariants.{Constructed}
 use Rattle.ber.specs.declared.header.Header.{Header}
 use Rattle.ber.specs.declared.universal.Universal.{Universal}
-use Rattle.ber.specs.declared.universal.Universal.TheVariants.{OctetString, Sequence, Set}
+use Rattle.ber.specs.declared.universal.Universal.TheVariants.{OctetString, Sequence}
 use Rattle.asn1_schema.specs.Table.{Table}
 use Rattle.asn1_schema.specs.Pool.{octets_of}
 use Rattle.asn1_schema.specs.declared.field.Field.{Field}

@@ -1,27 +1,20 @@
-use Rattle.std.proofs.Common.{rules, ◌≡◌, ◌≢◌, ◌↔◌, ◌*◌, ◌+◌, ◌-◌, ◌<◌, ◌≤◌, ◌∙◌, false, true, [], length, take, drop, refl, sym, ap, subst, ℕ, suc, List, Some, None, slice_get, arith}
+use Rattle.std.proofs.Common.{rules, ◌≡◌, ◌↔◌, ◌+◌, ◌-◌, ◌∙◌, false, true, [], length, take, refl, sym, ap, subst, ℕ, suc, List, Some, slice_get, arith}
 use Rattle.ber.specs.Element.{IsElement}
-use Rattle.ber.specs.Der.{type_of}
-use Rattle.ber.specs.Header.{IsNext, end_header, label_of_header}
-use Rattle.ber.specs.declared.header.Header.{Header}
 use Rattle.ber.proofs.HeaderLemmas.{end_header_next}
-use Rattle.asn1_schema.specs.Tags.{HasTag, Begins}
-use Rattle.asn1_schema.specs.declared.node.Node.{Node}
 use Rattle.asn1_schema.specs.declared.field.Field.{Field}
 use Rattle.asn1_tree.specs.Constraints.{IsAllowedSize}
 use Rattle.asn1_tree.specs.Types.{types_in}
 use Rattle.asn1_tree.specs.Known.{known_in, Follows}
 use Rattle.asn1_tree.specs.Verdict.{holds, worst}
-use Rattle.asn1_tree.specs.Value.{Values, MayBeAbsent, IsValue, IsAny, IsNode, AreContents, AreComponents, SomeItems, IsUnknownType, AreAll, AreBounded, IsContained, shape_of, is_constructed}
-use Rattle.asn1_tree.specs.Reading.{Front, Body, Finds, Status, Logs}
-use Rattle.asn1_tree.specs.declared.shape.Shape.{Shape}
+use Rattle.asn1_tree.specs.Value.{MayBeAbsent, IsValue, IsAny, IsNode, AreComponents, SomeItems, IsUnknownType, AreAll, AreBounded, IsContained, shape_of, is_constructed}
+use Rattle.asn1_tree.specs.Reading.{Front, Body, Finds}
 use Rattle.asn1_tree.specs.declared.shape.Shape.TheVariants.{Components, Of, Items, SortedItems, Inner, Untyped}
 use Rattle.asn1_tree.proofs.VerdictLemmas.{logs_none, worst_neither, worst_assoc, logs_is, logs_then, logs_after, logs_left}
-use Rattle.asn1_tree.proofs.FindsLemmas.{finds_is, finds_never, finds_at, finds_as, finds_and, finds_whole, body_at, status_is, status_then, status_ends}
-use Rattle.asn1_tree.proofs.EnclosedLemmas.{Elem, finds_element, no_element_cut, real_header, taken}
+use Rattle.asn1_tree.proofs.FindsLemmas.{finds_is, finds_never, finds_at, body_at, status_is, status_then, status_ends}
+use Rattle.asn1_tree.proofs.EnclosedLemmas.{finds_element, taken}
 use Rattle.asn1_tree.proofs.ItemLemmas.{items_end, item_found, item_counted, items_begin, some_left, inner_found, goes_on, has_ended}
 use Rattle.asn1_tree.proofs.UntypedLemmas.{test_is}
 use Rattle.asn1_tree.proofs.WholeLemmas.{both_tests, finds_also, whole_found, exact_of, contains_value}
-use Rattle.asn1_tree.proofs.KindLemmas.{of_universal, of_items}
 use Rattle.asn1_tree.specs.declared.verdict.Verdict.{Verdict}
 use Rattle.der_base.specs.declared.encoding_rules.EncodingRules.{EncodingRules}
 use Rattle.asn1_tree.proofs.ComponentLemmas.{component_found, component_absent, component_missing, none_later, status_next, status_at}
