@@ -1,14 +1,13 @@
 -- An OBJECT IDENTIFIER chooses one type of an open type.
-use Rattle.std.proofs.Common.{◌≡◌, ◌≢◌, ℕ, ◌+◌, ◌-◌, ◌*◌, ◌<◌, ◌≤◌, true, List, Some, Option, slice_get, refl, sym, ap, ◌∙◌, subst, ⊎_elim, arith}
-use Rattle.std.specs.Ordering.{is_lt}
+use Rattle.std.proofs.Common.{◌≡◌, ◌≢◌, ℕ, ◌+◌, ◌-◌, ◌<◌, ◌≤◌, List, Some, slice_get, refl, sym, ap, ◌∙◌, subst, ⊎_elim, arith}
 use Rattle.std.specs.declared.cmp.Ordering.TheVariants.{Less}
 use Rattle.std.proofs.lemmas.Bool.{cases_lt}
 use Rattle.der_base.specs.Order.{byte_order}
-use Rattle.asn1_schema.specs.Counts.{counts_in, opens_at}
+use Rattle.asn1_schema.specs.Counts.{counts_in}
 use Rattle.asn1_schema.specs.Chosen.{ChoosesRow}
-use Rattle.asn1_schema.specs.OpenType.{Ascends, identifier_in, open_type_at}
+use Rattle.asn1_schema.specs.OpenType.{Ascends, identifier_in}
 use Rattle.asn1_schema.specs.Pool.{pool_in, octets_of}
-use Rattle.asn1_schema.specs.Table.{Table, table_in}
+use Rattle.asn1_schema.specs.Table.{table_in}
 use Rattle.asn1_schema.specs.declared.open_type.OpenType.{OpenType}
 use Rattle.asn1_schema.specs.declared.span.Span.{Span}
 use Rattle.asn1_schema.specs.declared.counts.Counts.{Counts}

@@ -1,5 +1,5 @@
 -- Components of a SEQUENCE in order.
-use Rattle.std.proofs.Common.{◌≡◌, ◌≢◌, ◌↔◌, ℕ, zero, suc, ◌+◌, ◌<◌, ◌≤◌, Bool, true, false, not, ◌||◌, ◌&&◌, nat_eq, ⊎_elim, length, length-append, List, [], ◌++◌, Option, Some, None, slice_get, refl, sym, ap, ◌∙◌, subst, append_assoc, arith, inl, inr}
+use Rattle.std.proofs.Common.{◌≡◌, ◌≢◌, ◌↔◌, ℕ, zero, suc, ◌+◌, ◌<◌, ◌≤◌, Bool, true, false, ⊎_elim, length, length-append, List, [], ◌++◌, Some, slice_get, refl, sym, ap, ◌∙◌, subst, arith, inl, inr}
 use Rattle.der_base.specs.declared.encoding_rules.EncodingRules.{EncodingRules}
 use Rattle.ber.specs.Header.{IsNext, end_header}
 use Rattle.ber.specs.declared.header.Header.{Header}
@@ -8,12 +8,10 @@ use Rattle.asn1_schema.specs.Table.{Table}
 use Rattle.asn1_schema.specs.declared.field.Field.{Field}
 use Rattle.asn1_schema.specs.declared.node.Node.{Node}
 use Rattle.asn1_schema.specs.declared.node_kind.NodeKind.TheVariants.{Universal as Universally}
-use Rattle.asn1_schema.specs.declared.presence.Presence.{Presence}
-use Rattle.asn1_schema.specs.declared.presence.Presence.TheVariants.{Required, Optional, Default}
-use Rattle.asn1_schema.specs.Tags.{IsPart, IsFieldOf, Begins, ShareTag, AreApart}
-use Rattle.asn1_tree.specs.Tags.{IsBegun, NoneBegins}
-use Rattle.asn1_schema.specs.Distinct.{may_be_missing, MayFollow, IsDistinct}
-use Rattle.asn1_tree.specs.Verdict.{holds, worst}
+use Rattle.asn1_schema.specs.Tags.{IsFieldOf, Begins}
+use Rattle.asn1_tree.specs.Tags.{NoneBegins}
+use Rattle.asn1_schema.specs.Distinct.{may_be_missing, IsDistinct}
+use Rattle.asn1_tree.specs.Verdict.{holds}
 use Rattle.asn1_tree.specs.Enclosed.{IsEnclosed}
 use Rattle.asn1_tree.specs.Known.{Known, Follows}
 use Rattle.asn1_tree.specs.Opened.{IsEnded}

@@ -1,12 +1,10 @@
 -- What lists of departures say of the octets.
-use Rattle.std.proofs.Common.{◌≡◌, ◌↔◌, ◌⊎◌, inl, inr, if◌then◌else◌, Bool, true, false, List, [], ◌∷◌, refl, sym, ap, ◌∙◌, subst}
-use Rattle.der_base.specs.declared.encoding_rules.EncodingRules.{EncodingRules}
+use Rattle.std.proofs.Common.{◌≡◌, ◌↔◌, ◌⊎◌, inl, inr, if◌then◌else◌, Bool, true, false, List, [], ◌∷◌, refl, sym, ◌∙◌, subst}
 use Rattle.der_base.specs.declared.encoding_rules.EncodingRules.TheVariants as rules
 use Rattle.asn1_contents.specs.Rules.{is_of_der}
-use Rattle.asn1_contents.specs.declared.contents_rule.ContentsRule.{ContentsRule}
 use Rattle.asn1_tree.specs.Departures.{AreOfDer}
 use Rattle.asn1_tree.specs.Reading.{verdict_of}
-use Rattle.asn1_tree.specs.Rule.{verdict_of_rule, verdict_of_contents}
+use Rattle.asn1_tree.specs.Rule.{verdict_of_rule}
 use Rattle.asn1_tree.specs.Verdict.{holds, worst}
 use Rattle.asn1_tree.specs.declared.departure.Departure.{Departure}
 use Rattle.asn1_tree.specs.declared.rule.Rule.{Rule}

@@ -1,9 +1,9 @@
 -- Elements at the front, and their contents.
-use Rattle.std.proofs.Common.{◌≡◌, ◌≢◌, ◌↔◌, ℕ, ◌+◌, ◌-◌, ◌<◌, ◌≤◌, Bool, true, false, IsTrue, take, List, [], ◌∷◌, ◌++◌, length, refl, sym, ap, ◌∙◌, subst, append_assoc, append-nil, length-append, arith}
+use Rattle.std.proofs.Common.{◌≡◌, ◌≢◌, ◌↔◌, ℕ, ◌+◌, ◌-◌, ◌<◌, Bool, true, false, IsTrue, take, List, [], ◌∷◌, ◌++◌, length, refl, sym, ap, ◌∙◌, subst, append_assoc, length-append, arith}
 use Rattle.der_base.specs.FixedOctets.{end_of_contents}
 use Rattle.der_base.specs.declared.encoding_rules.EncodingRules.{EncodingRules}
 use Rattle.der_base.proofs.DigitLemmas.{same_length_front}
-use Rattle.ber.specs.Header.{IsHeader, IsNext, end_header}
+use Rattle.ber.specs.Header.{IsNext, end_header}
 use Rattle.ber.specs.declared.header.Header.{Header}
 use Rattle.ber.specs.declared.length.Length.{Length}
 use Rattle.ber.specs.declared.length.Length.TheVariants.{Definite, Indefinite}
@@ -15,8 +15,7 @@ use Rattle.asn1_tree.specs.Opened.{AreAfter, IsOpened}
 use Rattle.asn1_tree.specs.Reading.{Front, IsWithin, Body, Finds}
 use Rattle.asn1_tree.specs.declared.opened.Opened.{Opened}
 use Rattle.asn1_tree.specs.declared.verdict.Verdict.{Verdict}
-use Rattle.asn1_tree.specs.declared.verdict.Verdict.TheVariants.{Neither}
-use Rattle.asn1_tree.proofs.FindsLemmas.{finds_and, finds_none}
+use Rattle.asn1_tree.proofs.FindsLemmas.{finds_and}
 
 -- an element whose header and contents fulfil a condition
 abbrev pub Elem : (EncodingRules → Header → List ℕ → Type 0) → EncodingRules → List ℕ → Type 0

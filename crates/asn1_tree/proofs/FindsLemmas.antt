@@ -4,7 +4,7 @@ use Rattle.der_base.specs.declared.encoding_rules.EncodingRules.{EncodingRules}
 use Rattle.asn1_tree.specs.Verdict.{holds, worst}
 use Rattle.asn1_tree.specs.Reading.{Front, Body, Finds, Status}
 use Rattle.asn1_tree.specs.declared.verdict.Verdict.{Verdict}
-use Rattle.asn1_tree.specs.declared.verdict.Verdict.TheVariants.{Der, Ber, Neither}
+use Rattle.asn1_tree.specs.declared.verdict.Verdict.TheVariants.{Der, Neither}
 use Rattle.asn1_tree.proofs.VerdictLemmas.{holds_worst, holds_neither, holds_der}
 
 -- what is said of the octets that follow

@@ -1,8 +1,7 @@
 -- Elements one after the other, and the end of contents.
-use Rattle.std.proofs.Common.{◌≡◌, ◌≢◌, ◌↔◌, ℕ, zero, suc, ◌+◌, ◌<◌, ◌≤◌, Bool, true, false, IsTrue, List, [], ◌∷◌, ◌++◌, length, refl, sym, ap, ◌∙◌, subst, append-nil, length-append, arith, inl, inr}
-use Rattle.der_base.specs.FixedOctets.{end_of_contents}
+use Rattle.std.proofs.Common.{◌≡◌, ◌↔◌, ℕ, zero, suc, ◌+◌, ◌<◌, ◌≤◌, Bool, true, false, IsTrue, List, [], ◌∷◌, ◌++◌, length, refl, sym, ap, ◌∙◌, subst, append-nil, length-append, arith, inl, inr}
 use Rattle.der_base.specs.declared.encoding_rules.EncodingRules.{EncodingRules}
-use Rattle.ber.specs.Header.{IsHeader, IsNext, end_header}
+use Rattle.ber.specs.Header.{IsNext, end_header}
 use Rattle.ber.specs.declared.header.Header.{Header}
 use Rattle.ber.proofs.GrammarLemmas.{header_two}
 use Rattle.ber.proofs.HeaderLemmas.{end_header_next}
@@ -12,10 +11,10 @@ use Rattle.asn1_tree.specs.Opened.{IsEnded}
 use Rattle.asn1_tree.specs.Value.{IsInOrder, AreItems, IsAnyCount}
 use Rattle.asn1_tree.specs.Reading.{Front, IsWithin, Body, Finds, Status}
 use Rattle.asn1_tree.specs.declared.verdict.Verdict.{Verdict}
-use Rattle.asn1_tree.specs.declared.verdict.Verdict.TheVariants.{Der, Neither}
-use Rattle.asn1_tree.proofs.FindsLemmas.{Said, through, body_as, finds_and, Cases, both, first, second, cases, worst_true, worst_both, finds_none, status_refused, status_is, status_same}
+use Rattle.asn1_tree.specs.declared.verdict.Verdict.TheVariants.{Der}
+use Rattle.asn1_tree.proofs.FindsLemmas.{Said, through, body_as, finds_and, Cases, both, first, second, cases, worst_true, worst_both, status_is, status_same}
 use Rattle.asn1_tree.proofs.VerdictLemmas.{worst_der, holds_der}
-use Rattle.asn1_tree.proofs.EnclosedLemmas.{spread, front_next, same_next, within_step, within_front}
+use Rattle.asn1_tree.proofs.EnclosedLemmas.{same_next, within_step, within_front}
 
 -- what holds of elements alone
 abbrev pub OfElements : (List ℕ → Type 0) → Type 0

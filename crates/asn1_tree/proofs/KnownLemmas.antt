@@ -1,10 +1,8 @@
 -- The OBJECT IDENTIFIER that chooses an open type is the only one, and so is what it chooses.
-use Rattle.std.proofs.Common.{◌≡◌, ◌≢◌, ℕ, ◌+◌, ◌<◌, ◌≤◌, List, [], ◌++◌, Option, Some, None, slice_get, refl, sym, ap, ◌∙◌, append-nil}
-use Rattle.ber.specs.Element.{IsElement}
+use Rattle.std.proofs.Common.{◌≡◌, ℕ, List, [], Option, Some, None, refl, sym, ap, ◌∙◌}
 use Rattle.ber.proofs.ElementLemmas.{one_element}
-use Rattle.asn1_schema.specs.Table.{Table}
 use Rattle.asn1_schema.specs.declared.node.Node.{Node}
-use Rattle.asn1_tree.specs.Known.{Known, IsIdentifier, Follows, changed, same, IsChosen, IsUnknown}
+use Rattle.asn1_tree.specs.Known.{Known, Follows, changed, same}
 
 -- there is one after a component
 pub one_follows : {node : Option Node} {k : ℕ} {x : List ℕ} {before a b : Known} → Follows node k x before a → Follows node k x before b → a ≡ b

@@ -1,17 +1,16 @@
 -- Elements of any type.
-use Rattle.std.proofs.Common.{◌≡◌, ◌≢◌, ◌↔◌, ℕ, zero, suc, ◌+◌, ◌-◌, ◌<◌, ◌≤◌, Bool, true, false, List, [], ◌++◌, Option, Some, None, refl, sym, ap, ◌∙◌, subst, arith}
+use Rattle.std.proofs.Common.{◌≡◌, ◌↔◌, ℕ, zero, suc, ◌-◌, ◌<◌, Bool, true, false, List, Option, sym, subst, arith}
 use Rattle.der_base.specs.declared.encoding_rules.EncodingRules.{EncodingRules}
 use Rattle.ber.specs.Der.{type_of}
 use Rattle.ber.specs.Header.{IsNext, end_header, label_of_header}
 use Rattle.ber.specs.declared.header.Header.{Header}
 use Rattle.ber.specs.declared.universal.Universal.{Universal}
-use Rattle.asn1_tree.specs.Enclosed.{IsEnclosed}
-use Rattle.asn1_tree.specs.Value.{Elements, MayBeConstructed, IsAnyCount, SomeItems, IsPrimitive, IsUnknownType, IsElementOfAny, IsAny}
+use Rattle.asn1_tree.specs.Value.{MayBeConstructed, IsAnyCount, SomeItems, IsPrimitive, IsUnknownType, IsElementOfAny, IsAny}
 use Rattle.asn1_tree.specs.Verdict.{holds, worst}
 use Rattle.asn1_tree.specs.Reading.{Front, Body, Finds}
 use Rattle.asn1_tree.specs.declared.verdict.Verdict.{Verdict}
 use Rattle.asn1_tree.proofs.FindsLemmas.{finds_as, finds_and, finds_whole, front_as}
-use Rattle.asn1_tree.proofs.EnclosedLemmas.{Elem, no_element, no_element_at_end, no_element_cut}
+use Rattle.asn1_tree.proofs.EnclosedLemmas.{Elem, no_element, no_element_at_end}
 use Rattle.asn1_tree.proofs.ItemLemmas.{OfElements}
 
 -- what the contents of an element of any type are

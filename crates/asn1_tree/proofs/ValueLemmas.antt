@@ -1,14 +1,11 @@
 -- Values of nodes: each is an element that begins as the table says, and what its contents are.
 use Rattle.std.specs.Prelude.{Result, Ok, Err, IfOk}
-use Rattle.std.proofs.Common.{◌≡◌, ◌≢◌, ◌↔◌, ℕ, zero, suc, ◌+◌, ◌-◌, ◌<◌, ◌≤◌, Bool, true, false, length, List, [], ◌++◌, Option, Some, None, slice_get, refl, sym, ap, ◌∙◌, subst, append-nil, arith}
-use Rattle.der_base.specs.declared.tag.class.Class.{Class}
+use Rattle.std.proofs.Common.{◌≡◌, ◌≢◌, ◌↔◌, ℕ, zero, suc, ◌+◌, ◌-◌, ◌<◌, Bool, true, false, length, List, ◌++◌, Option, Some, None, slice_get, refl, sym, ap, ◌∙◌, subst, append-nil, arith}
 use Rattle.der_base.specs.declared.encoding_rules.EncodingRules.{EncodingRules}
-use Rattle.ber.specs.Der.{type_of}
-use Rattle.ber.specs.Header.{IsNext, end_header, label_of_header}
+use Rattle.ber.specs.Header.{IsNext, end_header}
 use Rattle.ber.specs.declared.header.Header.{Header}
 use Rattle.asn1_schema.specs.Table.{Table}
 use Rattle.asn1_schema.specs.declared.node.Node.{Node}
-use Rattle.asn1_schema.specs.declared.node_kind.NodeKind.{NodeKind}
 use Rattle.asn1_schema.specs.declared.node_kind.NodeKind.TheVariants.{Open}
 use Rattle.asn1_schema.specs.Tags.{Selects, itself, alternative, SelectsOne, HasTag, each, is_untagged, IsSelected, Begins}
 use Rattle.asn1_schema.specs.Distinct.{AreDistinct}
@@ -18,7 +15,6 @@ use Rattle.asn1_tree.specs.Known.{Known, IsChosen, IsUnknown}
 use Rattle.asn1_tree.specs.Value.{Values, Elements, IsAny, AreContents, shape_of, IsNode, element, chosen, IsValue}
 use Rattle.asn1_tree.specs.Reading.{Front, Body, Finds}
 use Rattle.asn1_tree.specs.declared.verdict.Verdict.{Verdict}
-use Rattle.asn1_tree.specs.declared.verdict.Verdict.TheVariants.{Neither}
 use Rattle.asn1_schema.specs.declared.field.Field.{Field}
 use Rattle.asn1_schema.specs.declared.node_kind.NodeKind.TheVariants.{Universal as Universally, Choice}
 use Rattle.ber.specs.Element.{IsElement}

@@ -1,5 +1,5 @@
 -- Verdicts on parts together, and what is added to a list of departures.
-use Rattle.std.proofs.Common.{◌≡◌, ◌↔◌, ◌&&◌, Bool, true, false, List, [], ◌∷◌, ◌++◌, refl, sym, ap, ◌∙◌, append_assoc, append-nil}
+use Rattle.std.proofs.Common.{◌≡◌, ◌↔◌, ◌&&◌, true, false, List, [], ◌∷◌, ◌++◌, refl, sym, ap, ◌∙◌, append_assoc, append-nil}
 use Rattle.der_base.specs.declared.encoding_rules.EncodingRules.{EncodingRules}
 use Rattle.der_base.specs.declared.encoding_rules.EncodingRules.TheVariants as rules
 use Rattle.asn1_tree.specs.Verdict.{holds, worst}
@@ -91,3 +91,6 @@ worst_comm Ber Neither = refl
 worst_comm Neither Der = refl
 worst_comm Neither Ber = refl
 worst_comm Neither Neither = refl
+
+pub logs_left : {v : Verdict} {a b c : List Departure} → c ≡ b → Logs v a b → Logs v a c
+logs_left e s = record { added = s.added; split = e ∙ s.split; verdict = s.verdict }

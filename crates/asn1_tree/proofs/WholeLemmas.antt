@@ -1,12 +1,10 @@
 -- Octets that are one value, and nothing more.
-use Rattle.std.proofs.Common.{◌≡◌, ◌↔◌, ℕ, Bool, true, false, List, [], ◌∷◌, ◌++◌, refl, sym, ap, ◌∙◌, subst}
+use Rattle.std.proofs.Common.{◌≡◌, ◌↔◌, ℕ, Bool, true, false, List, [], ◌++◌, refl, sym, ap, ◌∙◌, subst}
 use Rattle.der_base.specs.declared.encoding_rules.EncodingRules.{EncodingRules}
 use Rattle.asn1_tree.specs.Verdict.{holds, worst}
-use Rattle.asn1_tree.specs.Reading.{Front, IsWithin, Body, Finds, verdict_of, Logs}
+use Rattle.asn1_tree.specs.Reading.{Front, Body, Finds, verdict_of, Logs}
 use Rattle.asn1_tree.specs.declared.departure.Departure.{Departure}
-use Rattle.asn1_tree.specs.declared.rule.Rule.{Rule}
 use Rattle.asn1_tree.specs.declared.verdict.Verdict.{Verdict}
-use Rattle.asn1_tree.specs.declared.verdict.Verdict.TheVariants.{Der, Ber, Neither}
 use Rattle.asn1_schema.specs.Table.{Table}
 use Rattle.asn1_tree.specs.Known.{Known, IsUnknownOpen}
 use Rattle.asn1_tree.specs.Value.{Values, Contains, typed, untyped}

@@ -1,5 +1,5 @@
 -- Constraints on values (X.680 51): value ranges, sizes, named bits, and the numbers of an ENUMERATED.
-use Rattle.std.specs.Prelude.{◌≡◌, ◌-◌, ◌^◌, ◌<◌, ◌≤◌, min, ℕ, ℤ, pos, Bool, true, false, List, length, slice_get, Some, ◌⊎◌}
+use Rattle.std.specs.Prelude.{◌≡◌, ◌-◌, ◌^◌, min, ℕ, ℤ, pos, true, List, slice_get, Some, ◌⊎◌}
 use Rattle.der_base.specs.declared.encoding_rules.EncodingRules.{EncodingRules}
 use Rattle.ber.specs.declared.universal.Universal.{Universal}
 use Rattle.ber.specs.declared.universal.Universal.TheVariants.{Integer, Enumerated, BitString}

@@ -1,5 +1,5 @@
 -- Lists of departures.
-use Rattle.std.specs.Prelude.{◌≡◌, Bool, true, List, [], ◌∷◌}
+use Rattle.std.specs.Prelude.{◌≡◌, List, [], ◌∷◌}
 use Rattle.asn1_tree.specs.Rule.{verdict_of_rule}
 use Rattle.asn1_tree.specs.declared.departure.Departure.{Departure}
 use Rattle.asn1_tree.specs.declared.verdict.Verdict.TheVariants.{Ber}

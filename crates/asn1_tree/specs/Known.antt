@@ -1,13 +1,12 @@
 -- The OBJECT IDENTIFIER that chooses an open type: the last component of the SEQUENCE around it that
 -- is one, by the index of its field and its contents octets.
-use Rattle.std.specs.Prelude.{◌≡◌, ◌≢◌, ℕ, List, Option, Some, None, slice_get, take, drop}
+use Rattle.std.specs.Prelude.{◌≡◌, ℕ, List, Option, Some, None, slice_get}
 use Rattle.ber.specs.Element.{IsElement}
 use Rattle.ber.specs.declared.header.Header.{Header}
 use Rattle.ber.specs.declared.universal.Universal.TheVariants.{ObjectIdentifier}
 use Rattle.asn1_schema.specs.Table.{Table}
 use Rattle.asn1_schema.specs.Chosen.{ChoosesRow}
 use Rattle.asn1_schema.specs.declared.node.Node.{Node}
-use Rattle.asn1_schema.specs.declared.node_kind.NodeKind.{NodeKind}
 use Rattle.asn1_schema.specs.declared.node_kind.NodeKind.TheVariants.{Universal, Open}
 use Rattle.asn1_schema.specs.declared.open_type.OpenType.{OpenType}
 use Rattle.asn1_tree.specs.declared.known.Known.{Known as Stored}

@@ -1,12 +1,11 @@
 -- What functions of the reader return: a verdict, and the octets that follow.
-use Rattle.std.specs.Prelude.{◌≡◌, ◌↔◌, ℕ, ◌+◌, ◌<◌, ◌≤◌, Bool, true, false, List, [], ◌∷◌, ◌++◌, length}
+use Rattle.std.specs.Prelude.{◌≡◌, ◌↔◌, ℕ, Bool, true, false, List, [], ◌∷◌, ◌++◌}
 use Rattle.der_base.specs.FixedOctets.{end_of_contents}
 use Rattle.der_base.specs.declared.encoding_rules.EncodingRules.{EncodingRules}
 use Rattle.asn1_tree.specs.Verdict.{holds, worst}
 use Rattle.asn1_tree.specs.declared.departure.Departure.{Departure}
-use Rattle.asn1_tree.specs.declared.rule.Rule.{Rule}
 use Rattle.asn1_tree.specs.declared.verdict.Verdict.{Verdict}
-use Rattle.asn1_tree.specs.declared.verdict.Verdict.TheVariants.{Der, Ber, Neither}
+use Rattle.asn1_tree.specs.declared.verdict.Verdict.TheVariants.{Der}
 use Rattle.asn1_tree.specs.Rule.{verdict_of_rule}
 
 -- octets are an encoding, and octets after it

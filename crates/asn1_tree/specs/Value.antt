@@ -1,17 +1,16 @@
 -- The encodings of the values of a type (X.680), under DER and under BER: `IsValue`. Types are those
 -- of a table, in which nodes name each other by index; values are nested at most `depth` levels.
-use Rattle.std.specs.Prelude.{◌≡◌, ◌≢◌, ℕ, zero, suc, ◌+◌, ◌<◌, ◌≤◌, ◌==◌, ◌&&◌, ◌||◌, nat_lt, Bool, true, false, IsTrue, List, [], ◌∷◌, ◌++◌, Option, Some, None, slice_get, ◌⊎◌}
+use Rattle.std.specs.Prelude.{◌≡◌, ◌≢◌, ℕ, zero, suc, ◌==◌, ◌&&◌, ◌||◌, nat_eq, nat_lt, Bool, true, false, IsTrue, List, [], ◌∷◌, ◌++◌, Option, Some, None, slice_get, ◌⊎◌}
 use Rattle.der_base.specs.declared.encoding_rules.EncodingRules.{EncodingRules}
-use Rattle.der_base.specs.declared.encoding_rules.EncodingRules.TheVariants.{Der, Ber}
+use Rattle.der_base.specs.declared.encoding_rules.EncodingRules.TheVariants.{Der}
 use Rattle.ber.specs.Der.{type_of}
 use Rattle.ber.specs.Form.{allows}
 use Rattle.ber.specs.Universal.{form_of}
 use Rattle.ber.specs.Header.{label_of_header}
-use Rattle.ber.specs.declared.form.Form.{Form}
-use Rattle.ber.specs.declared.form.Form.TheVariants.{Primitive, Constructed, Either}
+use Rattle.ber.specs.declared.form.Form.TheVariants.{Constructed}
 use Rattle.ber.specs.declared.header.Header.{Header}
 use Rattle.ber.specs.declared.universal.Universal.{Universal}
-use Rattle.ber.specs.declared.universal.Universal.TheVariants.{OctetString, Sequence, Set}
+use Rattle.ber.specs.declared.universal.Universal.TheVariants.{OctetString, Sequence}
 use Rattle.asn1_schema.specs.Table.{Table}
 use Rattle.asn1_schema.specs.Pool.{octets_of}
 use Rattle.asn1_schema.specs.declared.field.Field.{Field}
@@ -154,10 +153,20 @@ AreBounded false rules t Child known n u inner =
     IsConstrained rules t n u inner
     × IsContained rules t Child known (contained_in u n) inner
 
+-- a SEQUENCE with an extension marker and no known component
+abbrev pub is_free : Node → Bool
+is_free n = n.extensible && nat_eq n.parts.count 0
+
+-- the components of a SEQUENCE: any elements, if none is known; otherwise those that are known
+abbrev pub AreAll : Bool → Values → Elements → EncodingRules → Table → Node → List ℕ → Type 0
+AreAll true Child Item rules t n inner = SomeItems false rules (Item rules) IsAnyCount inner
+AreAll false Child Item rules t n inner =
+    AreComponents Child rules t n.parts.count n.parts.start None inner
+
 -- the contents of an element whose tag is that of a node of a shape
 abbrev pub AreContents : Shape → EncodingRules → Table → Values → Elements → Known → Node → Header → List ℕ → Type 0
 AreContents Components rules t Child Item known n h inner =
-    (h.constructed ≡ true) × AreComponents Child rules t n.parts.count n.parts.start None inner
+    (h.constructed ≡ true) × AreAll (is_free n) Child Item rules t n inner
 AreContents (Of u) rules t Child Item known n h inner =
     IsUnknownType rules Item (Some u) h.constructed inner
     × AreBounded h.constructed rules t Child known n u inner

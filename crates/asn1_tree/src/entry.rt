@@ -3,7 +3,7 @@
 ghost use Rattle.ber.specs.Header.{IsNext};
 
 use crate::place::Place;
-use crate::role::Role;
+use crate::role::{LEVELS, Role};
 use ber::Header;
 
 /// An element of the input. At most 40 octets of memory.
@@ -15,19 +15,22 @@ pub struct Entry {
     pub contents_len: usize,
     /// The index of the node around it, or its own.
     pub parent: usize,
-    /// The index of its type in the table.
+    /// The index of its type in the table; 4294967295 if it has none there.
     pub kind: u32,
-    /// The index of its field in the table.
+    /// The index of the field that it is the component of, in the table; 4294967295 if it is of none.
     pub field: u32,
+    /// The index of the field that it is the alternative of, in a CHOICE; 4294967295 if it is of none.
+    pub alternative: u32,
     /// The number of octets of its header.
     pub header_len: u8,
-    /// How many nodes are around it.
+    /// At how many levels of nesting it is.
     pub depth: u8,
 }
 
 impl Entry {
-    // The element of a header at a place. Its contents have not been read.
-    pub(crate) fn new(header: Header, place: Place<'_>, role: Role, kind: u32) -> Self
+    // The element of a header at a place, which so many levels may be nested in. The length of its contents
+    // is known when they have been read.
+    pub(crate) fn new(header: Header, place: Place<'_>, role: Role, kind: u32, depth: usize) -> Self
         requires { IsNext header place.octets.now }
     {
         Entry {
@@ -36,8 +39,18 @@ impl Entry {
             parent: role.parent,
             kind,
             field: role.field,
+            alternative: role.alternative,
             header_len: header.header_len as u8,
-            depth: 0,
+            depth: level(depth),
         }
+    }
+}
+
+// The level at which so many more may be nested.
+fn level(depth: usize) -> u8 {
+    if depth < LEVELS {
+        (LEVELS - depth) as u8
+    } else {
+        0
     }
 }

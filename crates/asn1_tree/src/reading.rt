@@ -11,7 +11,7 @@ ghost use Rattle.asn1_tree.specs.Verdict.{holds};
 
 use crate::opened::Opened;
 use crate::place::Place;
-use crate::role::{NO_INDEX, Role};
+use crate::role::Role;
 use crate::tree::Tree;
 use crate::typed::value;
 use crate::untyped::finish;
@@ -60,10 +60,7 @@ fn read_node(
         octets,
         end: octets.len(),
     };
-    let role = Role {
-        field: NO_INDEX,
-        parent: 0,
-    };
+    let role = Role::inside(0);
     let outcome = value(&mut tree, schema, 64, None, node, role, place)?;
     let rest = Opened {
         inside: place.at(outcome.rest),

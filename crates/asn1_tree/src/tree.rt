@@ -8,6 +8,7 @@ ghost use Rattle.asn1_tree.specs.Rule.{verdict_of_rule, verdict_of_option};
 
 use crate::departure::Departure;
 use crate::entry::Entry;
+use crate::opened::Opened;
 use crate::rule::Rule;
 use crate::verdict::Verdict;
 use ber::Header;
@@ -87,12 +88,17 @@ impl Tree {
         Ok(index)
     }
 
-    // Says how many contents octets an element has.
-    pub(crate) fn leave(&mut self, index: usize, contents_len: usize)
+    // Says how many contents octets an element has, after which this is the rest.
+    pub(crate) fn leave(&mut self, index: usize, opened: Opened<'_>, rest: &[u8])
         requires { index < vec_len self.old.entries }
         ensures log { self.new.departures.items ≡ self.old.departures.items }
         ensures same { vec_len self.new.entries ≡ vec_len self.old.entries }
     {
-        self.entries[index].contents_len = contents_len;
+        let contents = opened.inside.octets.len();
+        self.entries[index].contents_len = if opened.marked {
+            contents.saturating_sub(rest.len()).saturating_sub(2)
+        } else {
+            contents
+        };
     }
 }

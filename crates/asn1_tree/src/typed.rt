@@ -16,7 +16,7 @@ ghost use Rattle.asn1_tree.specs.Enclosed.{IsAllowed};
 ghost use Rattle.asn1_tree.specs.Constraints.{IsAllowedSize, bound_of};
 ghost use Rattle.asn1_tree.specs.declared.bound.Bound.TheVariants.{Items};
 ghost use Rattle.asn1_tree.specs.Known.{IsUnknownOpen, known_in};
-ghost use Rattle.asn1_tree.specs.Value.{IsValue, IsAny, IsNode, AreContents, AreComponents, AreBounded, IsUnknownType, Contains, IsContained, SomeItems, contained_in, shape_of};
+ghost use Rattle.asn1_tree.specs.Value.{IsValue, IsAny, IsNode, AreContents, AreComponents, AreAll, AreBounded, IsUnknownType, Contains, IsContained, SomeItems, contained_in, is_free, shape_of};
 ghost use Rattle.asn1_tree.specs.Reading.{Front, Body, Finds, Status, Logs};
 
 use crate::chosen::chosen;
@@ -27,14 +27,14 @@ use crate::opened::{Opened, after_header};
 use crate::order::order_rule;
 use crate::outcome::{Outcome, Step};
 use crate::place::Place;
-use crate::role::{NO_INDEX, Role};
+use crate::role::Role;
 use crate::rule::Rule;
 use crate::select::begins;
 use crate::shape::Shape;
 use crate::tests::{default_rule, may_be_absent};
 use crate::tree::Tree;
 use crate::types::{field_of, node_of, select};
-use crate::untyped::{any, finish, unknown_contents};
+use crate::untyped::{any, elements, finish, unknown_contents};
 use crate::verdict::Verdict;
 use asn1_schema::{Node, NodeKind, Schema, Span};
 use ber::{Header, Universal, is_end_of_contents, read_header};
@@ -134,11 +134,12 @@ fn selected_value<'a>(
     match chosen(schema, &node, known) {
         Some(inner) => value(tree, schema, depth, known, inner, role, place),
         None => {
-            let at = tree.enter(Entry::new(header, place, role, index))?;
+            let at = tree.enter(Entry::new(header, place, role, index, depth))?;
             let allowed = tree.judge_lengths(header, place.offset(), at)?;
             match after_header(header, place) {
                 Some(opened) => {
                     let outcome = contents(tree, schema, depth, known, node, at, header, opened)?;
+                    tree.leave(at, opened, outcome.rest);
                     Ok(Outcome {
                         verdict: allowed.and(outcome.verdict),
                         rest: outcome.rest,
@@ -190,7 +191,7 @@ fn contents<'a>(
         });
     }
     match shape {
-        Shape::Components => components(tree, schema, depth, node, at, opened),
+        Shape::Components => all_components(tree, schema, depth, node, at, opened),
         Shape::Of(universal) => of_type(
             tree, schema, depth, known, node, universal, at, header, opened,
         ),
@@ -315,10 +316,7 @@ fn contained_value<'a>(
     if is_unknown(schema, index, known) {
         return Ok(Verdict::Der);
     }
-    let role = Role {
-        field: NO_INDEX,
-        parent: at,
-    };
+    let role = Role::inside(at);
     let outcome = value(tree, schema, depth, known, index, role, place)?;
     let rest = Opened {
         inside: place.at(outcome.rest),
@@ -357,6 +355,42 @@ fn inner_of(node: Node) -> u32
     ensures { node.inner ≡ Some result }
 {
     node.inner.unwrap_or(0)
+}
+
+// Reads the components of a SEQUENCE, known or not.
+#[cycle(typed)]
+fn all_components<'a>(
+    tree: &mut Tree,
+    schema: &Schema<'_>,
+    depth: usize,
+    node: Node,
+    at: usize,
+    opened: Opened<'a>,
+) -> Result<Outcome<'a>, AllocError>
+    requires kind { node.kind ≡ Universally Sequence }
+    requires there { IsRange node.parts schema.now.counts.fields }
+    requires distinct { AreDistinct (types_in schema.now.octets.now) }
+    requires row { (i : ℕ) × (slice_get (types_in schema.now.octets.now).nodes i ≡ Some node) }
+    ensures finds { IfOk result (λ o. Finds (λ rules. Body opened.entry.marked opened.entry.beyond.now
+        (AreAll (is_free node) (IsValue (types_in schema.now.octets.now) depth) (IsAny depth) rules
+        (types_in schema.now.octets.now) node) opened.entry.inside.octets.now) o.verdict o.rest.now) }
+    ensures shorter { IfOk result (λ o. length o.rest.now
+        ≤ length opened.entry.inside.octets.now + length opened.entry.beyond.now) }
+    ensures log { IfOk result (λ o. Logs o.verdict tree.old.departures.items tree.new.departures.items) }
+    ensures grows { OnOk result (vec_len tree.old.entries ≤ vec_len tree.new.entries) }
+{
+    if is_free(node) {
+        elements(tree, depth, at, opened)
+    } else {
+        components(tree, schema, depth, node, at, opened)
+    }
+}
+
+// Whether a SEQUENCE has an extension marker and no known component.
+fn is_free(node: Node) -> bool
+    ensures { result ≡ is_free node }
+{
+    node.extensible && node.parts.count == 0
 }
 
 // Reads the components of a SEQUENCE.
@@ -453,7 +487,7 @@ fn component<'a>(
     if begins(schema, field.node, place.octets) {
         let role = Role {
             field: index,
-            parent: at,
+            ..Role::inside(at)
         };
         let outcome = value(tree, schema, depth, known, field.node, role, place)?;
         let octets = &place.octets[..place.octets.len() - outcome.rest.len()];
@@ -504,10 +538,7 @@ fn items<'a>(
     ensures log { IfOk result (λ o. Logs o.verdict tree.old.departures.items tree.new.departures.items) }
     ensures grows { OnOk result (vec_len tree.old.entries ≤ vec_len tree.new.entries) }
 {
-    let role = Role {
-        field: NO_INDEX,
-        parent: at,
-    };
+    let role = Role::inside(at);
     let item = inner_of(node);
     let mut verdict = Verdict::Der;
     let mut rest = opened.inside.octets;
@@ -552,10 +583,7 @@ fn explicit<'a>(
     ensures log { IfOk result (λ o. Logs o.verdict tree.old.departures.items tree.new.departures.items) }
     ensures grows { OnOk result (vec_len tree.old.entries ≤ vec_len tree.new.entries) }
 {
-    let role = Role {
-        field: NO_INDEX,
-        parent: at,
-    };
+    let role = Role::inside(at);
     let outcome = value(tree, schema, depth, known, inner, role, opened.inside)?;
     let end = finish(tree, depth, at, opened.at(outcome.rest))?;
     Ok(Outcome {

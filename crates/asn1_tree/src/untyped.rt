@@ -49,7 +49,7 @@ pub(crate) fn any<'a>(
         let verdict = tree.depart(Rule::Depth, place.offset(), role.parent)?;
         return Ok(Outcome { verdict, rest: &[] });
     }
-    let at = tree.enter(Entry::new(header, place, role, NO_INDEX))?;
+    let at = tree.enter(Entry::new(header, place, role, NO_INDEX, depth))?;
     let allowed = tree.judge_lengths(header, place.offset(), at)?;
     match after_header(header, place) {
         Some(opened) => {
@@ -61,6 +61,7 @@ pub(crate) fn any<'a>(
                 at,
                 opened,
             )?;
+            tree.leave(at, opened, outcome.rest);
             Ok(Outcome {
                 verdict: allowed.and(outcome.verdict),
                 rest: outcome.rest,
@@ -113,7 +114,7 @@ pub(crate) fn unknown_contents<'a>(
 
 // Reads elements of any type.
 #[cycle(untyped)]
-fn elements<'a>(
+pub(crate) fn elements<'a>(
     tree: &mut Tree,
     depth: usize,
     at: usize,
@@ -126,10 +127,7 @@ fn elements<'a>(
     ensures log { IfOk result (λ o. Logs o.verdict tree.old.departures.items tree.new.departures.items) }
     ensures grows { OnOk result (vec_len tree.old.entries ≤ vec_len tree.new.entries) }
 {
-    let role = Role {
-        field: NO_INDEX,
-        parent: at,
-    };
+    let role = Role::inside(at);
     let mut verdict = Verdict::Der;
     let mut rest = opened.inside.octets;
     'elements: while !opened.at(rest).is_ended() {

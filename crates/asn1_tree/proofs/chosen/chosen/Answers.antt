@@ -1,4 +1,4 @@
-use Rattle.std.proofs.Common.{◌≡◌, ◌≢◌, ◌∙◌, ℕ, List, Option, Some, None, refl, sym, ap, subst}
+use Rattle.std.proofs.Common.{◌≡◌, ◌∙◌, Some, refl, sym, ap, subst}
 use Rattle.asn1_schema.specs.Chosen.{ChoosesRow}
 use Rattle.asn1_schema.specs.declared.open_type.OpenType.{OpenType}
 use Rattle.asn1_tree.specs.Types.{types_in}

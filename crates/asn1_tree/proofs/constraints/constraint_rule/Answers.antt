@@ -1,12 +1,10 @@
 use Rattle.std.proofs.Common.{◌≡◌, ◌∙◌, ◌↔◌, true, sym, subst}
 use Rattle.der_base.specs.declared.encoding_rules.EncodingRules.{EncodingRules}
 use Rattle.asn1_schema.proofs.TestLemmas.{refuted}
-use Rattle.asn1_tree.specs.Constraints.{AreKept, bound_of}
+use Rattle.asn1_tree.specs.Constraints.{AreKept}
 use Rattle.asn1_tree.specs.Types.{types_in}
 use Rattle.asn1_tree.specs.Rule.{verdict_of_option}
 use Rattle.asn1_tree.specs.Verdict.{holds}
-use Rattle.asn1_tree.specs.declared.bound.Bound.{Bound}
-use Rattle.asn1_tree.specs.declared.bound.Bound.TheVariants.{Numbers, Items, Bits, Sizes}
 use Rattle.asn1_tree.proofs.VerdictLemmas.{broken}
 use Rattle.asn1_tree.proofs.constraints.constraint_rule.Goals as goal
 

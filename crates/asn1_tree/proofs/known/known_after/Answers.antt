@@ -1,7 +1,7 @@
-use Rattle.std.proofs.Common.{◌≡◌, ◌∙◌, ◌++◌, List, [], sym, ap, subst, append-nil, slice_get, Some, ℕ, true}
+use Rattle.std.proofs.Common.{◌≡◌, ◌∙◌, [], sym, subst, append-nil, true}
 use Rattle.ber.specs.Element.{IsElement}
 use Rattle.ber.proofs.ElementLemmas.{one_element}
-use Rattle.asn1_tree.specs.Known.{IsIdentifier, Follows, changed, same}
+use Rattle.asn1_tree.specs.Known.{IsIdentifier, changed, same}
 use Rattle.asn1_tree.proofs.known.known_after.Goals as goal
 
 pub returns-in-Ok : goal.returns-in-Ok

@@ -1,4 +1,4 @@
-use Rattle.std.proofs.Common.{rules, ◌≡◌, ◌-◌, length, take, drop, ap, ◌∙◌, length-take-le, length-drop, length-append, false, true, arith}
+use Rattle.std.proofs.Common.{◌-◌, length, take, drop, ap, length-take-le, length-drop, length-append, arith}
 use Rattle.ber.proofs.ListLemmas.{rest_of}
 use Rattle.ber.proofs.GrammarLemmas.{header_two}
 use Rattle.asn1_tree.proofs.opened.after_header.Goals as goal

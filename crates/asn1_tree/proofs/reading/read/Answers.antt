@@ -1,8 +1,4 @@
-use Rattle.std.proofs.Common.{◌≡◌, ◌↔◌, [], List}
 use Rattle.der_base.specs.declared.encoding_rules.EncodingRules.TheVariants.{Der, Ber}
-use Rattle.asn1_schema.specs.Table.{table_in}
-use Rattle.asn1_tree.specs.Departures.{AreOfDer}
-use Rattle.asn1_tree.specs.Encoding.{IsDer, IsBer}
 use Rattle.asn1_tree.specs.Types.{types_in}
 use Rattle.asn1_tree.proofs.DepartureLemmas.{none_departs, some_depart}
 use Rattle.asn1_tree.proofs.FindsLemmas.{through, back}

@@ -1,5 +1,4 @@
-use Rattle.std.proofs.Common.{◌≡◌, ◌∙◌, sym, ap, subst, Ok, Result}
-use Rattle.ber.specs.Header.{IsNext, end_header}
+use Rattle.std.proofs.Common.{◌∙◌, sym, subst}
 use Rattle.ber.specs.declared.header.Header.{Header}
 use Rattle.ber.proofs.HeaderLemmas.{end_header_next}
 use Rattle.ber.proofs.GrammarLemmas.{one_header}

@@ -1,27 +1,20 @@
-use Rattle.std.proofs.Common.{rules, ◌≡◌, ◌≢◌, ◌↔◌, ◌*◌, ◌+◌, ◌-◌, ◌<◌, ◌≤◌, ◌∙◌, false, true, [], length, take, drop, refl, sym, ap, subst, ℕ, suc, List, Some, None, slice_get, arith}
+use Rattle.std.proofs.Common.{rules, ◌≡◌, ◌↔◌, ◌+◌, ◌-◌, ◌∙◌, false, true, [], length, take, refl, sym, ap, subst, ℕ, suc, List, Some, slice_get, arith}
 use Rattle.ber.specs.Element.{IsElement}
-use Rattle.ber.specs.Der.{type_of}
-use Rattle.ber.specs.Header.{IsNext, end_header, label_of_header}
-use Rattle.ber.specs.declared.header.Header.{Header}
 use Rattle.ber.proofs.HeaderLemmas.{end_header_next}
-use Rattle.asn1_schema.specs.Tags.{HasTag, Begins}
-use Rattle.asn1_schema.specs.declared.node.Node.{Node}
 use Rattle.asn1_schema.specs.declared.field.Field.{Field}
 use Rattle.asn1_tree.specs.Constraints.{IsAllowedSize}
 use Rattle.asn1_tree.specs.Types.{types_in}
 use Rattle.asn1_tree.specs.Known.{known_in, Follows}
 use Rattle.asn1_tree.specs.Verdict.{holds, worst}
-use Rattle.asn1_tree.specs.Value.{Values, MayBeAbsent, IsValue, IsAny, IsNode, AreContents, AreComponents, SomeItems, IsUnknownType, AreBounded, IsContained, shape_of, is_constructed}
-use Rattle.asn1_tree.specs.Reading.{Front, Body, Finds, Status, Logs}
-use Rattle.asn1_tree.specs.declared.shape.Shape.{Shape}
+use Rattle.asn1_tree.specs.Value.{MayBeAbsent, IsValue, IsAny, IsNode, AreComponents, SomeItems, IsUnknownType, AreAll, AreBounded, IsContained, shape_of, is_constructed}
+use Rattle.asn1_tree.specs.Reading.{Front, Body, Finds}
 use Rattle.asn1_tree.specs.declared.shape.Shape.TheVariants.{Components, Of, Items, SortedItems, Inner, Untyped}
-use Rattle.asn1_tree.proofs.VerdictLemmas.{logs_none, worst_neither, worst_assoc, logs_is, logs_then, logs_after}
-use Rattle.asn1_tree.proofs.FindsLemmas.{finds_is, finds_never, finds_at, finds_as, finds_and, finds_whole, body_at, status_is, status_then, status_ends}
-use Rattle.asn1_tree.proofs.EnclosedLemmas.{Elem, finds_element, no_element_cut, real_header, taken}
+use Rattle.asn1_tree.proofs.VerdictLemmas.{logs_none, worst_neither, worst_assoc, logs_is, logs_then, logs_after, logs_left}
+use Rattle.asn1_tree.proofs.FindsLemmas.{finds_is, finds_never, finds_at, body_at, status_is, status_then, status_ends}
+use Rattle.asn1_tree.proofs.EnclosedLemmas.{finds_element, taken}
 use Rattle.asn1_tree.proofs.ItemLemmas.{items_end, item_found, item_counted, items_begin, some_left, inner_found, goes_on, has_ended}
 use Rattle.asn1_tree.proofs.UntypedLemmas.{test_is}
 use Rattle.asn1_tree.proofs.WholeLemmas.{both_tests, finds_also, whole_found, exact_of, contains_value}
-use Rattle.asn1_tree.proofs.KindLemmas.{of_universal, of_items}
 use Rattle.asn1_tree.specs.declared.verdict.Verdict.{Verdict}
 use Rattle.der_base.specs.declared.encoding_rules.EncodingRules.{EncodingRules}
 use Rattle.asn1_tree.proofs.ComponentLemmas.{component_found, component_absent, component_missing, none_later, status_next, status_at}
@@ -79,7 +72,7 @@ selected_value-returns-in_ok-outcome-in-Some-after_header-clause-finds t c n row
 pub selected_value-returns-in_ok-outcome-in-Some-after_header-clause-log :
     goal.selected_value-returns-in_ok-outcome-in-Some-after_header-clause-log
 selected_value-returns-in_ok-outcome-in-Some-after_header-clause-log t c =
-    logs_is c.and.ensures (logs_after c.in_ok-at-in-None.ensures.log (logs_then c.in_ok-allowed-in-None.ensures.log c.in_ok-outcome-in-Some-after_header.ensures.log))
+    logs_is c.and.ensures (logs_left c.leave.ensures.log (logs_after c.in_ok-at-in-None.ensures.log (logs_then c.in_ok-allowed-in-None.ensures.log c.in_ok-outcome-in-Some-after_header.ensures.log)))
 
 pub selected_value-returns-in_ok-cut-in-None-after_header-clause-finds :
     goal.selected_value-returns-in_ok-cut-in-None-after_header-clause-finds
@@ -96,8 +89,8 @@ pub contents-returns-in-Components-clause-finds : goal.contents-returns-in-Compo
 contents-returns-in-Components-clause-finds t c =
     let shape : shape_of c.args.node.kind ≡ Components = sym c.of-shape.ensures ∙ c.in-Components.is in
     let on = c.has_wrong_form.ensures.right c.if-has_wrong_form.false (ap is_constructed c.in-Components.is) in
-    if_ok c.components.result (λ o f. finds_shape (types_in c.args.schema.now.octets.now) (IsValue (types_in c.args.schema.now.octets.now) c.args.depth) (IsAny c.args.depth) (known_in c.args.known) c.args.node c.args.header c.args.opened.marked c.args.opened.beyond.now c.args.opened.inside.octets.now shape
-    (finds_given c.args.opened.marked c.args.opened.beyond.now c.args.opened.inside.octets.now on f)) c.components.ensures.finds
+    if_ok c.all_components.result (λ o f. finds_shape (types_in c.args.schema.now.octets.now) (IsValue (types_in c.args.schema.now.octets.now) c.args.depth) (IsAny c.args.depth) (known_in c.args.known) c.args.node c.args.header c.args.opened.marked c.args.opened.beyond.now c.args.opened.inside.octets.now shape
+    (finds_given c.args.opened.marked c.args.opened.beyond.now c.args.opened.inside.octets.now on f)) c.all_components.ensures.finds
 
 pub contents-returns-in-Of-clause-finds : goal.contents-returns-in-Of-clause-finds
 contents-returns-in-Of-clause-finds t c =
@@ -282,3 +275,11 @@ contained_value-returns-clause-exact t c =
 pub contained_value-returns-clause-log : goal.contained_value-returns-clause-log
 contained_value-returns-clause-log t c =
     logs_is c.and.ensures (logs_then c.in_ok-outcome.ensures.log c.in_ok-end.ensures.log)
+
+pub all_components-returns-then-is_free-clause-finds : goal.all_components-returns-then-is_free-clause-finds
+all_components-returns-then-is_free-clause-finds t c =
+    if_ok c.elements.result (λ o f. subst (λ k. Finds (λ rules. Body c.args.opened.marked c.args.opened.beyond.now (AreAll k (IsValue (types_in c.args.schema.now.octets.now) c.args.depth) (IsAny c.args.depth) rules (types_in c.args.schema.now.octets.now) c.args.node) c.args.opened.inside.octets.now) o.verdict o.rest.now) (sym c.if-is_free.true ∙ c.is_free.ensures) f) c.elements.ensures.finds
+
+pub all_components-returns-else-is_free-clause-finds : goal.all_components-returns-else-is_free-clause-finds
+all_components-returns-else-is_free-clause-finds t c =
+    if_ok c.components.result (λ o f. subst (λ k. Finds (λ rules. Body c.args.opened.marked c.args.opened.beyond.now (AreAll k (IsValue (types_in c.args.schema.now.octets.now) c.args.depth) (IsAny c.args.depth) rules (types_in c.args.schema.now.octets.now) c.args.node) c.args.opened.inside.octets.now) o.verdict o.rest.now) (sym c.if-is_free.false ∙ c.is_free.ensures) f) c.components.ensures.finds

@@ -1,4 +1,4 @@
-use Rattle.std.proofs.Common.{◌*◌, ◌+◌, ◌-◌, ◌≤◌, ℕ, List, None, length, vec_len}
+use Rattle.std.proofs.Common.{◌*◌, ◌+◌, ◌-◌, ◌≤◌, None, length, vec_len}
 use Rattle.asn1_tree.specs.Types.{types_in}
 use Rattle.asn1_tree.specs.Constraints.{IsAllowedSize}
 use Rattle.asn1_tree.specs.Known.{known_in}
@@ -27,6 +27,9 @@ decreases-contents l = 7 * l.depth + 5
 
 abbrev pub decreases-selected_value : goal.decreases-selected_value
 decreases-selected_value l = 7 * l.depth + 6
+
+abbrev pub decreases-all_components : goal.decreases-all_components
+decreases-all_components l = 7 * l.depth + 3
 
 abbrev pub decreases-of_type : goal.decreases-of_type
 decreases-of_type l = 7 * l.depth + 4

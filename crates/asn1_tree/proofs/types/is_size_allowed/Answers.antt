@@ -1,4 +1,4 @@
-use Rattle.std.proofs.Common.{◌↔◌, ◌∙◌, ℤ, IsTrue, FitsSigned, false, w64, sym, subst}
+use Rattle.std.proofs.Common.{◌↔◌, ◌∙◌, IsTrue, FitsSigned, false, w64, sym, subst}
 use Rattle.std.proofs.lemmas.Int.{to_z-of_z}
 use Rattle.asn1_contents.proofs.RangeLemmas.{fits_signed}
 use Rattle.asn1_schema.specs.Allowed.{IsAllowed}

@@ -1,10 +1,10 @@
-use Rattle.std.proofs.Common.{rules, ◌≡◌, ◌*◌, ◌+◌, ◌-◌, ◌<◌, ◌≤◌, ◌∙◌, false, true, [], length, take, drop, sym, ap, subst, ℕ, List, arith}
-use Rattle.asn1_tree.specs.Value.{IsAny, IsAnyCount, IsUnknownType, MayBeConstructed, SomeItems}
+use Rattle.std.proofs.Common.{rules, ◌≡◌, ◌-◌, ◌∙◌, false, [], length, take, ap, subst, arith}
+use Rattle.asn1_tree.specs.Value.{IsAny, IsAnyCount, IsUnknownType}
 use Rattle.asn1_tree.specs.Verdict.{worst}
-use Rattle.asn1_tree.specs.Reading.{Front, Body, Finds, Logs}
+use Rattle.asn1_tree.specs.Reading.{Body, Finds}
 use Rattle.ber.proofs.HeaderLemmas.{end_header_next}
-use Rattle.asn1_tree.proofs.VerdictLemmas.{kept, worst_neither, logs_is, logs_then, logs_after}
-use Rattle.asn1_tree.proofs.FindsLemmas.{finds_is, finds_never, finds_at, finds_as, finds_and, finds_whole, body_at, status_is, status_then, status_ends}
+use Rattle.asn1_tree.proofs.VerdictLemmas.{kept, worst_neither, logs_is, logs_then, logs_after, logs_left}
+use Rattle.asn1_tree.proofs.FindsLemmas.{finds_is, finds_never, finds_at, body_at, status_is, status_then, status_ends}
 use Rattle.asn1_tree.proofs.EnclosedLemmas.{finds_element, no_element_cut, real_header, taken}
 use Rattle.asn1_tree.proofs.ItemLemmas.{items_end, item_plain, goes_on, has_ended}
 use Rattle.asn1_tree.proofs.UntypedLemmas.{AnyContents, any_none, any_finds, any_elements, no_any, no_any_at_end, no_any_cut, test_is, finds_constructed, finds_primitive}
@@ -38,7 +38,7 @@ any-returns-in_ok-outcome-in-Some-clause-finds t c =
 pub any-returns-in_ok-outcome-in-Some-clause-log :
     goal.any-returns-in_ok-outcome-in-Some-clause-log
 any-returns-in_ok-outcome-in-Some-clause-log t c =
-    logs_is c.and.ensures (logs_after c.in_ok-at.ensures.log (logs_then c.in_ok-allowed.ensures.log c.in_ok-outcome-in-Some.ensures.log))
+    logs_is c.and.ensures (logs_left c.leave.ensures.log (logs_after c.in_ok-at.ensures.log (logs_then c.in_ok-allowed.ensures.log c.in_ok-outcome-in-Some.ensures.log)))
 
 pub any-returns-in_ok-cut-in-None-clause-finds : goal.any-returns-in_ok-cut-in-None-clause-finds
 any-returns-in_ok-cut-in-None-clause-finds t c =
