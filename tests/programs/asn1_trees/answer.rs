@@ -1,66 +1,65 @@
 //! Answers of the reader of values.
 
 use asn1_schema::{NodeKind, Schema};
-use asn1_tree::{Departure, Rule, Tree, Verdict};
+use asn1_tree::{Departure, Rule, Tree};
 use std::fmt;
 
-/// What the reader says of octets, without what it says inside values of any type: compiled types take
-/// these without looking into them.
+/// What the reader says of octets.
 #[derive(Clone, Copy)]
 pub struct Answer {
-    /// The first departure that is not inside such a value.
+    /// The first departure that is not inside a value of any type: compiled types take these without looking into
+    /// them.
     first: Option<Departure>,
-    /// The least offset of those departures.
-    least: usize,
-    /// How many they are.
-    count: usize,
-    /// How many there are inside such values.
+    /// How many departures there are inside such values.
     inside: usize,
-    /// What is left of the octets without those inside.
-    verdict: Verdict,
+    /// The least offset of all departures.
+    least: Option<usize>,
 }
 
 impl Answer {
     pub fn of(schema: &Schema<'_>, tree: &Tree) -> Self {
-        let (mut least, mut count, mut inside) = (usize::MAX, 0, 0);
-        let (mut first, mut verdict) = (None, Verdict::Der);
+        let (mut first, mut inside, mut least) = (None, 0usize, None);
         for departure in tree.departures.iter() {
-            if is_inside(schema, tree, departure) {
-                inside += 1;
-                continue;
-            }
-            first = first.or(Some(*departure));
-            least = least.min(departure.offset);
-            count += 1;
-            verdict = match (verdict, departure.rule.verdict()) {
-                (Verdict::Der, other) => other,
-                (Verdict::Ber, Verdict::Neither) => Verdict::Neither,
-                (other, _) => other,
+            least = match least {
+                Some(least) if least <= departure.offset => Some(least),
+                _ => Some(departure.offset),
             };
+            if is_inside(schema, tree, departure) {
+                inside = inside.saturating_add(1);
+            } else if first.is_none() {
+                first = Some(*departure);
+            }
         }
-        Answer { first, least, count, inside, verdict }
+        Answer { first, inside, least }
     }
 }
 
 // Whether a departure is inside a value of any type.
 fn is_inside(schema: &Schema<'_>, tree: &Tree, departure: &Departure) -> bool {
-    let Some(entry) = tree.entries.get(departure.node) else {
-        return false;
-    };
-    if entry.kind >= schema.counts().nodes {
-        return true;
+    let mut index = departure.node;
+    while let Some(entry) = tree.entries.get(index) {
+        if entry.kind < schema.counts().nodes {
+            let is_own = index == departure.node && departure.offset == entry.offset;
+            let is_untyped = matches!(schema.node(entry.kind).kind, NodeKind::Any | NodeKind::Open);
+            return is_untyped && (!is_own || matches!(departure.rule, Rule::Form | Rule::Contents(_)));
+        }
+        if index == entry.parent {
+            return false;
+        }
+        index = entry.parent;
     }
-    let is_untyped = matches!(schema.node(entry.kind).kind, NodeKind::Any | NodeKind::Open);
-    is_untyped && (departure.offset > entry.offset || matches!(departure.rule, Rule::Form | Rule::Contents(_)))
+    false
 }
 
 impl fmt::Display for Answer {
     fn fmt<W: fmt::Write>(&self, f: &mut fmt::Formatter<W>) -> fmt::Result {
+        match self.least {
+            Some(least) => write!(f, "{least} {} ", self.inside)?,
+            None => write!(f, "- 0 ")?,
+        }
         match self.first {
-            Some(first) => {
-                write!(f, "{:?}:{}:{}:{}:{}:{:?}", self.verdict, self.count, self.inside, self.least, first.offset, first.rule)
-            }
-            None => write!(f, "ok:0:{}", self.inside),
+            Some(first) => write!(f, "{:?}", first.rule),
+            None => write!(f, "ok"),
         }
     }
 }

@@ -33,12 +33,12 @@ fn run<R: Print>(rt: &R, alloc: Global, tables: &[Schema<'_>; 2], octets: &[u8])
     while let Some((case, after)) = Case::split(rest) {
         rest = after;
         match compiled::error_of(alloc, case.kind, case.octets) {
-            Some(None) => print!(rt; "ok")?,
+            Some(None) => print!(rt; "- ok")?,
             Some(Some(error)) => match error.position() {
-                Some(position) => print!(rt; "{position}:{:?}", error.kind())?,
-                None => print!(rt; "-:{:?}", error.kind())?,
+                Some(position) => print!(rt; "{position} {:?}", error.kind())?,
+                None => print!(rt; "- {:?}", error.kind())?,
             },
-            None => print!(rt; "no type")?,
+            None => print!(rt; "- none")?,
         }
         for (table, node) in tables.iter().zip([case.node, case.plain]) {
             match read(alloc, table, node, case.octets) {
