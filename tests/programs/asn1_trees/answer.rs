@@ -7,8 +7,8 @@ use std::fmt;
 /// What the reader says of octets.
 #[derive(Clone, Copy)]
 pub struct Answer {
-    /// The first departure that is not inside a value of any type: compiled types take these without looking into
-    /// them.
+    /// The first departure that is not inside a value of any type: compiled types take these
+    /// without looking into them.
     first: Option<Departure>,
     /// How many departures there are inside such values.
     inside: usize,
@@ -30,7 +30,11 @@ impl Answer {
                 first = Some(*departure);
             }
         }
-        Answer { first, inside, least }
+        Answer {
+            first,
+            inside,
+            least,
+        }
     }
 }
 
@@ -41,7 +45,8 @@ fn is_inside(schema: &Schema<'_>, tree: &Tree, departure: &Departure) -> bool {
         if entry.kind < schema.counts().nodes {
             let is_own = index == departure.node && departure.offset == entry.offset;
             let is_untyped = matches!(schema.node(entry.kind).kind, NodeKind::Any | NodeKind::Open);
-            return is_untyped && (!is_own || matches!(departure.rule, Rule::Form | Rule::Contents(_)));
+            return is_untyped
+                && (!is_own || matches!(departure.rule, Rule::Form | Rule::Contents(_)));
         }
         if index == entry.parent {
             return false;

@@ -22,7 +22,15 @@ impl<'a> Case<'a> {
         let (plain, rest) = split_number(rest)?;
         let (octets, rest) = split_counted(rest)?;
         let kind = from_utf8(kind).ok()?;
-        Some((Case { kind, node, plain, octets }, rest))
+        Some((
+            Case {
+                kind,
+                node,
+                plain,
+                octets,
+            },
+            rest,
+        ))
     }
 }
 

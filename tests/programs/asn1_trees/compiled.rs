@@ -3,7 +3,7 @@
 use der::{Decode, DecodeBytes, Error, SliceReader};
 use std::alloc::Global;
 
-/// The error of decoding octets by the compiled type of this name, or `None` inside if there is none.
+/// The error of decoding octets by the compiled type of this name, `Some(None)` if they are its value.
 /// `None` if no type has this name.
 pub fn error_of(alloc: Global, kind: &str, octets: &[u8]) -> Option<Option<Error>> {
     certificates(alloc, kind, octets)
@@ -19,7 +19,10 @@ pub fn error_of(alloc: Global, kind: &str, octets: &[u8]) -> Option<Option<Error
         .or(parcels(alloc, kind, octets))
 }
 
-fn of<'a, T: Decode<SliceReader<'a>, Error = Error>>(alloc: Global, octets: &'a [u8]) -> Option<Error> {
+fn of<'a, T: Decode<SliceReader<'a>, Error = Error>>(
+    alloc: Global,
+    octets: &'a [u8],
+) -> Option<Error> {
     match T::from_der(alloc, octets) {
         Ok(_) => None,
         Err(error) => Some(error),
@@ -55,7 +58,9 @@ fn certificates(alloc: Global, kind: &str, octets: &[u8]) -> Option<Option<Error
         "InhibitAnyPolicy" => of::<x509::InhibitAnyPolicy<'_>>(alloc, octets),
         "AuthorityInfoAccessSyntax" => of::<x509::AuthorityInfoAccessSyntax<'_>>(alloc, octets),
         "SubjectInfoAccessSyntax" => of::<x509::SubjectInfoAccessSyntax<'_>>(alloc, octets),
-        "SignedCertificateTimestampList" => of::<x509::SignedCertificateTimestampList<'_>>(alloc, octets),
+        "SignedCertificateTimestampList" => of::<x509::SignedCertificateTimestampList<'_>>(
+            alloc, octets,
+        ),
         "ExtensionRequest" => of::<x509::ExtensionRequest<'_>>(alloc, octets),
         _ => return None,
     })
@@ -165,7 +170,9 @@ fn answers(alloc: Global, kind: &str, octets: &[u8]) -> Option<Option<Error>> {
         "AcceptableResponses" => of::<ocsp::AcceptableResponses<'_>>(alloc, octets),
         "ArchiveCutoff" => of::<ocsp::ArchiveCutoff>(alloc, octets),
         "ServiceLocator" => of::<ocsp::ServiceLocator<'_>>(alloc, octets),
-        "PreferredSignatureAlgorithms" => of::<ocsp::PreferredSignatureAlgorithms<'_>>(alloc, octets),
+        "PreferredSignatureAlgorithms" => of::<ocsp::PreferredSignatureAlgorithms<'_>>(
+            alloc, octets,
+        ),
         "BasicOCSPResponse" => of::<ocsp::BasicOcspResponse<'_>>(alloc, octets),
         _ => return None,
     })

@@ -1,15 +1,15 @@
-//! `asn1_trees TABLE PLAIN CASES` reads each case of the third file as a value of its type: by the compiled type, by
-//! the table of types in the first file, and by that in the second one. For each case a line has the three answers.
-//! `.ci/trees.py` writes these files.
+//! `asn1_trees TABLE PLAIN CASES` reads each case of the third file as a value of its type: by the
+//! compiled type, by the table of types in the first file, and by that in the second one. For each
+//! case a line has the three answers. `.ci/trees.py` writes these files.
 #![tactic(auto)]
 
 mod answer;
 mod case;
 mod compiled;
 
+use answer::Answer;
 use asn1_schema::Schema;
 use asn1_tree::read;
-use answer::Answer;
 use case::Case;
 use std::alloc::{AllocError, Global};
 use std::{env, fs, io};
@@ -19,7 +19,10 @@ fn main(rt: HostRuntime) -> io::Result<()> {
     let [_, table, plain, cases] = words.as_slice() else {
         return Ok(());
     };
-    let (table, plain) = (fs::read(&rt, table.as_str())?, fs::read(&rt, plain.as_str())?);
+    let (table, plain) = (
+        fs::read(&rt, table.as_str())?,
+        fs::read(&rt, plain.as_str())?,
+    );
     let cases = fs::read(&rt, cases.as_str())?;
     match (Schema::new(&table), Schema::new(&plain)) {
         (Ok(table), Ok(plain)) => run(&rt, rt.alloc(), &[table, plain], &cases),
