@@ -2,6 +2,7 @@
 lengths around it still fit."""
 import random
 
+OCTET_WAYS = ["flipped", "other", "cut", "inserted"]
 WAYS = ["absent", "twice", "swapped", "tag", "form", "class", "empty", "short", "more", "before", "octet"]
 WAYS += ["value", "long", "indefinite"]
 # Contents that break or keep the rules of some type: numbers, truth values, times, texts and OBJECT IDENTIFIERs.
@@ -9,14 +10,14 @@ VALUES = [b"\0", b"\1", b"\xff", b"\x7f\xff", b"\0\x80", b"a", b"\0a", b"\x2a\3"
 VALUES += [b"20261231235959Z", b"261231235959Z", b"20261231235959.5Z"]
 
 
-def octet_mutants(octets, dice):
-    """Each octet changed twice, a cut before it, and an octet inserted before it; one octet more at the end."""
-    for at, octet in enumerate(octets):
-        for changed in (octet ^ 1 << dice.randrange(8), dice.randrange(256)):
-            yield octets[:at] + bytes([changed]) + octets[at + 1 :]
-        yield octets[:at]
-        yield octets[:at] + bytes([dice.choice([0, dice.randrange(256)])]) + octets[at:]
-    yield octets + b"\0"
+def octet_mutant(octets, at, way, dice):
+    """The octets with that of an index changed, with another before it, or without it and what follows."""
+    before, after = octets[:at], octets[at + 1 :]
+    if way == "flipped":
+        return before + bytes([octets[at] ^ 1 << dice.randrange(8)]) + after
+    if way == "other":
+        return before + dice.randbytes(1) + after
+    return before if way == "cut" else before + bytes([dice.choice([0, dice.randrange(256)])]) + octets[at:]
 
 
 def elements(octets):
@@ -102,15 +103,12 @@ def element_mutant(octets, place, way, dice):
     return encoded(found, element, way)
 
 
-def element_mutants(octets, dice):
-    """Each element changed in each way."""
-    for place in range(len(list(places(elements(octets) or [])))):
-        for way in WAYS:
-            yield element_mutant(octets, place, way, dice)
-
-
 def mutants(octets, count, seed):
-    """At most so many of the mutants, which are the same for the same seed."""
+    """So many of the mutants, or all of them for None. They are the same for the same seed."""
     dice = random.Random(f"{seed} {octets.hex()}")
-    found = [it for it in [*octet_mutants(octets, dice), *element_mutants(octets, dice)] if it != octets]
-    return found if count is None else dice.sample(found, min(count, len(found)))
+    chosen = [(at, way) for at in range(len(octets)) for way in OCTET_WAYS]
+    chosen += [(at, way) for at in range(len(list(places(elements(octets) or [])))) for way in WAYS]
+    for at, way in chosen if count is None else dice.sample(chosen, min(count, len(chosen))):
+        made = (octet_mutant if way in OCTET_WAYS else element_mutant)(octets, at, way, dice)
+        if made != octets:
+            yield made
