@@ -38,13 +38,15 @@ impl Answer {
     }
 }
 
-// Whether a departure is inside a value of any type.
+// Whether a departure is inside a value of any type, or of a SEQUENCE without known components.
 fn is_inside(schema: &Schema<'_>, tree: &Tree, departure: &Departure) -> bool {
     let mut index = departure.node;
     while let Some(entry) = tree.entries.get(index) {
         if entry.kind < schema.counts().nodes {
             let is_own = index == departure.node && departure.offset == entry.offset;
-            let is_untyped = matches!(schema.node(entry.kind).kind, NodeKind::Any | NodeKind::Open);
+            let node = schema.node(entry.kind);
+            let is_untyped = matches!(node.kind, NodeKind::Any | NodeKind::Open)
+                || node.extensible && node.parts.count == 0;
             return is_untyped
                 && (!is_own || matches!(departure.rule, Rule::Form | Rule::Contents(_)));
         }
