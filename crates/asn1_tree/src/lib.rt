@@ -30,6 +30,7 @@
 
 mod bound;
 mod chosen;
+mod components;
 mod constraints;
 mod departure;
 mod entry;

@@ -1,42 +1,37 @@
 //! The reader of values.
-ghost use Rattle.std.specs.Prelude.{◌≡◌, ◌≢◌, ◌↔◌, ◌+◌, ◌*◌, ◌<◌, ◌≤◌, ℕ, suc, true, false, List, [], Option, Some, None, slice_get, length, vec_len, IsTrue, IsSome, IfOk, OnOk};
+ghost use Rattle.std.specs.Prelude.{◌≡◌, ◌≢◌, ◌↔◌, ◌+◌, ◌<◌, ◌≤◌, ℕ, true, false, [], Option, Some, None, slice_get, length, vec_len, IsSome, IfOk, OnOk};
 ghost use Rattle.der_base.specs.declared.encoding_rules.EncodingRules.{EncodingRules};
 ghost use Rattle.ber.specs.Header.{IsNext, end_header};
-ghost use Rattle.asn1_schema.specs.Table.{IsAscending};
 ghost use Rattle.asn1_tree.specs.Types.{types_in};
 ghost use Rattle.asn1_schema.specs.Node.{IsNode as IsRow};
 ghost use Rattle.asn1_schema.specs.Span.{IsWithin as IsRange};
 ghost use Rattle.asn1_schema.specs.declared.node.Node.{Node as ANode};
-ghost use Rattle.asn1_schema.specs.declared.node_kind.NodeKind.TheVariants.{Universal as Universally, Open};
-ghost use Rattle.ber.specs.declared.universal.Universal.TheVariants.{Sequence};
+ghost use Rattle.asn1_schema.specs.declared.node_kind.NodeKind.TheVariants.{Open};
 ghost use Rattle.asn1_tree.specs.Verdict.{holds};
-ghost use Rattle.asn1_schema.specs.Tags.{Begins, HasTag};
+ghost use Rattle.asn1_schema.specs.Tags.{HasTag};
 ghost use Rattle.asn1_schema.specs.Distinct.{AreDistinct};
-ghost use Rattle.asn1_tree.specs.Enclosed.{IsAllowed};
-ghost use Rattle.asn1_tree.specs.Constraints.{IsAllowedSize, bound_of};
+ghost use Rattle.asn1_tree.specs.Constraints.{bound_of};
 ghost use Rattle.asn1_tree.specs.declared.bound.Bound.TheVariants.{Items};
 ghost use Rattle.asn1_tree.specs.Known.{IsUnknownOpen, known_in};
-ghost use Rattle.asn1_tree.specs.Value.{IsValue, IsAny, IsNode, AreContents, AreComponents, AreAll, AreBounded, IsUnknownType, Contains, IsContained, SomeItems, contained_in, is_free, shape_of};
-ghost use Rattle.asn1_tree.specs.Reading.{Front, Body, Finds, Status, Logs};
+ghost use Rattle.asn1_tree.specs.Value.{IsValue, IsAny, IsNode, AreContents, AreBounded, IsUnknownType, Contains, IsContained, contained_in, shape_of};
+ghost use Rattle.asn1_tree.specs.Reading.{Front, Body, Finds, Logs};
 
 use crate::chosen::chosen;
-use crate::constraints::{constraint_rule, count_rule};
+use crate::components::{all_components, explicit, items};
+use crate::constraints::constraint_rule;
 use crate::entry::Entry;
-use crate::known::{Known, known_after};
+use crate::known::Known;
 use crate::opened::{Opened, after_header};
-use crate::order::order_rule;
-use crate::outcome::{Outcome, Step};
+use crate::outcome::Outcome;
 use crate::place::Place;
 use crate::role::Role;
 use crate::rule::Rule;
-use crate::select::begins;
 use crate::shape::Shape;
-use crate::tests::{default_rule, may_be_absent};
 use crate::tree::Tree;
-use crate::types::{field_of, node_of, select};
-use crate::untyped::{any, elements, finish, unknown_contents};
+use crate::types::{node_of, select};
+use crate::untyped::{any, finish, unknown_contents};
 use crate::verdict::Verdict;
-use asn1_schema::{Node, NodeKind, Schema, Span};
+use asn1_schema::{Node, NodeKind, Schema};
 use ber::{Header, Universal, is_end_of_contents, read_header};
 use std::alloc::AllocError;
 
@@ -350,244 +345,9 @@ fn is_unknown(schema: &Schema<'_>, index: u32, known: Option<Known<'_>>) -> bool
 }
 
 // The node inside a node that has one.
-fn inner_of(node: Node) -> u32
+pub(crate) fn inner_of(node: Node) -> u32
     requires { IsSome node.inner }
     ensures { node.inner ≡ Some result }
 {
     node.inner.unwrap_or(0)
-}
-
-// Reads the components of a SEQUENCE, known or not.
-#[cycle(typed)]
-fn all_components<'a>(
-    tree: &mut Tree,
-    schema: &Schema<'_>,
-    depth: usize,
-    node: Node,
-    at: usize,
-    opened: Opened<'a>,
-) -> Result<Outcome<'a>, AllocError>
-    requires kind { node.kind ≡ Universally Sequence }
-    requires there { IsRange node.parts schema.now.counts.fields }
-    requires distinct { AreDistinct (types_in schema.now.octets.now) }
-    requires row { (i : ℕ) × (slice_get (types_in schema.now.octets.now).nodes i ≡ Some node) }
-    ensures finds { IfOk result (λ o. Finds (λ rules. Body opened.entry.marked opened.entry.beyond.now
-        (AreAll (is_free node) (IsValue (types_in schema.now.octets.now) depth) (IsAny depth) rules
-        (types_in schema.now.octets.now) node) opened.entry.inside.octets.now) o.verdict o.rest.now) }
-    ensures shorter { IfOk result (λ o. length o.rest.now
-        ≤ length opened.entry.inside.octets.now + length opened.entry.beyond.now) }
-    ensures log { IfOk result (λ o. Logs o.verdict tree.old.departures.items tree.new.departures.items) }
-    ensures grows { OnOk result (vec_len tree.old.entries ≤ vec_len tree.new.entries) }
-{
-    if is_free(node) {
-        elements(tree, depth, at, opened)
-    } else {
-        components(tree, schema, depth, node, at, opened)
-    }
-}
-
-// Whether a SEQUENCE has an extension marker and no known component.
-fn is_free(node: Node) -> bool
-    ensures { result ≡ is_free node }
-{
-    node.extensible && node.parts.count == 0
-}
-
-// Reads the components of a SEQUENCE.
-#[cycle(typed)]
-fn components<'a>(
-    tree: &mut Tree,
-    schema: &Schema<'_>,
-    depth: usize,
-    node: Node,
-    at: usize,
-    opened: Opened<'a>,
-) -> Result<Outcome<'a>, AllocError>
-    requires kind { node.kind ≡ Universally Sequence }
-    requires there { IsRange node.parts schema.now.counts.fields }
-    requires distinct { AreDistinct (types_in schema.now.octets.now) }
-    requires row { (i : ℕ) × (slice_get (types_in schema.now.octets.now).nodes i ≡ Some node) }
-    ensures finds { IfOk result (λ o. Finds (λ rules. Body opened.entry.marked opened.entry.beyond.now
-        (AreComponents (IsValue (types_in schema.now.octets.now) depth) rules
-        (types_in schema.now.octets.now) node.parts.count node.parts.start None) opened.entry.inside.octets.now)
-        o.verdict o.rest.now) }
-    ensures shorter { IfOk result (λ o. length o.rest.now
-        ≤ length opened.entry.inside.octets.now + length opened.entry.beyond.now) }
-    ensures log { IfOk result (λ o. Logs o.verdict tree.old.departures.items tree.new.departures.items) }
-    ensures grows { OnOk result (vec_len tree.old.entries ≤ vec_len tree.new.entries) }
-{
-    let mut verdict = Verdict::Der;
-    let mut rest = opened.inside.octets;
-    let mut known = None;
-    let mut left = node.parts.count;
-    'fields: while left > 0 {
-        let field = index_of(node.parts, node.parts.count - left, schema.counts().fields);
-        left -= 1;
-        let step = component(
-            tree,
-            schema,
-            depth,
-            known,
-            node,
-            field,
-            left,
-            at,
-            opened.at(rest),
-        )?;
-        verdict = verdict.and(step.verdict);
-        rest = step.rest;
-        known = step.known;
-    }
-    let end = finish(tree, depth, at, opened.at(rest))?;
-    Ok(Outcome {
-        verdict: verdict.and(end.verdict),
-        rest: end.rest,
-    })
-}
-
-// The index of a row of a range, which is one of so many rows.
-fn index_of(span: Span, index: u32, rows: u32) -> u32
-    requires { span.start + index < rows }
-    ensures { result ≡ span.start + index }
-{
-    span.start + index
-}
-
-// Reads the component of a field, if it is there. So many fields follow it.
-#[cycle(typed)]
-fn component<'a>(
-    tree: &mut Tree,
-    schema: &Schema<'_>,
-    depth: usize,
-    known: Option<Known<'a>>,
-    node: Node,
-    index: u32,
-    left: u32,
-    at: usize,
-    opened: Opened<'a>,
-) -> Result<Step<'a>, AllocError>
-    requires kind { node.kind ≡ Universally Sequence }
-    requires there { IsRange node.parts schema.now.counts.fields }
-    requires part { (node.parts.start ≤ index) × (index + left + 1 ≡ node.parts.start + node.parts.count) }
-    requires distinct { AreDistinct (types_in schema.now.octets.now) }
-    requires row { (i : ℕ) × (slice_get (types_in schema.now.octets.now).nodes i ≡ Some node) }
-    ensures status { IfOk result (λ s. Status s.verdict
-        (λ rules. Body opened.entry.marked opened.entry.beyond.now
-        (AreComponents (IsValue (types_in schema.now.octets.now) depth) rules
-        (types_in schema.now.octets.now) left (index + 1) (known_in s.known)) s.rest.now)
-        (λ rules. Body opened.entry.marked opened.entry.beyond.now
-        (AreComponents (IsValue (types_in schema.now.octets.now) depth) rules
-        (types_in schema.now.octets.now) (left + 1) index (known_in known.entry)) opened.entry.inside.octets.now)) }
-    ensures log { IfOk result (λ s. Logs s.verdict tree.old.departures.items tree.new.departures.items) }
-    ensures shorter { IfOk result (λ s. length s.rest.now ≤ length opened.entry.inside.octets.now) }
-    ensures grows { OnOk result (vec_len tree.old.entries ≤ vec_len tree.new.entries) }
-{
-    let field = field_of(schema, index);
-    let place = opened.inside;
-    if begins(schema, field.node, place.octets) {
-        let role = Role {
-            field: index,
-            ..Role::inside(at)
-        };
-        let outcome = value(tree, schema, depth, known, field.node, role, place)?;
-        let octets = &place.octets[..place.octets.len() - outcome.rest.len()];
-        let rule = default_rule(schema, field, octets);
-        let verdict = tree.judge(rule, place.offset(), at)?;
-        return Ok(Step {
-            verdict: outcome.verdict.and(verdict),
-            rest: outcome.rest,
-            known: known_after(schema, field.node, index, octets, known),
-        });
-    }
-    if may_be_absent(field) {
-        return Ok(Step {
-            verdict: Verdict::Der,
-            rest: place.octets,
-            known,
-        });
-    }
-    let verdict = tree.depart(Rule::Missing, place.offset(), at)?;
-    Ok(Step {
-        verdict,
-        rest: place.octets,
-        known,
-    })
-}
-
-// Reads the values of a SEQUENCE OF or a SET OF.
-#[cycle(typed)]
-fn items<'a>(
-    tree: &mut Tree,
-    schema: &Schema<'_>,
-    depth: usize,
-    known: Option<Known<'_>>,
-    node: Node,
-    sorted: bool,
-    at: usize,
-    opened: Opened<'a>,
-) -> Result<Outcome<'a>, AllocError>
-    requires inner { IsSome node.inner }
-    requires fits { IsRow schema.now.counts schema.now.pool.now node }
-    requires distinct { AreDistinct (types_in schema.now.octets.now) }
-    ensures finds { IfOk result (λ o. Finds (λ rules. Body opened.entry.marked opened.entry.beyond.now
-        (λ inner. (i : ℕ) × (node.inner ≡ Some i) × SomeItems sorted rules
-        (IsValue (types_in schema.now.octets.now) depth rules (known_in known.entry) i)
-        (IsAllowedSize (types_in schema.now.octets.now) node.limits) inner) opened.entry.inside.octets.now) o.verdict o.rest.now) }
-    ensures shorter { IfOk result (λ o. length o.rest.now
-        ≤ length opened.entry.inside.octets.now + length opened.entry.beyond.now) }
-    ensures log { IfOk result (λ o. Logs o.verdict tree.old.departures.items tree.new.departures.items) }
-    ensures grows { OnOk result (vec_len tree.old.entries ≤ vec_len tree.new.entries) }
-{
-    let role = Role::inside(at);
-    let item = inner_of(node);
-    let mut verdict = Verdict::Der;
-    let mut rest = opened.inside.octets;
-    let mut count = 0usize;
-    let mut before: &[u8] = &[];
-    'items: while !opened.at(rest).is_ended() {
-        let place = opened.inside.at(rest);
-        let outcome = value(tree, schema, depth, known, item, role, place)?;
-        let octets = &rest[..rest.len() - outcome.rest.len()];
-        let order = tree.judge(order_rule(sorted, before, octets), place.offset(), at)?;
-        verdict = verdict.and(outcome.verdict).and(order);
-        rest = outcome.rest;
-        before = octets;
-        count += 1;
-    }
-    let size = tree.judge(count_rule(schema, node.limits, count), opened.start, at)?;
-    let end = finish(tree, depth, at, opened.at(rest))?;
-    Ok(Outcome {
-        verdict: verdict.and(size.and(end.verdict)),
-        rest: end.rest,
-    })
-}
-
-// Reads the value inside an EXPLICIT tag.
-#[cycle(typed)]
-fn explicit<'a>(
-    tree: &mut Tree,
-    schema: &Schema<'_>,
-    depth: usize,
-    known: Option<Known<'_>>,
-    inner: u32,
-    at: usize,
-    opened: Opened<'a>,
-) -> Result<Outcome<'a>, AllocError>
-    requires there { inner < schema.now.counts.nodes }
-    requires distinct { AreDistinct (types_in schema.now.octets.now) }
-    ensures finds { IfOk result (λ o. Finds (λ rules. Body opened.entry.marked opened.entry.beyond.now
-        (IsValue (types_in schema.now.octets.now) depth rules (known_in known.entry) inner)
-        opened.entry.inside.octets.now) o.verdict o.rest.now) }
-    ensures shorter { IfOk result (λ o. length o.rest.now
-        ≤ length opened.entry.inside.octets.now + length opened.entry.beyond.now) }
-    ensures log { IfOk result (λ o. Logs o.verdict tree.old.departures.items tree.new.departures.items) }
-    ensures grows { OnOk result (vec_len tree.old.entries ≤ vec_len tree.new.entries) }
-{
-    let role = Role::inside(at);
-    let outcome = value(tree, schema, depth, known, inner, role, opened.inside)?;
-    let end = finish(tree, depth, at, opened.at(outcome.rest))?;
-    Ok(Outcome {
-        verdict: outcome.verdict.and(end.verdict),
-        rest: end.rest,
-    })
 }
