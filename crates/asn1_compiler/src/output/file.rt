@@ -3,6 +3,7 @@
 use super::directive::{name_of_type, own_default, own_type};
 use super::imports::{has_word, push_ghost_use, push_use};
 use super::piece::{Piece, PieceKind};
+use super::words::{DER, DER_ASN1};
 use super::wrap::push_wrapped;
 use crate::component::Component;
 use crate::external_type::ExternalType;
@@ -24,6 +25,12 @@ pub struct OutputFile {
 const GHOST_FALSE: &str = "ghost use Rattle.std.specs.Prelude.{◌≡◌, false};
 ";
 
+const GHOST_LIST: &str = "ghost use Rattle.std.specs.Prelude.{◌≡◌, ◌∷◌, []};
+";
+
+const GHOST_BOTH: &str = "ghost use Rattle.std.specs.Prelude.{◌≡◌, ◌∷◌, [], false};
+";
+
 const MEANING: &str = "alternative
 any_element
 choice_is_item
@@ -39,79 +46,6 @@ sequence
 sequence_is_item
 sequence_item
 two_fields";
-
-const DER: &str = "Decode
-DecodeValue
-Encode
-EncodeValue
-Error
-FixedTag
-FromFields
-Header
-IsValue
-Lawful
-Length
-ReadValue
-Reader
-Sequence
-SliceReader
-Tag
-Writer
-WrittenValue
-decode_fields
-decode_sequence
-decode_wrapped
-field_refs";
-
-const DER_ASN1: &str = "AnyRef
-Application
-BitStringOf
-BitStringRef
-BmpStringRef
-BooleanRef
-BorrowedItem
-Choice
-DecodeItem
-DefaultOf
-DefaultTrue
-DefaultU64
-DefaultValue
-Defaulted
-DefaultedTo
-Described
-DescribedChoice
-Either
-Enumerated
-Enumeration
-Explicit
-ExplicitAny
-GeneralizedTime
-Ia5StringRef
-Implicit
-IntRef
-IntegerIn
-IntegerOf
-Item
-NamedBitsRef
-NamedInteger
-Nestable
-Null
-NumericStringRef
-ObjectIdentifierRef
-OctetStringOf
-OctetStringRef
-Optional
-PrintableStringRef
-Private
-SequenceOf
-SequenceRef
-SetOf
-TeletexStringRef
-UtcTime
-Utf8StringRef
-VisibleStringRef
-WithDefault
-decode_choice";
 
 /// The file of a piece, with its imports.
 pub fn file_of(
@@ -186,8 +120,7 @@ fn push_ghost_lines(
     code: &str,
 ) -> Result<(), AllocError> {
     match piece.kind {
-        PieceKind::Sequence if has_word(code, "false") => text.push_str(GHOST_FALSE)?,
-        PieceKind::Sequence => text.push_str("ghost use Rattle.std.specs.Prelude.{◌≡◌};\n")?,
+        PieceKind::Sequence => text.push_str(sequence_words(code))?,
         PieceKind::List => text.push_str(GHOST_FALSE)?,
         PieceKind::Enumeration => text.push_str(
             "ghost use Rattle.std.specs.Prelude.{◌==◌, Option, Some, None, if◌then◌else◌};\n",
@@ -203,6 +136,16 @@ fn push_ghost_lines(
         }
         PieceKind::Enumeration => push_variants(text, krate, piece),
         _ => Ok(()),
+    }
+}
+
+// What the clauses of a SEQUENCE import from std.
+fn sequence_words(code: &str) -> &'static str {
+    match (code.contains("∷"), has_word(code, "false")) {
+        (true, true) => GHOST_BOTH,
+        (true, false) => GHOST_LIST,
+        (false, true) => GHOST_FALSE,
+        (false, false) => "ghost use Rattle.std.specs.Prelude.{◌≡◌};\n",
     }
 }
 

@@ -1,0 +1,103 @@
+//! Names that are others in Rust, since two would be the same.
+
+use super::directive::{chosen_name, field_name, variant_name};
+use super::enumeration::variant_names;
+use super::fields::field_names;
+use super::naming::text_at;
+use super::pieces::Written;
+use super::rust_names::{pascal_name, snake_name};
+use super::values::value_names;
+use super::warnings::add_item;
+use crate::component::Component;
+use crate::item::Item;
+use crate::named_number::NamedNumber;
+use crate::type_node::TypeForm;
+use crate::warning::Warning;
+use std::alloc::{AllocError, Global};
+
+/// Adds a warning for each name that has a number or a `_` behind it in Rust.
+pub fn add_renamed<'a>(
+    alloc: Global,
+    written: &Written<'_, 'a>,
+    found: &mut Vec<Warning<'a>>,
+) -> Result<(), AllocError> {
+    add_types(alloc, written, found)?;
+    add_values(alloc, written, found)?;
+    for node in written.module.nodes.iter() {
+        match &node.form {
+            TypeForm::Sequence(components) => add_fields(alloc, found, components)?,
+            TypeForm::Enumerated(items) => add_items(alloc, found, items)?,
+            _ => {}
+        }
+    }
+    Ok(())
+}
+
+// Adds the warning that a name is another one in Rust, unless it is this one.
+fn add_name<'a>(
+    alloc: Global,
+    found: &mut Vec<Warning<'a>>,
+    item: Item<'a>,
+    name: &str,
+    plain: &str,
+) -> Result<(), AllocError> {
+    if name.is_empty() || name == plain {
+        return Ok(());
+    }
+    let text = format!(in alloc; "the name is `{name}` in Rust")?;
+    add_item(alloc, found, item, text.as_str())
+}
+
+fn add_types<'a>(
+    alloc: Global,
+    written: &Written<'_, 'a>,
+    found: &mut Vec<Warning<'a>>,
+) -> Result<(), AllocError> {
+    for assigned in written.module.types.iter() {
+        if chosen_name(assigned.name).is_none() {
+            let name = text_at(written.names, assigned.of);
+            let plain = pascal_name(alloc, assigned.name.text)?;
+            add_name(alloc, found, assigned.name, name, plain.as_str())?;
+        }
+    }
+    Ok(())
+}
+
+fn add_values<'a>(
+    alloc: Global,
+    written: &Written<'_, 'a>,
+    found: &mut Vec<Warning<'a>>,
+) -> Result<(), AllocError> {
+    let names = value_names(alloc, written.module)?;
+    for (assigned, name) in written.module.values.iter().zip(names.iter()) {
+        let plain = snake_name(alloc, assigned.name.text)?;
+        add_name(alloc, found, assigned.name, name.as_str(), plain.as_str())?;
+    }
+    Ok(())
+}
+
+fn add_fields<'a>(
+    alloc: Global,
+    found: &mut Vec<Warning<'a>>,
+    components: &Vec<Component<'a>>,
+) -> Result<(), AllocError> {
+    let names = field_names(alloc, components)?;
+    for (component, name) in components.iter().zip(names.iter()) {
+        let plain = field_name(alloc, component.name)?;
+        add_name(alloc, found, component.name, name.as_str(), plain.as_str())?;
+    }
+    Ok(())
+}
+
+fn add_items<'a>(
+    alloc: Global,
+    found: &mut Vec<Warning<'a>>,
+    items: &Vec<NamedNumber<'a>>,
+) -> Result<(), AllocError> {
+    let names = variant_names(alloc, items)?;
+    for (item, name) in items.iter().zip(names.iter()) {
+        let plain = variant_name(alloc, item.name)?;
+        add_name(alloc, found, item.name, name.as_str(), plain.as_str())?;
+    }
+    Ok(())
+}
