@@ -10,11 +10,8 @@ from checker import TOP, crates, text_of
 
 VECTORS = f"{TOP}/tests/vectors"
 USES = ["der_asn1", "der", "der_core"]
-# Types whose names in Rust are others than in the module.
-NAMES = {
-    "Self": "asn1::Self_<'_>", "Error": "asn1::Error_<'_>", "Result": "asn1::Result_<'_>", "Option": "asn1::Option_<'_>",
-    "AB": "asn1::Ab<'_>", "Ab": "asn1::Ab2<'_>", "AA": "asn1::Aa<'_>", "ABC": "asn1::Abc<'_>", "A-b-C": "asn1::ABC2<'_>",
-}
+# Types whose words are no words of small letters.
+NAMES = {"AA": "Aa", "AB": "Ab", "ABC": "Abc"}
 
 MAIN = """//! Reads the octets of vectors, and prints whether they are accepted.
 #![tactic(auto)]
@@ -62,17 +59,25 @@ def names():
     return sorted(it[:-4] for it in os.listdir(VECTORS) if it.endswith(".tsv"))
 
 
-def rust_types(folder, module):
-    """How Rust writes each type of the crate, by its name: with a lifetime if it has one; the items of an
-    enumeration stand in an ENUMERATED or an INTEGER, as the module says."""
+def rust_names(module, said):
+    """The name in Rust of each type of a module, of which the compiler said this: in words of an upper-case
+    letter and small ones, unless a warning says otherwise."""
+    names = re.findall(r"^([A-Z][\w-]*) ::=", module, re.M)
+    chosen = dict(re.findall(r": ([\w-]+): the name is `(\w+)` in Rust", said))
+    return {it: chosen.get(it) or NAMES.get(it) or it for it in names}
+
+
+def rust_types(folder, module, said):
+    """How Rust writes each type of the crate: with a lifetime if it has one; the items of an enumeration
+    stand in an ENUMERATED or an INTEGER, as the module says."""
+    texts = "".join(text_of(f"{folder}/src/asn1/{it}") for it in sorted(os.listdir(f"{folder}/src/asn1")))
     found = {}
-    for it in os.listdir(f"{folder}/src/asn1"):
-        text = text_of(f"{folder}/src/asn1/{it}")
-        for kind, name, life in re.findall(r"^pub (struct|enum|type) (\w+)(<'a>)?", text, re.M):
-            found[name] = f"asn1::{name}" + ("<'_>" if life else "")
-            if kind == "enum" and f"impl Enumeration for {name} " in text:
-                is_integer = re.search(rf"^{name} ::= INTEGER", module, re.M)
-                found[name] = f"{'NamedInteger' if is_integer else 'Enumerated'}<asn1::{name}>"
+    for name, rust in rust_names(module, said).items():
+        life = "<'_>" if re.search(rf"^pub (struct|enum|type) {rust}<'a>", texts, re.M) else ""
+        found[name] = f"asn1::{rust}{life}"
+        if f"impl Enumeration for {rust} " in texts:
+            is_integer = re.search(rf"^{name} ::= INTEGER", module, re.M)
+            found[name] = f"{'NamedInteger' if is_integer else 'Enumerated'}<asn1::{rust}>"
     return found
 
 
@@ -97,8 +102,36 @@ def answers(compiler, name, rows):
         if ran.returncode:
             return (ran.stdout + ran.stderr).splitlines()
         os.remove(f"{folder}/vectors/src/lib.rt")
-        types = rust_types(f"{folder}/vectors", text_of(f"{VECTORS}/{name}.asn1")) | NAMES
+        types = rust_types(f"{folder}/vectors", text_of(f"{VECTORS}/{name}.asn1"), ran.stderr)
         with open(f"{folder}/vectors/src/main.rt", "w", encoding="utf-8") as file:
             file.write(program_text(types, rows))
         ran = checker.try_unproved(f"{folder}/vectors", "vectors", USES + crates()["der_asn1"], [])
         return ran.stdout.splitlines() if not ran.returncode else (ran.stdout + ran.stderr).splitlines()
+
+
+def compare(compiler, name):
+    """Compares the answers for one module with those of the other compiler, and returns for each row whether
+    it is the same."""
+    rows = rows_of(name)
+    said = answers(compiler, name, rows)
+    if len(said) != len(rows):
+        print("\n".join(said[-50:]))
+        said = ["none"] * len(rows)
+    for (of, octets, wanted), answer in zip(rows, said):
+        if answer != wanted:
+            print(f"test: vectors: {name}: {of} {octets} is {answer}, and {wanted} for asn1ct")
+    held = [answer == wanted for (_, _, wanted), answer in zip(rows, said)]
+    print(f"test: vectors: {name}: {sum(held)} of {len(held)} answers are those of asn1ct", flush=True)
+    return held
+
+
+def says_why(compiler):
+    """Whether the compiler prints to standard error what is stored beside its module with a fault, and nothing
+    else."""
+    of = "asn1_compile"
+    words, stored = checker.args_of(of), text_of(f"{checker.folder_of(of)}/stderr")
+    ran = subprocess.run([compiler, *words], cwd=f"{checker.folder_of(of)}/data", stdin=subprocess.DEVNULL,
+                         check=False, text=True, capture_output=True)
+    held = (ran.returncode, ran.stdout, ran.stderr) == (1, "", stored)
+    print(f"test: {of} says {'what' if held else 'something else than what'} is stored", flush=True)
+    return held

@@ -60,6 +60,8 @@ impl DefaultOf<@T> for @N {
 }
 ";
 
+const NO_ITEM: &str = "the name of a number of this type";
+
 /// The type of a DEFAULT field with this default.
 pub fn default_type<'a>(
     alloc: Global,
@@ -72,8 +74,8 @@ pub fn default_type<'a>(
     if own_type(module, base_of(module, leaf)).is_some() {
         return Ok(DefaultType::plain(alloc, place.of)?);
     }
-    let inside = inside_type(alloc, module, types, place, value)?;
-    let Some(text) = behind_tags(alloc, module, place.index, inside.of.text)? else {
+    let DefaultType { of, own } = inside_type(alloc, module, types, place, value)?;
+    let Some(text) = behind_tags(alloc, module, place.index, of.text)? else {
         return Err(not_written(value));
     };
     let text = match place.numbered {
@@ -82,7 +84,7 @@ pub fn default_type<'a>(
     };
     Ok(DefaultType {
         of: RustType::new(alloc, text.as_str(), place.of.kind)?,
-        own: inside.own,
+        own,
     })
 }
 
@@ -98,7 +100,7 @@ fn inside_type<'a>(
     let text = text_at(types, index);
     match base_form(module, place.index) {
         Some(TypeForm::Simple(SimpleType::Boolean)) => boolean(alloc, value),
-        Some(TypeForm::Enumerated(items)) => {
+        Some(TypeForm::Enumerated(items)) if named(items, value.item.text).is_some() => {
             item_default(alloc, module, place, text, items, value)
         }
         Some(TypeForm::Integer(items)) if text.starts_with("NamedInteger") => {
@@ -109,6 +111,7 @@ fn inside_type<'a>(
         Some(TypeForm::SequenceOf(_) | TypeForm::SetOf(_)) if is_empty(value) => {
             list_default(alloc, module, index, text, value)
         }
+        Some(TypeForm::Enumerated(_)) => Err(Failure::Refused(Refusal::of(value.item, NO_ITEM))),
         _ => Err(not_written(value)),
     }
 }
@@ -197,6 +200,9 @@ fn item_default<'a>(
     let Some(enumeration) = inside_of(of) else {
         return Err(not_written(value));
     };
+    if of.starts_with("EnumeratedRef") {
+        return Err(not_written(value));
+    }
     let names = variant_names(alloc, items)?;
     for (item, name) in items.iter().zip(names.iter()) {
         if is_item(module, items, item, value) {
@@ -210,7 +216,7 @@ fn item_default<'a>(
             return with_item(alloc, &text);
         }
     }
-    Err(Failure::Refused(Refusal::of(value.item, "the name of a number of this type")))
+    Err(Failure::Refused(Refusal::of(value.item, NO_ITEM)))
 }
 
 // Whether a value is this item, by its name or its number.

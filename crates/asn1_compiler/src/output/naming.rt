@@ -7,6 +7,7 @@ use super::rust_names::pascal_name;
 use super::taken::{ALONE, Taken};
 use crate::bounds::contained;
 use crate::component::Component;
+use crate::item::Item;
 use crate::module::Module;
 use crate::type_node::TypeForm;
 use std::alloc::{AllocError, Global};
@@ -32,6 +33,25 @@ pub fn names_of(alloc: Global, module: &Module<'_>) -> Result<Vec<String>, Alloc
         name_parts(alloc, module, &mut names, index)?;
     }
     Ok(names)
+}
+
+/// The names that types would have if none were the same, by index.
+pub fn plain_names_of(alloc: Global, module: &Module<'_>) -> Result<Vec<String>, AllocError> {
+    let mut names = empty_names(alloc, module.nodes.len())?;
+    for assigned in module.types.iter() {
+        set_name(&mut names, assigned.of, plain_name(alloc, assigned.name)?);
+    }
+    for count in 0..module.nodes.len() {
+        name_parts(alloc, module, &mut names, module.nodes.len() - 1 - count)?;
+    }
+    Ok(names)
+}
+
+fn plain_name(alloc: Global, name: Item<'_>) -> Result<String, AllocError> {
+    match chosen_name(name) {
+        Some(chosen) => String::from_str(alloc, chosen),
+        None => pascal_name(alloc, name.text),
+    }
 }
 
 // Adds the names that comments of the module choose.
@@ -81,8 +101,8 @@ fn free_name(
     taken.take_free(alloc, name, ends_at(module, index), "")
 }
 
-// Whether text is written for the type with this index, if it has no name in the module.
-fn is_written(module: &Module<'_>, index: usize) -> bool {
+/// Whether text is written for the type with this index, if it has no name in the module.
+pub fn is_written(module: &Module<'_>, index: usize) -> bool {
     match module.nodes.get(index) {
         Some(node) => match &node.form {
             TypeForm::Sequence(_) | TypeForm::Choice(_) => true,

@@ -1,11 +1,11 @@
 //! Names that are others in Rust, since two would be the same.
 
-use super::directive::{chosen_name, field_name, variant_name};
+use super::directive::{field_name, variant_name};
 use super::enumeration::variant_names;
 use super::fields::field_names;
-use super::naming::text_at;
+use super::naming::{is_assigned, is_written, plain_names_of, text_at};
 use super::pieces::Written;
-use super::rust_names::{pascal_name, snake_name};
+use super::rust_names::snake_name;
 use super::values::value_names;
 use super::warnings::add_item;
 use crate::component::Component;
@@ -53,11 +53,16 @@ fn add_types<'a>(
     written: &Written<'_, 'a>,
     found: &mut Vec<Warning<'a>>,
 ) -> Result<(), AllocError> {
-    for assigned in written.module.types.iter() {
-        if chosen_name(assigned.name).is_none() {
-            let name = text_at(written.names, assigned.of);
-            let plain = pascal_name(alloc, assigned.name.text)?;
-            add_name(alloc, found, assigned.name, name, plain.as_str())?;
+    let module = written.module;
+    let plain = plain_names_of(alloc, module)?;
+    for assigned in module.types.iter() {
+        let name = text_at(written.names, assigned.of);
+        add_name(alloc, found, assigned.name, name, text_at(&plain, assigned.of))?;
+    }
+    for (index, node) in module.nodes.iter().enumerate() {
+        if is_written(module, index) && !is_assigned(module, index) {
+            let name = text_at(written.names, index);
+            add_name(alloc, found, node.item, name, text_at(&plain, index))?;
         }
     }
     Ok(())

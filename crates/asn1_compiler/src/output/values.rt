@@ -2,7 +2,7 @@
 
 use super::docs::doc_of;
 use super::file::OutputFile;
-use super::imports::push_ghost_use;
+use super::imports::{push_ghost_use, words_of};
 use super::oid_octets::octets_of;
 use super::piece::Piece;
 use super::rust_names::snake_name;
@@ -123,7 +123,8 @@ fn push_texts(
     }
     out.push_str(GHOST_USES)?;
     let arcs = "Rattle.der_asn1.specs.Arcs";
-    push_ghost_use(alloc, out, texts.functions.as_str(), arcs, "oid_octets")?;
+    let words = words_of(alloc, texts.functions.as_str())?;
+    push_ghost_use(alloc, out, words.as_str(), arcs, "oid_octets")?;
     out.push_str(USES)?;
     out.push_str(texts.constants.as_str())?;
     out.push_str(texts.functions.as_str())?;

@@ -128,7 +128,10 @@ impl<'a> Parser<'a> {
         self.expect("FROM")?;
         let module = self.module_name()?;
         if self.peek().kind == ItemKind::LowerName && !self.begins_import() {
-            return Err(refused(self.peek(), "no value for the module, which is not supported"));
+            return Err(refused(
+                self.peek(),
+                "no value for the module, which is not supported",
+            ));
         }
         for name in names.iter() {
             imports.push(Import {
