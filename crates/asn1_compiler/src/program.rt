@@ -191,15 +191,26 @@ fn warnings_of(
     name: &str,
     text: &str,
 ) -> Result<String, AllocError> {
+    let mut lines = left_out_of(alloc, compiled, name, text)?;
+    for warning in compiled.warnings.iter() {
+        lines.push_str(warning.line(alloc, name, text)?.as_str())?;
+    }
+    Ok(lines)
+}
+
+// A line for each alternative that is left out.
+fn left_out_of(
+    alloc: Global,
+    compiled: &Compiled<'_>,
+    name: &str,
+    text: &str,
+) -> Result<String, AllocError> {
     let mut lines = String::new(alloc);
     for left_out in compiled.left_out.iter() {
         let expected = "a type that the library knows; this alternative is left out";
         let line = Refusal::of(*left_out, expected).line(alloc, name, text)?;
         lines.push_str("warning: ")?;
         lines.push_str(line.as_str())?;
-    }
-    for warning in compiled.warnings.iter() {
-        lines.push_str(warning.line(alloc, name, text)?.as_str())?;
     }
     Ok(lines)
 }

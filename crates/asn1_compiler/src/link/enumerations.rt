@@ -6,10 +6,11 @@ use crate::named_number::NamedNumber;
 use crate::refusal::Refusal;
 use std::alloc::Global;
 
-/// The items of an ENUMERATED, each with a number. The items in front of an extension mark that have
-/// none get the least numbers, from 0 up, that none of these items has (X.680, 20.3). An addition
-/// without one gets the least number that is above those of all additions in front, and that no item
-/// in front of the mark has (20.6). Refuses an addition whose number is not above those in front.
+/// The items of an ENUMERATED, each with a number. The items in front of an extension mark that
+/// have none get the least numbers, from 0 up, that none of these items has (X.680, 20.3). An
+/// addition without one gets the least number that is above those of all additions in front, and
+/// that no item in front of the mark has (20.6). Refuses an addition whose number is not above those
+/// in front.
 pub fn numbered_items<'a>(
     alloc: Global,
     items: &Vec<NamedNumber<'a>>,

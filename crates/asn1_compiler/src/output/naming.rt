@@ -16,10 +16,7 @@ use std::alloc::{AllocError, Global};
 /// name has that of the type around it and that of the component. No two types for which text is
 /// written have the same.
 pub fn names_of(alloc: Global, module: &Module<'_>) -> Result<Vec<String>, AllocError> {
-    let mut taken = Taken::new(alloc);
-    for imported in module.imported.iter() {
-        taken.take(alloc, imported.rust_name.as_str(), ALONE)?;
-    }
+    let mut taken = imported_names(alloc, module)?;
     let mut names = empty_names(alloc, module.nodes.len())?;
     add_chosen(alloc, module, &mut names, &mut taken)?;
     add_assigned(alloc, module, &mut names, &mut taken)?;
@@ -35,16 +32,34 @@ pub fn names_of(alloc: Global, module: &Module<'_>) -> Result<Vec<String>, Alloc
     Ok(names)
 }
 
+// The names of types of other crates, which are taken.
+fn imported_names(alloc: Global, module: &Module<'_>) -> Result<Taken, AllocError> {
+    let mut taken = Taken::new(alloc);
+    for imported in module.imported.iter() {
+        taken.take(alloc, imported.rust_name.as_str(), ALONE)?;
+    }
+    Ok(taken)
+}
+
 /// The names that types would have if none were the same, by index.
 pub fn plain_names_of(alloc: Global, module: &Module<'_>) -> Result<Vec<String>, AllocError> {
     let mut names = empty_names(alloc, module.nodes.len())?;
-    for assigned in module.types.iter() {
-        set_name(&mut names, assigned.of, plain_name(alloc, assigned.name)?);
-    }
+    add_plain(alloc, module, &mut names)?;
     for count in 0..module.nodes.len() {
         name_parts(alloc, module, &mut names, module.nodes.len() - 1 - count)?;
     }
     Ok(names)
+}
+
+fn add_plain(
+    alloc: Global,
+    module: &Module<'_>,
+    names: &mut Vec<String>,
+) -> Result<(), AllocError> {
+    for assigned in module.types.iter() {
+        set_name(names, assigned.of, plain_name(alloc, assigned.name)?);
+    }
+    Ok(())
 }
 
 fn plain_name(alloc: Global, name: Item<'_>) -> Result<String, AllocError> {

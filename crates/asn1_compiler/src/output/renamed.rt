@@ -57,12 +57,29 @@ fn add_types<'a>(
     let plain = plain_names_of(alloc, module)?;
     for assigned in module.types.iter() {
         let name = text_at(written.names, assigned.of);
-        add_name(alloc, found, assigned.name, name, text_at(&plain, assigned.of))?;
+        add_name(
+            alloc,
+            found,
+            assigned.name,
+            name,
+            text_at(&plain, assigned.of),
+        )?;
     }
+    add_parts(alloc, written, &plain, found)
+}
+
+// Adds the warnings of types that have no name in the module.
+fn add_parts<'a>(
+    alloc: Global,
+    written: &Written<'_, 'a>,
+    plain: &Vec<String>,
+    found: &mut Vec<Warning<'a>>,
+) -> Result<(), AllocError> {
+    let module = written.module;
     for (index, node) in module.nodes.iter().enumerate() {
         if is_written(module, index) && !is_assigned(module, index) {
             let name = text_at(written.names, index);
-            add_name(alloc, found, node.item, name, text_at(&plain, index))?;
+            add_name(alloc, found, node.item, name, text_at(plain, index))?;
         }
     }
     Ok(())

@@ -88,8 +88,8 @@ pub fn numbered(number: usize) -> TagPrefix {
     TagPrefix { tag, tagging: None }
 }
 
-/// The type with this index, if `inside` stands behind all its tags and names; `None` if a type that
-/// is written by hand, or an imported one with a tag of its own, is among them.
+/// The type with this index, if `inside` stands behind all its tags and names; `None` if a type
+/// that is written by hand, or an imported one with a tag of its own, is among them.
 pub fn behind_tags(
     alloc: Global,
     module: &Module<'_>,

@@ -33,8 +33,8 @@ impl Taken {
         Ok(())
     }
 
-    /// Takes a name with these ends, or if it is not free the first one that is free of those with a
-    /// number behind it, from 2 on; `between` stands in front of the number.
+    /// Takes a name with these ends, or if it is not free the first one that is free of those with
+    /// a number behind it, from 2 on; `between` stands in front of the number.
     pub fn take_free(
         &mut self,
         alloc: Global,

@@ -36,16 +36,7 @@ pub fn warnings_of<'a>(
     alloc: Global,
     written: &Written<'_, 'a>,
 ) -> Result<Vec<Warning<'a>>, AllocError> {
-    let mut found = Vec::new(alloc);
-    for mark in written.module.warnings.iter() {
-        add(
-            alloc,
-            &mut found,
-            mark.offset,
-            mark.found,
-            mark.text.as_str(),
-        )?;
-    }
+    let mut found = marks_of(alloc, written.module)?;
     for (index, node) in written.module.nodes.iter().enumerate() {
         // a type that is written by hand checks what its author wants
         if own_type(written.module, index).is_none() {
@@ -54,6 +45,16 @@ pub fn warnings_of<'a>(
     }
     add_values(alloc, written.module, &mut found)?;
     add_renamed(alloc, written, &mut found)?;
+    Ok(found)
+}
+
+// The warnings of the parser.
+fn marks_of<'a>(alloc: Global, module: &Module<'a>) -> Result<Vec<Warning<'a>>, AllocError> {
+    let mut found = Vec::new(alloc);
+    for mark in module.warnings.iter() {
+        let text = mark.text.as_str();
+        add(alloc, &mut found, mark.offset, mark.found, text)?;
+    }
     Ok(found)
 }
 

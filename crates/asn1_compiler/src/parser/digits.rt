@@ -6,8 +6,8 @@ use crate::item::Item;
 use crate::item_kind::ItemKind;
 use crate::octet_class::{is_digit, is_space};
 
-/// Checks that numbers have no zero in front (X.680, 12.8), and that strings of digits have none but
-/// theirs (12.10 and 12.12).
+/// Checks that numbers have no zero in front (X.680, 12.8), and that strings of digits have no other
+/// octets than theirs (12.10 and 12.12).
 pub fn check_digits<'a>(items: &Vec<Item<'a>>) -> Result<(), Failure<'a>> {
     for item in items.iter() {
         match item.kind {
