@@ -1,5 +1,8 @@
-//! Tests of `asn1_schema` over a table of types like those of a certificate, written by hand.
+//! Tests of `asn1_schema` over a table of types like those of a certificate, and over one with CHOICEs,
+//! both written by hand.
 
+mod choices;
 mod faults;
 mod rows;
 mod table;
+mod tags;

@@ -9,6 +9,8 @@ mod asn1;
 #[cfg(test)]
 mod asn1_compiler;
 #[cfg(test)]
+mod asn1_contents;
+#[cfg(test)]
 mod asn1_schema;
 #[cfg(test)]
 mod ber;

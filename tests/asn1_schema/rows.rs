@@ -49,7 +49,7 @@ fn sequence(rt: HostRuntime) {
     same(&rt, version.kind, NodeKind::Explicit);
     same(&rt, version.class, Class::ContextSpecific);
     same(&rt, version.inner, Some(2));
-    holds(&rt, schema.node(10).extensible);
+    same(&rt, schema.node(10).insertion(), Some(1));
 }
 
 #[test]

@@ -1,12 +1,13 @@
 -- A row with a fault is not well-formed, and octets with a fault are no table.
-use Rattle.std.proofs.Common.{◌≡◌, ℕ, true, false, List, Option, None, is_some, sym, ap, ◌∙◌, arith}
-use Rattle.asn1_schema.specs.Node.{IsNodeRow, IsNodeFault, unknown_kind, no_class, no_flag, no_inner_flag, no_node_name, no_inner, no_parts, no_limits, no_chooser}
+use Rattle.std.proofs.Common.{◌≡◌, ℕ, true, false, List, Option, None, is_some, sym, ap, subst, ◌∙◌, arith}
+use Rattle.asn1_schema.specs.Node.{IsNodeRow, IsNodeFault, unknown_kind, no_class, no_flag, no_inner_flag, no_node_name, no_inner, no_parts, no_alternative, no_limits, no_chooser}
 use Rattle.asn1_schema.specs.Field.{IsFieldRow, IsFieldFault, unknown_presence, no_field_name, no_field_node, no_default}
 use Rattle.asn1_schema.specs.Limit.{IsLimitRow, IsLimitFault, unknown_limit}
 use Rattle.asn1_schema.specs.Name.{IsNameRow, IsNameFault, no_name as no_row_name}
 use Rattle.asn1_schema.specs.OpenType.{IsOpenTypeRow, IsOpenTypeFault, no_identifier, no_type, Ascends, IsOrderFault, not_before}
 use Rattle.asn1_schema.specs.Table.{Table, AreRows, AreAscending}
-use Rattle.asn1_schema.specs.Schema.{IsHeader, IsHeaderFault, too_short, other_magic, other_version, other_size, IsRowFault, no_node, no_field, no_limit, no_name, no_open_type, no_order, IsSchema, IsFault, no_header, no_row}
+use Rattle.asn1_schema.specs.Schema.{IsHeader, IsHeaderFault, too_short, other_magic, other_version, other_size, IsRowFault, no_node, no_field, no_limit, no_name, no_open_type, no_order, IsSchema, IsFault, no_header, no_row, not_nested, not_distinct}
+use Rattle.asn1_schema.specs.Distinct.{AreNested, IsNestingFault, not_before as not_before_outer, AreDistinct, IsTagFault, same_tag}
 use Rattle.asn1_schema.specs.declared.counts.Counts.{Counts}
 use Rattle.asn1_schema.specs.declared.fault.Fault.{Fault}
 use Rattle.asn1_schema.specs.declared.span.Span.{Span}
@@ -23,6 +24,7 @@ node_never (no_inner_flag h) row = omega (arith, row.inner)
 node_never (no_node_name n) row = n row.fits.name
 node_never (no_inner n) row = n row.fits.inner
 node_never (no_parts n) row = n row.fits.parts
+node_never (no_alternative e h) row = omega (arith, h, row.fits.alternative e)
 node_never (no_limits n) row = n row.fits.limits
 node_never (no_chooser h) row = omega (arith, h, row.fits.chooser)
 
@@ -60,7 +62,15 @@ header_never (other_magic long n) is = n is.magic
 header_never (other_version long n) is = n is.version
 header_never (other_size long n) is = n is.size
 
+pub nesting_never : {c : Counts} {t : Table} {f : Fault} → IsNestingFault c t f → AreNested t → ⊥
+nesting_never (not_before_outer i k f nested h) are = omega (arith, h, are i k f nested)
+
+pub tag_never : {c : Counts} {t : Table} {f : Fault} → IsTagFault c t f → AreDistinct t → ⊥
+tag_never (same_tag i j k n f g row follow share) are = are i n row k j f g follow share
+
 -- octets with a fault are no table
 pub schema_never : {octets : List ℕ} {t : Table} {f : Fault} → IsFault octets f → IsSchema octets t → ⊥
 schema_never (no_header fault) is = header_never fault is.header
 schema_never (no_row header fault) is = rows_never fault is.rows is.ascending
+schema_never {f = f} (not_nested header rows fault) is = nesting_never fault (subst AreNested is.table is.nested)
+schema_never {f = f} (not_distinct header rows fault) is = tag_never fault (subst AreDistinct is.table is.distinct)

@@ -1,13 +1,15 @@
 -- Rows by their index.
-use Rattle.std.proofs.Common.{◌≡◌, ℕ, zero, suc, ◌+◌, ◌*◌, ◌<◌, List, length, length-drop, slice_get, Some, refl, ap, ◌∙◌, arith}
-use Rattle.asn1_schema.specs.Counts.{nodes_at, fields_at, limits_at, names_at, opens_at, pool_at, size_of}
+use Rattle.std.proofs.Common.{◌≡◌, ℕ, zero, suc, ◌+◌, ◌*◌, ◌<◌, List, length, length-drop, slice_get, Some, refl, sym, ap, ◌∙◌, subst, arith}
+use Rattle.asn1_schema.specs.Counts.{counts_in, nodes_at, fields_at, limits_at, names_at, opens_at, pool_at, size_of}
 use Rattle.asn1_schema.specs.Node.{node_at}
 use Rattle.asn1_schema.specs.Field.{field_at}
 use Rattle.asn1_schema.specs.Limit.{limit_at}
 use Rattle.asn1_schema.specs.Name.{name_at}
 use Rattle.asn1_schema.specs.OpenType.{open_type_at}
-use Rattle.asn1_schema.specs.Table.{rows, table_with, counts_of}
+use Rattle.asn1_schema.specs.Table.{rows, table_with, table_in, counts_of}
 use Rattle.asn1_schema.specs.declared.counts.Counts.{Counts}
+use Rattle.asn1_schema.specs.declared.field.Field.{Field}
+use Rattle.asn1_schema.specs.declared.node.Node.{Node}
 
 -- there are as many as were asked for
 pub rows_length : {A : Type 0} (row : List ℕ → ℕ → A) (size at count : ℕ) (octets : List ℕ) → length (rows row size at count octets) ≡ count
@@ -21,6 +23,18 @@ rows_get row size at (suc count) zero octets h = let e : at ≡ at + size * 0 = 
 rows_get row size at (suc count) (suc i) octets h =
     let e : (at + size) + size * i ≡ at + size * suc i = grind arith in
     rows_get row size (at + size) count i octets (omega arith) ∙ ap (λ k. Some (row octets k)) e
+
+-- a row that is there has an index below their number
+pub rows_there : {A : Type 0} (row : List ℕ → ℕ → A) (size at count i : ℕ) (octets : List ℕ) {x : A} → slice_get (rows row size at count octets) i ≡ Some x → i < count
+rows_there row size at zero i octets e = cc
+rows_there row size at (suc count) zero octets e = omega arith
+rows_there row size at (suc count) (suc i) octets e = let h = rows_there row size (at + size) count i octets e in omega arith
+
+pub node_there : {c : Counts} (octets : List ℕ) (i : ℕ) {n : Node} → c ≡ counts_in octets → slice_get (table_in octets).nodes i ≡ Some n → i < c.nodes
+node_there octets i e row = subst (λ (x : Counts). i < x.nodes) (sym e) (rows_there node_at 40 nodes_at (counts_in octets).nodes i octets row)
+
+pub field_there : {c : Counts} (octets : List ℕ) (k : ℕ) {f : Field} → c ≡ counts_in octets → slice_get (table_in octets).fields k ≡ Some f → k < c.fields
+field_there octets k e row = subst (λ (x : Counts). k < x.fields) (sym e) (rows_there field_at 28 (fields_at (counts_in octets)) (counts_in octets).fields k octets row)
 
 same_counts : (a b : Counts) → a.nodes ≡ b.nodes → a.fields ≡ b.fields → a.limits ≡ b.limits → a.names ≡ b.names → a.opens ≡ b.opens → a.pool ≡ b.pool → a ≡ b
 same_counts a b n f l m o p =

@@ -1,7 +1,10 @@
 -- Which type an OBJECT IDENTIFIER chooses among those of an open type.
-use Rattle.std.specs.Prelude.{◌≡◌, ◌≢◌, ℕ, ◌+◌, ◌*◌, ◌<◌, ◌≤◌, List}
+use Rattle.std.specs.Prelude.{◌≡◌, ◌≢◌, ℕ, ◌+◌, ◌*◌, ◌<◌, ◌≤◌, List, slice_get, Some}
 use Rattle.asn1_schema.specs.Counts.{opens_at}
 use Rattle.asn1_schema.specs.OpenType.{open_type_at, identifier_in}
+use Rattle.asn1_schema.specs.Pool.{octets_of}
+use Rattle.asn1_schema.specs.Table.{Table}
+use Rattle.asn1_schema.specs.Tags.{IsPart}
 use Rattle.asn1_schema.specs.declared.counts.Counts.{Counts}
 use Rattle.asn1_schema.specs.declared.open_type.OpenType.{OpenType}
 use Rattle.asn1_schema.specs.declared.span.Span.{Span}
@@ -18,3 +21,16 @@ pub record IsChosen (c : Counts) (octets : List ℕ) (types : Span) (identifier 
 abbrev pub ChoosesNone : Counts → List ℕ → Span → List ℕ → Type 0
 ChoosesNone c octets types identifier =
     (k : ℕ) → types.start ≤ k → k < types.start + types.count → identifier_in c octets k ≢ identifier
+
+-- the same over a table: an identifier chooses a row of a range
+pub record ChoosesRow (t : Table) (types : Span) (identifier : List ℕ) (o : OpenType) : Type 0 where
+  pub index : ℕ
+  pub part : IsPart types index
+  pub row : slice_get t.opens index ≡ Some o
+  pub same : octets_of t.pool o.identifier ≡ identifier
+
+-- it chooses none
+abbrev pub ChoosesNoRow : Table → Span → List ℕ → Type 0
+ChoosesNoRow t types identifier =
+    (k : ℕ) (o : OpenType) → IsPart types k → slice_get t.opens k ≡ Some o
+    → octets_of t.pool o.identifier ≢ identifier

@@ -12,7 +12,12 @@ pub mod Limit
 pub mod Name
 pub mod OpenType
 pub mod Table
+pub mod Tags
+pub mod Distinct
+pub mod Sought
 pub mod Schema
 pub mod Laws
 pub mod Chosen
 pub mod Named
+pub mod Numbered
+pub mod Allowed

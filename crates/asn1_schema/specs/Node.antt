@@ -3,7 +3,7 @@ use Rattle.std.specs.Prelude.{◌≡◌, ℕ, ◌+◌, ◌/◌, ◌%◌, ◌<◌
 use Rattle.der_base.specs.declared.tag.class.Class.{Class}
 use Rattle.der_base.specs.declared.tag.class.Class.TheVariants.{Universal, Application, ContextSpecific, Private}
 use Rattle.asn1_schema.specs.Numbers.{number_at}
-use Rattle.asn1_schema.specs.NodeKind.{kind_at, parts_room, chooser_room, needs_inner, allows_inner}
+use Rattle.asn1_schema.specs.NodeKind.{kind_at, parts_room, chooser_room, insertion_in, needs_inner, allows_inner, is_choice}
 use Rattle.asn1_schema.specs.Span.{span_at, IsWithin}
 use Rattle.asn1_schema.specs.Pool.{IsText}
 use Rattle.asn1_schema.specs.Fault.{fault_at}
@@ -49,13 +49,22 @@ IsInner kind inner nodes =
     (needs_inner kind ≡ true → IsSome inner)
     × ((node : ℕ) → inner ≡ Some node → (allows_inner kind ≡ true) × (node < nodes))
 
+-- how many numbers there are of which the chooser of a node may be
+abbrev pub room_of : Counts → Node → ℕ
+room_of c n = chooser_room c n.kind n.extensible n.parts.count
+
 -- what a node names is there
 pub record IsNode (c : Counts) (pool : List ℕ) (n : Node) : Type 0 where
   pub name : IsText pool n.name
   pub inner : IsInner n.kind n.inner c.nodes
   pub parts : IsWithin n.parts (parts_room c n.kind)
+  pub alternative : is_choice n.kind ≡ true → 1 ≤ n.parts.count
   pub limits : IsWithin n.limits c.limits
-  pub chooser : n.chooser < chooser_room c n.kind
+  pub chooser : n.chooser < room_of c n
+
+-- how many of its fields come before its extension insertion point, if it has one
+abbrev pub insertion_of : Node → Option ℕ
+insertion_of n = insertion_in n.kind n.extensible n.chooser
 
 -- a row is such a node
 pub record IsNodeRow (c : Counts) (pool octets : List ℕ) (at : ℕ) : Type 0 where
@@ -80,7 +89,9 @@ pub data IsNodeFault (c : Counts) (pool octets : List ℕ) (at : ℕ) : Fault �
       → IsNodeFault c pool octets at (fault_at NoInner (at + 16))
   no_parts : (IsWithin (node_at octets at).parts (parts_room c (node_at octets at).kind) → ⊥)
       → IsNodeFault c pool octets at (fault_at NoParts (at + 20))
+  no_alternative : is_choice (node_at octets at).kind ≡ true → (node_at octets at).parts.count < 1
+      → IsNodeFault c pool octets at (fault_at NoParts (at + 20))
   no_limits : (IsWithin (node_at octets at).limits c.limits → ⊥)
       → IsNodeFault c pool octets at (fault_at NoLimits (at + 28))
-  no_chooser : chooser_room c (node_at octets at).kind ≤ (node_at octets at).chooser
+  no_chooser : room_of c (node_at octets at) ≤ (node_at octets at).chooser
       → IsNodeFault c pool octets at (fault_at NoChooser (at + 36))

@@ -1,5 +1,5 @@
 -- Kinds of nodes, by their numbers, and what nodes of a kind have.
-use Rattle.std.specs.Prelude.{ℕ, nat_eq, Bool, true, false, Option, Some, option_map, if◌then◌else◌}
+use Rattle.std.specs.Prelude.{ℕ, ◌+◌, nat_eq, Bool, true, false, Option, Some, None, option_map, if◌then◌else◌}
 use Rattle.ber.specs.Universal.{universal_at}
 use Rattle.ber.specs.declared.universal.Universal.TheVariants.{Integer, BitString, OctetString, Enumerated, Sequence, Set}
 use Rattle.asn1_schema.specs.declared.counts.Counts.{Counts}
@@ -30,11 +30,20 @@ parts_room c Choice = c.fields
 parts_room c Open = c.opens
 parts_room c _ = 0
 
--- how many numbers there are of which the field that chooses may be: the fields, for an open type,
--- and otherwise only 0
-abbrev pub chooser_room : Counts → NodeKind → ℕ
-chooser_room c Open = c.fields
-chooser_room c _ = 1
+-- how many numbers there are of which the chooser may be, in a node with an extension marker or
+-- without, and with so many parts: the fields, for an open type; 0 and the numbers of its fields up to
+-- that of all, for a SEQUENCE or a SET with a marker; otherwise only 0
+abbrev pub chooser_room : Counts → NodeKind → Bool → ℕ → ℕ
+chooser_room c Open extensible parts = c.fields
+chooser_room c (Universally Sequence) true parts = parts + 1
+chooser_room c (Universally Set) true parts = parts + 1
+chooser_room c _ extensible parts = 1
+
+-- how many fields of a node come before its extension insertion point (X.680 25.1), if it has one
+abbrev pub insertion_in : NodeKind → Bool → ℕ → Option ℕ
+insertion_in (Universally Sequence) true chooser = Some chooser
+insertion_in (Universally Set) true chooser = Some chooser
+insertion_in _ extensible chooser = None
 
 -- a SEQUENCE OF, a SET OF and an EXPLICIT tag have another node inside them
 abbrev pub needs_inner : NodeKind → Bool
@@ -49,3 +58,8 @@ allows_inner (Universally OctetString) = true
 allows_inner (Universally BitString) = true
 allows_inner (Universally _) = false
 allows_inner k = needs_inner k
+
+-- a CHOICE has an alternative (X.680 29.1)
+abbrev pub is_choice : NodeKind → Bool
+is_choice Choice = true
+is_choice _ = false

@@ -10,6 +10,7 @@ use Rattle.asn1_schema.specs.Limit.{IsLimitFault}
 use Rattle.asn1_schema.specs.Name.{IsNameFault}
 use Rattle.asn1_schema.specs.OpenType.{IsOpenTypeFault, IsOrderFault}
 use Rattle.asn1_schema.specs.Table.{Table, table_in, AreRows, AreAscending}
+use Rattle.asn1_schema.specs.Distinct.{AreNested, IsNestingFault, AreDistinct, IsTagFault}
 use Rattle.asn1_schema.specs.declared.counts.Counts.{Counts}
 use Rattle.asn1_schema.specs.declared.fault.Fault.{Fault}
 use Rattle.asn1_schema.specs.declared.node_kind.NodeKind.TheVariants.{Open}
@@ -35,6 +36,8 @@ pub record IsSchema (octets : List ℕ) (t : Table) : Type 0 where
   pub header : IsHeader octets
   pub rows : AreRows (counts_in octets) octets
   pub ascending : AreAscending (counts_in octets) octets
+  pub nested : AreNested t
+  pub distinct : AreDistinct t
   pub table : t ≡ table_in octets
 
 -- why octets with these counts have a row that is not well-formed
@@ -66,3 +69,7 @@ pub data IsHeaderFault (octets : List ℕ) : Fault → Type 0 where
 pub data IsFault (octets : List ℕ) : Fault → Type 0 where
   no_header : {f : Fault} → IsHeaderFault octets f → IsFault octets f
   no_row : {f : Fault} → IsHeader octets → IsRowFault (counts_in octets) octets f → IsFault octets f
+  not_nested : {f : Fault} → IsHeader octets → AreRows (counts_in octets) octets
+      → IsNestingFault (counts_in octets) (table_in octets) f → IsFault octets f
+  not_distinct : {f : Fault} → IsHeader octets → AreRows (counts_in octets) octets
+      → IsTagFault (counts_in octets) (table_in octets) f → IsFault octets f

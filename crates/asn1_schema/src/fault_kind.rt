@@ -24,7 +24,7 @@ pub enum FaultKind {
     /// A node has another node inside it though its kind has none, lacks one though its kind has
     /// one, or names one that there is not.
     Inner,
-    /// The parts of a node are no rows of the section that its kind names.
+    /// The parts of a node are no rows of the section that its kind names, or a CHOICE has none.
     Parts,
     /// The limits of a node are no rows.
     Limits,
@@ -40,4 +40,9 @@ pub enum FaultKind {
     Identifier,
     /// The OBJECT IDENTIFIER of a type of an open type is not after the one before it.
     Order,
+    /// A CHOICE that is an alternative of a CHOICE does not come before it.
+    Choice,
+    /// A component or an alternative begins with a tag with which an earlier one begins that may be
+    /// missing.
+    Tag,
 }

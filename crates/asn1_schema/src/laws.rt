@@ -1,6 +1,6 @@
 //! Laws of tables. Each function does nothing; its contract is a law that `specs/Laws.antt` defines.
 //! Nothing calls the functions of this module.
-ghost use Rattle.asn1_schema.specs.Laws.{NoTableAtAFault, TablesAreSingle};
+ghost use Rattle.asn1_schema.specs.Laws.{NoTableAtAFault, TablesAreSingle, SelectionsAreSingle};
 
 fn no_table_at_a_fault()
     ensures { NoTableAtAFault }
@@ -8,4 +8,8 @@ fn no_table_at_a_fault()
 
 fn tables_are_single()
     ensures { TablesAreSingle }
+{}
+
+fn selections_are_single()
+    ensures { SelectionsAreSingle }
 {}

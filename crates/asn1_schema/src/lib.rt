@@ -15,20 +15,34 @@
 //!
 //! | Row | Octets | Columns |
 //! |---|---|---|
-//! | node | 40 | an octet each: kind, class in bits 8 and 7, whether extensible, whether there is a node inside; number of the tag, name, node inside, parts (8 octets), limits (8 octets), field that chooses |
+//! | node | 40 | an octet each: kind, class in bits 8 and 7, whether extensible, whether there is a node inside; number of the tag, name, node inside, parts (8 octets), limits (8 octets), chooser |
 //! | field | 28 | presence, extension addition, name, node, default |
 //! | limit | 20 | kind, lowest and highest number (8 octets each, two's complement) |
 //! | name | 16 | number (8 octets, two's complement), name |
 //! | type of an open type | 12 | OBJECT IDENTIFIER, node |
 //!
 //! Names, defaults and OBJECT IDENTIFIERs are ranges of the pool, at the end, and ranges of rows and of
-//! octets have a start and a count.
+//! octets have a start and a count. The chooser is the index of the field that chooses an open type.
+//! In a SEQUENCE or a SET with an extension marker, it is the number of the fields before the insertion
+//! point: those before the marker and the extension additions. Otherwise it is 0.
+//!
+//! A CHOICE has an alternative, and a CHOICE that is an alternative of another one comes before it in
+//! the table. So no CHOICE is an alternative of itself, at any depth.
+//!
+//! # Tags
+//!
+//! Where one field may be missing and the other is read in its place, their tags are distinct: those of
+//! the alternatives of a CHOICE (X.680 29.3), of the components of a SET (27.3), and in a SEQUENCE of an
+//! OPTIONAL or DEFAULT component or an extension addition and the later ones up to the first of the
+//! root that is required (25.6, 25.7). Any type and an open type begin with every tag. So
+//! [`Schema::select`] finds the only node of which a value with a tag is one.
 //!
 //! Proved: octets are accepted exactly if they are a table; each row by its index; all that a row names
-//! is there.
+//! is there; what a tag selects.
 #![tactic(auto)]
 
 mod counts;
+mod distinct;
 mod fault;
 mod fault_kind;
 mod field;
@@ -38,6 +52,7 @@ mod laws;
 mod limit;
 mod limit_kind;
 mod name;
+mod nesting;
 mod node;
 mod node_kind;
 mod numbers;
@@ -45,8 +60,13 @@ mod open_type;
 mod order;
 mod pool;
 mod presence;
+mod rows;
 mod schema;
 mod sections;
+mod select;
+mod selected;
+mod shared;
+mod sought;
 mod span;
 
 pub use counts::Counts;
@@ -61,4 +81,5 @@ pub use node_kind::NodeKind;
 pub use open_type::OpenType;
 pub use presence::Presence;
 pub use schema::Schema;
+pub use selected::Selected;
 pub use span::Span;

@@ -20,6 +20,9 @@ pub struct Limit {
 }
 
 impl Limit {
+    ghost use Rattle.std.specs.Prelude.{◌↔◌, IsTrue};
+    ghost use Rattle.asn1_schema.specs.Allowed.{IsBetween};
+
     // The limit in the 20 octets from `at` on.
     #[inline(always)]
     pub(crate) fn read(octets: &[u8], at: usize) -> Self
@@ -43,5 +46,21 @@ impl Limit {
             Some(_) => Ok(()),
             None => Err(Fault::new(FaultKind::Limit, at)),
         }
+    }
+
+    // Whether it is of a kind.
+    #[inline(always)]
+    pub(crate) fn is_of(self, kind: LimitKind) -> bool
+        ensures { IsTrue result ↔ (self.kind ≡ kind) }
+    {
+        self.kind == kind
+    }
+
+    // Whether a number is between the lowest and the highest.
+    #[inline(always)]
+    pub(crate) fn allows(self, number: i64) -> bool
+        ensures { IsTrue result ↔ IsBetween self number }
+    {
+        self.low <= number && number <= self.high
     }
 }

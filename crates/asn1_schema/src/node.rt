@@ -1,6 +1,6 @@
 //! Nodes.
 ghost use Rattle.std.specs.Prelude.{◌≡◌, ◌↔◌, ◌+◌, ◌≤◌, length, IsTrue, IfOk, IfErr};
-ghost use Rattle.asn1_schema.specs.Node.{class_at, flag_at, inner_at, node_at, IsInner, IsNode, IsNodeRow, IsNodeFault};
+ghost use Rattle.asn1_schema.specs.Node.{class_at, flag_at, inner_at, insertion_of, room_of, node_at, IsInner, IsNode, IsNodeRow, IsNodeFault};
 
 use crate::counts::Counts;
 use crate::fault::Fault;
@@ -31,7 +31,8 @@ pub struct Node {
     pub parts: Span,
     /// Its limits.
     pub limits: Span,
-    /// The index of the field that chooses an open type; otherwise 0.
+    /// The index of the field that chooses an open type. Of a SEQUENCE or a SET with an extension
+    /// marker, the number of its fields before the insertion point. Otherwise 0.
     pub chooser: u32,
 }
 
@@ -53,6 +54,23 @@ impl Node {
             limits: Span::read(octets, at + 28),
             chooser: number_at(octets, at + 36),
         }
+    }
+
+    /// How many of its fields come before its extension insertion point (X.680 25.1), where a value may
+    /// have components that are not known. Only a SEQUENCE or a SET with an extension marker has one.
+    #[inline(always)]
+    pub fn insertion(self) -> Option<u32>
+        ensures { result ≡ insertion_of self }
+    {
+        self.kind.insertion_in(self.extensible, self.chooser)
+    }
+
+    // How many numbers there are of which its chooser may be.
+    fn chooser_room(self, counts: Counts) -> usize
+        ensures { result ≡ room_of counts self }
+    {
+        self.kind
+            .chooser_room(counts, self.extensible, self.parts.count)
     }
 
     // Whether the 40 octets from `at` on are a node.
@@ -92,10 +110,13 @@ impl Node {
         if !node.parts.is_within(node.kind.parts_room(counts) as usize) {
             return Err(Fault::new(FaultKind::Parts, at + 20));
         }
+        if node.kind.is_choice() && node.parts.count == 0 {
+            return Err(Fault::new(FaultKind::Parts, at + 20));
+        }
         if !node.limits.is_within(counts.limits as usize) {
             return Err(Fault::new(FaultKind::Limits, at + 28));
         }
-        if node.chooser >= node.kind.chooser_room(counts) {
+        if node.chooser as usize >= node.chooser_room(counts) {
             return Err(Fault::new(FaultKind::Chooser, at + 36));
         }
         Ok(())

@@ -1,6 +1,6 @@
 //! Kinds of nodes.
 ghost use Rattle.std.specs.Prelude.{◌≡◌, IsTrue};
-ghost use Rattle.asn1_schema.specs.NodeKind.{kind_at, parts_room, chooser_room, needs_inner, allows_inner};
+ghost use Rattle.asn1_schema.specs.NodeKind.{kind_at, parts_room, chooser_room, insertion_in, needs_inner, allows_inner, is_choice};
 
 use crate::counts::Counts;
 use ber::Universal;
@@ -60,13 +60,27 @@ impl NodeKind {
         }
     }
 
-    // How many numbers there are of which the field that chooses may be.
-    pub(crate) fn chooser_room(self, counts: Counts) -> u32
-        ensures { result ≡ chooser_room counts self }
+    // How many numbers there are of which the chooser may be, in a node with an extension marker or
+    // without, and with so many parts.
+    pub(crate) fn chooser_room(self, counts: Counts, extensible: bool, parts: u32) -> usize
+        ensures { result ≡ chooser_room counts self extensible parts }
     {
-        match self {
-            NodeKind::Open => counts.fields,
+        match (self, extensible) {
+            (NodeKind::Open, _) => counts.fields as usize,
+            (NodeKind::Universal(Universal::Sequence), true) => parts as usize + 1,
+            (NodeKind::Universal(Universal::Set), true) => parts as usize + 1,
             _ => 1,
+        }
+    }
+
+    // The chooser, if it is the number of the fields before an extension insertion point.
+    pub(crate) fn insertion_in(self, extensible: bool, chooser: u32) -> Option<u32>
+        ensures { result ≡ insertion_in self extensible chooser }
+    {
+        match (self, extensible) {
+            (NodeKind::Universal(Universal::Sequence), true) => Some(chooser),
+            (NodeKind::Universal(Universal::Set), true) => Some(chooser),
+            _ => None,
         }
     }
 
@@ -92,5 +106,13 @@ impl NodeKind {
                 | NodeKind::Universal(Universal::OctetString)
                 | NodeKind::Universal(Universal::BitString)
         )
+    }
+
+    // Whether it is a CHOICE.
+    #[inline(always)]
+    pub(crate) fn is_choice(self) -> bool
+        ensures { result ≡ is_choice self }
+    {
+        matches!(self, NodeKind::Choice)
     }
 }

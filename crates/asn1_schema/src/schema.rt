@@ -3,21 +3,30 @@ ghost use Rattle.std.specs.Prelude.{◌≡◌, length};
 ghost use Rattle.std.proofs.Props.{props};
 ghost use Rattle.asn1_schema.specs.Counts.{counts_in, size_of};
 ghost use Rattle.asn1_schema.specs.Pool.{pool_in};
-ghost use Rattle.asn1_schema.specs.Table.{AreRows, AreAscending, AreAscending-prop};
+ghost use Rattle.asn1_schema.specs.Table.{table_in, AreRows, AreAscending, AreAscending-prop};
+ghost use Rattle.asn1_schema.specs.Distinct.{AreNested, AreDistinct};
 ghost use Rattle.asn1_schema.specs.Schema.{IsHeader};
 
 use crate::counts::Counts;
+use crate::distinct::check_distinct;
 use crate::fault::Fault;
 use crate::field::Field;
 use crate::find::{find_node, find_open_type};
 use crate::header::read_header;
 use crate::limit::Limit;
+use crate::limit_kind::LimitKind;
 use crate::name::Name;
+use crate::nesting::check_nesting;
 use crate::node::Node;
 use crate::open_type::OpenType;
 use crate::pool::{octets_of, text_of};
+use crate::rows::Rows;
 use crate::sections::check_rows;
+use crate::select::find_selected;
+use crate::selected::Selected;
+use crate::sought::Sought;
 use crate::span::Span;
+use der_base::Class;
 
 /// A table of types, read from octets without copying them.
 #[derive(Debug, Clone, Copy, PartialEq, Eq)]
@@ -31,20 +40,25 @@ pub struct Schema<'a> {
     ghost pooled: { pool.now ≡ pool_in counts octets.now },
     ghost rows: { AreRows counts octets.now } by { Prim.hlevel props },
     ghost ascending: { AreAscending counts octets.now } by { AreAscending-prop counts octets.now },
+    ghost nested: { AreNested (table_in octets.now) } by { Prim.hlevel props },
+    ghost distinct: { AreDistinct (table_in octets.now) } by { Prim.hlevel props },
 }
 
 impl<'a> Schema<'a> {
-    ghost use Rattle.std.specs.Prelude.{◌<◌, slice_get, Some, IfOk, IfErr, IsOk, IfSome, IfNone};
+    ghost use Rattle.std.specs.Prelude.{◌↔◌, ◌<◌, slice_get, Some, IsTrue, IfOk, IfErr, IsOk, IfSome, IfNone};
     ghost use Rattle.asn1_schema.specs.Span.{IsWithin};
     ghost use Rattle.asn1_schema.specs.Pool.{octets_of, IsText};
     ghost use Rattle.asn1_schema.specs.Node.{IsNode};
     ghost use Rattle.asn1_schema.specs.Field.{IsField};
     ghost use Rattle.asn1_schema.specs.Name.{IsName};
     ghost use Rattle.asn1_schema.specs.OpenType.{IsOpenType, Ascends};
-    ghost use Rattle.asn1_schema.specs.Chosen.{IsChosen, ChoosesNone};
+    ghost use Rattle.asn1_schema.specs.Chosen.{IsChosen, ChoosesNone, ChoosesRow, ChoosesNoRow};
     ghost use Rattle.asn1_schema.specs.Named.{IsNamed, NoneIsNamed};
     ghost use Rattle.asn1_schema.specs.Table.{Table, table_in, counts_of, IsAscending};
     ghost use Rattle.asn1_schema.specs.Schema.{IsSchema, IsFault};
+    ghost use Rattle.asn1_schema.specs.Tags.{IsSelected, Begins};
+    ghost use Rattle.asn1_schema.specs.Numbered.{IsFirstNamed, NoneHasNumber};
+    ghost use Rattle.asn1_schema.specs.Allowed.{IsAllowed};
 
     /// Reads a table of types.
     ///
@@ -60,17 +74,26 @@ impl<'a> Schema<'a> {
         let counts = read_header(octets)?;
         let pool = &octets[counts.pool_at()..];
         check_rows(octets, counts, pool)?;
+        let rows = Rows {
+            octets,
+            counts,
+            pool,
+        };
+        check_nesting(&rows)?;
+        check_distinct(&rows)?;
         Ok(Schema {
             octets,
             counts,
             pool,
         })
     }
-    /// How many rows each section has, and how many octets the pool has.
+    /// How many rows each section has, and how many octets the pool has. The contract also says that
+    /// the octets of a `Schema` are a table.
     #[inline(always)]
     pub fn counts(&self) -> Counts
         ensures value { result ≡ counts_of (table_in self.now.octets.now) }
         ensures same { result ≡ self.now.counts }
+        ensures table { IsSchema self.now.octets.now (table_in self.now.octets.now) }
     {
         self.counts
     }
@@ -145,8 +168,73 @@ impl<'a> Schema<'a> {
             (λ o. IsChosen self.now.counts self.now.octets.now types identifier.now o) }
         ensures none { IfNone result
             (ChoosesNone self.now.counts self.now.octets.now types identifier.now) }
+        ensures row { IfSome result
+            (ChoosesRow (table_in self.now.octets.now) types identifier.now) }
+        ensures no_row { IfNone result
+            (ChoosesNoRow (table_in self.now.octets.now) types identifier.now) }
+        ensures fits { IfSome result (λ o. IsOpenType self.now.counts self.now.pool.now o) }
     {
         find_open_type(self.octets, self.counts, self.pool, types, identifier)
+    }
+
+    /// The node of which a value of a node is one, if the value begins with this tag; the field is the
+    /// alternative through which a CHOICE selects it. The caller must ensure that there is a node with
+    /// this index.
+    #[inline(always)]
+    pub fn select(&self, index: u32, class: Class, number: u32) -> Option<Selected>
+        requires { index < self.now.counts.nodes }
+        ensures found { IfSome result (λ s.
+            IsSelected (table_in self.now.octets.now) index class number s.field s.node) }
+        ensures there { IfSome result (λ s. s.node < self.now.counts.nodes) }
+        ensures field_there { IfSome result
+            (λ s. IfSome s.field (λ k. k < self.now.counts.fields)) }
+        ensures none { IfNone result
+            (Begins (table_in self.now.octets.now) index class number → ⊥) }
+    {
+        let rows = Rows {
+            octets: self.octets,
+            counts: self.counts,
+            pool: self.pool,
+        };
+        find_selected(&rows, index, Sought::tag(class, number))
+    }
+
+    /// The first name of a number among the names of an ENUMERATED, an INTEGER or the bits of a
+    /// BIT STRING, which are its parts. The caller must ensure that these are a range of names.
+    pub fn name_of_number(&self, names: Span, number: i64) -> Option<Name>
+        requires { IsWithin names self.now.counts.names }
+        ensures found { IfSome result
+            (IsFirstNamed (table_in self.now.octets.now) names number) }
+        ensures none { IfNone result
+            (NoneHasNumber (table_in self.now.octets.now) names number) }
+        ensures fits { IfSome result (λ n. IsName self.now.pool.now n) }
+    {
+        for k in names.start..names.end(self.counts.names) {
+            let name = self.name(k);
+            if name.number == number {
+                return Some(name);
+            }
+        }
+        None
+    }
+
+    /// Whether the limits of a node allow a number: one limit of this kind does, or there is none of
+    /// this kind. The caller must ensure that these are a range of limits.
+    pub fn is_within_limits(&self, limits: Span, kind: LimitKind, number: i64) -> bool
+        requires { IsWithin limits self.now.counts.limits }
+        ensures { IsTrue result ↔ IsAllowed (table_in self.now.octets.now) limits kind number }
+    {
+        let mut limited = false;
+        for k in limits.start..limits.end(self.counts.limits) {
+            let limit = self.limit(k);
+            if limit.is_of(kind) {
+                if limit.allows(number) {
+                    return true;
+                }
+                limited = true;
+            }
+        }
+        !limited
     }
 
     /// The octets of a range of the pool. The caller must ensure that it is one, as those of this

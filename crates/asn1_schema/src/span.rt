@@ -33,4 +33,12 @@ impl Span {
     {
         self.start as usize + self.count as usize <= room
     }
+    // The index after the last of the range, which is one of so many rows.
+    #[inline(always)]
+    pub(crate) fn end(self, room: u32) -> u32
+        requires { IsWithin self room }
+        ensures { result ≡ self.start + self.count }
+    {
+        self.count + self.start
+    }
 }

@@ -1,8 +1,8 @@
-use Rattle.std.proofs.Common.{◌≤◌, subst, arith}
-use Rattle.asn1_schema.specs.NodeKind.{parts_room, chooser_room}
+use Rattle.std.proofs.Common.{◌≡◌, ◌∙◌, ◌<◌, ◌≤◌, true, sym, subst, arith}
+use Rattle.asn1_schema.specs.NodeKind.{parts_room, is_choice}
 use Rattle.asn1_schema.specs.Span.{IsWithin}
 use Rattle.asn1_schema.specs.Pool.{IsText}
-use Rattle.asn1_schema.specs.Node.{IsInner, no_node_name, no_inner, no_parts, no_limits, no_chooser}
+use Rattle.asn1_schema.specs.Node.{room_of, IsInner, no_node_name, no_inner, no_parts, no_alternative, no_limits, no_chooser}
 use Rattle.asn1_schema.specs.declared.node.Node.{Node}
 use Rattle.asn1_schema.proofs.TestLemmas.{refuted}
 use Rattle.asn1_schema.proofs.node.Node.check_parts.Goals as goal
@@ -20,6 +20,11 @@ returns-then-not-is_within-clause-fault c =
     let room = c.parts_room.ensures in
     rw c.new-then-not-is_within.ensures (no_parts (subst (λ (n : Node). IsWithin n.parts (parts_room c.args.counts n.kind) → ⊥) c.read-node.ensures (λ w. refuted c.is_within.ensures c.if-not-is_within.true (rw room w))))
 
+pub returns-then-node-eq0-clause-fault : goal.returns-then-node-eq0-clause-fault
+returns-then-node-eq0-clause-fault c =
+    let choice : is_choice c.read-node.result.kind ≡ true = sym c.is_choice.ensures ∙ c.if-is_choice.true in
+    rw c.new-then-node-eq0.ensures (no_alternative (subst (λ (n : Node). is_choice n.kind ≡ true) c.read-node.ensures choice) (subst (λ (n : Node). n.parts.count < 1) c.read-node.ensures (omega arith)))
+
 pub returns-then-not-is_within-2-clause-fault : goal.returns-then-not-is_within-2-clause-fault
 returns-then-not-is_within-2-clause-fault c =
     rw c.new-then-not-is_within-2.ensures (no_limits (subst (λ (n : Node). IsWithin n.limits c.args.counts.limits → ⊥) c.read-node.ensures (refuted c.is_within-2.ensures c.if-not-is_within-2.true)))
@@ -27,4 +32,4 @@ returns-then-not-is_within-2-clause-fault c =
 pub returns-then-node-chooser_room-clause-fault : goal.returns-then-node-chooser_room-clause-fault
 returns-then-node-chooser_room-clause-fault c =
     let room = c.chooser_room.ensures in
-    rw c.new-then-node-chooser_room.ensures (no_chooser (subst (λ (n : Node). chooser_room c.args.counts n.kind ≤ n.chooser) c.read-node.ensures (omega arith)))
+    rw c.new-then-node-chooser_room.ensures (no_chooser (subst (λ (n : Node). room_of c.args.counts n ≤ n.chooser) c.read-node.ensures (omega arith)))

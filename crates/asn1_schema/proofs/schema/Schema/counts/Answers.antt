@@ -1,8 +1,20 @@
-use Rattle.std.proofs.Common.{◌≡◌, sym, subst}
-use Rattle.asn1_schema.specs.Table.{table_with, counts_of}
+use Rattle.std.proofs.Common.{◌≡◌, refl, sym, subst}
+use Rattle.asn1_schema.specs.Table.{table_with, counts_of, AreRows, AreAscending}
 use Rattle.asn1_schema.specs.declared.counts.Counts.{Counts}
 use Rattle.asn1_schema.proofs.RowLemmas.{counts_same}
 use Rattle.asn1_schema.proofs.schema.Schema.counts.Goals as goal
+
+pub returns-clause-table : goal.returns-clause-table
+returns-clause-table c =
+    let s = c.args.self.now in
+    record {
+      header = s.header;
+      rows = subst (λ (n : Counts). AreRows n s.octets.now) s.counted s.rows;
+      ascending = subst (λ (n : Counts). AreAscending n s.octets.now) s.counted s.ascending;
+      nested = s.nested;
+      distinct = s.distinct;
+      table = refl;
+    }
 
 pub returns-clause-value : goal.returns-clause-value
 returns-clause-value c =

@@ -1,0 +1,15 @@
+pub mod Digits
+pub mod Small
+pub mod Codes
+pub mod Decimal
+pub mod Real
+pub mod Zone
+pub mod UtcTime
+pub mod GeneralizedTime
+pub mod UsefulTimes
+pub mod Rules
+pub mod Words
+pub mod Contents
+pub mod Values
+pub mod Characters
+pub mod Laws

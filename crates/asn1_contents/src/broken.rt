@@ -1,0 +1,42 @@
+//! The first rule that is broken.
+ghost use Rattle.std.specs.Prelude.{◌↔◌, IsTrue, IfSome, IfNone};
+ghost use Rattle.der_base.specs.declared.encoding_rules.EncodingRules.{EncodingRules};
+ghost use Rattle.asn1_contents.specs.Contents.{IsContents, IsNamedBits, Breaks, BreaksNamedBits};
+ghost use Rattle.asn1_contents.specs.Contents.{KeepsAll, BreaksFirst};
+ghost use Rattle.asn1_contents.specs.Rules.{allows};
+
+use crate::contents_rule::ContentsRule;
+use crate::rules::{named_bits_rules, rules_of};
+use ber::Universal;
+
+/// The first rule that the contents octets of a primitive encoding break, if they break one. The rules
+/// of the Basic Encoding Rules come first, so contents that break none of these are BER.
+pub fn broken_rule(universal: Universal, contents: &[u8]) -> Option<ContentsRule>
+    ensures allowed { (rules : EncodingRules)
+        → IsTrue (allows rules result) ↔ IsContents rules universal contents.now }
+    ensures found { IfSome result (λ r. Breaks r universal contents.now) }
+{
+    first_broken(rules_of(universal), contents)
+}
+
+/// The first rule that the contents octets of a BIT STRING with named bits break, if they break one.
+pub fn named_bits_rule(contents: &[u8]) -> Option<ContentsRule>
+    ensures allowed { (rules : EncodingRules)
+        → IsTrue (allows rules result) ↔ IsNamedBits rules contents.now }
+    ensures found { IfSome result (λ r. BreaksNamedBits r contents.now) }
+{
+    first_broken(named_bits_rules(), contents)
+}
+
+// The first of these rules that contents break.
+fn first_broken(rules: &[ContentsRule], contents: &[u8]) -> Option<ContentsRule>
+    ensures none { IfNone result (KeepsAll rules.now contents.now) }
+    ensures found { IfSome result (λ r. BreaksFirst rules.now r contents.now) }
+{
+    for rule in rules {
+        if !rule.is_kept(contents) {
+            return Some(*rule);
+        }
+    }
+    None
+}

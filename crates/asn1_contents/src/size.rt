@@ -1,0 +1,50 @@
+//! Sizes of values.
+ghost use Rattle.std.specs.Prelude.{◌≡◌, ◌-◌, ◌^◌, length, min, if◌then◌else◌};
+ghost use Rattle.std.specs.Str.{is_utf8, chars};
+ghost use Rattle.asn1_contents.specs.Characters.{size_of};
+ghost use Rattle.der_asn1.specs.NamedBits.{bit_count};
+
+use ber::Universal;
+
+/// The size of the contents octets of a primitive encoding, as a size constraint counts it (X.680
+/// 51.5): the bits of a BIT STRING, the characters of a character string, and the octets of any other
+/// type. A string of a type with escape sequences, such as TeletexString, counts by octets, and so
+/// does a UTF8String that is no UTF-8. A size above the greatest `usize` counts as that.
+pub fn size_of(universal: Universal, contents: &[u8]) -> usize
+    ensures { result ≡ min (size_of universal contents.now) (2 ^ 64 - 1) }
+{
+    match universal {
+        Universal::BitString => bit_count(contents),
+        Universal::Utf8String => character_count(contents),
+        Universal::BmpString => contents.len() / 2,
+        Universal::UniversalString => contents.len() / 4,
+        _ => contents.len(),
+    }
+}
+
+// The number of bits of a BIT STRING, or the greatest `usize`.
+fn bit_count(contents: &[u8]) -> usize
+    ensures { result ≡ min (bit_count contents.now) (2 ^ 64 - 1) }
+{
+    match contents {
+        [] => 0,
+        [unused, bits @ ..] => {
+            let count = (8 * bits.len() as u128).saturating_sub(*unused as u128);
+            if count < 0xFFFF_FFFF_FFFF_FFFF {
+                count as usize
+            } else {
+                usize::MAX
+            }
+        }
+    }
+}
+
+// The number of characters, or of octets if these are no UTF-8.
+fn character_count(contents: &[u8]) -> usize
+    ensures { result ≡ length (if is_utf8 contents.now then chars contents.now else contents.now) }
+{
+    match std::str::from_utf8(contents) {
+        Ok(text) => text.chars().count(),
+        Err(_) => contents.len(),
+    }
+}

@@ -1,0 +1,285 @@
+use Rattle.std.proofs.Common.{rules, ◌≡◌, ◌↔◌, ◌+◌, ◌-◌, ◌∙◌, false, true, [], length, take, refl, sym, ap, subst, ℕ, suc, List, Some, slice_get, arith}
+use Rattle.ber.specs.Element.{IsElement}
+use Rattle.ber.proofs.HeaderLemmas.{end_header_next}
+use Rattle.asn1_schema.specs.declared.field.Field.{Field}
+use Rattle.asn1_tree.specs.Constraints.{IsAllowedSize}
+use Rattle.asn1_tree.specs.Types.{types_in}
+use Rattle.asn1_tree.specs.Known.{known_in, Follows}
+use Rattle.asn1_tree.specs.Verdict.{holds, worst}
+use Rattle.asn1_tree.specs.Value.{MayBeAbsent, IsValue, IsAny, IsNode, AreComponents, SomeItems, IsUnknownType, AreAll, AreBounded, IsContained, shape_of, is_constructed}
+use Rattle.asn1_tree.specs.Reading.{Front, Body, Finds}
+use Rattle.asn1_tree.specs.declared.shape.Shape.TheVariants.{Components, Of, Items, SortedItems, Inner, Untyped}
+use Rattle.asn1_tree.proofs.VerdictLemmas.{logs_none, worst_neither, worst_assoc, logs_is, logs_then, logs_after, logs_left}
+use Rattle.asn1_tree.proofs.FindsLemmas.{finds_is, finds_never, finds_at, body_at, status_is, status_then, status_ends}
+use Rattle.asn1_tree.proofs.EnclosedLemmas.{finds_element, taken}
+use Rattle.asn1_tree.proofs.ItemLemmas.{items_end, item_found, item_counted, items_begin, some_left, inner_found, goes_on, has_ended}
+use Rattle.asn1_tree.proofs.UntypedLemmas.{test_is}
+use Rattle.asn1_tree.proofs.WholeLemmas.{both_tests, finds_also, whole_found, exact_of, contains_value}
+use Rattle.asn1_tree.specs.declared.verdict.Verdict.{Verdict}
+use Rattle.der_base.specs.declared.encoding_rules.EncodingRules.{EncodingRules}
+use Rattle.asn1_tree.proofs.ComponentLemmas.{component_found, component_absent, component_missing, none_later, status_next, status_at}
+use Rattle.asn1_tree.proofs.ValueLemmas.{value_begins, finds_selected, finds_node, finds_chosen, no_value, no_value_at_end, no_value_of_tag, no_value_at_depth, no_node_cut, value_elements, identifier_element, component_finds, finds_given, finds_inner, finds_shape, finds_unbounded, finds_items, if_ok}
+use Rattle.asn1_tree.proofs.+typed.Goals as goal
+
+pub typed::value-returns-in-Err-clause-finds : goal.typed::value-returns-in-Err-clause-finds
+typed::value-returns-in-Err-clause-finds t c =
+    finds_never c.in_ok-verdict-in-Err.ensures.verdict (no_value (types_in c.args.schema.now.octets.now) c.args.depth (known_in c.args.known) c.args.node c.in-Err.ensures.none)
+
+pub typed::value-returns-then-is_end_of_contents-clause-finds :
+    goal.typed::value-returns-then-is_end_of_contents-clause-finds
+typed::value-returns-then-is_end_of_contents-clause-finds t c =
+    finds_never c.in_ok-verdict.ensures.verdict
+    (no_value_at_end (types_in c.args.schema.now.octets.now) c.args.depth (known_in c.args.known) c.args.node ((end_header_next c.args.place.octets.now).0 (c.is_end_of_contents.ensures.0 c.if-is_end_of_contents.true)))
+
+pub typed::value-returns-then-depth-eq0-clause-finds : goal.typed::value-returns-then-depth-eq0-clause-finds
+typed::value-returns-then-depth-eq0-clause-finds t c =
+    finds_never c.in_ok-verdict-2.ensures.verdict
+    (no_value_at_depth (types_in c.args.schema.now.octets.now) c.args.depth (known_in c.args.known) c.args.node c.if-depth-eq0.true)
+
+pub typed::value-returns-in-Some-clause-finds : goal.typed::value-returns-in-Some-clause-finds
+typed::value-returns-in-Some-clause-finds t c =
+    if_ok c.selected_value.result (λ o f. finds_selected c.args.depth (known_in c.args.known) c.args.node c.in-Some.selected.node (omega (arith, c.if-depth-eq0.false)) c.requires.distinct c.in-Ok.ensures.found c.in-Some.ensures.found f) c.selected_value.ensures.finds
+
+pub typed::value-returns-in_ok-outcome-in-None-clause-finds :
+    goal.typed::value-returns-in_ok-outcome-in-None-clause-finds
+typed::value-returns-in_ok-outcome-in-None-clause-finds t c =
+    finds_never (c.and.ensures ∙ ap (λ v. worst v c.in_ok-outcome-in-None.outcome.verdict) c.in_ok-verdict-in-None.ensures.verdict)
+    (no_value_of_tag (types_in c.args.schema.now.octets.now) c.args.depth (known_in c.args.known) c.args.node c.in-Ok.ensures.found c.in-None.ensures.none)
+
+pub typed::value-returns-in_ok-outcome-in-None-clause-log :
+    goal.typed::value-returns-in_ok-outcome-in-None-clause-log
+typed::value-returns-in_ok-outcome-in-None-clause-log t c =
+    logs_is c.and.ensures (logs_then c.in_ok-verdict-in-None.ensures.log c.in_ok-outcome-in-None.ensures.log)
+
+pub typed::selected_value-returns-in-Some-clause-finds : goal.typed::selected_value-returns-in-Some-clause-finds
+typed::selected_value-returns-in-Some-clause-finds t c =
+    if_ok c.value.result (λ o f n row.
+    let both : Some c.node_of-node.result ≡ Some n = sym c.node_of-node.ensures.value ∙ row in
+    let it : c.node_of-node.result ≡ n = cc in
+    subst (λ q. Finds (λ rules. Front (IsNode rules (types_in c.args.schema.now.octets.now) (IsValue (types_in c.args.schema.now.octets.now) c.args.depth) (IsAny c.args.depth) (known_in c.args.known) q) c.args.place.octets.now) o.verdict o.rest.now) it
+    (finds_chosen (known_in c.args.known) c.node_of-node.result c.in-Some.inner c.in-Some.ensures.kind c.in-Some.ensures.found c.in-Some.ensures.single f)) c.value.ensures.finds
+
+pub typed::selected_value-returns-in_ok-outcome-in-Some-after_header-clause-finds :
+    goal.typed::selected_value-returns-in_ok-outcome-in-Some-after_header-clause-finds
+typed::selected_value-returns-in_ok-outcome-in-Some-after_header-clause-finds t c n row =
+    let both : Some c.node_of-node.result ≡ Some n = sym c.node_of-node.ensures.value ∙ row in
+    let it : c.node_of-node.result ≡ n = cc in
+    finds_is c.and.ensures
+    (subst (λ q. Finds (λ rules. Front (IsNode rules (types_in c.args.schema.now.octets.now) (IsValue (types_in c.args.schema.now.octets.now) c.args.depth) (IsAny c.args.depth) (known_in c.args.known) q) c.args.place.octets.now) (worst c.in_ok-allowed-in-None.allowed c.in_ok-outcome-in-Some-after_header.outcome.verdict) c.in_ok-outcome-in-Some-after_header.outcome.rest.now) it
+    (finds_node (known_in c.args.known) c.node_of-node.result c.args.header c.requires.next (c.requires.tagged c.node_of-node.result c.node_of-node.ensures.value) c.in-None.ensures.none
+    (finds_element c.in_ok-allowed-in-None.allowed c.in-Some-after_header.ensures.some c.requires.real c.in_ok-allowed-in-None.ensures.verdict c.in_ok-outcome-in-Some-after_header.ensures.finds)))
+
+pub typed::selected_value-returns-in_ok-outcome-in-Some-after_header-clause-log :
+    goal.typed::selected_value-returns-in_ok-outcome-in-Some-after_header-clause-log
+typed::selected_value-returns-in_ok-outcome-in-Some-after_header-clause-log t c =
+    logs_is c.and.ensures (logs_left c.leave.ensures.log (logs_after c.in_ok-at-in-None.ensures.log (logs_then c.in_ok-allowed-in-None.ensures.log c.in_ok-outcome-in-Some-after_header.ensures.log)))
+
+pub typed::selected_value-returns-in_ok-cut-in-None-after_header-clause-finds :
+    goal.typed::selected_value-returns-in_ok-cut-in-None-after_header-clause-finds
+typed::selected_value-returns-in_ok-cut-in-None-after_header-clause-finds t c n row =
+    finds_never (c.and-in-None-after_header.ensures ∙ ap (λ v. worst c.in_ok-allowed-in-None.allowed v) c.in_ok-cut-in-None-after_header.ensures.verdict ∙ worst_neither c.in_ok-allowed-in-None.allowed)
+    (no_node_cut (types_in c.args.schema.now.octets.now) c.args.depth (known_in c.args.known) n c.in-None-after_header.ensures.none.0 c.requires.next c.in-None-after_header.ensures.none.1 c.in-None-after_header.ensures.none.2)
+
+pub typed::selected_value-returns-in_ok-cut-in-None-after_header-clause-log :
+    goal.typed::selected_value-returns-in_ok-cut-in-None-after_header-clause-log
+typed::selected_value-returns-in_ok-cut-in-None-after_header-clause-log t c =
+    logs_is c.and-in-None-after_header.ensures (logs_after c.in_ok-at-in-None.ensures.log (logs_then c.in_ok-allowed-in-None.ensures.log c.in_ok-cut-in-None-after_header.ensures.log))
+
+pub typed::contents-returns-in-Components-clause-finds : goal.typed::contents-returns-in-Components-clause-finds
+typed::contents-returns-in-Components-clause-finds t c =
+    let shape : shape_of c.args.node.kind ≡ Components = sym c.of-shape.ensures ∙ c.in-Components.is in
+    let on = c.has_wrong_form.ensures.right c.if-has_wrong_form.false (ap is_constructed c.in-Components.is) in
+    if_ok c.all_components.result (λ o f. finds_shape (types_in c.args.schema.now.octets.now) (IsValue (types_in c.args.schema.now.octets.now) c.args.depth) (IsAny c.args.depth) (known_in c.args.known) c.args.node c.args.header c.args.opened.marked c.args.opened.beyond.now c.args.opened.inside.octets.now shape
+    (finds_given c.args.opened.marked c.args.opened.beyond.now c.args.opened.inside.octets.now on f)) c.all_components.ensures.finds
+
+pub typed::contents-returns-in-Of-clause-finds : goal.typed::contents-returns-in-Of-clause-finds
+typed::contents-returns-in-Of-clause-finds t c =
+    let shape : shape_of c.args.node.kind ≡ Of c.in-Of.universal = sym c.of-shape.ensures ∙ c.in-Of.is in
+    if_ok c.of_type.result (λ o f. finds_shape (types_in c.args.schema.now.octets.now) (IsValue (types_in c.args.schema.now.octets.now) c.args.depth) (IsAny c.args.depth) (known_in c.args.known) c.args.node c.args.header c.args.opened.marked c.args.opened.beyond.now c.args.opened.inside.octets.now shape f) c.of_type.ensures.finds
+
+pub typed::contents-returns-in-Items-clause-finds : goal.typed::contents-returns-in-Items-clause-finds
+typed::contents-returns-in-Items-clause-finds t c =
+    let shape : shape_of c.args.node.kind ≡ Items = sym c.of-shape.ensures ∙ c.in-Items.is in
+    let on = c.has_wrong_form.ensures.right c.if-has_wrong_form.false (ap is_constructed c.in-Items.is) in
+    if_ok c.items.result (λ o f. finds_shape (types_in c.args.schema.now.octets.now) (IsValue (types_in c.args.schema.now.octets.now) c.args.depth) (IsAny c.args.depth) (known_in c.args.known) c.args.node c.args.header c.args.opened.marked c.args.opened.beyond.now c.args.opened.inside.octets.now shape
+    (finds_given c.args.opened.marked c.args.opened.beyond.now c.args.opened.inside.octets.now on f)) c.items.ensures.finds
+
+pub typed::contents-returns-in-SortedItems-clause-finds : goal.typed::contents-returns-in-SortedItems-clause-finds
+typed::contents-returns-in-SortedItems-clause-finds t c =
+    let shape : shape_of c.args.node.kind ≡ SortedItems = sym c.of-shape.ensures ∙ c.in-SortedItems.is in
+    let on = c.has_wrong_form.ensures.right c.if-has_wrong_form.false (ap is_constructed c.in-SortedItems.is) in
+    if_ok c.items-in-SortedItems.result (λ o f. finds_shape (types_in c.args.schema.now.octets.now) (IsValue (types_in c.args.schema.now.octets.now) c.args.depth) (IsAny c.args.depth) (known_in c.args.known) c.args.node c.args.header c.args.opened.marked c.args.opened.beyond.now c.args.opened.inside.octets.now shape
+    (finds_given c.args.opened.marked c.args.opened.beyond.now c.args.opened.inside.octets.now on f)) c.items-in-SortedItems.ensures.finds
+
+pub typed::contents-returns-in-Inner-clause-finds : goal.typed::contents-returns-in-Inner-clause-finds
+typed::contents-returns-in-Inner-clause-finds t c =
+    let shape : shape_of c.args.node.kind ≡ Inner = sym c.of-shape.ensures ∙ c.in-Inner.is in
+    let on = c.has_wrong_form.ensures.right c.if-has_wrong_form.false (ap is_constructed c.in-Inner.is) in
+    if_ok c.explicit.result (λ o f. finds_shape (types_in c.args.schema.now.octets.now) (IsValue (types_in c.args.schema.now.octets.now) c.args.depth) (IsAny c.args.depth) (known_in c.args.known) c.args.node c.args.header c.args.opened.marked c.args.opened.beyond.now c.args.opened.inside.octets.now shape
+    (finds_inner (λ rules i. IsValue (types_in c.args.schema.now.octets.now) c.args.depth rules (known_in c.args.known) i) c.args.opened.marked c.args.opened.beyond.now c.args.opened.inside.octets.now c.args.node.inner c.inner_of.result on c.inner_of.ensures f)) c.explicit.ensures.finds
+
+pub typed::contents-returns-in-Untyped-clause-finds : goal.typed::contents-returns-in-Untyped-clause-finds
+typed::contents-returns-in-Untyped-clause-finds t c =
+    let shape : shape_of c.args.node.kind ≡ Untyped = sym c.of-shape.ensures ∙ c.in-Untyped.is in
+    if_ok c.unknown_contents.result (λ o f. finds_shape (types_in c.args.schema.now.octets.now) (IsValue (types_in c.args.schema.now.octets.now) c.args.depth) (IsAny c.args.depth) (known_in c.args.known) c.args.node c.args.header c.args.opened.marked c.args.opened.beyond.now c.args.opened.inside.octets.now shape
+    (subst (λ u. Finds (λ rules. Body c.args.opened.marked c.args.opened.beyond.now (IsUnknownType rules (IsAny c.args.depth) u c.args.header.constructed) c.args.opened.inside.octets.now) o.verdict o.rest.now) c.universal.ensures f)) c.unknown_contents.ensures.finds
+
+pub components::component-returns-then-begins-clause-status : goal.components::component-returns-then-begins-clause-status
+components::component-returns-then-begins-clause-status t c =
+    let octets = c.args.opened.inside.octets.now in
+    let rest = c.in_ok-outcome.outcome.rest.now in
+    let here = take (length octets - length rest) octets in
+    let f = c.field_of-field.result in
+    let begun = c.begins.ensures.found c.if-begins.true in
+    let finds = component_finds (types_in c.args.schema.now.octets.now) (IsValue (types_in c.args.schema.now.octets.now) c.args.depth) (known_in c.args.known) f here c.in_ok-outcome.ensures.finds (λ x e. taken octets x rest e) (test_is c.in_ok-verdict.ensures.verdict c.default_rule-rule.ensures) in
+    status_next (types_in c.args.schema.now.octets.now) (IsValue (types_in c.args.schema.now.octets.now) c.args.depth) c.args.opened.marked c.args.opened.beyond.now octets rest c.args.left c.args.index (known_in c.args.known) (known_in c.known_after.result)
+    (status_is c.and.ensures (component_found (types_in c.args.schema.now.octets.now) (IsValue (types_in c.args.schema.now.octets.now) c.args.depth) c.args.opened.marked c.args.opened.beyond.now octets rest c.args.left c.args.index f (known_in c.args.known) (known_in c.known_after.result) c.field_of-field.ensures.value finds
+    (λ rules x e is.
+    let it : here ≡ x = taken octets x rest e in
+    subst (λ y. Follows (slice_get (types_in c.args.schema.now.octets.now).nodes f.node) c.args.index y (known_in c.args.known) (known_in c.known_after.result)) it
+    (c.known_after.ensures (λ id. let el = identifier_element (types_in c.args.schema.now.octets.now) c.args.depth rules (known_in c.args.known) f.node x id is.0 in (el.0, el.1, subst (λ y. IsElement el.0 el.1 y) (sym it) el.2))))
+    (λ may. none_later (value_begins (types_in c.args.schema.now.octets.now) c.args.depth) c.args.node c.requires.kind (c.requires.distinct c.requires.row.0 c.args.node c.requires.row.1) c.args.opened.marked c.args.opened.beyond.now octets begun.0 begun.1 begun.2 c.args.index f
+    (record { part = (c.requires.part.0, omega (arith, c.requires.part.1)); row = c.field_of-field.ensures.value }) begun.3 c.args.left (suc c.args.index) (known_in c.args.known) (omega arith) (omega (arith, c.requires.part.1))
+    (λ l g low high is. only may l g (omega (arith, low, high)) is.row))))
+  where
+    only : MayBeAbsent c.field_of-field.result → (l : ℕ) (g : Field) → l ≡ c.args.index → slice_get (types_in c.args.schema.now.octets.now).fields l ≡ Some g → MayBeAbsent g
+    only may l g e row =
+        let here : slice_get (types_in c.args.schema.now.octets.now).fields c.args.index ≡ Some g = subst (λ q. slice_get (types_in c.args.schema.now.octets.now).fields q ≡ Some g) e row in
+        let both : Some c.field_of-field.result ≡ Some g = sym c.field_of-field.ensures.value ∙ here in
+        let it : c.field_of-field.result ≡ g = cc in
+        subst MayBeAbsent it may
+
+pub components::component-returns-then-begins-clause-log : goal.components::component-returns-then-begins-clause-log
+components::component-returns-then-begins-clause-log t c =
+    logs_is c.and.ensures (logs_then c.in_ok-outcome.ensures.log c.in_ok-verdict.ensures.log)
+
+pub components::component-returns-then-may_be_absent-clause-status :
+    goal.components::component-returns-then-may_be_absent-clause-status
+components::component-returns-then-may_be_absent-clause-status t c =
+    status_next (types_in c.args.schema.now.octets.now) (IsValue (types_in c.args.schema.now.octets.now) c.args.depth) c.args.opened.marked c.args.opened.beyond.now c.args.opened.inside.octets.now c.args.opened.inside.octets.now c.args.left c.args.index (known_in c.args.known) (known_in c.args.known)
+    (component_absent (value_begins (types_in c.args.schema.now.octets.now) c.args.depth) c.args.opened.marked c.args.opened.beyond.now c.args.opened.inside.octets.now c.args.left c.args.index c.field_of-field.result (known_in c.args.known) c.field_of-field.ensures.value (c.begins.ensures.none c.if-begins.false) (sym c.may_be_absent.ensures ∙ c.if-may_be_absent.true))
+
+pub components::component-returns-clause-status : goal.components::component-returns-clause-status
+components::component-returns-clause-status t c =
+    status_next (types_in c.args.schema.now.octets.now) (IsValue (types_in c.args.schema.now.octets.now) c.args.depth) c.args.opened.marked c.args.opened.beyond.now c.args.opened.inside.octets.now c.args.opened.inside.octets.now c.args.left c.args.index (known_in c.args.known) (known_in c.args.known)
+    (status_is c.in_ok-verdict-2.ensures.verdict (component_missing (value_begins (types_in c.args.schema.now.octets.now) c.args.depth) c.args.opened.marked c.args.opened.beyond.now c.args.opened.inside.octets.now c.args.opened.inside.octets.now c.args.left c.args.index c.field_of-field.result (known_in c.args.known) (known_in c.args.known) c.field_of-field.ensures.value (c.begins.ensures.none c.if-begins.false) (sym c.may_be_absent.ensures ∙ c.if-may_be_absent.false)))
+
+pub components::components-fields-preserved : goal.components::components-fields-preserved
+components::components-fields-preserved t c =
+    let parts = c.args.node.parts in
+    let left = c.fields.left in
+    let n : (left - 1) + 1 ≡ left = omega (arith, c.fields-test.true) in
+    let k : c.index_of-field.result + 1 ≡ parts.start + (parts.count - (left - 1)) = omega (arith, c.index_of-field.ensures, c.fields-test.true, c.fields.invariant.part) in
+    record {
+      status = status_is c.and-verdict.ensures (status_then c.fields.invariant.status
+          (status_at (types_in c.args.schema.now.octets.now) (IsValue (types_in c.args.schema.now.octets.now) c.args.depth) (left - 1) c.in_ok-step.step.rest.now (known_in c.fields.known) (known_in c.in_ok-step.step.known) c.at.ensures.marked c.at.ensures.beyond c.at.ensures.octets n c.index_of-field.ensures k c.in_ok-step.ensures.status));
+      part = omega (arith, c.fields.invariant.part);
+      log = logs_is c.and-verdict.ensures (logs_then c.fields.invariant.log c.in_ok-step.ensures.log);
+      shorter = omega (arith, c.fields.invariant.shorter, c.in_ok-step.ensures.shorter, ap length c.at.ensures.octets);
+      grows = omega (arith, c.fields.invariant.grows, c.in_ok-step.ensures.grows);
+    }
+
+pub components::components-returns-clause-finds : goal.components::components-returns-clause-finds
+components::components-returns-clause-finds t c =
+    let parts = c.args.node.parts in
+    let left = c.fields.left in
+    let none : 0 ≡ left = omega (arith, c.fields-test.false) in
+    let end = body_at (λ rules inner. inner ≡ []) c.at-2.ensures.marked c.at-2.ensures.beyond c.at-2.ensures.octets c.in_ok-end.ensures.finds in
+    finds_is c.and.ensures (status_ends c.fields.invariant.status
+    (subst (λ n. Finds (λ rules. Body c.args.opened.marked c.args.opened.beyond.now (AreComponents (IsValue (types_in c.args.schema.now.octets.now) c.args.depth) rules (types_in c.args.schema.now.octets.now) n (parts.start + (parts.count - left)) (known_in c.fields.known)) c.fields.rest.now) c.in_ok-end.end.verdict c.in_ok-end.end.rest.now) none end))
+
+pub components::components-returns-clause-log : goal.components::components-returns-clause-log
+components::components-returns-clause-log t c =
+    logs_is c.and.ensures (logs_then c.fields.invariant.log c.in_ok-end.ensures.log)
+
+pub components::items-items-preserved : goal.components::items-items-preserved
+components::items-items-preserved t c =
+    let now = c.items.rest.now in
+    let after = c.in_ok-outcome.outcome.rest.now in
+    let here = take (length now - length after) now in
+    let Count : ℕ → Type 0 = IsAllowedSize (types_in c.args.schema.now.octets.now) c.args.node.limits in
+    let Item : EncodingRules → List ℕ → Type 0 = λ rules. IsValue (types_in c.args.schema.now.octets.now) c.args.depth rules (known_in c.args.known) c.inner_of-item.result in
+    let finds = finds_at (λ rules. IsValue (types_in c.args.schema.now.octets.now) c.args.depth rules (known_in c.args.known) c.inner_of-item.result) c.at-place.ensures.octets c.in_ok-outcome.ensures.finds in
+    let on = goes_on c.is_ended.result c.is_ended.ensures c.at.ensures.marked c.at.ensures.octets (search rules) in
+    record {
+      status = status_is (c.and-verdict.ensures ∙ ap (λ v. worst v c.in_ok-order.order) c.and.ensures ∙ worst_assoc c.items.verdict c.in_ok-outcome.outcome.verdict c.in_ok-order.order)
+          (status_then c.items.invariant.status (item_counted c.args.sorted Item Count c.items.count c.args.opened.marked c.args.opened.beyond.now c.items.before.now now after here
+          (item_found c.args.sorted (λ n. Count (c.items.count + n)) c.in_ok-order.order c.args.opened.marked c.args.opened.beyond.now c.items.before.now now after here on finds (λ x e. taken now x after e) (test_is c.in_ok-order.ensures.verdict c.order_rule.ensures))));
+      log = logs_is (c.and-verdict.ensures ∙ ap (λ v. worst v c.in_ok-order.order) c.and.ensures) (logs_then (logs_then c.items.invariant.log c.in_ok-outcome.ensures.log) c.in_ok-order.ensures.log);
+      few = omega (arith, c.items.invariant.few, c.in_ok-outcome.ensures.moves (omega (arith, some_left c.args.opened.marked now on, ap length c.at-place.ensures.octets)), ap length c.at-place.ensures.octets);
+      grows = omega (arith, c.items.invariant.grows, c.in_ok-outcome.ensures.grows, ap length c.in_ok-order.ensures.entries);
+    }
+
+pub components::items-returns-clause-finds : goal.components::items-returns-clause-finds
+components::items-returns-clause-finds t c =
+    let now = c.items.rest.now in
+    let Count : ℕ → Type 0 = IsAllowedSize (types_in c.args.schema.now.octets.now) c.args.node.limits in
+    let at = has_ended c.is_ended.result c.is_ended.ensures c.at.ensures.marked c.at.ensures.octets (search rules) in
+    let end = body_at (λ rules inner. inner ≡ []) c.at-2.ensures.marked c.at-2.ensures.beyond c.at-2.ensures.octets c.in_ok-end.ensures.finds in
+    finds_items (λ rules i. SomeItems c.args.sorted rules (IsValue (types_in c.args.schema.now.octets.now) c.args.depth rules (known_in c.args.known) i) Count) c.args.opened.marked c.args.opened.beyond.now c.args.opened.inside.octets.now c.args.node.inner c.inner_of-item.result c.inner_of-item.ensures
+    (finds_is (c.and-3.ensures ∙ ap (λ v. worst c.items.verdict v) c.and-2.ensures) (status_ends c.items.invariant.status
+    (items_end c.args.sorted (λ rules. IsValue (types_in c.args.schema.now.octets.now) c.args.depth rules (known_in c.args.known) c.inner_of-item.result) (λ n. Count (c.items.count + n)) (value_elements (types_in c.args.schema.now.octets.now) c.args.depth (known_in c.args.known) c.inner_of-item.result) c.args.opened.marked c.args.opened.beyond.now c.items.before.now now at (count_test c.in_ok-size.ensures.verdict c.count_rule.ensures) end)))
+  where
+    count_test : {v w : Verdict} → v ≡ w → ((r : EncodingRules) → (holds r w ≡ true) ↔ IsAllowedSize (types_in c.args.schema.now.octets.now) c.args.node.limits c.items.count) → (r : EncodingRules) → (holds r v ≡ true) ↔ IsAllowedSize (types_in c.args.schema.now.octets.now) c.args.node.limits (c.items.count + 0)
+    count_test {v} {w} e test r =
+        let none : c.items.count ≡ c.items.count + 0 = omega arith in
+        subst (λ n. (holds r v ≡ true) ↔ IsAllowedSize (types_in c.args.schema.now.octets.now) c.args.node.limits n) none (subst (λ u. (holds r u ≡ true) ↔ IsAllowedSize (types_in c.args.schema.now.octets.now) c.args.node.limits c.items.count) (sym e) (test r))
+
+pub components::items-returns-clause-log : goal.components::items-returns-clause-log
+components::items-returns-clause-log t c =
+    logs_is (c.and-3.ensures ∙ ap (λ v. worst c.items.verdict v) c.and-2.ensures) (logs_then c.items.invariant.log (logs_then c.in_ok-size.ensures.log c.in_ok-end.ensures.log))
+
+pub components::explicit-returns-clause-finds : goal.components::explicit-returns-clause-finds
+components::explicit-returns-clause-finds t c =
+    let m = c.args.opened.marked in
+    let b = c.args.opened.beyond.now in
+    let end = body_at (λ rules inner. inner ≡ []) c.at.ensures.marked c.at.ensures.beyond c.at.ensures.octets c.in_ok-end.ensures.finds in
+    finds_is c.and.ensures (status_ends (inner_found m b c.args.opened.inside.octets.now c.in_ok-outcome.outcome.rest.now c.in_ok-outcome.ensures.finds) end)
+
+pub components::explicit-returns-clause-log : goal.components::explicit-returns-clause-log
+components::explicit-returns-clause-log t c =
+    logs_is c.and.ensures (logs_then c.in_ok-outcome.ensures.log c.in_ok-end.ensures.log)
+
+pub typed::of_type-returns-then-header-clause-finds : goal.typed::of_type-returns-then-header-clause-finds
+typed::of_type-returns-then-header-clause-finds t c =
+    finds_unbounded (types_in c.args.schema.now.octets.now) (IsValue (types_in c.args.schema.now.octets.now) c.args.depth) (known_in c.args.known) c.args.node c.args.universal (λ rules. IsUnknownType rules (IsAny c.args.depth) (Some c.args.universal) c.args.header.constructed) c.args.header.constructed c.args.opened.marked c.args.opened.beyond.now c.args.opened.inside.octets.now c.if-header.true c.in_ok-outcome.ensures.finds
+
+pub components::items-items-init : goal.components::items-items-init
+components::items-items-init t c =
+    let Count : ℕ → Type 0 = IsAllowedSize (types_in c.args.schema.now.octets.now) c.args.node.limits in
+    record {
+      status = items_begin c.args.sorted (λ rules. IsValue (types_in c.args.schema.now.octets.now) c.args.depth rules (known_in c.args.known) c.inner_of-item.result) Count c.args.opened.marked c.args.opened.beyond.now c.args.opened.inside.octets.now;
+      log = logs_none c.args.tree.now.departures.items;
+      few = omega arith;
+      grows = omega arith;
+    }
+
+pub typed::of_type-returns-clause-finds : goal.typed::of_type-returns-clause-finds
+typed::of_type-returns-clause-finds t c =
+    let test = subst (λ o. (r : EncodingRules) → (holds r c.in_ok-value.value ≡ true) ↔ IsContained r (types_in c.args.schema.now.octets.now) (IsValue (types_in c.args.schema.now.octets.now) c.args.depth) (known_in c.args.known) o c.args.opened.inside.octets.now) c.contained_in-inner.ensures c.in_ok-value.ensures.exact in
+    let tests = both_tests (test_is c.in_ok-kept.ensures.verdict c.constraint_rule-rule.ensures) test in
+    finds_is (c.and-2.ensures ∙ ap (λ v. worst c.in_ok-outcome.outcome.verdict v) c.and.ensures)
+    (finds_also (λ rules. IsUnknownType rules (IsAny c.args.depth) (Some c.args.universal) c.args.header.constructed) (λ rules. AreBounded c.args.header.constructed rules (types_in c.args.schema.now.octets.now) (IsValue (types_in c.args.schema.now.octets.now) c.args.depth) (known_in c.args.known) c.args.node c.args.universal) c.args.opened.marked c.args.opened.beyond.now c.args.opened.inside.octets.now (c.requires.form c.if-header.false) c.in_ok-outcome.ensures.finds
+    (subst (λ k. (r : EncodingRules) → (holds r (worst c.in_ok-kept.kept c.in_ok-value.value) ≡ true) ↔ AreBounded k r (types_in c.args.schema.now.octets.now) (IsValue (types_in c.args.schema.now.octets.now) c.args.depth) (known_in c.args.known) c.args.node c.args.universal c.args.opened.inside.octets.now) (sym c.if-header.false) tests))
+
+pub typed::of_type-returns-clause-log : goal.typed::of_type-returns-clause-log
+typed::of_type-returns-clause-log t c =
+    logs_is (c.and-2.ensures ∙ ap (λ v. worst c.in_ok-outcome.outcome.verdict v) c.and.ensures) (logs_then c.in_ok-outcome.ensures.log (logs_then c.in_ok-kept.ensures.log c.in_ok-value.ensures.log))
+
+pub typed::contained_value-returns-clause-exact : goal.typed::contained_value-returns-clause-exact
+typed::contained_value-returns-clause-exact t c =
+    let octets = c.args.place.octets.now in
+    contains_value (types_in c.args.schema.now.octets.now) (IsValue (types_in c.args.schema.now.octets.now) c.args.depth) (known_in c.args.known) c.args.index octets (λ is. let on : c.is_unknown.result ≡ true = c.is_unknown.ensures.1 is in let off = c.if-is_unknown.false in absurd (cc))
+    (exact_of (sym c.and.ensures) (whole_found octets c.in_ok-outcome.ensures.finds (body_at (λ rules inner. inner ≡ []) {b = []} {m = false} refl refl c.at.ensures.octets c.in_ok-end.ensures.finds)))
+
+pub typed::contained_value-returns-clause-log : goal.typed::contained_value-returns-clause-log
+typed::contained_value-returns-clause-log t c =
+    logs_is c.and.ensures (logs_then c.in_ok-outcome.ensures.log c.in_ok-end.ensures.log)
+
+pub components::all_components-returns-then-is_free-clause-finds : goal.components::all_components-returns-then-is_free-clause-finds
+components::all_components-returns-then-is_free-clause-finds t c =
+    if_ok c.elements.result (λ o f. subst (λ k. Finds (λ rules. Body c.args.opened.marked c.args.opened.beyond.now (AreAll k (IsValue (types_in c.args.schema.now.octets.now) c.args.depth) (IsAny c.args.depth) rules (types_in c.args.schema.now.octets.now) c.args.node) c.args.opened.inside.octets.now) o.verdict o.rest.now) (sym c.if-is_free.true ∙ c.is_free.ensures) f) c.elements.ensures.finds
+
+pub components::all_components-returns-else-is_free-clause-finds : goal.components::all_components-returns-else-is_free-clause-finds
+components::all_components-returns-else-is_free-clause-finds t c =
+    if_ok c.components.result (λ o f. subst (λ k. Finds (λ rules. Body c.args.opened.marked c.args.opened.beyond.now (AreAll k (IsValue (types_in c.args.schema.now.octets.now) c.args.depth) (IsAny c.args.depth) rules (types_in c.args.schema.now.octets.now) c.args.node) c.args.opened.inside.octets.now) o.verdict o.rest.now) (sym c.if-is_free.false ∙ c.is_free.ensures) f) c.components.ensures.finds

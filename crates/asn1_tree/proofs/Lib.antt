@@ -1,0 +1,14 @@
+pub mod VerdictLemmas
+pub mod FindsLemmas
+pub mod EnclosedLemmas
+pub mod ItemLemmas
+pub mod KnownLemmas
+pub mod ComponentLemmas
+pub mod UntypedLemmas
+pub mod ValueLemmas
+pub mod DefaultLemmas
+pub mod ChosenLemmas
+pub mod WholeLemmas
+pub mod SizeLemmas
+pub mod KindLemmas
+pub mod DepartureLemmas

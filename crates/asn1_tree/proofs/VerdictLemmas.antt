@@ -1,0 +1,96 @@
+-- Verdicts on parts together, and what is added to a list of departures.
+use Rattle.std.proofs.Common.{◌≡◌, ◌↔◌, ◌&&◌, true, false, List, [], ◌∷◌, ◌++◌, refl, sym, ap, ◌∙◌, append_assoc, append-nil}
+use Rattle.der_base.specs.declared.encoding_rules.EncodingRules.{EncodingRules}
+use Rattle.der_base.specs.declared.encoding_rules.EncodingRules.TheVariants as rules
+use Rattle.asn1_tree.specs.Verdict.{holds, worst}
+use Rattle.asn1_tree.specs.Rule.{verdict_of_rule}
+use Rattle.asn1_tree.specs.Reading.{verdict_of, Logs}
+use Rattle.asn1_tree.specs.declared.departure.Departure.{Departure}
+use Rattle.asn1_tree.specs.declared.verdict.Verdict.{Verdict}
+use Rattle.asn1_tree.specs.declared.verdict.Verdict.TheVariants.{Der, Ber, Neither}
+
+pub holds_worst : (r : EncodingRules) (v w : Verdict) → holds r (worst v w) ≡ holds r v && holds r w
+holds_worst rules.Der Der w = refl
+holds_worst rules.Der Ber Der = refl
+holds_worst rules.Der Ber Ber = refl
+holds_worst rules.Der Ber Neither = refl
+holds_worst rules.Der Neither w = refl
+holds_worst rules.Ber Der w = refl
+holds_worst rules.Ber Ber Der = refl
+holds_worst rules.Ber Ber Ber = refl
+holds_worst rules.Ber Ber Neither = refl
+holds_worst rules.Ber Neither w = refl
+
+pub holds_neither : (r : EncodingRules) → holds r Neither ≡ false
+holds_neither rules.Der = refl
+holds_neither rules.Ber = refl
+
+pub holds_der : (r : EncodingRules) → holds r Der ≡ true
+holds_der rules.Der = refl
+holds_der rules.Ber = refl
+
+pub worst_assoc : (u v w : Verdict) → worst (worst u v) w ≡ worst u (worst v w)
+worst_assoc Der v w = refl
+worst_assoc Ber Der w = refl
+worst_assoc Ber Ber Der = refl
+worst_assoc Ber Ber Ber = refl
+worst_assoc Ber Ber Neither = refl
+worst_assoc Ber Neither w = refl
+worst_assoc Neither v w = refl
+
+pub worst_der : (v : Verdict) → worst v Der ≡ v
+worst_der Der = refl
+worst_der Ber = refl
+worst_der Neither = refl
+
+-- the verdict on added departures is that on both
+pub verdict_append : (a b : List Departure) → verdict_of (a ++ b) ≡ worst (verdict_of a) (verdict_of b)
+verdict_append [] b = refl
+verdict_append (d ∷ ds) b =
+    ap (λ v. worst (verdict_of_rule d.rule) v) (verdict_append ds b)
+    ∙ sym (worst_assoc (verdict_of_rule d.rule) (verdict_of ds) (verdict_of b))
+
+pub logs_then : {v w : Verdict} {a b c : List Departure} → Logs v a b → Logs w b c → Logs (worst v w) a c
+logs_then {v = v} {w = w} {a = a} s t = record {
+  added = s.added ++ t.added;
+  split = t.split ∙ ap (λ l. l ++ t.added) s.split ∙ append_assoc a s.added t.added;
+  verdict = ap (λ x. worst x w) s.verdict ∙ ap (λ x. worst (verdict_of s.added) x) t.verdict ∙ sym (verdict_append s.added t.added);
+}
+
+pub logs_none : (a : List Departure) → Logs Der a a
+logs_none a = record { added = []; split = sym (append-nil a); verdict = refl }
+
+pub logs_one : (d : Departure) (a : List Departure) → Logs (verdict_of_rule d.rule) a (a ++ d ∷ [])
+logs_one d a = record { added = d ∷ []; split = refl; verdict = sym (worst_der (verdict_of_rule d.rule)) }
+
+pub worst_neither : (v : Verdict) → worst v Neither ≡ Neither
+worst_neither Der = refl
+worst_neither Ber = refl
+worst_neither Neither = refl
+
+pub logs_is : {v w : Verdict} {a b : List Departure} → v ≡ w → Logs w a b → Logs v a b
+logs_is e s = record { added = s.added; split = s.split; verdict = e ∙ s.verdict }
+
+pub logs_after : {v : Verdict} {a b c : List Departure} → b ≡ a → Logs v b c → Logs v a c
+logs_after e s = record { added = s.added; split = s.split ∙ ap (λ l. l ++ s.added) e; verdict = s.verdict }
+
+-- a rule that is kept, and one that is broken under all rules
+pub kept : {P : EncodingRules → Type 0} → ((r : EncodingRules) → P r) → (r : EncodingRules) → (holds r Der ≡ true) ↔ P r
+kept is r = ((λ on. is r), (λ p. holds_der r))
+
+pub broken : {P : EncodingRules → Type 0} → ((r : EncodingRules) → P r → ⊥) → (r : EncodingRules) → (holds r Neither ≡ true) ↔ P r
+broken never r = ((λ on. let off = holds_neither r in absurd (cc)), (λ p. absurd (never r p)))
+
+pub worst_comm : (v w : Verdict) → worst v w ≡ worst w v
+worst_comm Der Der = refl
+worst_comm Der Ber = refl
+worst_comm Der Neither = refl
+worst_comm Ber Der = refl
+worst_comm Ber Ber = refl
+worst_comm Ber Neither = refl
+worst_comm Neither Der = refl
+worst_comm Neither Ber = refl
+worst_comm Neither Neither = refl
+
+pub logs_left : {v : Verdict} {a b c : List Departure} → c ≡ b → Logs v a b → Logs v a c
+logs_left e s = record { added = s.added; split = e ∙ s.split; verdict = s.verdict }

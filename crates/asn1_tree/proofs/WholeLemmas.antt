@@ -1,0 +1,70 @@
+-- Octets that are one value, and nothing more.
+use Rattle.std.proofs.Common.{◌≡◌, ◌↔◌, ℕ, Bool, true, false, List, [], ◌++◌, refl, sym, ap, ◌∙◌, subst}
+use Rattle.der_base.specs.declared.encoding_rules.EncodingRules.{EncodingRules}
+use Rattle.asn1_tree.specs.Verdict.{holds, worst}
+use Rattle.asn1_tree.specs.Reading.{Front, Body, Finds, verdict_of, Logs}
+use Rattle.asn1_tree.specs.declared.departure.Departure.{Departure}
+use Rattle.asn1_tree.specs.declared.verdict.Verdict.{Verdict}
+use Rattle.asn1_schema.specs.Table.{Table}
+use Rattle.asn1_tree.specs.Known.{Known, IsUnknownOpen}
+use Rattle.asn1_tree.specs.Value.{Values, Contains, typed, untyped}
+use Rattle.asn1_tree.proofs.FindsLemmas.{worst_true, worst_both, finds_is, finds_and, status_ends}
+use Rattle.asn1_tree.proofs.ItemLemmas.{inner_found}
+use Rattle.asn1_tree.proofs.VerdictLemmas.{logs_then, worst_comm}
+
+yes_or_no : {P : Type 0} (b : Bool) → (b ≡ false → P → ⊥) → (b ≡ true → P) → (b ≡ true) ↔ P
+yes_or_no true never is = ((λ on. is refl), (λ p. refl))
+yes_or_no false never is = ((λ on. absurd (cc)), (λ p. absurd (never refl p)))
+
+-- a value, and the end after it
+pub whole_found : {Child : EncodingRules → List ℕ → Type 0} {v w : Verdict} {rest last : List ℕ} (octets : List ℕ)
+    → Finds (λ rules. Front (Child rules) octets) v rest → Finds (λ rules. Body false [] (λ inner. inner ≡ []) rest) w last
+    → (rules : EncodingRules) → (holds rules (worst v w) ≡ true) ↔ Child rules octets
+whole_found {Child} {v} {w} {rest} {last} octets value end rules = yes_or_no (holds rules (worst v w)) never is
+  where
+    all : Finds (λ r. Body false [] (Child r) octets) (worst v w) last
+    all = status_ends (inner_found false [] octets rest value) end
+
+    never : holds rules (worst v w) ≡ false → Child rules octets → ⊥
+    never off child = all.none rules off [] (octets, (refl, refl), child)
+
+    is : holds rules (worst v w) ≡ true → Child rules octets
+    is on = let there = (all.exact rules on last).1 refl in subst (Child rules) (sym there.1.0) there.2
+
+-- the verdict that a list of departures leaves
+pub verdict_logged : {v w : Verdict} {old mid new : List Departure} → old ≡ [] → Logs v old mid → Logs w mid new → worst v w ≡ verdict_of new
+verdict_logged {v} {w} none a b =
+    let both = logs_then a b in
+    both.verdict ∙ ap verdict_of (sym (both.split ∙ ap (λ l. l ++ both.added) none))
+
+pub exact_of : {P : EncodingRules → Type 0} {v w : Verdict} → v ≡ w → ((rules : EncodingRules) → (holds rules v ≡ true) ↔ P rules) → (rules : EncodingRules) → (holds rules w ≡ true) ↔ P rules
+exact_of {P} e f rules = subst (λ u. (holds rules u ≡ true) ↔ P rules) e (f rules)
+
+-- two tests
+pub both_tests : {P Q : EncodingRules → Type 0} {v w : Verdict} → ((rules : EncodingRules) → (holds rules v ≡ true) ↔ P rules) → ((rules : EncodingRules) → (holds rules w ≡ true) ↔ Q rules)
+    → (rules : EncodingRules) → (holds rules (worst v w) ≡ true) ↔ (P rules × Q rules)
+both_tests {P} {Q} {v} {w} f g rules = (
+  (λ on. let h = worst_true rules v w on in ((f rules).0 h.0, (g rules).0 h.1)),
+  (λ p. worst_both rules v w ((f rules).1 p.0) ((g rules).1 p.1)),
+)
+
+-- contents that are read as a whole, and a test of them
+pub finds_also : (P Q : EncodingRules → List ℕ → Type 0) {v a : Verdict} {rest : List ℕ} (m : Bool) (b octets : List ℕ) → m ≡ false
+    → Finds (λ rules. Body m b (P rules) octets) v rest → ((rules : EncodingRules) → (holds rules a ≡ true) ↔ Q rules octets)
+    → Finds (λ rules. Body m b (λ i. P rules i × Q rules i) octets) (worst v a) rest
+finds_also P Q {v} {a} {rest} m b octets off f test =
+    finds_is (worst_comm v a) (subst (λ n. Finds (λ rules. Body n b (λ i. P rules i × Q rules i) octets) (worst a v) rest) (sym off)
+    (finds_and a (λ rules. Q rules octets) test
+    (λ rules r q h. (h.0, h.1, (h.2, subst (Q rules) h.1.0 q)))
+    (λ rules r h. (subst (Q rules) (sym h.1.0) h.2.1, (h.0, h.1, h.2.0)))
+    (subst (λ n. Finds (λ rules. Body n b (P rules) octets) v rest) off f)))
+
+-- the value in a string
+pub contains_value : (t : Table) (Child : Values) (known : Known) (i : ℕ) (inner : List ℕ) {v : Verdict} → (IsUnknownOpen t known i → ⊥)
+    → ((rules : EncodingRules) → (holds rules v ≡ true) ↔ Child rules known i inner)
+    → (rules : EncodingRules) → (holds rules v ≡ true) ↔ Contains rules t Child known i inner
+contains_value t Child known i inner {v} never test rules = ((λ on. typed ((test rules).0 on)), back)
+  where
+    back : Contains rules t Child known i inner → holds rules v ≡ true
+    back (typed child) = (test rules).1 child
+    back (untyped is) = absurd (never is)

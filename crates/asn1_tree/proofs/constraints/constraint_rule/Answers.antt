@@ -1,0 +1,37 @@
+use Rattle.std.proofs.Common.{◌≡◌, ◌∙◌, ◌↔◌, true, sym, subst}
+use Rattle.der_base.specs.declared.encoding_rules.EncodingRules.{EncodingRules}
+use Rattle.asn1_schema.proofs.TestLemmas.{refuted}
+use Rattle.asn1_tree.specs.Constraints.{AreKept}
+use Rattle.asn1_tree.specs.Types.{types_in}
+use Rattle.asn1_tree.specs.Rule.{verdict_of_option}
+use Rattle.asn1_tree.specs.Verdict.{holds}
+use Rattle.asn1_tree.proofs.VerdictLemmas.{broken}
+use Rattle.asn1_tree.proofs.constraints.constraint_rule.Goals as goal
+
+pub returns-in-Numbers : goal.returns-in-Numbers
+returns-in-Numbers c =
+    subst (λ b. (r : EncodingRules) → (holds r (verdict_of_option c.value_rule.result) ≡ true) ↔ AreKept b r (types_in c.args.schema.now.octets.now) c.args.node c.args.universal c.args.contents.now) (sym c.in-Numbers.is ∙ c.of.ensures) c.value_rule.ensures
+
+pub returns-then-is_allowed_value : goal.returns-then-is_allowed_value
+returns-then-is_allowed_value c =
+    let is = c.is_allowed_value.ensures.0 c.if-is_allowed_value.true in
+    subst (λ b. (r : EncodingRules) → (holds r (verdict_of_option c.item_rule.result) ≡ true) ↔ AreKept b r (types_in c.args.schema.now.octets.now) c.args.node c.args.universal c.args.contents.now) (sym c.in-Items.is ∙ c.of.ensures)
+    (λ r. let rule = c.item_rule.ensures r in ((λ on. (is, rule.0 on)), (λ p. rule.1 p.1)))
+
+pub returns-else-is_allowed_value : goal.returns-else-is_allowed_value
+returns-else-is_allowed_value c =
+    broken (λ r p. refuted c.is_allowed_value.ensures c.if-is_allowed_value.false (subst (λ b. AreKept b r (types_in c.args.schema.now.octets.now) c.args.node c.args.universal c.args.contents.now) (sym c.of.ensures ∙ c.in-Items.is) p).0)
+
+pub returns-then-has_allowed_size : goal.returns-then-has_allowed_size
+returns-then-has_allowed_size c =
+    let is = c.has_allowed_size.ensures.0 c.if-has_allowed_size.true in
+    subst (λ b. (r : EncodingRules) → (holds r (verdict_of_option c.names_rule.result) ≡ true) ↔ AreKept b r (types_in c.args.schema.now.octets.now) c.args.node c.args.universal c.args.contents.now) (sym c.in-Bits.is ∙ c.of.ensures)
+    (λ r. let rule = c.names_rule.ensures r in ((λ on. (is, rule.0 on)), (λ p. rule.1 p.1)))
+
+pub returns-else-has_allowed_size : goal.returns-else-has_allowed_size
+returns-else-has_allowed_size c =
+    broken (λ r p. refuted c.has_allowed_size.ensures c.if-has_allowed_size.false (subst (λ b. AreKept b r (types_in c.args.schema.now.octets.now) c.args.node c.args.universal c.args.contents.now) (sym c.of.ensures ∙ c.in-Bits.is) p).0)
+
+pub returns-in-Sizes : goal.returns-in-Sizes
+returns-in-Sizes c =
+    subst (λ b. (r : EncodingRules) → (holds r (verdict_of_option c.size_rule.result) ≡ true) ↔ AreKept b r (types_in c.args.schema.now.octets.now) c.args.node c.args.universal c.args.contents.now) (sym c.in-Sizes.is ∙ c.of.ensures) c.size_rule.ensures

@@ -1,0 +1,97 @@
+use Rattle.std.proofs.Common.{rules, ◌≡◌, ◌-◌, ◌∙◌, false, [], length, take, ap, subst, arith}
+use Rattle.asn1_tree.specs.Value.{IsAny, IsAnyCount, IsUnknownType}
+use Rattle.asn1_tree.specs.Verdict.{worst}
+use Rattle.asn1_tree.specs.Reading.{Body, Finds}
+use Rattle.ber.proofs.HeaderLemmas.{end_header_next}
+use Rattle.asn1_tree.proofs.VerdictLemmas.{kept, worst_neither, logs_is, logs_then, logs_after, logs_left}
+use Rattle.asn1_tree.proofs.FindsLemmas.{finds_is, finds_never, finds_at, body_at, status_is, status_then, status_ends}
+use Rattle.asn1_tree.proofs.EnclosedLemmas.{finds_element, no_element_cut, real_header, taken}
+use Rattle.asn1_tree.proofs.ItemLemmas.{items_end, item_plain, goes_on, has_ended}
+use Rattle.asn1_tree.proofs.UntypedLemmas.{AnyContents, any_none, any_finds, any_elements, no_any, no_any_at_end, no_any_cut, test_is, finds_constructed, finds_primitive}
+use Rattle.asn1_tree.proofs.untyped.+untyped.Goals as goal
+
+pub any-returns-in-Err-clause-finds : goal.any-returns-in-Err-clause-finds
+any-returns-in-Err-clause-finds t c =
+    finds_never c.in_ok-verdict-in-Err.ensures.verdict (no_any c.args.depth c.in-Err.ensures.none)
+
+pub any-returns-then-is_end_of_contents-clause-finds :
+    goal.any-returns-then-is_end_of_contents-clause-finds
+any-returns-then-is_end_of_contents-clause-finds t c =
+    finds_never c.in_ok-verdict.ensures.verdict
+    (no_any_at_end c.args.depth ((end_header_next c.args.place.octets.now).0 (c.is_end_of_contents.ensures.0 c.if-is_end_of_contents.true)))
+
+pub any-returns-then-depth-eq0-clause-finds : goal.any-returns-then-depth-eq0-clause-finds
+any-returns-then-depth-eq0-clause-finds t c =
+    finds_never c.in_ok-verdict-2.ensures.verdict
+    (λ rules r f. any_none rules f.0 (subst (λ d. IsAny d rules f.0) c.if-depth-eq0.true f.2))
+
+pub any-returns-in_ok-outcome-in-Some-clause-finds :
+    goal.any-returns-in_ok-outcome-in-Some-clause-finds
+any-returns-in_ok-outcome-in-Some-clause-finds t c =
+    finds_is c.and.ensures
+    (any_finds c.args.depth (omega (arith, c.if-depth-eq0.false))
+    (finds_element c.in_ok-allowed.allowed c.in-Some.ensures.some
+    (real_header c.args.place.octets.now c.is_end_of_contents.result c.in-Ok.ensures.found c.is_end_of_contents.ensures c.if-is_end_of_contents.false)
+    c.in_ok-allowed.ensures.verdict
+    (subst (λ u. Finds (λ rules. Body c.in-Some.opened.marked c.in-Some.opened.beyond.now (IsUnknownType rules (IsAny (c.args.depth - 1)) u c.in-Ok.header.constructed) c.in-Some.opened.inside.octets.now) c.in_ok-outcome-in-Some.outcome.verdict c.in_ok-outcome-in-Some.outcome.rest.now) c.universal.ensures c.in_ok-outcome-in-Some.ensures.finds)))
+
+pub any-returns-in_ok-outcome-in-Some-clause-log :
+    goal.any-returns-in_ok-outcome-in-Some-clause-log
+any-returns-in_ok-outcome-in-Some-clause-log t c =
+    logs_is c.and.ensures (logs_left c.leave.ensures.log (logs_after c.in_ok-at.ensures.log (logs_then c.in_ok-allowed.ensures.log c.in_ok-outcome-in-Some.ensures.log)))
+
+pub any-returns-in_ok-cut-in-None-clause-finds : goal.any-returns-in_ok-cut-in-None-clause-finds
+any-returns-in_ok-cut-in-None-clause-finds t c =
+    finds_never (c.and-in-None.ensures ∙ ap (λ v. worst c.in_ok-allowed.allowed v) c.in_ok-cut-in-None.ensures.verdict ∙ worst_neither c.in_ok-allowed.allowed)
+    (no_any_cut c.args.depth (no_element_cut (AnyContents (c.args.depth - 1)) c.in-None.ensures.none.0 c.in-Ok.ensures.found c.in-None.ensures.none.1 c.in-None.ensures.none.2))
+
+pub any-returns-in_ok-cut-in-None-clause-log : goal.any-returns-in_ok-cut-in-None-clause-log
+any-returns-in_ok-cut-in-None-clause-log t c =
+    logs_is c.and-in-None.ensures (logs_after c.in_ok-at.ensures.log (logs_then c.in_ok-allowed.ensures.log c.in_ok-cut-in-None.ensures.log))
+
+pub elements-elements-preserved : goal.elements-elements-preserved
+elements-elements-preserved t c =
+    let now = c.elements.rest.now in
+    let after = c.in_ok-outcome.outcome.rest.now in
+    let finds = finds_at (IsAny c.args.depth) c.at-in-elements.ensures.octets c.in_ok-outcome.ensures.finds in
+    let here = take (length now - length after) now in
+    let on = goes_on c.is_ended.result c.is_ended.ensures c.at.ensures.marked c.at.ensures.octets (search rules) in
+    record {
+      status = (here, status_is c.and-verdict.ensures (status_then c.elements.invariant.status.1 (item_plain c.args.opened.marked c.args.opened.beyond.now c.elements.invariant.status.0 now after here on finds (λ x e. taken now x after e))));
+      log = logs_is c.and-verdict.ensures (logs_then c.elements.invariant.log c.in_ok-outcome.ensures.log);
+      shorter = omega (arith, c.elements.invariant.shorter, c.in_ok-outcome.ensures.shorter, ap length c.at-in-elements.ensures.octets);
+      grows = omega (arith, c.elements.invariant.grows, c.in_ok-outcome.ensures.grows);
+    }
+
+pub elements-returns-clause-finds : goal.elements-returns-clause-finds
+elements-returns-clause-finds t c =
+    let m = c.args.opened.marked in
+    let b = c.args.opened.beyond.now in
+    let now = c.elements.rest.now in
+    let before = c.elements.invariant.status.0 in
+    let at = has_ended c.is_ended.result c.is_ended.ensures c.at.ensures.marked c.at.ensures.octets (search rules) in
+    let end = body_at (λ rules inner. inner ≡ []) c.at-2.ensures.marked c.at-2.ensures.beyond c.at-2.ensures.octets c.in_ok-end.ensures.finds in
+    finds_is c.and.ensures (status_ends c.elements.invariant.status.1
+    (items_end false (λ rules. IsAny c.args.depth rules) IsAnyCount (any_elements c.args.depth) m b before now at (kept (λ r. tt)) end))
+
+pub elements-returns-clause-log : goal.elements-returns-clause-log
+elements-returns-clause-log t c =
+    logs_is c.and.ensures (logs_then c.elements.invariant.log c.in_ok-end.ensures.log)
+
+pub unknown_contents-returns-then-constructed-clause-finds :
+    goal.unknown_contents-returns-then-constructed-clause-finds
+unknown_contents-returns-then-constructed-clause-finds t c =
+    finds_is c.and.ensures
+    (finds_constructed c.args.depth c.args.universal c.args.constructed c.args.opened.marked c.args.opened.beyond.now c.args.opened.inside.octets.now c.if-constructed.true
+    (test_is c.in_ok-verdict.ensures.verdict c.form_rule.ensures) c.in_ok-outcome.ensures.finds)
+
+pub unknown_contents-returns-then-constructed-clause-log :
+    goal.unknown_contents-returns-then-constructed-clause-log
+unknown_contents-returns-then-constructed-clause-log t c =
+    logs_is c.and.ensures (logs_then c.in_ok-verdict.ensures.log c.in_ok-outcome.ensures.log)
+
+pub unknown_contents-returns-clause-finds : goal.unknown_contents-returns-clause-finds
+unknown_contents-returns-clause-finds t c =
+    finds_primitive c.args.depth c.args.universal c.args.constructed c.args.opened.marked c.args.opened.beyond.now c.args.opened.inside.octets.now
+    c.if-constructed.false (c.requires.form c.if-constructed.false)
+    (test_is c.in_ok-verdict-2.ensures.verdict c.primitive_rule-rule.ensures)

@@ -1,0 +1,27 @@
+use Rattle.std.proofs.Common.{◌*◌, ◌+◌, ◌≤◌, ℕ, List, false, length, vec_len}
+use Rattle.asn1_tree.specs.Value.{IsAny, IsAnyCount, SomeItems}
+use Rattle.asn1_tree.specs.Reading.{Body, Status, Logs}
+use Rattle.asn1_tree.proofs.ItemLemmas.{Items}
+use Rattle.asn1_tree.proofs.untyped.+untyped.Given as goal
+
+abbrev pub decreases-any : goal.decreases-any
+decreases-any l = 3 * l.depth
+
+abbrev pub decreases-elements : goal.decreases-elements
+decreases-elements l = 3 * l.depth + 1
+
+abbrev pub decreases-unknown_contents : goal.decreases-unknown_contents
+decreases-unknown_contents l = 3 * l.depth + 2
+
+abbrev pub invariant-elements-elements : goal.invariant-elements-elements
+invariant-elements-elements l = record {
+  status : (before : List ℕ) × Status l.verdict
+      (λ rules. Body l.opened.marked l.opened.beyond.now (Items false rules (IsAny l.depth rules) IsAnyCount before) l.rest)
+      (λ rules. Body l.opened.marked l.opened.beyond.now (SomeItems false rules (IsAny l.depth rules) IsAnyCount) l.opened.inside.octets.now);
+  log : Logs l.verdict l.fn.tree.departures.items l.tree.departures.items;
+  shorter : length l.rest ≤ length l.opened.inside.octets.now;
+  grows : vec_len l.fn.tree.entries ≤ vec_len l.tree.entries;
+}
+
+abbrev pub decreases-elements-elements : goal.decreases-elements-elements
+decreases-elements-elements l = length l.rest

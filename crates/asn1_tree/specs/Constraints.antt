@@ -1,0 +1,65 @@
+-- Constraints on values (X.680 51): value ranges, sizes, named bits, and the numbers of an ENUMERATED.
+use Rattle.std.specs.Prelude.{◌≡◌, ◌-◌, ◌^◌, min, ℕ, ℤ, pos, true, List, slice_get, Some, ◌⊎◌}
+use Rattle.der_base.specs.declared.encoding_rules.EncodingRules.{EncodingRules}
+use Rattle.ber.specs.declared.universal.Universal.{Universal}
+use Rattle.ber.specs.declared.universal.Universal.TheVariants.{Integer, Enumerated, BitString}
+use Rattle.asn1_contents.specs.Characters.{size_of}
+use Rattle.asn1_contents.specs.Contents.{IsNamedBits}
+use Rattle.asn1_contents.specs.Values.{integer_value, IsInRange}
+use Rattle.asn1_schema.specs.Allowed.{IsLimitOf, IsAllowed}
+use Rattle.asn1_schema.specs.Table.{Table}
+use Rattle.asn1_schema.specs.Tags.{IsPart}
+use Rattle.asn1_schema.specs.declared.limit.Limit.{Limit}
+use Rattle.asn1_schema.specs.declared.limit_kind.LimitKind.TheVariants.{Value, Size}
+use Rattle.asn1_schema.specs.declared.name.Name.{Name}
+use Rattle.asn1_schema.specs.declared.node.Node.{Node}
+use Rattle.asn1_schema.specs.declared.span.Span.{Span}
+use Rattle.asn1_tree.specs.declared.bound.Bound.{Bound}
+use Rattle.asn1_tree.specs.declared.bound.Bound.TheVariants.{Numbers, Items, Bits, Sizes}
+
+-- a number is in one of the value ranges, or there is none (51.4)
+pub data IsAllowedValue (t : Table) (limits : Span) (number : ℤ) : Type 0 where
+  limited : (k : ℕ) (l : Limit) → IsLimitOf t limits Value k l → IsInRange l.low l.high number
+      → IsAllowedValue t limits number
+  unlimited : ((k : ℕ) (l : Limit) → IsLimitOf t limits Value k l → ⊥) → IsAllowedValue t limits number
+
+-- the greatest size that is counted
+abbrev pub counted : ℕ → ℕ
+counted size = min size (2 ^ 63 - 1)
+
+-- a size is one of the sizes, or there is none (51.5)
+abbrev pub IsAllowedSize : Table → Span → ℕ → Type 0
+IsAllowedSize t limits size = IsAllowed t limits Size (pos (counted size))
+
+-- a number is that of one of the names (20)
+pub record IsListed (t : Table) (names : Span) (number : ℤ) : Type 0 where
+  pub index : ℕ
+  pub part : IsPart names index
+  pub name : Name
+  pub row : slice_get t.names index ≡ Some name
+  pub same : IsInRange name.number name.number number
+
+-- a number of an ENUMERATED: one of the names, or any, if there is an extension marker or no name
+abbrev pub IsItem : Table → Node → ℤ → Type 0
+IsItem t n number = (n.extensible ≡ true) ⊎ ((n.parts.count ≡ 0) ⊎ IsListed t n.parts number)
+
+-- what the constraints of a universal type are about
+abbrev pub bound_of : Universal → Bound
+bound_of Integer = Numbers
+bound_of Enumerated = Items
+bound_of BitString = Bits
+bound_of u = Sizes
+
+-- contents of a primitive encoding of a node keep constraints
+abbrev pub AreKept : Bound → EncodingRules → Table → Node → Universal → List ℕ → Type 0
+AreKept Numbers rules t n u inner = IsAllowedValue t n.limits (integer_value inner)
+AreKept Items rules t n u inner =
+    IsAllowedValue t n.limits (integer_value inner) × IsItem t n (integer_value inner)
+AreKept Bits rules t n u inner =
+    IsAllowedSize t n.limits (size_of u inner)
+    × ((n.parts.count ≡ 0) ⊎ IsNamedBits rules inner)
+AreKept Sizes rules t n u inner = IsAllowedSize t n.limits (size_of u inner)
+
+-- they keep those of the node
+abbrev pub IsConstrained : EncodingRules → Table → Node → Universal → List ℕ → Type 0
+IsConstrained rules t n u inner = AreKept (bound_of u) rules t n u inner

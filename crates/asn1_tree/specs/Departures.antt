@@ -1,0 +1,10 @@
+-- Lists of departures.
+use Rattle.std.specs.Prelude.{◌≡◌, List, [], ◌∷◌}
+use Rattle.asn1_tree.specs.Rule.{verdict_of_rule}
+use Rattle.asn1_tree.specs.declared.departure.Departure.{Departure}
+use Rattle.asn1_tree.specs.declared.verdict.Verdict.TheVariants.{Ber}
+
+-- each is from a rule that DER has and BER has not
+abbrev pub AreOfDer : List Departure → Type 0
+AreOfDer [] = Unit {0}
+AreOfDer (d ∷ ds) = (verdict_of_rule d.rule ≡ Ber) × AreOfDer ds

@@ -1,0 +1,12 @@
+pub mod Verdict
+pub mod Rule
+pub mod Enclosed
+pub mod Types
+pub mod Tags
+pub mod Known
+pub mod Opened
+pub mod Constraints
+pub mod Value
+pub mod Reading
+pub mod Departures
+pub mod Encoding

@@ -1,0 +1,38 @@
+//! The type of an open type.
+ghost use Rattle.std.specs.Prelude.{◌≡◌, ◌<◌, ℕ, IfSome, IfNone};
+ghost use Rattle.asn1_schema.specs.Table.{IsAscending};
+ghost use Rattle.asn1_tree.specs.Types.{types_in};
+ghost use Rattle.asn1_schema.specs.Node.{IsNode};
+ghost use Rattle.asn1_schema.specs.declared.node_kind.NodeKind.TheVariants.{Open};
+ghost use Rattle.asn1_tree.specs.Known.{IsChosen, IsUnknown, known_in};
+
+use crate::known::Known;
+use crate::types::find_type;
+use asn1_schema::{Node, NodeKind, Schema};
+
+/// The node that the OBJECT IDENTIFIER chooses for an open type.
+pub(crate) fn chosen(schema: &Schema<'_>, node: &Node, known: Option<Known<'_>>) -> Option<u32>
+    requires fits { IsNode schema.now.counts schema.now.pool.now node.now }
+    requires ascending { IsAscending schema.now.counts schema.now.octets.now node.now }
+    ensures kind { IfSome result (λ m. node.now.kind ≡ Open) }
+    ensures found { IfSome result
+        (λ m. IsChosen (types_in schema.now.octets.now) node.now (known_in known.entry) m) }
+    ensures single { IfSome result (λ m. (o : ℕ)
+        → IsChosen (types_in schema.now.octets.now) node.now (known_in known.entry) o → o ≡ m) }
+    ensures there { IfSome result (λ m. m < schema.now.counts.nodes) }
+    ensures none { IfNone result (node.now.kind ≡ Open
+        → IsUnknown (types_in schema.now.octets.now) node.now (known_in known.entry)) }
+{
+    if node.kind != NodeKind::Open {
+        return None;
+    }
+    match known {
+        Some(known) if known.field == node.chooser => {
+            match find_type(schema, node, known.identifier) {
+                Some(chosen) => Some(chosen.node),
+                None => None,
+            }
+        }
+        _ => None,
+    }
+}

@@ -1,0 +1,264 @@
+//! The reader of components and items.
+ghost use Rattle.std.specs.Prelude.{◌≡◌, ◌+◌, ◌<◌, ◌≤◌, ℕ, [], Option, Some, None, slice_get, length, vec_len, IsSome, IfOk, OnOk};
+ghost use Rattle.asn1_tree.specs.Types.{types_in};
+ghost use Rattle.asn1_schema.specs.Node.{IsNode as IsRow};
+ghost use Rattle.asn1_schema.specs.Span.{IsWithin as IsRange};
+ghost use Rattle.asn1_schema.specs.declared.node_kind.NodeKind.TheVariants.{Universal as Universally};
+ghost use Rattle.ber.specs.declared.universal.Universal.TheVariants.{Sequence};
+ghost use Rattle.asn1_schema.specs.Distinct.{AreDistinct};
+ghost use Rattle.asn1_tree.specs.Constraints.{IsAllowedSize};
+ghost use Rattle.asn1_tree.specs.Known.{known_in};
+ghost use Rattle.asn1_tree.specs.Value.{IsValue, IsAny, AreComponents, AreAll, SomeItems, is_free};
+ghost use Rattle.asn1_tree.specs.Reading.{Body, Finds, Status, Logs};
+
+use crate::constraints::count_rule;
+use crate::known::{Known, known_after};
+use crate::opened::Opened;
+use crate::order::order_rule;
+use crate::outcome::{Outcome, Step};
+use crate::role::Role;
+use crate::rule::Rule;
+use crate::select::begins;
+use crate::tests::{default_rule, may_be_absent};
+use crate::tree::Tree;
+use crate::typed::{inner_of, value};
+use crate::types::field_of;
+use crate::untyped::{elements, finish};
+use crate::verdict::Verdict;
+use asn1_schema::{Node, Schema, Span};
+use std::alloc::AllocError;
+
+// Reads the components of a SEQUENCE, known or not.
+#[cycle(typed)]
+pub(crate) fn all_components<'a>(
+    tree: &mut Tree,
+    schema: &Schema<'_>,
+    depth: usize,
+    node: Node,
+    at: usize,
+    opened: Opened<'a>,
+) -> Result<Outcome<'a>, AllocError>
+    requires kind { node.kind ≡ Universally Sequence }
+    requires there { IsRange node.parts schema.now.counts.fields }
+    requires distinct { AreDistinct (types_in schema.now.octets.now) }
+    requires row { (i : ℕ) × (slice_get (types_in schema.now.octets.now).nodes i ≡ Some node) }
+    ensures finds { IfOk result (λ o. Finds (λ rules. Body opened.entry.marked opened.entry.beyond.now
+        (AreAll (is_free node) (IsValue (types_in schema.now.octets.now) depth) (IsAny depth) rules
+        (types_in schema.now.octets.now) node) opened.entry.inside.octets.now) o.verdict o.rest.now) }
+    ensures shorter { IfOk result (λ o. length o.rest.now
+        ≤ length opened.entry.inside.octets.now + length opened.entry.beyond.now) }
+    ensures log { IfOk result (λ o. Logs o.verdict tree.old.departures.items tree.new.departures.items) }
+    ensures grows { OnOk result (vec_len tree.old.entries ≤ vec_len tree.new.entries) }
+{
+    if is_free(node) {
+        elements(tree, depth, at, opened)
+    } else {
+        components(tree, schema, depth, node, at, opened)
+    }
+}
+
+// Whether a SEQUENCE has an extension marker and no known component.
+fn is_free(node: Node) -> bool
+    ensures { result ≡ is_free node }
+{
+    node.extensible && node.parts.count == 0
+}
+
+// Reads the components of a SEQUENCE.
+#[cycle(typed)]
+fn components<'a>(
+    tree: &mut Tree,
+    schema: &Schema<'_>,
+    depth: usize,
+    node: Node,
+    at: usize,
+    opened: Opened<'a>,
+) -> Result<Outcome<'a>, AllocError>
+    requires kind { node.kind ≡ Universally Sequence }
+    requires there { IsRange node.parts schema.now.counts.fields }
+    requires distinct { AreDistinct (types_in schema.now.octets.now) }
+    requires row { (i : ℕ) × (slice_get (types_in schema.now.octets.now).nodes i ≡ Some node) }
+    ensures finds { IfOk result (λ o. Finds (λ rules. Body opened.entry.marked opened.entry.beyond.now
+        (AreComponents (IsValue (types_in schema.now.octets.now) depth) rules
+        (types_in schema.now.octets.now) node.parts.count node.parts.start None) opened.entry.inside.octets.now)
+        o.verdict o.rest.now) }
+    ensures shorter { IfOk result (λ o. length o.rest.now
+        ≤ length opened.entry.inside.octets.now + length opened.entry.beyond.now) }
+    ensures log { IfOk result (λ o. Logs o.verdict tree.old.departures.items tree.new.departures.items) }
+    ensures grows { OnOk result (vec_len tree.old.entries ≤ vec_len tree.new.entries) }
+{
+    let mut verdict = Verdict::Der;
+    let mut rest = opened.inside.octets;
+    let mut known = None;
+    let mut left = node.parts.count;
+    'fields: while left > 0 {
+        let field = index_of(node.parts, node.parts.count - left, schema.counts().fields);
+        left -= 1;
+        let step = component(
+            tree,
+            schema,
+            depth,
+            known,
+            node,
+            field,
+            left,
+            at,
+            opened.at(rest),
+        )?;
+        verdict = verdict.and(step.verdict);
+        rest = step.rest;
+        known = step.known;
+    }
+    let end = finish(tree, depth, at, opened.at(rest))?;
+    Ok(Outcome {
+        verdict: verdict.and(end.verdict),
+        rest: end.rest,
+    })
+}
+
+// The index of a row of a range, which is one of so many rows.
+fn index_of(span: Span, index: u32, rows: u32) -> u32
+    requires { span.start + index < rows }
+    ensures { result ≡ span.start + index }
+{
+    span.start + index
+}
+
+// Reads the component of a field, if it is there. So many fields follow it.
+#[cycle(typed)]
+fn component<'a>(
+    tree: &mut Tree,
+    schema: &Schema<'_>,
+    depth: usize,
+    known: Option<Known<'a>>,
+    node: Node,
+    index: u32,
+    left: u32,
+    at: usize,
+    opened: Opened<'a>,
+) -> Result<Step<'a>, AllocError>
+    requires kind { node.kind ≡ Universally Sequence }
+    requires there { IsRange node.parts schema.now.counts.fields }
+    requires part { (node.parts.start ≤ index) × (index + left + 1 ≡ node.parts.start + node.parts.count) }
+    requires distinct { AreDistinct (types_in schema.now.octets.now) }
+    requires row { (i : ℕ) × (slice_get (types_in schema.now.octets.now).nodes i ≡ Some node) }
+    ensures status { IfOk result (λ s. Status s.verdict
+        (λ rules. Body opened.entry.marked opened.entry.beyond.now
+        (AreComponents (IsValue (types_in schema.now.octets.now) depth) rules
+        (types_in schema.now.octets.now) left (index + 1) (known_in s.known)) s.rest.now)
+        (λ rules. Body opened.entry.marked opened.entry.beyond.now
+        (AreComponents (IsValue (types_in schema.now.octets.now) depth) rules
+        (types_in schema.now.octets.now) (left + 1) index (known_in known.entry)) opened.entry.inside.octets.now)) }
+    ensures log { IfOk result (λ s. Logs s.verdict tree.old.departures.items tree.new.departures.items) }
+    ensures shorter { IfOk result (λ s. length s.rest.now ≤ length opened.entry.inside.octets.now) }
+    ensures grows { OnOk result (vec_len tree.old.entries ≤ vec_len tree.new.entries) }
+{
+    let field = field_of(schema, index);
+    let place = opened.inside;
+    if begins(schema, field.node, place.octets) {
+        let role = Role {
+            field: index,
+            ..Role::inside(at)
+        };
+        let outcome = value(tree, schema, depth, known, field.node, role, place)?;
+        let octets = &place.octets[..place.octets.len() - outcome.rest.len()];
+        let rule = default_rule(schema, field, octets);
+        let verdict = tree.judge(rule, place.offset(), at)?;
+        return Ok(Step {
+            verdict: outcome.verdict.and(verdict),
+            rest: outcome.rest,
+            known: known_after(schema, field.node, index, octets, known),
+        });
+    }
+    if may_be_absent(field) {
+        return Ok(Step {
+            verdict: Verdict::Der,
+            rest: place.octets,
+            known,
+        });
+    }
+    let verdict = tree.depart(Rule::Missing, place.offset(), at)?;
+    Ok(Step {
+        verdict,
+        rest: place.octets,
+        known,
+    })
+}
+
+// Reads the values of a SEQUENCE OF or a SET OF.
+#[cycle(typed)]
+pub(crate) fn items<'a>(
+    tree: &mut Tree,
+    schema: &Schema<'_>,
+    depth: usize,
+    known: Option<Known<'_>>,
+    node: Node,
+    sorted: bool,
+    at: usize,
+    opened: Opened<'a>,
+) -> Result<Outcome<'a>, AllocError>
+    requires inner { IsSome node.inner }
+    requires fits { IsRow schema.now.counts schema.now.pool.now node }
+    requires distinct { AreDistinct (types_in schema.now.octets.now) }
+    ensures finds { IfOk result (λ o. Finds (λ rules. Body opened.entry.marked opened.entry.beyond.now
+        (λ inner. (i : ℕ) × (node.inner ≡ Some i) × SomeItems sorted rules
+        (IsValue (types_in schema.now.octets.now) depth rules (known_in known.entry) i)
+        (IsAllowedSize (types_in schema.now.octets.now) node.limits) inner) opened.entry.inside.octets.now) o.verdict o.rest.now) }
+    ensures shorter { IfOk result (λ o. length o.rest.now
+        ≤ length opened.entry.inside.octets.now + length opened.entry.beyond.now) }
+    ensures log { IfOk result (λ o. Logs o.verdict tree.old.departures.items tree.new.departures.items) }
+    ensures grows { OnOk result (vec_len tree.old.entries ≤ vec_len tree.new.entries) }
+{
+    let role = Role::inside(at);
+    let item = inner_of(node);
+    let mut verdict = Verdict::Der;
+    let mut rest = opened.inside.octets;
+    let mut count = 0usize;
+    let mut before: &[u8] = &[];
+    'items: while !opened.at(rest).is_ended() {
+        let place = opened.inside.at(rest);
+        let outcome = value(tree, schema, depth, known, item, role, place)?;
+        let octets = &rest[..rest.len() - outcome.rest.len()];
+        let order = tree.judge(order_rule(sorted, before, octets), place.offset(), at)?;
+        verdict = verdict.and(outcome.verdict).and(order);
+        rest = outcome.rest;
+        before = octets;
+        count += 1;
+    }
+    let size = tree.judge(count_rule(schema, node.limits, count), opened.start, at)?;
+    let end = finish(tree, depth, at, opened.at(rest))?;
+    Ok(Outcome {
+        verdict: verdict.and(size.and(end.verdict)),
+        rest: end.rest,
+    })
+}
+
+// Reads the value inside an EXPLICIT tag.
+#[cycle(typed)]
+pub(crate) fn explicit<'a>(
+    tree: &mut Tree,
+    schema: &Schema<'_>,
+    depth: usize,
+    known: Option<Known<'_>>,
+    inner: u32,
+    at: usize,
+    opened: Opened<'a>,
+) -> Result<Outcome<'a>, AllocError>
+    requires there { inner < schema.now.counts.nodes }
+    requires distinct { AreDistinct (types_in schema.now.octets.now) }
+    ensures finds { IfOk result (λ o. Finds (λ rules. Body opened.entry.marked opened.entry.beyond.now
+        (IsValue (types_in schema.now.octets.now) depth rules (known_in known.entry) inner)
+        opened.entry.inside.octets.now) o.verdict o.rest.now) }
+    ensures shorter { IfOk result (λ o. length o.rest.now
+        ≤ length opened.entry.inside.octets.now + length opened.entry.beyond.now) }
+    ensures log { IfOk result (λ o. Logs o.verdict tree.old.departures.items tree.new.departures.items) }
+    ensures grows { OnOk result (vec_len tree.old.entries ≤ vec_len tree.new.entries) }
+{
+    let role = Role::inside(at);
+    let outcome = value(tree, schema, depth, known, inner, role, opened.inside)?;
+    let end = finish(tree, depth, at, opened.at(outcome.rest))?;
+    Ok(Outcome {
+        verdict: outcome.verdict.and(end.verdict),
+        rest: end.rest,
+    })
+}

@@ -1,0 +1,56 @@
+//! Nodes of a tree.
+
+ghost use Rattle.ber.specs.Header.{IsNext};
+
+use crate::place::Place;
+use crate::role::{LEVELS, Role};
+use ber::Header;
+
+/// An element of the input. At most 40 octets of memory.
+#[derive(Debug, Clone, Copy, PartialEq, Eq)]
+pub struct Entry {
+    /// Its offset, in octets from the start of the input.
+    pub offset: usize,
+    /// The number of its contents octets.
+    pub contents_len: usize,
+    /// The index of the node around it, or its own.
+    pub parent: usize,
+    /// The index of its type in the table; 4294967295 if it has none there.
+    pub kind: u32,
+    /// The index of the field that it is the component of, in the table; 4294967295 if it is of none.
+    pub field: u32,
+    /// The index of the field that it is the alternative of, in a CHOICE; 4294967295 if it is of none.
+    pub alternative: u32,
+    /// The number of octets of its header.
+    pub header_len: u8,
+    /// At how many levels of nesting it is.
+    pub depth: u8,
+}
+
+impl Entry {
+    // The element of a header at a place, which so many levels may be nested in. The length of its contents
+    // is known when they have been read.
+    pub(crate) fn new(header: Header, place: Place<'_>, role: Role, kind: u32, depth: usize) -> Self
+        requires { IsNext header place.octets.now }
+    {
+        Entry {
+            offset: place.offset(),
+            contents_len: 0,
+            parent: role.parent,
+            kind,
+            field: role.field,
+            alternative: role.alternative,
+            header_len: header.header_len as u8,
+            depth: level(depth),
+        }
+    }
+}
+
+// The level at which so many more may be nested.
+fn level(depth: usize) -> u8 {
+    if depth < LEVELS {
+        (LEVELS - depth) as u8
+    } else {
+        0
+    }
+}

@@ -1,0 +1,52 @@
+//! The OBJECT IDENTIFIER that chooses an open type.
+ghost use Rattle.std.specs.Prelude.{◌≡◌, ◌↔◌, ◌<◌, ℕ, true, List, slice_get};
+ghost use Rattle.ber.specs.Element.{IsElement};
+ghost use Rattle.ber.specs.declared.universal.Universal.TheVariants.{ObjectIdentifier};
+ghost use Rattle.asn1_schema.specs.declared.node_kind.NodeKind.TheVariants.{Universal as Universally};
+ghost use Rattle.ber.specs.declared.header.Header.{Header as AHeader};
+ghost use Rattle.asn1_tree.specs.Types.{types_in};
+ghost use Rattle.asn1_tree.specs.Known.{Follows, IsIdentifier, known_in};
+
+use crate::types::node_of;
+use asn1_schema::{Node, NodeKind, Schema};
+use ber::{Universal, read_element};
+
+/// The last component that is an OBJECT IDENTIFIER.
+#[derive(Clone, Copy)]
+pub(crate) struct Known<'a> {
+    /// The index of its field.
+    pub field: u32,
+    /// Its contents octets.
+    pub identifier: &'a [u8],
+}
+
+/// What is known after a component, which these octets encode.
+pub(crate) fn known_after<'a>(
+    schema: &Schema<'_>,
+    node: u32,
+    field: u32,
+    octets: &'a [u8],
+    known: Option<Known<'a>>,
+) -> Option<Known<'a>>
+    requires { node < schema.now.counts.nodes }
+    ensures { (IsIdentifier (slice_get (types_in schema.now.octets.now).nodes node)
+        → (h : AHeader) × (inner : List ℕ) × IsElement h inner octets.now) → Follows (slice_get (types_in schema.now.octets.now).nodes node) field octets.now
+        (known_in known.entry) (known_in result) }
+{
+    if is_identifier(node_of(schema, node)) {
+        return match read_element(octets) {
+            Ok(element) => Some(Known {
+                field,
+                identifier: element.contents,
+            }),
+            Err(_) => known,
+        };
+    }
+    known
+}
+
+fn is_identifier(node: Node) -> bool
+    ensures { (result ≡ true) ↔ (node.kind ≡ Universally ObjectIdentifier) }
+{
+    matches!(node.kind, NodeKind::Universal(Universal::ObjectIdentifier))
+}

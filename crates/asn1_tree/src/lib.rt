@@ -1,0 +1,59 @@
+//! Values of any type of ASN.1, read by a table of types, by DER and by BER.
+//!
+//! [`read`] takes a table of types (a `Schema` of `asn1_schema`), the index of a node, and octets.
+//! It reads the octets as a value of that node, goes on after each departure, and returns a
+//! [`Tree`]: an [`Entry`] for each element, in the order of the input, and a [`Departure`] for each
+//! [`Rule`] that is broken. [`Rule::verdict`] says whether octets that break a rule are still BER.
+//!
+//! # Use
+//!
+//! To lint a certificate, make a table with the types of X.509 by `Schema::new`, find the node
+//! `Certificate` by `find_node`, and call `read` with the octets. If `departures` is empty, they are
+//! the DER encoding of a certificate. Otherwise show each departure at its offset. If each has the
+//! verdict [`Verdict::Ber`], the octets are a BER encoding of a certificate. To print fields, go
+//! through `entries`: each has its type and its field, by index in the table, and the element
+//! around it.
+//!
+//! # What it does not do
+//!
+//! It does not check permitted alphabets, nor CONTAINING in a BIT STRING. The contents of a SET with
+//! components, and those of EXTERNAL and its kin, are read as elements of any type. A string in the
+//! constructed form is no encoding here, though BER allows it; nor is a value with an extension
+//! addition that the table does not have. The OBJECT IDENTIFIER that chooses an open type has to be
+//! in the innermost SEQUENCE around it. Sizes are counted up to 2^63 - 1. Values are nested at most
+//! 64 deep.
+//!
+//! Proved: there is no departure exactly if the octets are the DER encoding of a value of the node,
+//! and none but of rules that DER alone has exactly if they are a BER encoding of one. Not proved:
+//! which rule a departure names, its offset, and the rows of the tree.
+#![tactic(auto)]
+
+mod bound;
+mod chosen;
+mod components;
+mod constraints;
+mod departure;
+mod entry;
+mod known;
+mod opened;
+mod order;
+mod outcome;
+mod place;
+mod reading;
+mod role;
+mod rule;
+mod select;
+mod shape;
+mod tests;
+mod tree;
+mod typed;
+mod types;
+mod untyped;
+mod verdict;
+
+pub use departure::Departure;
+pub use entry::Entry;
+pub use reading::read;
+pub use rule::Rule;
+pub use tree::Tree;
+pub use verdict::Verdict;

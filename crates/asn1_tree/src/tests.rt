@@ -1,0 +1,85 @@
+//! Tests of components and forms.
+ghost use Rattle.std.specs.Prelude.{◌≡◌, ◌↔◌, true};
+ghost use Rattle.der_base.specs.declared.encoding_rules.EncodingRules.{EncodingRules};
+ghost use Rattle.asn1_tree.specs.Types.{types_in};
+ghost use Rattle.asn1_schema.specs.Field.{IsField};
+ghost use Rattle.asn1_schema.specs.Distinct.{may_be_missing};
+ghost use Rattle.asn1_schema.specs.declared.node_kind.NodeKind.TheVariants.{Universal as Universally};
+ghost use Rattle.ber.specs.declared.universal.Universal.TheVariants.{Sequence};
+ghost use Rattle.asn1_tree.specs.Verdict.{holds};
+ghost use Rattle.asn1_tree.specs.Rule.{verdict_of_option};
+ghost use Rattle.asn1_tree.specs.Value.{IsNoDefault, MayBeConstructed, IsPrimitive};
+
+use crate::rule::Rule;
+use crate::types::default_of;
+use asn1_contents::broken_rule;
+use asn1_schema::{Field, Presence, Schema};
+use ber::{Form, Universal};
+
+/// The rule that a component breaks if it has the value of its DEFAULT.
+pub(crate) fn default_rule(schema: &Schema<'_>, field: Field, octets: &[u8]) -> Option<Rule>
+    requires { IsField schema.now.counts schema.now.pool.now field }
+    ensures { (rules : EncodingRules) → (holds rules (verdict_of_option result) ≡ true)
+        ↔ IsNoDefault rules (types_in schema.now.octets.now) field octets.now }
+{
+    match field.presence {
+        Presence::Default => {
+            if is_same(octets, default_of(schema, field)) {
+                Some(Rule::DefaultEncoded)
+            } else {
+                None
+            }
+        }
+        _ => None,
+    }
+}
+
+fn is_same(a: &[u8], b: &[u8]) -> bool
+    ensures { (result ≡ true) ↔ (a.now ≡ b.now) }
+{
+    a == b
+}
+
+/// The rule that a constructed encoding of a universal type breaks.
+pub(crate) fn form_rule(universal: Option<Universal>) -> Option<Rule>
+    ensures { (rules : EncodingRules) → (holds rules (verdict_of_option result) ≡ true)
+        ↔ MayBeConstructed universal }
+{
+    match universal {
+        Some(universal) => match universal.form() {
+            Form::Constructed => None,
+            _ => Some(Rule::Form),
+        },
+        None => None,
+    }
+}
+
+/// The rule that the contents of a primitive encoding of a universal type break.
+pub(crate) fn primitive_rule(universal: Option<Universal>, contents: &[u8]) -> Option<Rule>
+    ensures { (rules : EncodingRules) → (holds rules (verdict_of_option result) ≡ true)
+        ↔ IsPrimitive rules universal contents.now }
+{
+    match universal {
+        Some(universal) => {
+            if universal.form().allows(false) {
+                match broken_rule(universal, contents) {
+                    Some(rule) => Some(Rule::Contents(rule)),
+                    None => None,
+                }
+            } else {
+                Some(Rule::Form)
+            }
+        }
+        None => None,
+    }
+}
+
+/// Whether a component of a SEQUENCE may be absent.
+pub(crate) fn may_be_absent(field: Field) -> bool
+    ensures { result ≡ may_be_missing (Universally Sequence) field }
+{
+    match field.presence {
+        Presence::Required => field.addition != 0,
+        _ => true,
+    }
+}

@@ -1,0 +1,353 @@
+//! The reader of values.
+ghost use Rattle.std.specs.Prelude.{◌≡◌, ◌≢◌, ◌↔◌, ◌+◌, ◌<◌, ◌≤◌, ℕ, true, false, [], Option, Some, None, slice_get, length, vec_len, IsSome, IfOk, OnOk};
+ghost use Rattle.der_base.specs.declared.encoding_rules.EncodingRules.{EncodingRules};
+ghost use Rattle.ber.specs.Header.{IsNext, end_header};
+ghost use Rattle.asn1_tree.specs.Types.{types_in};
+ghost use Rattle.asn1_schema.specs.Node.{IsNode as IsRow};
+ghost use Rattle.asn1_schema.specs.Span.{IsWithin as IsRange};
+ghost use Rattle.asn1_schema.specs.declared.node.Node.{Node as ANode};
+ghost use Rattle.asn1_schema.specs.declared.node_kind.NodeKind.TheVariants.{Open};
+ghost use Rattle.asn1_tree.specs.Verdict.{holds};
+ghost use Rattle.asn1_schema.specs.Tags.{HasTag};
+ghost use Rattle.asn1_schema.specs.Distinct.{AreDistinct};
+ghost use Rattle.asn1_tree.specs.Constraints.{bound_of};
+ghost use Rattle.asn1_tree.specs.declared.bound.Bound.TheVariants.{Items};
+ghost use Rattle.asn1_tree.specs.Known.{IsUnknownOpen, known_in};
+ghost use Rattle.asn1_tree.specs.Value.{IsValue, IsAny, IsNode, AreContents, AreBounded, IsUnknownType, Contains, IsContained, contained_in, shape_of};
+ghost use Rattle.asn1_tree.specs.Reading.{Front, Body, Finds, Logs};
+
+use crate::chosen::chosen;
+use crate::components::{all_components, explicit, items};
+use crate::constraints::constraint_rule;
+use crate::entry::Entry;
+use crate::known::Known;
+use crate::opened::{Opened, after_header};
+use crate::outcome::Outcome;
+use crate::place::Place;
+use crate::role::Role;
+use crate::rule::Rule;
+use crate::shape::Shape;
+use crate::tree::Tree;
+use crate::types::{node_of, select};
+use crate::untyped::{any, finish, unknown_contents};
+use crate::verdict::Verdict;
+use asn1_schema::{Node, NodeKind, Schema};
+use ber::{Header, Universal, is_end_of_contents, read_header};
+use std::alloc::AllocError;
+
+// Reads the value of a node at the front.
+#[cycle(typed)]
+pub(crate) fn value<'a>(
+    tree: &mut Tree,
+    schema: &Schema<'_>,
+    depth: usize,
+    known: Option<Known<'_>>,
+    node: u32,
+    role: Role,
+    place: Place<'a>,
+) -> Result<Outcome<'a>, AllocError>
+    requires there { node < schema.now.counts.nodes }
+    requires distinct { AreDistinct (types_in schema.now.octets.now) }
+    ensures finds { IfOk result (λ o. Finds (λ rules. Front
+        (IsValue (types_in schema.now.octets.now) depth rules (known_in known.entry) node) place.entry.octets.now)
+        o.verdict o.rest.now) }
+    ensures log { IfOk result (λ o. Logs o.verdict tree.old.departures.items tree.new.departures.items) }
+    ensures shorter { IfOk result (λ o. length o.rest.now ≤ length place.entry.octets.now) }
+    ensures moves { IfOk result
+        (λ o. 0 < length place.entry.octets.now → length o.rest.now < length place.entry.octets.now) }
+    ensures grows { OnOk result (vec_len tree.old.entries ≤ vec_len tree.new.entries) }
+{
+    let header = match read_header(place.octets) {
+        Ok(header) => header,
+        Err(_) => {
+            let verdict = tree.depart(Rule::Header, place.offset(), role.parent)?;
+            return Ok(Outcome { verdict, rest: &[] });
+        }
+    };
+    if is_end_of_contents(place.octets) {
+        let verdict = tree.depart(Rule::EndOfContents, place.offset(), role.parent)?;
+        return Ok(Outcome {
+            verdict,
+            rest: &place.octets[2..],
+        });
+    }
+    if depth == 0 {
+        let verdict = tree.depart(Rule::Depth, place.offset(), role.parent)?;
+        return Ok(Outcome { verdict, rest: &[] });
+    }
+    match select(schema, node, header.class, header.number) {
+        Some(selected) => {
+            selected_value(
+                tree,
+                schema,
+                depth - 1,
+                known,
+                selected.node,
+                role,
+                header,
+                place,
+            )
+        }
+        None => {
+            let verdict = tree.depart(Rule::Tag, place.offset(), role.parent)?;
+            let outcome = any(tree, depth, role, place)?;
+            Ok(Outcome {
+                verdict: verdict.and(outcome.verdict),
+                rest: outcome.rest,
+            })
+        }
+    }
+}
+
+// Reads the value of a node that is no CHOICE, and has the tag of the header at the front.
+#[cycle(typed)]
+fn selected_value<'a>(
+    tree: &mut Tree,
+    schema: &Schema<'_>,
+    depth: usize,
+    known: Option<Known<'_>>,
+    index: u32,
+    role: Role,
+    header: Header,
+    place: Place<'a>,
+) -> Result<Outcome<'a>, AllocError>
+    requires there { index < schema.now.counts.nodes }
+    requires distinct { AreDistinct (types_in schema.now.octets.now) }
+    requires next { IsNext header place.octets.now }
+    requires real { header ≢ end_header }
+    requires tagged { (n : ANode) → slice_get (types_in schema.now.octets.now).nodes index ≡ Some n
+        → HasTag n header.class header.number }
+    ensures finds { IfOk result (λ o. (n : ANode)
+        → slice_get (types_in schema.now.octets.now).nodes index ≡ Some n → Finds (λ rules. Front
+        (IsNode rules (types_in schema.now.octets.now) (IsValue (types_in schema.now.octets.now) depth)
+        (IsAny depth) (known_in known.entry) n) place.entry.octets.now) o.verdict o.rest.now) }
+    ensures log { IfOk result (λ o. Logs o.verdict tree.old.departures.items tree.new.departures.items) }
+    ensures moves { IfOk result (λ o. length o.rest.now < length place.entry.octets.now) }
+    ensures grows { OnOk result (vec_len tree.old.entries ≤ vec_len tree.new.entries) }
+{
+    let node = node_of(schema, index);
+    match chosen(schema, &node, known) {
+        Some(inner) => value(tree, schema, depth, known, inner, role, place),
+        None => {
+            let at = tree.enter(Entry::new(header, place, role, index, depth))?;
+            let allowed = tree.judge_lengths(header, place.offset(), at)?;
+            match after_header(header, place) {
+                Some(opened) => {
+                    let outcome = contents(tree, schema, depth, known, node, at, header, opened)?;
+                    tree.leave(at, opened, outcome.rest);
+                    Ok(Outcome {
+                        verdict: allowed.and(outcome.verdict),
+                        rest: outcome.rest,
+                    })
+                }
+                None => {
+                    let cut = tree.depart(Rule::Truncated, place.offset(), at)?;
+                    Ok(Outcome {
+                        verdict: allowed.and(cut),
+                        rest: &[],
+                    })
+                }
+            }
+        }
+    }
+}
+
+// Reads the contents of an element with the tag of a node.
+#[cycle(typed)]
+fn contents<'a>(
+    tree: &mut Tree,
+    schema: &Schema<'_>,
+    depth: usize,
+    known: Option<Known<'_>>,
+    node: Node,
+    at: usize,
+    header: Header,
+    opened: Opened<'a>,
+) -> Result<Outcome<'a>, AllocError>
+    requires fits { IsRow schema.now.counts schema.now.pool.now node }
+    requires distinct { AreDistinct (types_in schema.now.octets.now) }
+    requires row { (i : ℕ) × (slice_get (types_in schema.now.octets.now).nodes i ≡ Some node) }
+    requires form { header.constructed ≡ false → opened.marked ≡ false }
+    ensures finds { IfOk result (λ o. Finds (λ rules. Body opened.entry.marked opened.entry.beyond.now
+        (AreContents (shape_of node.kind) rules (types_in schema.now.octets.now)
+        (IsValue (types_in schema.now.octets.now) depth) (IsAny depth) (known_in known.entry) node header)
+        opened.entry.inside.octets.now) o.verdict o.rest.now) }
+    ensures shorter { IfOk result (λ o. length o.rest.now
+        ≤ length opened.entry.inside.octets.now + length opened.entry.beyond.now) }
+    ensures log { IfOk result (λ o. Logs o.verdict tree.old.departures.items tree.new.departures.items) }
+    ensures grows { OnOk result (vec_len tree.old.entries ≤ vec_len tree.new.entries) }
+{
+    let shape = Shape::of(node.kind);
+    if shape.has_wrong_form(header.constructed) {
+        let verdict = tree.depart(Rule::Form, opened.start, at)?;
+        return Ok(Outcome {
+            verdict,
+            rest: opened.beyond,
+        });
+    }
+    match shape {
+        Shape::Components => all_components(tree, schema, depth, node, at, opened),
+        Shape::Of(universal) => of_type(
+            tree, schema, depth, known, node, universal, at, header, opened,
+        ),
+        Shape::Items => items(tree, schema, depth, known, node, false, at, opened),
+        Shape::SortedItems => items(tree, schema, depth, known, node, true, at, opened),
+        Shape::Inner => explicit(tree, schema, depth, known, inner_of(node), at, opened),
+        Shape::Untyped => {
+            unknown_contents(
+                tree,
+                depth,
+                header.universal(),
+                header.constructed,
+                at,
+                opened,
+            )
+        }
+        Shape::Nothing => {
+            let verdict = tree.depart(Rule::Tag, opened.start, at)?;
+            Ok(Outcome {
+                verdict,
+                rest: opened.beyond,
+            })
+        }
+    }
+}
+
+// Reads the contents of a universal type that has no components.
+#[cycle(typed)]
+fn of_type<'a>(
+    tree: &mut Tree,
+    schema: &Schema<'_>,
+    depth: usize,
+    known: Option<Known<'_>>,
+    node: Node,
+    universal: Universal,
+    at: usize,
+    header: Header,
+    opened: Opened<'a>,
+) -> Result<Outcome<'a>, AllocError>
+    requires fits { IsRow schema.now.counts schema.now.pool.now node }
+    requires names { bound_of universal ≡ Items → IsRange node.parts schema.now.counts.names }
+    requires distinct { AreDistinct (types_in schema.now.octets.now) }
+    requires form { header.constructed ≡ false → opened.marked ≡ false }
+    ensures finds { IfOk result (λ o. Finds (λ rules. Body opened.entry.marked opened.entry.beyond.now
+        (λ inner. IsUnknownType rules (IsAny depth) (Some universal) header.constructed inner
+        × AreBounded header.constructed rules (types_in schema.now.octets.now)
+        (IsValue (types_in schema.now.octets.now) depth) (known_in known.entry) node universal inner)
+        opened.entry.inside.octets.now) o.verdict o.rest.now) }
+    ensures shorter { IfOk result (λ o. length o.rest.now
+        ≤ length opened.entry.inside.octets.now + length opened.entry.beyond.now) }
+    ensures log { IfOk result (λ o. Logs o.verdict tree.old.departures.items tree.new.departures.items) }
+    ensures grows { OnOk result (vec_len tree.old.entries ≤ vec_len tree.new.entries) }
+{
+    let outcome = unknown_contents(tree, depth, Some(universal), header.constructed, at, opened)?;
+    if header.constructed {
+        return Ok(outcome);
+    }
+    let rule = constraint_rule(schema, node, universal, opened.inside.octets);
+    let kept = tree.judge(rule, opened.start, at)?;
+    let inner = contained_in(universal, node);
+    let value = contained(tree, schema, depth, known, inner, at, opened.inside)?;
+    Ok(Outcome {
+        verdict: outcome.verdict.and(kept.and(value)),
+        rest: outcome.rest,
+    })
+}
+
+// The node of the value in a string with a constraint CONTAINING.
+fn contained_in(universal: Universal, node: Node) -> Option<u32>
+    ensures { result ≡ contained_in universal node }
+{
+    match universal {
+        Universal::OctetString => node.inner,
+        _ => None,
+    }
+}
+
+// Reads the value in a string with a constraint CONTAINING, if it has one.
+#[cycle(typed)]
+fn contained<'a>(
+    tree: &mut Tree,
+    schema: &Schema<'_>,
+    depth: usize,
+    known: Option<Known<'_>>,
+    inner: Option<u32>,
+    at: usize,
+    place: Place<'a>,
+) -> Result<Verdict, AllocError>
+    requires there { (i : ℕ) → inner ≡ Some i → i < schema.now.counts.nodes }
+    requires distinct { AreDistinct (types_in schema.now.octets.now) }
+    ensures exact { IfOk result (λ v. (rules : EncodingRules) → (holds rules v ≡ true)
+        ↔ IsContained rules (types_in schema.now.octets.now)
+        (IsValue (types_in schema.now.octets.now) depth) (known_in known.entry) inner place.entry.octets.now) }
+    ensures log { IfOk result (λ v. Logs v tree.old.departures.items tree.new.departures.items) }
+    ensures grows { OnOk result (vec_len tree.old.entries ≤ vec_len tree.new.entries) }
+{
+    match inner {
+        Some(index) => contained_value(tree, schema, depth, known, index, at, place),
+        None => Ok(Verdict::Der),
+    }
+}
+
+// Reads the value of a node in a string.
+#[cycle(typed)]
+fn contained_value<'a>(
+    tree: &mut Tree,
+    schema: &Schema<'_>,
+    depth: usize,
+    known: Option<Known<'_>>,
+    index: u32,
+    at: usize,
+    place: Place<'a>,
+) -> Result<Verdict, AllocError>
+    requires there { index < schema.now.counts.nodes }
+    requires distinct { AreDistinct (types_in schema.now.octets.now) }
+    ensures exact { IfOk result (λ v. (rules : EncodingRules) → (holds rules v ≡ true)
+        ↔ Contains rules (types_in schema.now.octets.now)
+        (IsValue (types_in schema.now.octets.now) depth) (known_in known.entry) index place.entry.octets.now) }
+    ensures log { IfOk result (λ v. Logs v tree.old.departures.items tree.new.departures.items) }
+    ensures grows { OnOk result (vec_len tree.old.entries ≤ vec_len tree.new.entries) }
+{
+    if is_unknown(schema, index, known) {
+        return Ok(Verdict::Der);
+    }
+    let role = Role::inside(at);
+    let outcome = value(tree, schema, depth, known, index, role, place)?;
+    let rest = Opened {
+        inside: place.at(outcome.rest),
+        start: place.offset(),
+        marked: false,
+        beyond: &[],
+    };
+    let end = finish(tree, depth, at, rest)?;
+    Ok(outcome.verdict.and(end.verdict))
+}
+
+fn is_open(node: Node) -> bool
+    ensures { (result ≡ true) ↔ (node.kind ≡ Open) }
+{
+    node.kind == NodeKind::Open
+}
+
+// Whether a node is an open type of which the table does not know the type.
+fn is_unknown(schema: &Schema<'_>, index: u32, known: Option<Known<'_>>) -> bool
+    requires { index < schema.now.counts.nodes }
+    ensures { (result ≡ true) ↔ IsUnknownOpen (types_in schema.now.octets.now) (known_in known.entry) index }
+{
+    let node = node_of(schema, index);
+    if !is_open(node) {
+        return false;
+    }
+    match chosen(schema, &node, known) {
+        Some(_) => false,
+        None => true,
+    }
+}
+
+// The node inside a node that has one.
+pub(crate) fn inner_of(node: Node) -> u32
+    requires { IsSome node.inner }
+    ensures { node.inner ≡ Some result }
+{
+    node.inner.unwrap_or(0)
+}

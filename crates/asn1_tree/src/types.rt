@@ -1,0 +1,117 @@
+//! Rows of a table of types.
+ghost use Rattle.std.specs.Prelude.{◌≡◌, ◌↔◌, ◌<◌, pos, IsTrue, Some, slice_get, IfSome, IfNone};
+ghost use Rattle.asn1_schema.specs.Field.{IsField};
+ghost use Rattle.asn1_schema.specs.Node.{IsNode};
+ghost use Rattle.asn1_schema.specs.Table.{IsAscending};
+ghost use Rattle.asn1_schema.specs.Pool.{octets_of};
+ghost use Rattle.asn1_schema.specs.declared.presence.Presence.TheVariants.{Default};
+ghost use Rattle.asn1_schema.specs.Tags.{IsSelected, Begins};
+ghost use Rattle.asn1_schema.specs.Chosen.{ChoosesRow, ChoosesNoRow};
+ghost use Rattle.asn1_schema.specs.declared.node_kind.NodeKind.TheVariants.{Open};
+ghost use Rattle.asn1_schema.specs.declared.open_type.OpenType.{OpenType as Other};
+ghost use Rattle.asn1_schema.specs.Span.{IsWithin};
+ghost use Rattle.asn1_tree.specs.Constraints.{IsAllowedSize, counted};
+ghost use Rattle.asn1_tree.specs.Types.{types_in};
+
+use asn1_schema::{Field, Limit, LimitKind, Name, Node, OpenType, Schema, Selected, Span};
+use der_base::Class;
+
+/// The node with an index.
+#[tactic(auto, unfolding(crate::specs::Types::types_in))]
+pub(crate) fn node_of(schema: &Schema<'_>, index: u32) -> Node
+    requires { index < schema.now.counts.nodes }
+    ensures value { slice_get (types_in schema.now.octets.now).nodes index ≡ Some result }
+    ensures fits { IsNode schema.now.counts schema.now.pool.now result }
+    ensures ascending { IsAscending schema.now.counts schema.now.octets.now result }
+{
+    schema.node(index)
+}
+
+/// The field with an index.
+#[tactic(auto, unfolding(crate::specs::Types::types_in))]
+pub(crate) fn field_of(schema: &Schema<'_>, index: u32) -> Field
+    requires { index < schema.now.counts.fields }
+    ensures value { slice_get (types_in schema.now.octets.now).fields index ≡ Some result }
+    ensures fits { IsField schema.now.counts schema.now.pool.now result }
+{
+    schema.field(index)
+}
+
+/// The octets of the default of a field.
+#[tactic(auto, unfolding(crate::specs::Types::types_in))]
+pub(crate) fn default_of<'a>(schema: &Schema<'a>, field: Field) -> &'a [u8]
+    requires fits { IsField schema.now.counts schema.now.pool.now field }
+    requires there { field.presence ≡ Default }
+    ensures { result.now ≡ octets_of (types_in schema.now.octets.now).pool field.default }
+{
+    schema.octets_of(field.default)
+}
+
+/// The node that a tag selects.
+#[tactic(auto, unfolding(crate::specs::Types::types_in))]
+pub(crate) fn select(schema: &Schema<'_>, index: u32, class: Class, number: u32) -> Option<Selected>
+    requires { index < schema.now.counts.nodes }
+    ensures found { IfSome result (λ s. IsSelected (types_in schema.now.octets.now) index class
+        number s.field s.node) }
+    ensures there { IfSome result (λ s. s.node < schema.now.counts.nodes) }
+    ensures none { IfNone result (Begins (types_in schema.now.octets.now) index class number → ⊥) }
+{
+    schema.select(index, class, number)
+}
+
+/// The type that an OBJECT IDENTIFIER chooses for an open type.
+#[tactic(auto, unfolding(crate::specs::Types::types_in))]
+pub(crate) fn find_type(schema: &Schema<'_>, node: &Node, identifier: &[u8]) -> Option<OpenType>
+    requires kind { node.now.kind ≡ Open }
+    requires fits { IsNode schema.now.counts schema.now.pool.now node.now }
+    requires ascending { IsAscending schema.now.counts schema.now.octets.now node.now }
+    ensures found { IfSome result
+        (ChoosesRow (types_in schema.now.octets.now) node.now.parts identifier.now) }
+    ensures there { IfSome result (λ o. o.node < schema.now.counts.nodes) }
+    ensures single { IfSome result (λ o. (p : Other)
+        → ChoosesRow (types_in schema.now.octets.now) node.now.parts identifier.now p → p ≡ o) }
+    ensures none { IfNone result
+        (ChoosesNoRow (types_in schema.now.octets.now) node.now.parts identifier.now) }
+{
+    match schema.find_open_type(node.parts, identifier) {
+        Some(chosen) => Some(chosen),
+        None => None,
+    }
+}
+
+/// The limit with an index.
+#[tactic(auto, unfolding(crate::specs::Types::types_in))]
+pub(crate) fn limit_of(schema: &Schema<'_>, index: u32) -> Limit
+    requires { index < schema.now.counts.limits }
+    ensures { slice_get (types_in schema.now.octets.now).limits index ≡ Some result }
+{
+    schema.limit(index)
+}
+
+/// The name with an index.
+#[tactic(auto, unfolding(crate::specs::Types::types_in))]
+pub(crate) fn name_of(schema: &Schema<'_>, index: u32) -> Name
+    requires { index < schema.now.counts.names }
+    ensures { slice_get (types_in schema.now.octets.now).names index ≡ Some result }
+{
+    schema.name(index)
+}
+
+/// Whether a size is one of the sizes of a node. The greatest that is counted is 2^63 - 1.
+#[tactic(auto, unfolding(crate::specs::Types::types_in))]
+pub(crate) fn is_size_allowed(schema: &Schema<'_>, limits: Span, size: usize) -> bool
+    requires { IsWithin limits schema.now.counts.limits }
+    ensures { IsTrue result ↔ IsAllowedSize (types_in schema.now.octets.now) limits size }
+{
+    schema.is_within_limits(limits, LimitKind::Size, saturated(size))
+}
+
+fn saturated(size: usize) -> i64
+    ensures { result ≡ pos (counted size) }
+{
+    if size > 9_223_372_036_854_775_807 {
+        9_223_372_036_854_775_807
+    } else {
+        size as i64
+    }
+}

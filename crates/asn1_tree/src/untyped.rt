@@ -1,0 +1,201 @@
+//! The reader of values of any type.
+ghost use Rattle.std.specs.Prelude.{◌≡◌, ◌*◌, ◌+◌, ◌<◌, ◌≤◌, false, [], length, vec_len, IfOk, OnOk};
+ghost use Rattle.asn1_tree.specs.Value.{IsAny, IsAnyCount, IsUnknownType, SomeItems};
+ghost use Rattle.asn1_tree.specs.Reading.{Front, Body, Finds, Logs};
+
+use crate::entry::Entry;
+use crate::opened::{Opened, after_header};
+use crate::outcome::Outcome;
+use crate::place::Place;
+use crate::role::{NO_INDEX, Role};
+use crate::rule::Rule;
+use crate::tests::{form_rule, primitive_rule};
+use crate::tree::Tree;
+use crate::verdict::Verdict;
+use ber::{Universal, is_end_of_contents, read_header};
+use std::alloc::AllocError;
+
+// Reads an element of any type at the front.
+#[cycle(untyped)]
+pub(crate) fn any<'a>(
+    tree: &mut Tree,
+    depth: usize,
+    role: Role,
+    place: Place<'a>,
+) -> Result<Outcome<'a>, AllocError>
+    ensures finds { IfOk result (λ o. Finds (λ rules. Front (IsAny depth rules) place.entry.octets.now)
+        o.verdict o.rest.now) }
+    ensures log { IfOk result (λ o. Logs o.verdict tree.old.departures.items tree.new.departures.items) }
+    ensures shorter { IfOk result (λ o. length o.rest.now ≤ length place.entry.octets.now) }
+    ensures moves { IfOk result
+        (λ o. 0 < length place.entry.octets.now → length o.rest.now < length place.entry.octets.now) }
+    ensures grows { OnOk result (vec_len tree.old.entries ≤ vec_len tree.new.entries) }
+{
+    let header = match read_header(place.octets) {
+        Ok(header) => header,
+        Err(_) => {
+            let verdict = tree.depart(Rule::Header, place.offset(), role.parent)?;
+            return Ok(Outcome { verdict, rest: &[] });
+        }
+    };
+    if is_end_of_contents(place.octets) {
+        let verdict = tree.depart(Rule::EndOfContents, place.offset(), role.parent)?;
+        return Ok(Outcome {
+            verdict,
+            rest: &place.octets[2..],
+        });
+    }
+    if depth == 0 {
+        let verdict = tree.depart(Rule::Depth, place.offset(), role.parent)?;
+        return Ok(Outcome { verdict, rest: &[] });
+    }
+    let at = tree.enter(Entry::new(header, place, role, NO_INDEX, depth))?;
+    let allowed = tree.judge_lengths(header, place.offset(), at)?;
+    match after_header(header, place) {
+        Some(opened) => {
+            let outcome = unknown_contents(
+                tree,
+                depth - 1,
+                header.universal(),
+                header.constructed,
+                at,
+                opened,
+            )?;
+            tree.leave(at, opened, outcome.rest);
+            Ok(Outcome {
+                verdict: allowed.and(outcome.verdict),
+                rest: outcome.rest,
+            })
+        }
+        None => {
+            let cut = tree.depart(Rule::Truncated, place.offset(), at)?;
+            Ok(Outcome {
+                verdict: allowed.and(cut),
+                rest: &[],
+            })
+        }
+    }
+}
+
+// Reads the contents of an element of a universal type, or of another.
+#[cycle(untyped)]
+pub(crate) fn unknown_contents<'a>(
+    tree: &mut Tree,
+    depth: usize,
+    universal: Option<Universal>,
+    constructed: bool,
+    at: usize,
+    opened: Opened<'a>,
+) -> Result<Outcome<'a>, AllocError>
+    requires form { constructed ≡ false → opened.marked ≡ false }
+    ensures finds { IfOk result (λ o. Finds (λ rules. Body opened.entry.marked opened.entry.beyond.now
+        (IsUnknownType rules (IsAny depth) universal constructed) opened.entry.inside.octets.now)
+        o.verdict o.rest.now) }
+    ensures shorter { IfOk result (λ o. length o.rest.now
+        ≤ length opened.entry.inside.octets.now + length opened.entry.beyond.now) }
+    ensures log { IfOk result (λ o. Logs o.verdict tree.old.departures.items tree.new.departures.items) }
+    ensures grows { OnOk result (vec_len tree.old.entries ≤ vec_len tree.new.entries) }
+{
+    if constructed {
+        let verdict = tree.judge(form_rule(universal), opened.start, at)?;
+        let outcome = elements(tree, depth, at, opened)?;
+        return Ok(Outcome {
+            verdict: verdict.and(outcome.verdict),
+            rest: outcome.rest,
+        });
+    }
+    let rule = primitive_rule(universal, opened.inside.octets);
+    let verdict = tree.judge(rule, opened.start, at)?;
+    Ok(Outcome {
+        verdict,
+        rest: opened.beyond,
+    })
+}
+
+// Reads elements of any type.
+#[cycle(untyped)]
+pub(crate) fn elements<'a>(
+    tree: &mut Tree,
+    depth: usize,
+    at: usize,
+    opened: Opened<'a>,
+) -> Result<Outcome<'a>, AllocError>
+    ensures finds { IfOk result (λ o. Finds (λ rules. Body opened.entry.marked opened.entry.beyond.now
+        (SomeItems false rules (IsAny depth rules) IsAnyCount) opened.entry.inside.octets.now) o.verdict o.rest.now) }
+    ensures shorter { IfOk result (λ o. length o.rest.now
+        ≤ length opened.entry.inside.octets.now + length opened.entry.beyond.now) }
+    ensures log { IfOk result (λ o. Logs o.verdict tree.old.departures.items tree.new.departures.items) }
+    ensures grows { OnOk result (vec_len tree.old.entries ≤ vec_len tree.new.entries) }
+{
+    let role = Role::inside(at);
+    let mut verdict = Verdict::Der;
+    let mut rest = opened.inside.octets;
+    'elements: while !opened.at(rest).is_ended() {
+        let outcome = any(tree, depth, role, opened.inside.at(rest))?;
+        verdict = verdict.and(outcome.verdict);
+        rest = outcome.rest;
+    }
+    let end = ended(tree, at, opened.at(rest))?;
+    Ok(Outcome {
+        verdict: verdict.and(end.verdict),
+        rest: end.rest,
+    })
+}
+
+// Passes the end of contents, which have no more elements.
+fn ended<'a>(tree: &mut Tree, at: usize, opened: Opened<'a>) -> Result<Outcome<'a>, AllocError>
+    ensures finds { IfOk result (λ o. Finds (λ rules. Body opened.entry.marked opened.entry.beyond.now
+        (λ inner. inner ≡ []) opened.entry.inside.octets.now) o.verdict o.rest.now) }
+    ensures shorter { IfOk result (λ o. length o.rest.now
+        ≤ length opened.entry.inside.octets.now + length opened.entry.beyond.now) }
+    ensures log { IfOk result (λ o. Logs o.verdict tree.old.departures.items tree.new.departures.items) }
+    ensures grows { OnOk result (vec_len tree.old.entries ≤ vec_len tree.new.entries) }
+{
+    let octets = opened.inside.octets;
+    if opened.marked {
+        if is_end_of_contents(octets) {
+            return Ok(Outcome {
+                verdict: Verdict::Der,
+                rest: &octets[2..],
+            });
+        }
+        let verdict = tree.depart(Rule::Unended, opened.inside.offset(), at)?;
+        return Ok(Outcome { verdict, rest: &[] });
+    }
+    if octets.is_empty() {
+        return Ok(Outcome {
+            verdict: Verdict::Der,
+            rest: opened.beyond,
+        });
+    }
+    let verdict = tree.depart(Rule::Unexpected, opened.inside.offset(), at)?;
+    Ok(Outcome {
+        verdict,
+        rest: opened.beyond,
+    })
+}
+
+// Passes the end of contents. Elements before it are unexpected.
+pub(crate) fn finish<'a>(
+    tree: &mut Tree,
+    depth: usize,
+    at: usize,
+    opened: Opened<'a>,
+) -> Result<Outcome<'a>, AllocError>
+    ensures finds { IfOk result (λ o. Finds (λ rules. Body opened.entry.marked opened.entry.beyond.now
+        (λ inner. inner ≡ []) opened.entry.inside.octets.now) o.verdict o.rest.now) }
+    ensures shorter { IfOk result (λ o. length o.rest.now
+        ≤ length opened.entry.inside.octets.now + length opened.entry.beyond.now) }
+    ensures log { IfOk result (λ o. Logs o.verdict tree.old.departures.items tree.new.departures.items) }
+    ensures grows { OnOk result (vec_len tree.old.entries ≤ vec_len tree.new.entries) }
+{
+    if opened.is_ended() {
+        return ended(tree, at, opened);
+    }
+    let unexpected = tree.depart(Rule::Unexpected, opened.inside.offset(), at)?;
+    let outcome = elements(tree, depth, at, opened)?;
+    Ok(Outcome {
+        verdict: unexpected.and(outcome.verdict),
+        rest: outcome.rest,
+    })
+}
