@@ -3,7 +3,11 @@
 mod accepted;
 mod identifiers;
 mod imports;
+mod meanings;
+mod refused_constraints;
 mod refused_names;
+mod refused_notation;
 mod refused_tags;
 mod refused_texts;
 mod refusals;
+mod warnings;

@@ -32,7 +32,7 @@ fn every_type_is_accepted(rt: HostRuntime) -> Result<(), Fail> {
 fn headers_are_accepted(rt: HostRuntime) -> Result<(), Fail> {
     let alloc = rt.alloc();
     for text in [
-        "M { iso(1) 2 } DEFINITIONS ::= BEGIN EXPORTS A, b; END",
+        "M { iso(1) 2 } DEFINITIONS ::= BEGIN EXPORTS A, b; A ::= NULL b NULL ::= NULL END",
         "M DEFINITIONS IMPLICIT TAGS ::= BEGIN IMPORTS; D ::= NULL END",
     ] {
         same(&rt, refusal(alloc, text), None);

@@ -46,7 +46,7 @@ END";
             has_text(&rt, &files, "src/asn1/a.rt", "pub kinds: SetOf<'a, Algorithm<'a>>,");
             has_text(&rt, &files, "src/asn1/a.rt", "pub size: IntegerIn<0, 64>,");
             has_text(&rt, &files, "src/asn1/a.rt", "pub reason: Implicit<Enumerated<Reason>, 1>,");
-            has_text(&rt, &files, "src/asn1/a.rt", "DefaultU64<1>");
+            has_text(&rt, &files, "src/asn1/a.rt", "pub version: Defaulted<WithDefault<IntRef<'a>, AVersionDefault>>,");
             has_text(&rt, &files, "src/asn1/a.rt", "one::Text::Utf8(value)");
             has_text(&rt, &files, "src/asn1/b.rt", "use one::{Algorithm, Text};");
             has_text(&rt, &files, "src/asn1/values.rt", "[0x2A, 0x86, 0x48, 0x86, 0xF7, 0x0D]");

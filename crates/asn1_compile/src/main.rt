@@ -9,5 +9,5 @@ use std::process::ExitCode;
 // No clause can name the arguments that the system passes; the recorded run checks that they reach
 // the program.
 fn main(rt: HostRuntime) -> ExitCode {
-    ExitCode::from(run_compile(&rt, env::args(&rt), &mut rt.stdout()))
+    ExitCode::from(run_compile(&rt, env::args(&rt), &mut rt.stdout(), &mut rt.stderr()))
 }

@@ -2,6 +2,7 @@
 
 use crate::item::Item;
 use crate::output::OutputFile;
+use crate::warning::Warning;
 
 /// The files of a module, and what they leave out.
 #[derive(Drop)]
@@ -10,4 +11,6 @@ pub struct Compiled<'a> {
     pub files: Vec<OutputFile>,
     /// The names of alternatives that are left out, because the library does not know their types.
     pub left_out: Vec<Item<'a>>,
+    /// What the files do not check or do not have, and names that are others in Rust.
+    pub warnings: Vec<Warning<'a>>,
 }

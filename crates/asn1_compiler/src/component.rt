@@ -12,6 +12,9 @@ pub struct Component<'a> {
     pub of: usize,
     /// Whether the component may be absent.
     pub presence: Presence<'a>,
+    /// Whether it is an addition: whether it stands behind a first extension mark, and in front of
+    /// a second one.
+    pub is_addition: bool,
 }
 
 /// Whether a component may be absent.

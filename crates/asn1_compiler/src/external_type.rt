@@ -3,6 +3,7 @@
 use crate::module::Module;
 use crate::named_number::NamedNumber;
 use crate::output::RustType;
+use crate::range::Range;
 use crate::tag_set::TagSet;
 use crate::type_node::TypeForm;
 use std::alloc::{AllocError, Global};
@@ -24,6 +25,8 @@ pub struct ExternalType<'a> {
     pub has_no_tag: bool,
     /// Whether its crate has what an item of a list needs.
     pub is_item: bool,
+    /// The numbers that it allows, if it is an INTEGER.
+    pub range: Range<'a>,
     /// How it is made, behind its names and tags; without the types that it is made of.
     pub form: TypeForm<'a>,
 }
@@ -41,6 +44,7 @@ impl<'a> ExternalType<'a> {
             tags,
             has_no_tag: self.has_no_tag,
             is_item: self.is_item,
+            range: self.range,
             form: bare_form(alloc, &self.form)?,
         })
     }

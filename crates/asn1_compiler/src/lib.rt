@@ -3,6 +3,7 @@
 #![tactic(auto)]
 
 mod base_form;
+mod bounds;
 mod checks;
 mod command;
 mod compiled;
@@ -25,6 +26,7 @@ mod output;
 mod parser;
 mod position;
 mod program;
+mod range;
 mod refusal;
 mod reserved;
 mod scan;
@@ -35,6 +37,7 @@ mod tag_set;
 mod tagging;
 mod type_node;
 mod value;
+mod warning;
 
 pub use checks::{Checks, check_module};
 pub use compiled::Compiled;
@@ -57,6 +60,7 @@ pub use output::{
 pub use parser::parse_module;
 pub use position::Position;
 pub use program::run_compile;
+pub use range::Range;
 pub use refusal::Refusal;
 pub use simple_type::SimpleType;
 pub use tag::{Tag, TagPrefix};
@@ -65,3 +69,4 @@ pub use tag_set::TagSet;
 pub use tagging::{TagDefault, Tagging};
 pub use type_node::{TypeForm, TypeNode};
 pub use value::{Value, ValueForm};
+pub use warning::Warning;

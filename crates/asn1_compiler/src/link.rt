@@ -1,6 +1,7 @@
 //! What names stand for: imports, and values.
 
 mod arcs;
+mod enumerations;
 mod imports;
 mod numbers;
 mod ranges;

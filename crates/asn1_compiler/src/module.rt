@@ -6,6 +6,7 @@ use crate::item::Item;
 use crate::tagging::TagDefault;
 use crate::type_node::TypeNode;
 use crate::value::Value;
+use crate::warning::Warning;
 
 /// A module.
 #[derive(Drop)]
@@ -16,6 +17,8 @@ pub struct Module<'a> {
     pub tags: TagDefault,
     /// The names that it imports.
     pub imports: Vec<Import<'a>>,
+    /// The names that it exports.
+    pub exports: Vec<Item<'a>>,
     /// The types that it imports, once they are looked up.
     pub imported: Vec<ExternalType<'a>>,
     /// The types that it names, in their order.
@@ -26,6 +29,8 @@ pub struct Module<'a> {
     pub constants: Vec<NamedConstant<'a>>,
     /// All types of the module, also those without a name.
     pub nodes: Vec<TypeNode<'a>>,
+    /// What the parser warns of.
+    pub warnings: Vec<Warning<'a>>,
 }
 
 /// A name that is imported.

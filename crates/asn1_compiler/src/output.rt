@@ -5,6 +5,7 @@ mod alternatives;
 mod choice;
 mod choice_line;
 mod choice_part;
+mod default_place;
 mod defaults;
 mod directive;
 mod docs;
@@ -13,22 +14,29 @@ mod field;
 mod fields;
 mod file;
 mod imports;
+mod integer_octets;
 mod lists;
 mod naming;
 mod nest;
+mod number_default;
 mod numbers;
 mod oid_octets;
 mod part;
 mod piece;
 mod pieces;
+mod renamed;
 mod root;
 mod rust_names;
 mod rust_type;
 mod sequence;
 mod summary;
+mod tagged;
+mod taken;
 mod template;
 mod types;
 mod values;
+mod warnings;
+mod words;
 mod wrap;
 
 use crate::checks::{Checks, check_module};
@@ -47,6 +55,7 @@ use crate::output::root::{library_of, proof_file, root_of};
 use crate::output::summary::external_of;
 use crate::output::types::types_in_order;
 use crate::output::values::{values_file, values_name};
+use crate::output::warnings::warnings_of;
 use crate::parser::parse_module;
 use crate::refusal::Refusal;
 pub use file::OutputFile;
@@ -116,20 +125,29 @@ pub fn compile<'a>(
     krate: &str,
 ) -> Result<Compiled<'a>, Failure<'a>> {
     let (module, checks) = checked_module(alloc, externals, text)?;
-    let files = files_of(alloc, &module, &checks, krate)?;
+    let names = names_of(alloc, &module)?;
+    let types = types_in_order(alloc, &module, &checks.order, &names)?;
+    check_imported(&module)?;
+    let written = Written {
+        module: &module,
+        names: &names,
+        types: &types,
+    };
     Ok(Compiled {
-        files,
+        files: files_of(alloc, &written, krate)?,
         left_out: left_out(alloc, &module)?,
+        warnings: warnings_of(alloc, &written)?,
     })
 }
 
 fn files_of<'a>(
     alloc: Global,
-    module: &Module<'a>,
-    checks: &Checks,
+    written: &Written<'_, 'a>,
     krate: &str,
 ) -> Result<Vec<OutputFile>, Failure<'a>> {
-    let pieces = pieces_of(alloc, module, checks)?;
+    let module = written.module;
+    let pieces = written.pieces(alloc)?;
+    check_pieces(module, &pieces)?;
     let mut files = vec![in alloc; library_of(alloc, &pieces)?]?;
     add_root(alloc, &mut files, module, &pieces)?;
     for piece in pieces.iter() {
@@ -137,6 +155,19 @@ fn files_of<'a>(
         add_proofs(alloc, &mut files, krate, piece)?;
     }
     Ok(files)
+}
+
+// Checks that no two pieces have the same file, or names that are the same.
+fn check_pieces<'a>(module: &Module<'a>, pieces: &Vec<Piece>) -> Result<(), Refusal<'a>> {
+    let mut before = None;
+    for piece in pieces.iter() {
+        if before == Some(piece.file.as_str()) {
+            let expected = "types whose names in Rust differ: choose one by a comment `Rust name:`";
+            return Err(Refusal::of(module.name, expected));
+        }
+        before = Some(piece.file.as_str());
+    }
+    Ok(())
 }
 
 // Adds the files of the proofs of a piece.
@@ -152,29 +183,13 @@ fn add_proofs(
     Ok(())
 }
 
-fn pieces_of<'a>(
-    alloc: Global,
-    module: &Module<'a>,
-    checks: &Checks,
-) -> Result<Vec<Piece>, Failure<'a>> {
-    let names = names_of(alloc, module)?;
-    let types = types_in_order(alloc, module, &checks.order, &names)?;
-    check_imported(module)?;
-    let written = Written {
-        module,
-        names: &names,
-        types: &types,
-    };
-    written.pieces(alloc)
-}
-
 // Adds the file that names all others, and that of the values if there is one.
-fn add_root<'a>(
+fn add_root(
     alloc: Global,
     files: &mut Vec<OutputFile>,
-    module: &Module<'a>,
+    module: &Module<'_>,
     pieces: &Vec<Piece>,
-) -> Result<(), Failure<'a>> {
+) -> Result<(), AllocError> {
     let name = module.name.text;
     match values_file(alloc, module, pieces)? {
         Some(values) => {

@@ -1,6 +1,7 @@
 //! The parser.
 
 mod constraints;
+mod digits;
 mod header;
 mod numbers;
 mod types;
@@ -15,6 +16,8 @@ use crate::refusal::Refusal;
 use crate::reserved::is_reserved;
 use crate::simple_type::SimpleType;
 use crate::type_node::TypeNode;
+use crate::warning::Warning;
+use digits::check_digits;
 use std::alloc::Global;
 
 /// The greatest number of types around a type.
@@ -27,20 +30,32 @@ struct Parser<'a> {
     items: Vec<Item<'a>>,
     at: usize,
     nodes: Vec<TypeNode<'a>>,
+    // The names behind `DEFINED BY` in components that are not parsed to their end.
+    defined_by: Vec<Item<'a>>,
+    warnings: Vec<Warning<'a>>,
 }
 
 /// Parses a module. Names are not looked up.
 pub fn parse_module<'a>(alloc: Global, text: &'a str) -> Result<Module<'a>, Failure<'a>> {
+    let items = items_of(alloc, text)?;
+    check_digits(&items)?;
     let mut parser = Parser {
         alloc,
-        items: items_of(alloc, text)?,
+        items,
         at: 0,
         nodes: Vec::new(alloc),
+        defined_by: Vec::new(alloc),
+        warnings: Vec::new(alloc),
     };
     let mut module = parser.head()?;
     parser.assignments(&mut module)?;
-    let Parser { nodes, .. } = parser;
+    let Parser {
+        nodes,
+        warnings,
+        ..
+    } = parser;
     module.nodes = nodes;
+    module.warnings = warnings;
     Ok(module)
 }
 
@@ -105,6 +120,14 @@ impl<'a> Parser<'a> {
         Err(refused(item, expected))
     }
 
+    /// Moves past an extension mark, which gets a warning.
+    fn mark(&mut self, text: &'static str) -> Result<(), Failure<'a>> {
+        let mark = self.next();
+        let warning = Warning::of(self.alloc, mark, text)?;
+        self.warnings.push(warning)?;
+        Ok(())
+    }
+
     /// Parses assignments up to `END`, and the end of the file.
     fn assignments(&mut self, module: &mut Module<'a>) -> Result<(), Failure<'a>> {
         for _ in 0..self.items.len() {
@@ -149,7 +172,16 @@ impl<'a> Parser<'a> {
             return Err(refused(self.peek(), "no parameters, which are not supported"));
         }
         self.expect("::=")?;
-        self.type_at(MAX_DEPTH)
+        self.whole_type()
+    }
+
+    // Parses a type that no other type is around.
+    fn whole_type(&mut self) -> Result<usize, Failure<'a>> {
+        let of = self.type_at(MAX_DEPTH)?;
+        match self.defined_by.first() {
+            Some(name) => Err(refused(*name, "the name of a component of a SEQUENCE around it")),
+            None => Ok(of),
+        }
     }
 
     /// Parses what follows the name of a value.
@@ -157,7 +189,7 @@ impl<'a> Parser<'a> {
         if self.peek().is("{") {
             return Err(refused(self.peek(), "no parameters, which are not supported"));
         }
-        let of = self.type_at(MAX_DEPTH)?;
+        let of = self.whole_type()?;
         self.expect("::=")?;
         let value = self.value()?;
         Ok(ValueAssignment { name, of, value })

@@ -10,72 +10,118 @@ use std::alloc::{AllocError, Global};
 use std::env::Args;
 use std::io::Write;
 use std::rt::Files;
-use std::{fs, io};
+use std::{fs, io, str};
 
-const USAGE: &str = "usage: asn1_compile --out FOLDER FILE [--with CRATE=FILE]..\n";
+const HELP: &str = "usage: asn1_compile --out FOLDER FILE [--with CRATE=FILE]..
+
+Compiles the ASN.1 module in FILE, and writes its types to the folder of a crate.
+
+  --out FOLDER       the folder of the crate
+  --with CRATE=FILE  a module that another crate holds, from which FILE imports
+  --help             prints this text
+  --version          prints the version
+";
+
+const VERSION: &str = "asn1_compile 0.2.0\n";
 
 const OUT_OF_MEMORY: &str = "error: out of memory\n";
 
 /// Runs the program with the arguments `given`, of which the first one is the name of the program.
 /// Compiles the module in a file, and writes its types to the folder of a crate. What it imports is
-/// in modules of other crates, each of which may import from those before it. Prints to `out` what
-/// is wrong, if anything is, and returns the exit status:
+/// in modules of other crates, each of which may import from those before it. Prints to `errors`
+/// what is wrong, if anything is, and returns the exit status:
 ///
-/// - 0 on success;
+/// - 0 on success, or if `--help` or `--version` is printed to `out`;
 /// - 1 if a file cannot be read, if a module is refused, if a file cannot be written, if an
-///   allocation fails, or in any case if writing to `out` fails. Nothing is written for a module
-///   that is refused;
+///   allocation fails, or in any case if writing to `out` or `errors` fails. Nothing is written for
+///   a module that is refused;
 /// - 2 if `given` is an error, or if the arguments after the program's name are not a command. In
-///   both cases the usage is printed.
-pub fn run_compile<R: Files + AllocGlobal, W: Write>(
+///   both cases the help is printed.
+pub fn run_compile<R: Files + AllocGlobal, W: Write, E: Write>(
     rt: &R,
     given: io::Result<Args>,
     out: &mut W,
+    errors: &mut E,
 ) -> u8 {
     let Ok(mut arguments) = given else {
-        return say(USAGE, 2, out);
+        return say(HELP, 2, errors);
     };
     let _name = arguments.next();
     let words: Result<Vec<String>, AllocError> = arguments.collect(rt.alloc());
     let Ok(words) = words else {
-        return say(OUT_OF_MEMORY, 1, out);
+        return say(OUT_OF_MEMORY, 1, errors);
     };
-    match CompileCommand::parse(rt.alloc(), &words) {
-        Ok(Some(command)) => run(rt, &command, out),
-        Ok(None) => say(USAGE, 2, out),
+    match words.as_slice() {
+        [word] if word.as_str() == "--help" => say(HELP, 0, out),
+        [word] if word.as_str() == "--version" => say(VERSION, 0, out),
+        words => run(rt, words, errors),
+    }
+}
+
+fn run<R: Files + AllocGlobal, W: Write>(rt: &R, words: &[String], out: &mut W) -> u8 {
+    match CompileCommand::parse(rt.alloc(), words) {
+        Ok(Some(command)) => run_command(rt, &command, out),
+        Ok(None) => say(HELP, 2, out),
         Err(_) => say(OUT_OF_MEMORY, 1, out),
     }
 }
 
-fn run<R: Files + AllocGlobal, W: Write>(rt: &R, command: &CompileCommand<'_>, out: &mut W) -> u8 {
-    match read_texts(rt, command) {
-        Ok(texts) => run_with(rt, command, texts.as_slice(), out),
-        Err(_) => say("error: a file is not read\n", 1, out),
+// Reads the modules of other crates, and that in the file.
+fn run_command<R: Files + AllocGlobal, W: Write>(
+    rt: &R,
+    command: &CompileCommand<'_>,
+    out: &mut W,
+) -> u8 {
+    let mut texts = Vec::new(rt.alloc());
+    for with in command.with.iter() {
+        match read_text(rt, with.file) {
+            Ok(text) => {
+                if texts.push(text).is_err() {
+                    return say(OUT_OF_MEMORY, 1, out);
+                }
+            }
+            Err(error) => return say_file(rt, with.file, &error, out),
+        }
+    }
+    match read_text(rt, command.file) {
+        Ok(text) => run_with(rt, command, &texts, text.as_str(), out),
+        Err(error) => say_file(rt, command.file, &error, out),
     }
 }
 
-/// The texts of the modules of other crates, and that of the module itself as the last one.
-fn read_texts<R: Files + AllocGlobal>(
-    rt: &R,
-    command: &CompileCommand<'_>,
-) -> io::Result<Vec<String>> {
-    let mut texts = Vec::new(rt.alloc());
-    for with in command.with.iter() {
-        texts.push(fs::read_to_string(rt, with.file)?)?;
+// Prints that a file or a folder cannot be read or written, and why.
+fn say_file<R: AllocGlobal, W: Write>(rt: &R, path: &str, error: &io::Error, out: &mut W) -> u8 {
+    match format!(in rt.alloc(); "error: {path}: {error}\n") {
+        Ok(line) => say(line.as_str(), 1, out),
+        Err(_) => say(OUT_OF_MEMORY, 1, out),
     }
-    texts.push(fs::read_to_string(rt, command.file)?)?;
-    Ok(texts)
+}
+
+// The text in a file.
+fn read_text<R: Files + AllocGlobal>(rt: &R, path: &str) -> io::Result<String> {
+    let octets = fs::read(rt, path)?;
+    match str::from_utf8(octets.as_slice()) {
+        Ok(text) => Ok(String::from_str(rt.alloc(), text)?),
+        Err(_) => Ok(latin_text(rt.alloc(), &octets)?),
+    }
+}
+
+// Octets as characters of ISO 8859-1, which old modules have in comments.
+fn latin_text(alloc: Global, octets: &Vec<u8>) -> Result<String, AllocError> {
+    let mut text = String::new(alloc);
+    for octet in octets.iter() {
+        text.push(char::from(*octet))?;
+    }
+    Ok(text)
 }
 
 fn run_with<'t, R: Files + AllocGlobal, W: Write>(
     rt: &R,
     command: &CompileCommand<'_>,
-    texts: &'t [String],
+    others: &'t Vec<String>,
+    text: &'t str,
     out: &mut W,
 ) -> u8 {
-    let Some((text, others)) = texts.split_last() else {
-        return say(USAGE, 2, out);
-    };
     let mut externals: Vec<External<'t>> = Vec::new(rt.alloc());
     for (with, other) in command.with.iter().zip(others.iter()) {
         let other = other.as_str();
@@ -83,7 +129,7 @@ fn run_with<'t, R: Files + AllocGlobal, W: Write>(
             return say_failure(rt, &failure, with.file, other, out);
         }
     }
-    run_compiler(rt, command, &externals, text.as_str(), out)
+    run_compiler(rt, command, &externals, text, out)
 }
 
 /// Reads a module that the crate `krate` holds, and adds it to those in front of it.
@@ -121,11 +167,11 @@ fn write_compiled<R: Files + AllocGlobal, W: Write>(
 ) -> u8 {
     match write_files(rt, command.out, &compiled.files) {
         Ok(()) => say_left_out(rt, compiled, command.file, text, out),
-        Err(_) => say("error: the files are not written\n", 1, out),
+        Err(error) => say_file(rt, command.out, &error, out),
     }
 }
 
-/// Prints a line for each alternative that is left out.
+/// Prints a line for each warning.
 fn say_left_out<R: AllocGlobal, W: Write>(
     rt: &R,
     compiled: &Compiled<'_>,
@@ -140,6 +186,20 @@ fn say_left_out<R: AllocGlobal, W: Write>(
 }
 
 fn warnings_of(
+    alloc: Global,
+    compiled: &Compiled<'_>,
+    name: &str,
+    text: &str,
+) -> Result<String, AllocError> {
+    let mut lines = left_out_of(alloc, compiled, name, text)?;
+    for warning in compiled.warnings.iter() {
+        lines.push_str(warning.line(alloc, name, text)?.as_str())?;
+    }
+    Ok(lines)
+}
+
+// A line for each alternative that is left out.
+fn left_out_of(
     alloc: Global,
     compiled: &Compiled<'_>,
     name: &str,

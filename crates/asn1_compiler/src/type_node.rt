@@ -14,8 +14,8 @@ pub struct TypeNode<'a> {
     pub item: Item<'a>,
     /// How the type is made.
     pub form: TypeForm<'a>,
-    /// The constraint behind it.
-    pub constraint: Constraint<'a>,
+    /// The constraints behind it, and the size in front of the items of a list.
+    pub constraints: Vec<Constraint<'a>>,
 }
 
 /// How a type is made.

@@ -20,8 +20,10 @@ pub fn check_alternatives<'a>(
     alternatives: &Vec<Component<'a>>,
 ) -> Result<TagSet, Failure<'a>> {
     let are_numbered = are_numbered(module, alternatives);
+    check_additions(module, alternatives, are_numbered)?;
     let mut before = TagSet::empty(alloc);
-    for (number, alternative) in alternatives.iter().enumerate() {
+    for (count, alternative) in alternatives.iter().enumerate() {
+        let number = automatic_number(alternatives, count);
         let tags = component_tags(alloc, table, alternative, are_numbered, number)?;
         if !before.is_distinct_from(&tags) {
             let expected = "an alternative whose tag no other one has";
@@ -41,8 +43,10 @@ pub fn check_sequence<'a>(
     components: &Vec<Component<'a>>,
 ) -> Result<(), Failure<'a>> {
     let are_numbered = are_numbered(module, components);
+    check_additions(module, components, are_numbered)?;
     let mut before = TagSet::empty(alloc);
-    for (number, component) in components.iter().enumerate() {
+    for (count, component) in components.iter().enumerate() {
+        let number = automatic_number(components, count);
         let tags = component_tags(alloc, table, component, are_numbered, number)?;
         if !before.is_distinct_from(&tags) {
             let expected = "a component whose tag no optional one in front of it has";
@@ -76,14 +80,49 @@ fn component_tags<'a>(
     )?)
 }
 
+// Checks that additions have no tags where components get tags by their numbers (X.680, 25).
+fn check_additions<'a>(
+    module: &Module<'a>,
+    components: &Vec<Component<'a>>,
+    are_numbered: bool,
+) -> Result<(), Refusal<'a>> {
+    for component in components.iter() {
+        if are_numbered && is_tagged(module, component.of) {
+            let expected =
+                "an addition without a tag, since the components in front of it have none";
+            return Err(Refusal::of(component.name, expected));
+        }
+    }
+    Ok(())
+}
+
+/// The number of the component with this index, where components get tags by their numbers: those
+/// that are no additions are counted first (X.680, 25.7).
+pub fn automatic_number(components: &Vec<Component<'_>>, index: usize) -> usize {
+    let is_addition = match components.get(index) {
+        Some(component) => component.is_addition,
+        None => false,
+    };
+    let before = components
+        .iter()
+        .take(index)
+        .filter(|other| other.is_addition == is_addition)
+        .count();
+    if !is_addition {
+        return before;
+    }
+    let roots = components.iter().filter(|other| !other.is_addition).count();
+    before.saturating_add(roots)
+}
+
 /// Whether these components get tags by their numbers: the module has AUTOMATIC TAGS, and none of
-/// them is written with a tag (X.680, 25.2).
+/// them is written with a tag, additions aside (X.680, 25.2).
 pub fn are_numbered(module: &Module<'_>, components: &Vec<Component<'_>>) -> bool {
     if module.tags != TagDefault::Automatic {
         return false;
     }
     for component in components.iter() {
-        if is_tagged(module, component.of) {
+        if !component.is_addition && is_tagged(module, component.of) {
             return false;
         }
     }

@@ -1,9 +1,10 @@
 //! The order of types, and types that contain themselves.
 
 use super::names::find_type;
+use crate::bounds::contained;
 use crate::component::Component;
-use crate::constraint::Constraint;
 use crate::failure::Failure;
+use crate::item::Item;
 use crate::module::Module;
 use crate::refusal::Refusal;
 use crate::type_node::{TypeForm, TypeNode};
@@ -19,17 +20,92 @@ pub fn order_of<'a>(alloc: Global, module: &Module<'a>) -> Result<Vec<usize>, Fa
             break;
         }
     }
-    check_ready(module, &ready)?;
+    check_ready(alloc, module, &ready)?;
     Ok(order)
 }
 
-fn check_ready<'a>(module: &Module<'a>, ready: &Vec<bool>) -> Result<(), Refusal<'a>> {
+fn check_ready<'a>(
+    alloc: Global,
+    module: &Module<'a>,
+    ready: &Vec<bool>,
+) -> Result<(), Failure<'a>> {
     for assigned in module.types.iter() {
         if !is_marked(ready, assigned.of) {
-            return Err(Refusal::of(assigned.name, "a type that does not contain itself"));
+            let name = name_in_loop(alloc, module, ready, assigned.of)?;
+            let refusal = Refusal::of(
+                name.unwrap_or(assigned.name),
+                "a type that does not contain itself",
+            );
+            return Err(Failure::Refused(refusal));
         }
     }
     Ok(())
+}
+
+// The first name of a type that contains itself and is part of the type with this index.
+fn name_in_loop<'a>(
+    alloc: Global,
+    module: &Module<'a>,
+    ready: &Vec<bool>,
+    index: usize,
+) -> Result<Option<Item<'a>>, AllocError> {
+    // after so many steps from part to part a type comes again
+    let start = part_after(module, ready, index);
+    let mut marks = vec![in alloc; false; module.nodes.len()]?;
+    mark_loop(module, ready, &mut marks, start);
+    for assigned in module.types.iter() {
+        if is_marked(&marks, assigned.of) {
+            return Ok(Some(assigned.name));
+        }
+    }
+    Ok(None)
+}
+
+// The type that is reached from this one by as many steps to a part that is not ready as there are
+// types.
+fn part_after(module: &Module<'_>, ready: &Vec<bool>, index: usize) -> usize {
+    let mut index = index;
+    for _ in module.nodes.iter() {
+        index = part_of(module, ready, index);
+    }
+    index
+}
+
+fn mark_loop(module: &Module<'_>, ready: &Vec<bool>, marks: &mut Vec<bool>, start: usize) {
+    let mut index = start;
+    for _ in module.nodes.iter() {
+        mark(marks, index);
+        index = part_of(module, ready, index);
+    }
+}
+
+// The first part of the type with this index that is not ready.
+fn part_of(module: &Module<'_>, ready: &Vec<bool>, index: usize) -> usize {
+    let Some(node) = module.nodes.get(index) else {
+        return index;
+    };
+    if let Some(of) = contained(node)
+        && !is_marked(ready, of)
+    {
+        return of;
+    }
+    match &node.form {
+        TypeForm::Reference => find_type(module, node.item.text).unwrap_or(index),
+        TypeForm::Sequence(components) | TypeForm::Choice(components) => {
+            component_of(ready, components).unwrap_or(index)
+        }
+        TypeForm::SequenceOf(of) | TypeForm::SetOf(of) | TypeForm::Tagged(_, of) => *of,
+        _ => index,
+    }
+}
+
+fn component_of(ready: &Vec<bool>, components: &Vec<Component<'_>>) -> Option<usize> {
+    for component in components.iter() {
+        if !is_marked(ready, component.of) {
+            return Some(component.of);
+        }
+    }
+    None
 }
 
 // Adds the types whose parts are in the order; whether there are any.
@@ -76,7 +152,7 @@ pub fn mark(marks: &mut Vec<bool>, index: usize) {
 
 // Whether all parts of a type are ready.
 fn is_ready(module: &Module<'_>, node: &TypeNode<'_>, ready: &Vec<bool>) -> bool {
-    if let Constraint::Containing(of) = node.constraint
+    if let Some(of) = contained(node)
         && !is_marked(ready, of)
     {
         return false;

@@ -60,6 +60,7 @@ fn add_component<'a>(
         let Some(arc) = number_of(scope, number)? else {
             return Ok(None);
         };
+        check_standard(item, number, arc, arcs)?;
         add_arc(arcs, number, arc)?;
         return Ok(Some(at.saturating_add(4)));
     }
@@ -75,6 +76,21 @@ fn add_component<'a>(
     };
     add_arc(arcs, item, arc)?;
     Ok(Some(at.saturating_add(1)))
+}
+
+// Checks that a name which stands for a number has no other number behind it.
+fn check_standard<'a>(
+    name: Item<'a>,
+    number: Item<'a>,
+    arc: u64,
+    arcs: &Vec<u64>,
+) -> Result<(), Refusal<'a>> {
+    match standard_arc(name.text, arcs) {
+        Some(standard) if standard != arc => {
+            Err(Refusal::of(number, "the number for which the name in front stands"))
+        }
+        _ => Ok(()),
+    }
 }
 
 // The item in parentheses behind the name at this index.

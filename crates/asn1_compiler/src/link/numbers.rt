@@ -1,5 +1,6 @@
 //! Names of numbers in types.
 
+use super::enumerations::numbered_items;
 use super::scope::Scope;
 use crate::base_form::base_form;
 use crate::constraint::Constraint;
@@ -8,6 +9,7 @@ use crate::failure::Failure;
 use crate::item::Item;
 use crate::module::Module;
 use crate::named_number::NamedNumber;
+use crate::range::Range;
 use crate::refusal::Refusal;
 use crate::type_node::{TypeForm, TypeNode};
 use std::alloc::Global;
@@ -16,11 +18,11 @@ use std::alloc::Global;
 /// not defined.
 pub fn resolve_numbers<'a>(alloc: Global, module: &mut Module<'a>) -> Result<(), Failure<'a>> {
     for index in 0..module.nodes.len() {
-        let Some((form, constraint)) = resolved(alloc, module, index)? else {
+        let Some((form, constraints)) = resolved(alloc, module, index)? else {
             continue;
         };
         if let Some(node) = module.nodes.get_mut(index) {
-            node.constraint = constraint;
+            node.constraints = constraints;
             if let Some(form) = form {
                 node.form = form;
             }
@@ -29,12 +31,12 @@ pub fn resolve_numbers<'a>(alloc: Global, module: &mut Module<'a>) -> Result<(),
     Ok(())
 }
 
-// The constraint of a type without names, and how it is made if that has numbers.
+// The constraints of a type without names, and how it is made if that has numbers.
 fn resolved<'a>(
     alloc: Global,
     module: &Module<'a>,
     index: usize,
-) -> Result<Option<(Option<TypeForm<'a>>, Constraint<'a>)>, Failure<'a>> {
+) -> Result<Option<(Option<TypeForm<'a>>, Vec<Constraint<'a>>)>, Failure<'a>> {
     let scope = Scope {
         module,
         known: &module.constants,
@@ -43,8 +45,8 @@ fn resolved<'a>(
         return Ok(None);
     };
     let form = resolved_form(alloc, &scope, node)?;
-    let constraint = resolved_constraint(&scope, index, node.constraint)?;
-    Ok(Some((form, constraint)))
+    let constraints = resolved_constraints(alloc, &scope, index, &node.constraints)?;
+    Ok(Some((form, constraints)))
 }
 
 fn resolved_form<'a>(
@@ -57,7 +59,8 @@ fn resolved_form<'a>(
             Ok(Some(TypeForm::Integer(resolved_numbers(alloc, scope, numbers)?)))
         }
         TypeForm::Enumerated(numbers) => {
-            Ok(Some(TypeForm::Enumerated(resolved_numbers(alloc, scope, numbers)?)))
+            let written = resolved_numbers(alloc, scope, numbers)?;
+            Ok(Some(TypeForm::Enumerated(numbered_items(alloc, &written)?)))
         }
         TypeForm::BitString(numbers) => {
             Ok(Some(TypeForm::BitString(resolved_numbers(alloc, scope, numbers)?)))
@@ -80,27 +83,39 @@ fn resolved_numbers<'a>(
         found.push(NamedNumber {
             name: named.name,
             number,
+            is_addition: named.is_addition,
         })?;
     }
     Ok(found)
 }
 
-fn resolved_constraint<'a>(
+fn resolved_constraints<'a>(
+    alloc: Global,
     scope: &Scope<'_, 'a>,
     index: usize,
-    constraint: Constraint<'a>,
-) -> Result<Constraint<'a>, Refusal<'a>> {
-    match constraint {
-        Constraint::Range(low, high) => Ok(Constraint::Range(
-            resolved_endpoint(scope, index, low)?,
-            resolved_endpoint(scope, index, high)?,
-        )),
-        Constraint::Size(low, high) => Ok(Constraint::Size(
-            resolved_endpoint(scope, usize::MAX, low)?,
-            resolved_endpoint(scope, usize::MAX, high)?,
-        )),
-        constraint => Ok(constraint),
+    constraints: &Vec<Constraint<'a>>,
+) -> Result<Vec<Constraint<'a>>, Failure<'a>> {
+    let mut found = Vec::new(alloc);
+    for constraint in constraints.iter() {
+        found.push(match *constraint {
+            Constraint::Range(range) => Constraint::Range(resolved_range(scope, index, range)?),
+            Constraint::Size(size) => Constraint::Size(resolved_range(scope, usize::MAX, size)?),
+            Constraint::Containing(of) => Constraint::Containing(of),
+        })?;
     }
+    Ok(found)
+}
+
+fn resolved_range<'a>(
+    scope: &Scope<'_, 'a>,
+    index: usize,
+    range: Range<'a>,
+) -> Result<Range<'a>, Refusal<'a>> {
+    Ok(Range {
+        low: resolved_endpoint(scope, index, range.low)?,
+        high: resolved_endpoint(scope, index, range.high)?,
+        ..range
+    })
 }
 
 // A name of another value than a number stays: it may be a value of the type.

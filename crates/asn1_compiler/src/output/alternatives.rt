@@ -1,8 +1,9 @@
 //! Alternatives of a CHOICE.
 
-use super::directive::type_name;
+use super::directive::variant_name;
 use super::docs::doc_of;
 use super::rust_type::RustType;
+use super::taken::{ALONE, Taken};
 use super::template::Places;
 use super::types::component_types;
 use crate::component::Component;
@@ -43,10 +44,12 @@ pub fn alternatives<'a>(
 ) -> Result<Vec<Alternative>, Failure<'a>> {
     let mut found = Vec::new(alloc);
     let types = component_types(alloc, module, table, components)?;
+    let mut taken = Taken::new(alloc);
     for (component, of) in components.iter().zip(types.iter()) {
         if !is_unknown(module, component.of) {
+            let name = variant_name(alloc, component.name)?;
             found.push(Alternative {
-                name: type_name(alloc, component.name)?,
+                name: taken.take_free(alloc, name.as_str(), ALONE, "")?,
                 doc: doc_of(alloc, component.name.comments, "    ", component.name.text)?,
                 of: of.copy(alloc)?,
             })?;

@@ -1,14 +1,15 @@
 //! Types of fields that have a default.
 
-use super::directive::{own_type, type_name};
-use super::enumeration::number_of_item;
-use super::rust_type::RustType;
+use super::default_place::DefaultPlace;
+use super::directive::own_type;
+use super::enumeration::{number_of_item, variant_names};
+use super::lists::list_field;
+use super::number_default::{check_range, integer, named, number_of};
+use super::rust_type::{RustKind, RustType};
+use super::tagged::{behind_tag, behind_tags, end_of, leaf_of};
 use super::template::{Places, filled};
 use crate::base_form::{base_form, base_of};
-use crate::constant::{Constant, find_constant};
-use crate::endpoint::Endpoint;
 use crate::failure::Failure;
-use crate::item_kind::ItemKind;
 use crate::module::Module;
 use crate::named_number::NamedNumber;
 use crate::refusal::Refusal;
@@ -59,54 +60,93 @@ impl DefaultOf<@T> for @N {
 }
 ";
 
-/// The type of a DEFAULT field, for the type `of` of its component, whose index is `index`. If the
-/// default needs a type of its own, it gets the name `name`.
+const NO_ITEM: &str = "the name of a number of this type";
+
+/// The type of a DEFAULT field with this default.
 pub fn default_type<'a>(
     alloc: Global,
     module: &Module<'a>,
     types: &Vec<RustType>,
-    of: &RustType,
-    index: usize,
+    place: &DefaultPlace<'_>,
     value: &Value<'a>,
-    name: &str,
 ) -> Result<DefaultType, Failure<'a>> {
-    let leaf = leaf_of(module, index);
-    let Some(found) = types.get(leaf) else {
+    let leaf = leaf_of(module, place.index);
+    if own_type(module, base_of(module, leaf)).is_some() {
+        return Ok(DefaultType::plain(alloc, place.of)?);
+    }
+    let DefaultType { of, own } = inside_type(alloc, module, types, place, value)?;
+    let Some(text) = behind_tags(alloc, module, place.index, of.text)? else {
         return Err(not_written(value));
     };
-    if own_type(module, base_of(module, leaf)).is_some() {
-        return Ok(DefaultType::plain(alloc, of)?);
-    }
-    let inside = match base_form(module, leaf) {
-        Some(TypeForm::Simple(SimpleType::Boolean)) => boolean(alloc, value)?,
-        Some(TypeForm::Enumerated(items)) => {
-            return item_default(alloc, of, found, items, value, name);
-        }
-        Some(TypeForm::Integer(items)) if found.text.starts_with("NamedInteger") => {
-            return item_default(alloc, of, found, items, value, name);
-        }
-        Some(TypeForm::Integer(numbers)) => integer(alloc, module, numbers, value)?,
-        _ => return Err(not_written(value)),
+    let text = match place.numbered {
+        Some(prefix) => behind_tag(alloc, module, prefix, text.as_str())?,
+        None => text,
     };
-    let of = with_inside(alloc, of, found.text.as_str(), inside.as_str(), value)?;
-    Ok(DefaultType { of, own: None })
+    Ok(DefaultType {
+        of: RustType::new(alloc, text.as_str(), place.of.kind)?,
+        own,
+    })
 }
 
-// The type `of`, with `inside` in place of the type `found`.
-fn with_inside<'a>(
+// The type of the field behind all tags.
+fn inside_type<'a>(
     alloc: Global,
-    of: &RustType,
-    found: &str,
-    inside: &str,
+    module: &Module<'a>,
+    types: &Vec<RustType>,
+    place: &DefaultPlace<'_>,
     value: &Value<'a>,
-) -> Result<RustType, Failure<'a>> {
-    match of.text.split_once(found) {
-        Some((before, after)) => {
-            let text = format!(in alloc; "{before}{inside}{after}")?;
-            Ok(RustType::new(alloc, text.as_str(), of.kind)?)
+) -> Result<DefaultType, Failure<'a>> {
+    let index = end_of(module, place.index);
+    let text = text_at(types, index);
+    match base_form(module, place.index) {
+        Some(TypeForm::Simple(SimpleType::Boolean)) => boolean(alloc, value),
+        Some(TypeForm::Enumerated(items)) if named(items, value.item.text).is_some() => {
+            item_default(alloc, module, place, text, items, value)
         }
-        None => Err(not_written(value)),
+        Some(TypeForm::Integer(items)) if text.starts_with("NamedInteger") => {
+            check_range(module, place, items, value)?;
+            item_default(alloc, module, place, text, items, value)
+        }
+        Some(TypeForm::Integer(numbers)) => integer(alloc, module, place, numbers, value),
+        Some(TypeForm::SequenceOf(_) | TypeForm::SetOf(_)) if is_empty(value) => {
+            list_default(alloc, module, index, text, value)
+        }
+        Some(TypeForm::Enumerated(_)) => Err(Failure::Refused(Refusal::of(value.item, NO_ITEM))),
+        _ => Err(not_written(value)),
     }
+}
+
+fn text_at(types: &Vec<RustType>, index: usize) -> &str {
+    match types.get(index) {
+        Some(found) => found.text.as_str(),
+        None => "",
+    }
+}
+
+// Whether a value is braces with nothing between them.
+fn is_empty(value: &Value<'_>) -> bool {
+    match &value.form {
+        ValueForm::Braces(items) => items.is_empty(),
+        _ => false,
+    }
+}
+
+// The type of a list whose default is the empty one.
+fn list_default<'a>(
+    alloc: Global,
+    module: &Module<'a>,
+    index: usize,
+    text: &str,
+    value: &Value<'a>,
+) -> Result<DefaultType, Failure<'a>> {
+    if list_field(module, index).is_some() || !text.contains("Of<") {
+        return Err(not_written(value));
+    }
+    let text = format!(in alloc; "WithDefault<{text}, DefaultEmpty>")?;
+    Ok(DefaultType {
+        of: RustType::element(alloc, text),
+        own: None,
+    })
 }
 
 // A default that is an item of an enumeration.
@@ -138,51 +178,61 @@ impl<'t> Places for ItemDefault<'t> {
 }
 
 // The type of a field with this default.
-fn with_item<'a>(
-    alloc: Global,
-    of: &RustType,
-    text: &ItemDefault<'_>,
-    value: &Value<'a>,
-) -> Result<DefaultType, Failure<'a>> {
-    let inside = filled(alloc, "WithDefault<@T, @N>", text)?;
-    let of = with_inside(alloc, of, text.of, inside.as_str(), value)?;
-    let own = own_default(alloc, text)?;
-    Ok(DefaultType { of, own: Some(own) })
-}
-
-fn own_default(alloc: Global, text: &ItemDefault<'_>) -> Result<OwnDefault, AllocError> {
-    Ok(OwnDefault {
-        name: String::from_str(alloc, text.name)?,
-        text: filled(alloc, ITEM, text)?,
+fn with_item<'a>(alloc: Global, text: &ItemDefault<'_>) -> Result<DefaultType, Failure<'a>> {
+    Ok(DefaultType {
+        of: RustType::element(alloc, filled(alloc, "WithDefault<@T, @N>", text)?),
+        own: Some(OwnDefault {
+            name: String::from_str(alloc, text.name)?,
+            text: filled(alloc, ITEM, text)?,
+        }),
     })
 }
 
 // The type of a field whose default is an item of an enumeration.
 fn item_default<'a>(
     alloc: Global,
-    of: &RustType,
-    found: &RustType,
+    module: &Module<'a>,
+    place: &DefaultPlace<'_>,
+    of: &str,
     items: &Vec<NamedNumber<'a>>,
     value: &Value<'a>,
-    name: &str,
 ) -> Result<DefaultType, Failure<'a>> {
-    let Some(enumeration) = inside_of(found.text.as_str()) else {
+    let Some(enumeration) = inside_of(of) else {
         return Err(not_written(value));
     };
-    for (count, item) in items.iter().enumerate() {
-        if item.name.text == value.item.text {
-            let number = number_of_item(item, count)?;
+    if of.starts_with("EnumeratedRef") {
+        return Err(not_written(value));
+    }
+    let names = variant_names(alloc, items)?;
+    for (item, name) in items.iter().zip(names.iter()) {
+        if is_item(module, items, item, value) {
             let text = ItemDefault {
-                name,
-                of: found.text.as_str(),
+                name: place.name,
+                of,
                 enumeration,
-                variant: type_name(alloc, item.name)?,
-                number,
+                variant: String::from_str(alloc, name.as_str())?,
+                number: number_of_item(item)?,
             };
-            return with_item(alloc, of, &text, value);
+            return with_item(alloc, &text);
         }
     }
-    Err(Failure::Refused(Refusal::of(value.item, "the name of a number of this type")))
+    Err(Failure::Refused(Refusal::of(value.item, NO_ITEM)))
+}
+
+// Whether a value is this item, by its name or its number.
+fn is_item<'a>(
+    module: &Module<'a>,
+    items: &Vec<NamedNumber<'a>>,
+    item: &NamedNumber<'a>,
+    value: &Value<'a>,
+) -> bool {
+    if named(items, value.item.text).is_some() {
+        return item.name.text == value.item.text;
+    }
+    match (number_of(module, items, value), item.number) {
+        (Some(number), Some(of)) => number.is_same(of),
+        _ => false,
+    }
 }
 
 // What stands between `<` and `>`.
@@ -195,80 +245,14 @@ fn not_written<'a>(value: &Value<'a>) -> Failure<'a> {
     Failure::Refused(Refusal::of(value.item, "a default for which the compiler has a form"))
 }
 
-// The type behind the tags of a type.
-fn leaf_of(module: &Module<'_>, index: usize) -> usize {
-    let mut index = index;
-    for _ in module.nodes.iter() {
-        match module.nodes.get(index) {
-            Some(node) => match &node.form {
-                TypeForm::Tagged(_, of) => index = *of,
-                _ => return index,
-            },
-            None => return index,
-        }
-    }
-    index
-}
-
-fn boolean<'a>(alloc: Global, value: &Value<'a>) -> Result<String, Failure<'a>> {
-    match value.item.text {
-        "FALSE" => Ok(String::from_str(alloc, "BooleanRef<'a>")?),
-        "TRUE" => Ok(String::from_str(alloc, "WithDefault<BooleanRef<'a>, DefaultTrue>")?),
-        _ => Err(Failure::Refused(Refusal::of(value.item, "TRUE or FALSE"))),
-    }
-}
-
-fn integer<'a>(
-    alloc: Global,
-    module: &Module<'a>,
-    numbers: &Vec<NamedNumber<'a>>,
-    value: &Value<'a>,
-) -> Result<String, Failure<'a>> {
-    let Some(number) = number_of(module, numbers, value) else {
-        let expected = "a number, or the name of one, from 0 to 18446744073709551615";
-        return Err(Failure::Refused(Refusal::of(value.item, expected)));
+fn boolean<'a>(alloc: Global, value: &Value<'a>) -> Result<DefaultType, Failure<'a>> {
+    let text = match value.item.text {
+        "FALSE" => "BooleanRef<'a>",
+        "TRUE" => "WithDefault<BooleanRef<'a>, DefaultTrue>",
+        _ => return Err(Failure::Refused(Refusal::of(value.item, "TRUE or FALSE"))),
     };
-    Ok(format!(in alloc; "WithDefault<IntegerOf<u64>, DefaultU64<{number}>>")?)
-}
-
-// The number that a value is, as it is written, by a named number, or by a value of the module.
-fn number_of<'a>(
-    module: &Module<'a>,
-    numbers: &Vec<NamedNumber<'a>>,
-    value: &Value<'a>,
-) -> Option<u64> {
-    match (&value.form, value.item.kind) {
-        (ValueForm::Item, ItemKind::Number) => value.item.text.parse::<u64>().ok(),
-        (ValueForm::Item, ItemKind::LowerName) => {
-            match named(numbers, value.item.text) {
-                Some(number) => Some(number),
-                None => assigned(module, value.item.text),
-            }
-        }
-        _ => None,
-    }
-}
-
-fn named(numbers: &Vec<NamedNumber<'_>>, name: &str) -> Option<u64> {
-    for named in numbers.iter() {
-        if named.name.text == name {
-            return match named.number {
-                Some(Endpoint::Number(number)) => Some(number),
-                _ => None,
-            };
-        }
-    }
-    None
-}
-
-// The number that a value of the module is, or one that it imports.
-fn assigned(module: &Module<'_>, name: &str) -> Option<u64> {
-    let index = find_constant(&module.constants, name)?;
-    match module.constants.get(index) {
-        Some(named) => match &named.constant {
-            Constant::Number(number) => Some(*number),
-            _ => None,
-        },
-        None => None,
-    }
+    Ok(DefaultType {
+        of: RustType::new(alloc, text, RustKind::Element)?,
+        own: None,
+    })
 }

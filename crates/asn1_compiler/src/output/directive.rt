@@ -2,6 +2,7 @@
 
 use super::docs::without_marks;
 use super::rust_names::{pascal_name, snake_name};
+use super::words::is_used;
 use crate::item::Item;
 use crate::module::Module;
 use crate::octet_class::{is_digit, is_word_octet};
@@ -20,12 +21,17 @@ pub const TYPE: &str = "Rust type:";
 /// and is written by hand.
 pub const DEFAULT: &str = "Rust default:";
 
+/// What begins the line of a comment that gives the type of numbers of a component with a default,
+/// which is `u64`.
+pub const INTEGER: &str = "Rust integer:";
+
 /// Whether the line of a comment, without its marks, gives a name.
 pub fn is_directive(line: &str) -> bool {
     line.starts_with(NAME)
         || line.starts_with(FIELD)
         || line.starts_with(TYPE)
         || line.starts_with(DEFAULT)
+        || line.starts_with(INTEGER)
 }
 
 /// The name that a comment gives behind `key`, if it is a name of Rust.
@@ -67,6 +73,11 @@ pub fn own_default<'a>(name: Item<'a>) -> Option<&'a str> {
     directive(name.comments, DEFAULT)
 }
 
+/// Whether the comment in front of a component asks for numbers of 64 bits without a sign.
+pub fn is_word(name: Item<'_>) -> bool {
+    directive(name.comments, INTEGER) == Some("u64")
+}
+
 /// The name of a type of Rust, without its parameters.
 pub fn name_of_type(text: &str) -> &str {
     match text.split_once('<') {
@@ -93,13 +104,32 @@ fn are_word_octets(octets: &[u8]) -> bool {
     true
 }
 
-/// The name of the type or the variant with this name in the module.
-pub fn type_name(alloc: Global, name: Item<'_>) -> Result<String, AllocError> {
-    if let Some(own) = own_type_in(name.comments) {
-        return String::from_str(alloc, name_of_type(own));
+/// The name that the comment in front of the name of a type chooses for Rust.
+pub fn chosen_name<'a>(name: Item<'a>) -> Option<&'a str> {
+    match own_type_in(name.comments) {
+        Some(own) => Some(name_of_type(own)),
+        None => directive(name.comments, NAME),
     }
-    match directive(name.comments, NAME) {
+}
+
+/// The name of the type or the variant with this name in the module. One that files need for
+/// something else gets a `_` behind it.
+pub fn type_name(alloc: Global, name: Item<'_>) -> Result<String, AllocError> {
+    if let Some(chosen) = chosen_name(name) {
+        return String::from_str(alloc, chosen);
+    }
+    let mut text = pascal_name(alloc, name.text)?;
+    if is_used(text.as_str()) {
+        text.push('_')?;
+    }
+    Ok(text)
+}
+
+/// The name of the variant with this name in the module.
+pub fn variant_name(alloc: Global, name: Item<'_>) -> Result<String, AllocError> {
+    match chosen_name(name) {
         Some(chosen) => String::from_str(alloc, chosen),
+        None if name.text == "self" => String::from_str(alloc, "Self_"),
         None => pascal_name(alloc, name.text),
     }
 }

@@ -1,6 +1,7 @@
 //! The text of an ENUMERATED, and of the bits of a BIT STRING.
 
-use super::directive::type_name;
+use super::directive::variant_name;
+use super::taken::{ALONE, Taken};
 use super::template::{Places, fill};
 use crate::endpoint::Endpoint;
 use crate::failure::Failure;
@@ -119,19 +120,34 @@ fn variants_of<'a>(
     items: &Vec<NamedNumber<'a>>,
 ) -> Result<Vec<Variant>, Failure<'a>> {
     let mut variants = Vec::new(alloc);
-    for (count, item) in items.iter().enumerate() {
-        let number = number_of_item(item, count)?;
-        let name = type_name(alloc, item.name)?;
-        variants.push(Variant { name, number })?;
+    let names = variant_names(alloc, items)?;
+    for (item, name) in items.iter().zip(names.iter()) {
+        variants.push(Variant {
+            name: String::from_str(alloc, name.as_str())?,
+            number: number_of_item(item)?,
+        })?;
     }
     Ok(variants)
 }
 
-/// The number of an item; items without numbers are counted.
-pub fn number_of_item<'a>(item: &NamedNumber<'a>, count: usize) -> Result<u64, Failure<'a>> {
+/// The names of the variants of these items.
+pub fn variant_names(
+    alloc: Global,
+    items: &Vec<NamedNumber<'_>>,
+) -> Result<Vec<String>, AllocError> {
+    let mut names = Vec::new(alloc);
+    let mut taken = Taken::new(alloc);
+    for item in items.iter() {
+        let name = variant_name(alloc, item.name)?;
+        names.push(taken.take_free(alloc, name.as_str(), ALONE, "")?)?;
+    }
+    Ok(names)
+}
+
+/// The number of an item.
+pub fn number_of_item<'a>(item: &NamedNumber<'a>) -> Result<u64, Failure<'a>> {
     match item.number {
         Some(Endpoint::Number(number)) if number < 4294967296 => Ok(number),
-        None => Ok(count as u64),
         _ => {
             let refusal = Refusal::of(item.name, "a number from 0 to 4294967295");
             Err(Failure::Refused(refusal))

@@ -1,13 +1,16 @@
 //! The fields of a SEQUENCE.
 
+use super::default_place::DefaultPlace;
 use super::defaults::{DefaultType, default_type};
-use super::directive::{field_name, name_of_type, own_default, type_name};
+use super::directive::{field_name, is_word, name_of_type, own_default, variant_name};
 use super::docs::doc_of;
 use super::field::{Field, FieldPresence};
+use super::naming::text_at;
 use super::pieces::Written;
 use super::rust_type::RustType;
 use super::sequence::SequenceText;
-use super::types::component_types;
+use super::taken::{ALONE, Taken};
+use super::types::{automatic_tag, component_types};
 use crate::component::{Component, Presence};
 use crate::failure::Failure;
 use std::alloc::{AllocError, Global};
@@ -22,30 +25,36 @@ impl<'m, 'a> Written<'m, 'a> {
     ) -> Result<Vec<Field>, Failure<'a>> {
         let mut fields = Vec::new(alloc);
         let types = component_types(alloc, self.module, self.types, components)?;
-        for (component, of) in components.iter().zip(types.iter()) {
-            let found = self.field_type(alloc, owner, component, of)?;
-            fields.push(field_of(alloc, component, found)?)?;
+        let names = field_names(alloc, components)?;
+        for (count, (component, of)) in components.iter().zip(types.iter()).enumerate() {
+            let name = default_name(alloc, owner, component)?;
+            let place = DefaultPlace {
+                of,
+                index: component.of,
+                numbered: automatic_tag(self.module, components, count),
+                is_word: is_word(component.name),
+                name: name.as_str(),
+            };
+            let found = self.field_type(alloc, component, &place)?;
+            let name = String::from_str(alloc, text_at(&names, count))?;
+            fields.push(field_of(alloc, component, name, found)?)?;
         }
         Ok(fields)
     }
 
-    // The type of the field for a component of the type `of`.
+    // The type of the field for a component.
     fn field_type(
         &self,
         alloc: Global,
-        owner: &str,
         component: &Component<'a>,
-        of: &RustType,
+        place: &DefaultPlace<'_>,
     ) -> Result<DefaultType, Failure<'a>> {
-        let Presence::Default(value) = &component.presence else {
-            return Ok(DefaultType::plain(alloc, of)?);
-        };
-        if own_default(component.name).is_some() {
-            return Ok(DefaultType::plain(alloc, of)?);
+        match &component.presence {
+            Presence::Default(value) if own_default(component.name).is_none() => {
+                default_type(alloc, self.module, self.types, place, value)
+            }
+            _ => Ok(DefaultType::plain(alloc, place.of)?),
         }
-        let name = default_name(alloc, owner, component)?;
-        let (module, types) = (self.module, self.types);
-        default_type(alloc, module, types, of, component.of, value, name.as_str())
     }
 }
 
@@ -55,19 +64,34 @@ fn default_name(
     owner: &str,
     component: &Component<'_>,
 ) -> Result<String, AllocError> {
-    let end = type_name(alloc, component.name)?;
+    let end = variant_name(alloc, component.name)?;
     let end = end.as_str();
     format!(in alloc; "{owner}{end}Default")
+}
+
+/// The names of the fields for these components.
+pub fn field_names(
+    alloc: Global,
+    components: &Vec<Component<'_>>,
+) -> Result<Vec<String>, AllocError> {
+    let mut names = Vec::new(alloc);
+    let mut taken = Taken::new(alloc);
+    for component in components.iter() {
+        let name = field_name(alloc, component.name)?;
+        names.push(taken.take_free(alloc, name.as_str(), ALONE, "_")?)?;
+    }
+    Ok(names)
 }
 
 fn field_of(
     alloc: Global,
     component: &Component<'_>,
+    name: String,
     found: DefaultType,
 ) -> Result<Field, AllocError> {
     let DefaultType { of, own } = found;
     Ok(Field {
-        name: field_name(alloc, component.name)?,
+        name,
         doc: doc_of(alloc, component.name.comments, "    ", component.name.text)?,
         of,
         presence: presence_of(alloc, component)?,

@@ -1,8 +1,9 @@
 //! Files of Rust.
 
 use super::directive::{name_of_type, own_default, own_type};
-use super::imports::{has_word, push_ghost_use, push_use};
+use super::imports::{push_ghost_use, push_use, words_of};
 use super::piece::{Piece, PieceKind};
+use super::words::{DER, DER_ASN1};
 use super::wrap::push_wrapped;
 use crate::component::Component;
 use crate::external_type::ExternalType;
@@ -24,6 +25,12 @@ pub struct OutputFile {
 const GHOST_FALSE: &str = "ghost use Rattle.std.specs.Prelude.{◌≡◌, false};
 ";
 
+const GHOST_LIST: &str = "ghost use Rattle.std.specs.Prelude.{◌≡◌, ◌∷◌, []};
+";
+
+const GHOST_BOTH: &str = "ghost use Rattle.std.specs.Prelude.{◌≡◌, ◌∷◌, [], false};
+";
+
 const MEANING: &str = "alternative
 any_element
 choice_is_item
@@ -39,79 +46,6 @@ sequence
 sequence_is_item
 sequence_item
 two_fields";
-
-const DER: &str = "Decode
-DecodeValue
-Encode
-EncodeValue
-Error
-FixedTag
-FromFields
-Header
-IsValue
-Lawful
-Length
-ReadValue
-Reader
-Sequence
-SliceReader
-Tag
-Writer
-WrittenValue
-decode_fields
-decode_sequence
-decode_wrapped
-field_refs";
-
-const DER_ASN1: &str = "AnyRef
-Application
-BitStringOf
-BitStringRef
-BmpStringRef
-BooleanRef
-BorrowedItem
-Choice
-DecodeItem
-DefaultOf
-DefaultTrue
-DefaultU64
-DefaultValue
-Defaulted
-DefaultedTo
-Described
-DescribedChoice
-Either
-Enumerated
-Enumeration
-Explicit
-ExplicitAny
-GeneralizedTime
-Ia5StringRef
-Implicit
-IntRef
-IntegerIn
-IntegerOf
-Item
-NamedBitsRef
-NamedInteger
-Nestable
-Null
-NumericStringRef
-ObjectIdentifierRef
-OctetStringOf
-OctetStringRef
-Optional
-PrintableStringRef
-Private
-SequenceOf
-SequenceRef
-SetOf
-TeletexStringRef
-UtcTime
-Utf8StringRef
-VisibleStringRef
-WithDefault
-decode_choice";
 
 /// The file of a piece, with its imports.
 pub fn file_of(
@@ -144,11 +78,13 @@ fn push_file(
         "//! Written by asn1_compile from the module {of}: change the module instead.\n//!\n//! {name}.\n"
     )?;
     let code = code_of(alloc, piece.body.as_str())?;
-    push_ghost_lines(alloc, out, krate, piece, code.as_str())?;
+    let words = words_of(alloc, code.as_str())?;
+    let words = words.as_str();
+    push_ghost_lines(alloc, out, krate, piece, code.as_str(), words)?;
     out.push('\n')?;
-    push_own_types(alloc, out, module, code.as_str())?;
-    push_own(alloc, out, piece, code.as_str(), all)?;
-    push_uses(alloc, out, module, code.as_str())?;
+    push_own_types(alloc, out, module, words)?;
+    push_own(alloc, out, piece, words, all)?;
+    push_uses(alloc, out, module, words)?;
     out.push('\n')?;
     push_wrapped(alloc, out, piece.body.as_str())
 }
@@ -158,12 +94,12 @@ fn push_uses(
     alloc: Global,
     out: &mut String,
     module: &Module<'_>,
-    code: &str,
+    words: &str,
 ) -> Result<(), AllocError> {
-    push_use(alloc, out, code, "der", DER)?;
-    push_use(alloc, out, code, "der_asn1", DER_ASN1)?;
-    push_imported(alloc, out, code, &module.imported)?;
-    push_use(alloc, out, code, "std::alloc", "Global")
+    push_use(alloc, out, words, "der", DER)?;
+    push_use(alloc, out, words, "der_asn1", DER_ASN1)?;
+    push_imported(alloc, out, words, &module.imported)?;
+    push_use(alloc, out, words, "std::alloc", "Global")
 }
 
 // The lines of a text that are no comments.
@@ -184,21 +120,21 @@ fn push_ghost_lines(
     krate: &str,
     piece: &Piece,
     code: &str,
+    words: &str,
 ) -> Result<(), AllocError> {
     match piece.kind {
-        PieceKind::Sequence if has_word(code, "false") => text.push_str(GHOST_FALSE)?,
-        PieceKind::Sequence => text.push_str("ghost use Rattle.std.specs.Prelude.{◌≡◌};\n")?,
+        PieceKind::Sequence => text.push_str(sequence_words(code, words))?,
         PieceKind::List => text.push_str(GHOST_FALSE)?,
         PieceKind::Enumeration => text.push_str(
             "ghost use Rattle.std.specs.Prelude.{◌==◌, Option, Some, None, if◌then◌else◌};\n",
         )?,
-        _ => push_ghost_use(alloc, text, code, "Rattle.std.specs.Prelude", "false")?,
+        _ => push_ghost_use(alloc, text, words, "Rattle.std.specs.Prelude", "false")?,
     }
-    push_ghost_uses(alloc, text, code)?;
+    push_ghost_uses(alloc, text, words)?;
     match piece.kind {
         PieceKind::Choice => {
             let either = "Rattle.der_asn1.specs.declared.either.Either.TheVariants";
-            push_ghost_use(alloc, text, code, either, "First\nSecond")?;
+            push_ghost_use(alloc, text, words, either, "First\nSecond")?;
             push_variants(text, krate, piece)
         }
         PieceKind::Enumeration => push_variants(text, krate, piece),
@@ -206,22 +142,44 @@ fn push_ghost_lines(
     }
 }
 
+// What the clauses of a SEQUENCE import from std.
+fn sequence_words(code: &str, words: &str) -> &'static str {
+    match (code.contains("∷"), is_line_of(words, "false")) {
+        (true, true) => GHOST_BOTH,
+        (true, false) => GHOST_LIST,
+        (false, true) => GHOST_FALSE,
+        (false, false) => "ghost use Rattle.std.specs.Prelude.{◌≡◌};\n",
+    }
+}
+
 // Adds the imports for clauses of any piece.
-fn push_ghost_uses(alloc: Global, text: &mut String, code: &str) -> Result<(), AllocError> {
-    push_ghost_use(alloc, text, code, "Rattle.std.proofs.Common", "arith\nrefl")?;
-    push_ghost_use(alloc, text, code, "Rattle.der.specs.Prelude", "Set\nmap_ok")?;
-    let integer = "Rattle.der_asn1.specs.Integer";
-    push_ghost_use(alloc, text, code, integer, "integer_octets")?;
+fn push_ghost_uses(alloc: Global, text: &mut String, words: &str) -> Result<(), AllocError> {
     push_ghost_use(
         alloc,
         text,
-        code,
+        words,
+        "Rattle.std.proofs.Common",
+        "arith\nrefl",
+    )?;
+    push_ghost_use(
+        alloc,
+        text,
+        words,
+        "Rattle.der.specs.Prelude",
+        "Set\nmap_ok",
+    )?;
+    let integer = "Rattle.der_asn1.specs.Integer";
+    push_ghost_use(alloc, text, words, integer, "integer_octets")?;
+    push_ghost_use(
+        alloc,
+        text,
+        words,
         "Rattle.der_asn1.specs.Item",
         "decodes_same",
     )?;
     let defaulted_to = "Rattle.der_asn1.specs.DefaultedTo";
-    push_ghost_use(alloc, text, code, defaulted_to, "defaulted_to")?;
-    push_ghost_use(alloc, text, code, "Rattle.der_asn1.specs.Meaning", MEANING)
+    push_ghost_use(alloc, text, words, defaulted_to, "defaulted_to")?;
+    push_ghost_use(alloc, text, words, "Rattle.der_asn1.specs.Meaning", MEANING)
 }
 
 // Adds the import of the variants that the piece defines.
@@ -238,7 +196,7 @@ fn push_own_types(
     alloc: Global,
     text: &mut String,
     module: &Module<'_>,
-    code: &str,
+    words: &str,
 ) -> Result<(), AllocError> {
     let mut names = own_types(alloc, module)?;
     for node in module.nodes.iter() {
@@ -246,7 +204,7 @@ fn push_own_types(
             push_own_defaults(&mut names, components)?;
         }
     }
-    push_use(alloc, text, code, "crate", names.as_str())
+    push_use(alloc, text, words, "crate", names.as_str())
 }
 
 // The types that are written by hand, each on its line.
@@ -280,14 +238,14 @@ fn push_own(
     alloc: Global,
     text: &mut String,
     piece: &Piece,
-    code: &str,
+    words: &str,
     all: &Vec<Piece>,
 ) -> Result<(), AllocError> {
     for other in all.iter() {
         if other.file.as_str() != piece.file.as_str() {
             let file = other.file.as_str();
             let path = format!(in alloc; "crate::asn1::{file}")?;
-            push_use(alloc, text, code, path.as_str(), other.names.as_str())?;
+            push_use(alloc, text, words, path.as_str(), other.names.as_str())?;
         }
     }
     Ok(())
@@ -297,7 +255,7 @@ fn push_own(
 fn push_imported(
     alloc: Global,
     text: &mut String,
-    code: &str,
+    words: &str,
     imported: &Vec<ExternalType<'_>>,
 ) -> Result<(), AllocError> {
     let mut crates = String::new(alloc);
@@ -305,7 +263,7 @@ fn push_imported(
         let krate = of.krate.as_str();
         if !is_line_of(crates.as_str(), krate) {
             push_line(&mut crates, krate)?;
-            push_crate(alloc, text, code, imported, krate)?;
+            push_crate(alloc, text, words, imported, krate)?;
         }
     }
     Ok(())
@@ -315,7 +273,7 @@ fn push_imported(
 fn push_crate(
     alloc: Global,
     text: &mut String,
-    code: &str,
+    words: &str,
     imported: &Vec<ExternalType<'_>>,
     krate: &str,
 ) -> Result<(), AllocError> {
@@ -325,5 +283,5 @@ fn push_crate(
             push_line(&mut names, of.rust_name.as_str())?;
         }
     }
-    push_use(alloc, text, code, krate, names.as_str())
+    push_use(alloc, text, words, krate, names.as_str())
 }

@@ -1,29 +1,30 @@
 //! The `use` lines of a file, from the names in its text.
 
-use crate::lines::push_line;
+use crate::lines::{is_line_of, push_line};
 use crate::octet_class::is_word_octet;
 use std::alloc::{AllocError, Global};
 use std::fmt::Write;
 
 const WIDTH: usize = 100;
 
-/// Adds a line that imports those of the names, each on its line, that stand in the text as words.
+/// Adds a line that imports those of the names, each on its line, that are among the words of a
+/// text.
 pub fn push_use(
     alloc: Global,
     out: &mut String,
-    text: &str,
+    words: &str,
     path: &str,
     names: &str,
 ) -> Result<(), AllocError> {
-    let found = words_in(alloc, text, names)?;
+    let found = words_in(alloc, words, names)?;
     push_names(alloc, out, path, found.as_str())
 }
 
-// Those of the names, each on its line, that stand in the text as words.
-fn words_in(alloc: Global, text: &str, names: &str) -> Result<String, AllocError> {
+// Those of the names, each on its line, that are among the words.
+fn words_in(alloc: Global, words: &str, names: &str) -> Result<String, AllocError> {
     let mut found = String::new(alloc);
     for name in names.lines() {
-        if has_word(text, name) {
+        if is_line_of(words, name) {
             push_line(&mut found, name)?;
         }
     }
@@ -79,46 +80,42 @@ fn push_lines(alloc: Global, out: &mut String, names: &str) -> Result<(), AllocE
     out.push_str(line.as_str())
 }
 
-/// Whether a name stands in a text as a word; a word behind `::` needs no import.
-pub fn has_word(text: &str, word: &str) -> bool {
+/// The words of a text, each once, on a line of its own. A word behind `::` needs no import, and is
+/// left out.
+pub fn words_of(alloc: Global, text: &str) -> Result<String, AllocError> {
     let octets = text.as_bytes();
+    let mut words = String::new(alloc);
+    let mut start = 0usize;
     for at in 0..octets.len() {
-        if is_word_at(octets, at, word.as_bytes()) {
-            return true;
+        if !is_word_octet(octets[at]) {
+            push_word(&mut words, text, start, at)?;
+            start = at + 1;
         }
     }
-    false
+    push_word(&mut words, text, start, octets.len())?;
+    Ok(words)
 }
 
-fn is_word_at(octets: &[u8], at: usize, word: &[u8]) -> bool {
-    if at > octets.len() || (at > 0 && is_bound_octet(octets[at - 1])) {
-        return false;
+// Adds the word between these indices, unless it is there.
+fn push_word(words: &mut String, text: &str, start: usize, end: usize) -> Result<(), AllocError> {
+    let word = text.get(start..end).unwrap_or("");
+    let is_behind_path = text.as_bytes().get(start.saturating_sub(1)) == Some(&b':');
+    if word.is_empty() || is_behind_path || is_line_of(words.as_str(), word) {
+        return Ok(());
     }
-    let rest = &octets[at..];
-    if !rest.starts_with(word) {
-        return false;
-    }
-    match rest.get(word.len()) {
-        Some(octet) => !is_word_octet(*octet),
-        None => true,
-    }
+    push_line(words, word)
 }
 
-// Whether a word in front of which this octet stands is a part of a word or of a path.
-fn is_bound_octet(octet: u8) -> bool {
-    is_word_octet(octet) || octet == b':'
-}
-
-/// Adds a line that imports those of the names for clauses, each on its line, that stand in the
-/// text as words.
+/// Adds a line that imports those of the names for clauses, each on its line, that are among the
+/// words of a text.
 pub fn push_ghost_use(
     alloc: Global,
     out: &mut String,
-    text: &str,
+    words: &str,
     path: &str,
     names: &str,
 ) -> Result<(), AllocError> {
-    let found = words_in(alloc, text, names)?;
+    let found = words_in(alloc, words, names)?;
     if found.is_empty() {
         return Ok(());
     }

@@ -1,17 +1,14 @@
 //! INTEGERs with bounds.
 
-use crate::constraint::Constraint;
+use crate::bounds::range_at;
 use crate::endpoint::Endpoint;
 use crate::module::Module;
 use crate::named_number::NamedNumber;
-use crate::type_node::{TypeForm, TypeNode};
+use crate::type_node::TypeForm;
 
-/// The bounds of a type, if it has two that are 0 or more.
-pub fn bounds(node: &TypeNode<'_>) -> Option<(u64, u64)> {
-    match node.constraint {
-        Constraint::Range(Endpoint::Number(low), Endpoint::Number(high)) => Some((low, high)),
-        _ => None,
-    }
+/// The bounds of the type with this index, if it has two that are 0 or more.
+pub fn bounds(module: &Module<'_>, index: usize) -> Option<(u64, u64)> {
+    range_at(module, index).numbers()
 }
 
 /// Whether the type with this index is read as an item of an enumeration: an ENUMERATED, or an
@@ -19,23 +16,28 @@ pub fn bounds(node: &TypeNode<'_>) -> Option<(u64, u64)> {
 pub fn is_enumeration(module: &Module<'_>, index: usize) -> bool {
     match module.nodes.get(index) {
         Some(node) => match &node.form {
-            TypeForm::Enumerated(_) => true,
-            TypeForm::Integer(numbers) => is_closed(node, numbers),
+            TypeForm::Enumerated(items) => are_small(items),
+            TypeForm::Integer(numbers) => is_closed(module, index, numbers),
             _ => false,
         },
         None => false,
     }
 }
 
-/// Whether the bounds of an INTEGER allow its named numbers and no others.
-pub fn is_closed(node: &TypeNode<'_>, numbers: &Vec<NamedNumber<'_>>) -> bool {
-    let Some((low, high)) = bounds(node) else {
+/// Whether the bounds of the INTEGER with this index allow its named numbers and no others.
+pub fn is_closed(module: &Module<'_>, index: usize, numbers: &Vec<NamedNumber<'_>>) -> bool {
+    let Some((low, high)) = bounds(module, index) else {
         return false;
     };
     if numbers.is_empty() || high < low || high >= 4294967296 {
         return false;
     }
     high - low == numbers.len() as u64 - 1 && are_within(numbers, low, high)
+}
+
+/// Whether an enum can have these items: whether their numbers are from 0 to 2^32 - 1.
+pub fn are_small(items: &Vec<NamedNumber<'_>>) -> bool {
+    are_within(items, 0, 4294967295)
 }
 
 fn are_within(numbers: &Vec<NamedNumber<'_>>, low: u64, high: u64) -> bool {

@@ -9,12 +9,13 @@ use super::enumeration::push_enumeration;
 use super::fields::tagged_text;
 use super::lists::{ListText, list_field};
 use super::naming::{is_assigned, text_at};
-use super::numbers::is_closed;
+use super::numbers::{are_small, is_closed};
 use super::part::PartText;
 use super::piece::{Piece, PieceKind};
 use super::rust_type::{RustKind, RustType};
 use super::sequence::SequenceText;
-use super::types::{list_text, tagged_name};
+use super::tagged::tagged_name;
+use super::types::list_text;
 use crate::checks::are_numbered;
 use crate::component::Component;
 use crate::failure::Failure;
@@ -45,8 +46,11 @@ struct Named<'m, 'a> {
     name: &'m str,
 }
 
-/// The most fields of a SEQUENCE, and the most alternatives of a CHOICE.
-const MOST: usize = 25;
+/// The most fields of a SEQUENCE: the checker proves no more.
+const MOST_FIELDS: usize = 10;
+
+/// The most alternatives of a CHOICE.
+const MOST_ALTERNATIVES: usize = 25;
 
 impl<'m, 'a> Written<'m, 'a> {
     /// The pieces of all types.
@@ -71,8 +75,10 @@ impl<'m, 'a> Written<'m, 'a> {
         match &of.node.form {
             TypeForm::Sequence(components) => self.add_sequence(alloc, pieces, of, components),
             TypeForm::Choice(components) => self.add_choice(alloc, pieces, of, components),
-            TypeForm::Enumerated(items) => self.add_enumeration(alloc, pieces, of, items),
-            TypeForm::Integer(items) if is_closed(of.node, items) => {
+            TypeForm::Enumerated(items) if are_small(items) => {
+                self.add_enumeration(alloc, pieces, of, items)
+            }
+            TypeForm::Integer(items) if is_closed(self.module, of.index, items) => {
                 self.add_enumeration(alloc, pieces, of, items)
             }
             TypeForm::SequenceOf(_) | TypeForm::SetOf(_) => match list_field(
@@ -97,7 +103,8 @@ impl<'m, 'a> Written<'m, 'a> {
         of: Named<'_, 'a>,
         components: &Vec<Component<'a>>,
     ) -> Result<(), Failure<'a>> {
-        check_count(of.node, components)?;
+        let expected = "a SEQUENCE of 1 to 10 components: the checker proves no more";
+        check_count(of.node, components, MOST_FIELDS, expected)?;
         let fields = self.fields(alloc, of.name, components)?;
         let doc = self.doc(alloc, of)?;
         add_fields(
@@ -115,7 +122,8 @@ impl<'m, 'a> Written<'m, 'a> {
         of: Named<'_, 'a>,
         components: &Vec<Component<'a>>,
     ) -> Result<(), Failure<'a>> {
-        check_count(of.node, components)?;
+        let expected = "a CHOICE of 1 to 25 alternatives";
+        check_count(of.node, components, MOST_ALTERNATIVES, expected)?;
         let text = ChoiceText {
             name: String::from_str(alloc, of.name)?,
             doc: self.doc(alloc, of)?,
@@ -275,10 +283,11 @@ fn place_of(pieces: &Vec<Piece>, file: &str) -> usize {
 fn check_count<'a>(
     node: &TypeNode<'a>,
     components: &Vec<Component<'a>>,
-) -> Result<(), Failure<'a>> {
-    if components.is_empty() || components.len() > MOST {
-        let refusal = Refusal::of(node.item, "a type of 1 to 25 components");
-        return Err(Failure::Refused(refusal));
+    most: usize,
+    expected: &'static str,
+) -> Result<(), Refusal<'a>> {
+    if components.is_empty() || components.len() > most {
+        return Err(Refusal::of(node.item, expected));
     }
     Ok(())
 }

@@ -1,7 +1,7 @@
 //! The files that name others, and the proofs beside them.
 
 use super::file::OutputFile;
-use super::imports::{push_names, push_use};
+use super::imports::{push_names, push_use, words_of};
 use super::piece::{Piece, Proof};
 use std::alloc::{AllocError, Global};
 use std::fmt::Write;
@@ -61,7 +61,8 @@ fn push_exports(alloc: Global, out: &mut String, all: &Vec<Piece>) -> Result<(),
 fn push_export(alloc: Global, out: &mut String, piece: &Piece) -> Result<(), AllocError> {
     out.push_str("pub ")?;
     let (body, file) = (piece.body.as_str(), piece.file.as_str());
-    push_use(alloc, out, body, file, piece.names.as_str())
+    let words = words_of(alloc, body)?;
+    push_use(alloc, out, words.as_str(), file, piece.names.as_str())
 }
 
 /// The file of a proof of a function that a piece implements for `Encode`.

@@ -1,12 +1,12 @@
 //! What other modules may import from a module.
 
 use super::abilities::has_item;
-use super::directive::type_name;
 use super::naming::text_at;
 use super::pieces::Written;
 use super::rust_type::RustType;
 use super::types::named_type;
 use crate::base_form::base_form;
+use crate::bounds::range_at;
 use crate::checks::{Checks, copy_at, has_no_tag, has_value};
 use crate::constant::NamedConstant;
 use crate::external::External;
@@ -66,11 +66,12 @@ fn external_type<'a>(
     Ok(ExternalType {
         krate: String::from_str(alloc, krate)?,
         name: assigned.name.text,
-        rust_name: type_name(alloc, assigned.name)?,
+        rust_name: String::from_str(alloc, text_at(written.names, index))?,
         of: qualified_type(alloc, written, krate, index)?,
         tags: copy_at(alloc, &checks.tags, index)?,
         has_no_tag: has_no_tag(module, index),
         is_item: has_item(module, index),
+        range: range_at(module, index),
         form: form_at(alloc, module, index)?,
     })
 }

@@ -1,23 +1,24 @@
 //! The type of Rust of each type.
 
 use super::alternatives::{Alternative, alternatives};
-use super::directive::{name_of_type, own_type};
+use super::directive::{is_word, own_type};
 use super::lists::list_field;
 use super::naming::text_at;
-use super::numbers::{bounds, is_closed, is_enumeration};
+use super::nest;
+use super::numbers::{are_small, bounds, is_closed, is_enumeration};
 use super::rust_type::{RustKind, RustType};
-use crate::checks::{are_numbered, find_type};
-use crate::component::Component;
-use crate::constraint::Constraint;
+use super::tagged::{behind_tags, numbered, tagged};
+use crate::base_form::base_form;
+use crate::bounds::contained;
+use crate::checks::{are_numbered, automatic_number, find_type};
+use crate::component::{Component, Presence};
 use crate::external_type::find_external;
 use crate::failure::Failure;
 use crate::module::Module;
 use crate::named_number::NamedNumber;
 use crate::refusal::Refusal;
 use crate::simple_type::SimpleType;
-use crate::tag::{Tag, TagPrefix};
-use crate::tag_class::TagClass;
-use crate::tagging::{TagDefault, Tagging};
+use crate::tag::TagPrefix;
 use crate::type_node::{TypeForm, TypeNode};
 use std::alloc::{AllocError, Global};
 use std::fmt::Write;
@@ -66,13 +67,16 @@ fn type_of<'a>(
         TypeForm::Simple(SimpleType::Any) => {
             Ok(RustType::new(alloc, "AnyRef<'a>", RustKind::Any)?)
         }
-        TypeForm::Reference => reference(alloc, module, table, names, node),
+        TypeForm::Reference => reference(alloc, module, table, names, index, node),
         TypeForm::Choice(parts) => choice(alloc, module, table, name, parts),
-        TypeForm::Tagged(prefix, of) => tagged(alloc, module, table, node, *prefix, *of),
+        TypeForm::Tagged(prefix, of) => Ok(tagged(alloc, module, table, *prefix, *of)?),
         TypeForm::SequenceOf(_) | TypeForm::SetOf(_) => {
             Ok(RustType::element(alloc, list_type(alloc, module, table, name, index, node)?))
         }
-        _ => Ok(RustType::element(alloc, element_text(alloc, table, name, node)?)),
+        TypeForm::Integer(numbers) => {
+            Ok(RustType::element(alloc, integer_text(alloc, module, index, numbers, name)?))
+        }
+        _ => Ok(RustType::element(alloc, element_text(alloc, module, table, name, node)?)),
     }
 }
 
@@ -99,9 +103,10 @@ fn list_type(
     }
 }
 
-// The type of an element that is no list and has no tag in front of it.
+// The type of an element that is no list and no INTEGER, and has no tag in front of it.
 fn element_text(
     alloc: Global,
+    module: &Module<'_>,
     table: &Vec<RustType>,
     name: &str,
     node: &TypeNode<'_>,
@@ -111,14 +116,14 @@ fn element_text(
             string_text(alloc, table, node, "OctetStringOf", "OctetStringRef<'a>")
         }
         TypeForm::Simple(simple) => String::from_str(alloc, simple_text(*simple)),
-        TypeForm::Integer(numbers) => integer_text(alloc, node, numbers, name),
-        TypeForm::Enumerated(_) => format!(in alloc; "Enumerated<{name}>"),
+        TypeForm::Enumerated(items) if are_small(items) => format!(in alloc; "Enumerated<{name}>"),
+        TypeForm::Enumerated(_) => String::from_str(alloc, "EnumeratedRef<'a>"),
         TypeForm::BitString(bits) if bits.is_empty() => {
             string_text(alloc, table, node, "BitStringOf", "BitStringRef<'a>")
         }
         TypeForm::BitString(_) => String::from_str(alloc, "NamedBitsRef<'a>"),
         TypeForm::Sequence(parts) => {
-            let lifetime = lifetime_of(table, parts);
+            let lifetime = fields_lifetime(module, table, parts);
             format!(in alloc; "{name}{lifetime}")
         }
         _ => Ok(String::new(alloc)),
@@ -134,7 +139,7 @@ fn string_text(
     word: &str,
     plain: &str,
 ) -> Result<String, AllocError> {
-    if let Constraint::Containing(of) = node.constraint
+    if let Some(of) = contained(node)
         && let Some(found) = table.get(of)
         && found.kind == RustKind::Element
     {
@@ -166,14 +171,15 @@ fn simple_text(simple: SimpleType) -> &'static str {
 // The type of an INTEGER. One without two bounds that are 0 or more has any size and sign.
 fn integer_text(
     alloc: Global,
-    node: &TypeNode<'_>,
+    module: &Module<'_>,
+    index: usize,
     numbers: &Vec<NamedNumber<'_>>,
     name: &str,
 ) -> Result<String, AllocError> {
-    if is_closed(node, numbers) {
+    if is_closed(module, index, numbers) {
         return format!(in alloc; "NamedInteger<{name}>");
     }
-    match bounds(node) {
+    match bounds(module, index) {
         Some((low, high)) => format!(in alloc; "IntegerIn<{low}, {high}>"),
         None => String::from_str(alloc, "IntRef<'a>"),
     }
@@ -184,14 +190,25 @@ fn not_written<'a>(node: &TypeNode<'a>) -> Failure<'a> {
     Failure::Refused(Refusal::of(node.item, "a type for which the compiler has a form"))
 }
 
-// The lifetime of a type with these components.
-fn lifetime_of(table: &Vec<RustType>, components: &Vec<Component<'_>>) -> &'static str {
+// The lifetime of a SEQUENCE of these components.
+fn fields_lifetime(
+    module: &Module<'_>,
+    table: &Vec<RustType>,
+    components: &Vec<Component<'_>>,
+) -> &'static str {
     for component in components.iter() {
-        if has_lifetime(table, component.of) {
+        if has_lifetime(table, component.of) && !is_number(module, component) {
             return "<'a>";
         }
     }
     ""
+}
+
+// Whether the field of a component is a number of 64 bits.
+fn is_number(module: &Module<'_>, component: &Component<'_>) -> bool {
+    matches!(&component.presence, Presence::Default(_))
+        && is_word(component.name)
+        && matches!(base_form(module, component.of), Some(TypeForm::Integer(_)))
 }
 
 fn has_lifetime(table: &Vec<RustType>, index: usize) -> bool {
@@ -206,15 +223,37 @@ fn reference<'a>(
     module: &Module<'a>,
     table: &Vec<RustType>,
     names: &Vec<String>,
+    index: usize,
     node: &TypeNode<'a>,
 ) -> Result<RustType, Failure<'a>> {
     match find_type(module, node.item.text) {
-        Some(of) => Ok(named_type(alloc, module, table, names, of)?),
+        Some(of) => match narrowed(alloc, module, index, of)? {
+            Some(text) => Ok(RustType::element(alloc, text)),
+            None => Ok(named_type(alloc, module, table, names, of)?),
+        },
         None => match find_external(module, node.item.text) {
             Some(external) => Ok(external.of.copy(alloc)?),
             None => Err(not_written(node)),
         },
     }
+}
+
+// The type for the name with this index of an INTEGER, which is the type with the index `of`, if
+// its bounds are others than those of that type.
+fn narrowed(
+    alloc: Global,
+    module: &Module<'_>,
+    index: usize,
+    of: usize,
+) -> Result<Option<String>, AllocError> {
+    let Some((low, high)) = bounds(module, index) else {
+        return Ok(None);
+    };
+    if bounds(module, of) == Some((low, high)) {
+        return Ok(None);
+    }
+    let inside = format!(in alloc; "IntegerIn<{low}, {high}>")?;
+    behind_tags(alloc, module, of, inside)
 }
 
 /// The type that a name stands for, if it is that of the type with this index.
@@ -264,61 +303,6 @@ fn text_of(table: &Vec<RustType>, index: usize) -> &str {
     }
 }
 
-fn tagged<'a>(
-    alloc: Global,
-    module: &Module<'a>,
-    table: &Vec<RustType>,
-    node: &TypeNode<'a>,
-    prefix: TagPrefix,
-    of: usize,
-) -> Result<RustType, Failure<'a>> {
-    let Some(found) = table.get(of) else {
-        return Err(not_written(node));
-    };
-    let word = match (found.kind, tagging(module, prefix.tagging)) {
-        (RustKind::Choice, _) => return Ok(tagged_choice(alloc, found, prefix.tag)?),
-        (RustKind::Element, Tagging::Implicit) => "Implicit",
-        (RustKind::Element, Tagging::Explicit) => "Explicit",
-        (RustKind::Any, _) => return Ok(wrapped(alloc, "ExplicitAny", "'a", prefix.tag)?),
-    };
-    Ok(wrapped(alloc, word, found.text.as_str(), prefix.tag)?)
-}
-
-// The type of a tag in front of a CHOICE.
-fn tagged_choice(alloc: Global, found: &RustType, tag: Tag) -> Result<RustType, AllocError> {
-    let mut inside = tagged_name(alloc, found)?;
-    if found.has_lifetime {
-        inside.push_str("<'a>")?;
-    }
-    wrapped(alloc, "Implicit", inside.as_str(), tag)
-}
-
-/// The name of the struct that stands for this CHOICE inside an explicit tag.
-pub fn tagged_name(alloc: Global, choice: &RustType) -> Result<String, AllocError> {
-    let name = name_of_type(choice.text.as_str());
-    format!(in alloc; "{name}Tagged")
-}
-
-// How a tag is put in front of a type with a tag.
-fn tagging(module: &Module<'_>, written: Option<Tagging>) -> Tagging {
-    match (written, module.tags) {
-        (Some(tagging), _) => tagging,
-        (None, TagDefault::Explicit) => Tagging::Explicit,
-        (None, TagDefault::Implicit | TagDefault::Automatic) => Tagging::Implicit,
-    }
-}
-
-// The type of a tag in front of the type `inside`.
-fn wrapped(alloc: Global, word: &str, inside: &str, tag: Tag) -> Result<RustType, AllocError> {
-    let number = tag.number;
-    let text = match tag.class {
-        TagClass::Application => format!(in alloc; "Application<{word}<{inside}, {number}>>")?,
-        TagClass::Private => format!(in alloc; "Private<{word}<{inside}, {number}>>")?,
-        _ => format!(in alloc; "{word}<{inside}, {number}>")?,
-    };
-    Ok(RustType::element(alloc, text))
-}
-
 /// The type of each component, without OPTIONAL and DEFAULT, with the tags that the module numbers.
 pub fn component_types<'a>(
     alloc: Global,
@@ -326,29 +310,26 @@ pub fn component_types<'a>(
     table: &Vec<RustType>,
     components: &Vec<Component<'a>>,
 ) -> Result<Vec<RustType>, Failure<'a>> {
-    let are_numbered = are_numbered(module, components);
     let mut types = Vec::new(alloc);
     for (count, component) in components.iter().enumerate() {
-        let Some(node) = module.nodes.get(component.of) else {
-            continue;
-        };
-        if are_numbered {
-            let prefix = numbered(count);
-            types.push(tagged(alloc, module, table, node, prefix, component.of)?)?;
-        } else {
-            types.push(copy_at(alloc, table, component.of)?)?;
+        match automatic_tag(module, components, count) {
+            Some(prefix) => types.push(tagged(alloc, module, table, prefix, component.of)?)?,
+            None => types.push(copy_at(alloc, table, component.of)?)?,
         }
     }
     Ok(types)
 }
 
-// The tag of the component with this index.
-fn numbered(count: usize) -> TagPrefix {
-    let tag = Tag {
-        class: TagClass::ContextSpecific,
-        number: count as u64,
-    };
-    TagPrefix { tag, tagging: None }
+/// The tag of the component with this index, if the module numbers it.
+pub fn automatic_tag(
+    module: &Module<'_>,
+    components: &Vec<Component<'_>>,
+    count: usize,
+) -> Option<TagPrefix> {
+    if !are_numbered(module, components) {
+        return None;
+    }
+    Some(numbered(automatic_number(components, count)))
 }
 
 fn copy_at(alloc: Global, table: &Vec<RustType>, index: usize) -> Result<RustType, AllocError> {
@@ -366,7 +347,7 @@ fn choice<'a>(
     components: &Vec<Component<'a>>,
 ) -> Result<RustType, Failure<'a>> {
     let alternatives = alternatives(alloc, module, table, components)?;
-    let lifetime = lifetime_of(table, components);
+    let lifetime = nest::lifetime_of(&alternatives);
     Ok(choice_of(alloc, name, lifetime, &alternatives)?)
 }
 

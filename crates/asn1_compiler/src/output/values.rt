@@ -2,16 +2,14 @@
 
 use super::docs::doc_of;
 use super::file::OutputFile;
-use super::imports::push_ghost_use;
+use super::imports::{push_ghost_use, words_of};
 use super::oid_octets::octets_of;
 use super::piece::Piece;
 use super::rust_names::snake_name;
+use super::taken::{ALONE, Taken};
 use super::template::{Places, fill};
 use crate::constant::{Constant, find_constant};
-use crate::failure::Failure;
-use crate::lines::{is_line_of, push_line};
 use crate::module::{Module, ValueAssignment};
-use crate::refusal::Refusal;
 use std::alloc::{AllocError, Global};
 use std::fmt::Write;
 
@@ -54,12 +52,11 @@ pub fn values_name(pieces: &Vec<Piece>) -> &'static str {
 
 /// The file of the values of a module: numbers and truth values as constants, and each OBJECT
 /// IDENTIFIER as a function; `None` if there are none of them.
-pub fn values_file<'a>(
+pub fn values_file(
     alloc: Global,
-    module: &Module<'a>,
+    module: &Module<'_>,
     pieces: &Vec<Piece>,
-) -> Result<Option<OutputFile>, Failure<'a>> {
-    check_names(alloc, module)?;
+) -> Result<Option<OutputFile>, AllocError> {
     let texts = texts_of(alloc, module)?;
     if texts.constants.is_empty() && texts.functions.is_empty() {
         return Ok(None);
@@ -79,12 +76,16 @@ fn texts_of(alloc: Global, module: &Module<'_>) -> Result<Texts, AllocError> {
         constants: String::new(alloc),
         functions: String::new(alloc),
     };
-    for assigned in module.values.iter() {
+    let names = value_names(alloc, module)?;
+    for (assigned, name) in module.values.iter().zip(names.iter()) {
+        let name = name.as_str();
         match constant_of(module, assigned) {
             Some(Constant::ObjectIdentifier(arcs)) => {
-                push_identifier(alloc, &mut texts.functions, assigned, arcs)?;
+                push_identifier(alloc, &mut texts.functions, assigned, name, arcs)?;
             }
-            Some(constant) => push_constant(alloc, &mut texts.constants, assigned, constant)?,
+            Some(constant) => {
+                push_constant(alloc, &mut texts.constants, assigned, name, constant)?;
+            }
             None => {}
         }
     }
@@ -122,7 +123,8 @@ fn push_texts(
     }
     out.push_str(GHOST_USES)?;
     let arcs = "Rattle.der_asn1.specs.Arcs";
-    push_ghost_use(alloc, out, texts.functions.as_str(), arcs, "oid_octets")?;
+    let words = words_of(alloc, texts.functions.as_str())?;
+    push_ghost_use(alloc, out, words.as_str(), arcs, "oid_octets")?;
     out.push_str(USES)?;
     out.push_str(texts.constants.as_str())?;
     out.push_str(texts.functions.as_str())?;
@@ -138,48 +140,39 @@ fn constant_of<'m>(module: &'m Module<'_>, assigned: &ValueAssignment<'_>) -> Op
     }
 }
 
-// Whether a value is written as a constant or a function.
-fn is_written(module: &Module<'_>, assigned: &ValueAssignment<'_>) -> bool {
+/// Whether a value is written as a constant or a function.
+pub fn is_written(module: &Module<'_>, assigned: &ValueAssignment<'_>) -> bool {
     match constant_of(module, assigned) {
         Some(constant) => !matches!(constant, Constant::Other),
         None => false,
     }
 }
 
-// Checks that the names of values are distinct in Rust too.
-fn check_names<'a>(alloc: Global, module: &Module<'a>) -> Result<(), Failure<'a>> {
-    let mut names = String::from_str(alloc, "name_of\n")?;
+/// The names of the values of a module; an empty one for a value that is not written.
+pub fn value_names(alloc: Global, module: &Module<'_>) -> Result<Vec<String>, AllocError> {
+    let mut names = Vec::new(alloc);
+    let mut taken = Taken::new(alloc);
+    taken.take(alloc, "name_of", ALONE)?;
     for assigned in module.values.iter() {
-        if is_written(module, assigned) && !adds_name(alloc, &mut names, assigned)? {
-            let expected = "a name that differs from all others in more than hyphens and capitals";
-            return Err(Failure::Refused(Refusal::of(assigned.name, expected)));
+        if is_written(module, assigned) {
+            let name = snake_name(alloc, assigned.name.text)?;
+            names.push(taken.take_free(alloc, name.as_str(), ALONE, "_")?)?;
+        } else {
+            names.push(String::new(alloc))?;
         }
     }
-    Ok(())
-}
-
-// Adds the name of a value on a line of its own, unless it is there; whether it was not.
-fn adds_name(
-    alloc: Global,
-    names: &mut String,
-    assigned: &ValueAssignment<'_>,
-) -> Result<bool, AllocError> {
-    let name = snake_name(alloc, assigned.name.text)?;
-    if is_line_of(names.as_str(), name.as_str()) {
-        return Ok(false);
-    }
-    push_line(names, name.as_str())?;
-    Ok(true)
+    Ok(names)
 }
 
 fn push_constant(
     alloc: Global,
     out: &mut String,
     assigned: &ValueAssignment<'_>,
+    name: &str,
     constant: &Constant,
 ) -> Result<(), AllocError> {
     let doc = doc_of(alloc, assigned.name.comments, "", assigned.name.text)?;
-    let name = constant_name(alloc, assigned.name.text)?;
+    let name = constant_name(alloc, name)?;
     let (doc, name) = (doc.as_str(), name.as_str());
     match constant {
         Constant::Number(number) => { write!(out, "\n{doc}pub const {name}: u64 = {number};\n") }
@@ -194,7 +187,7 @@ fn push_constant(
 // The name in words of upper case with `_` between them.
 fn constant_name(alloc: Global, name: &str) -> Result<String, AllocError> {
     let mut text = String::new(alloc);
-    for character in snake_name(alloc, name)?.chars() {
+    for character in name.chars() {
         text.push(character.to_ascii_uppercase())?;
     }
     Ok(text)
@@ -213,12 +206,13 @@ fn push_identifier(
     alloc: Global,
     out: &mut String,
     assigned: &ValueAssignment<'_>,
+    name: &str,
     arcs: &Vec<u64>,
 ) -> Result<(), AllocError> {
     let doc = doc_of(alloc, assigned.name.comments, "", assigned.name.text)?;
     let text = IdentifierText {
         doc,
-        name: snake_name(alloc, assigned.name.text)?,
+        name: String::from_str(alloc, name)?,
         arcs,
         octets: octets_of(alloc, arcs)?,
     };
@@ -257,16 +251,16 @@ fn push_arcs(out: &mut String, arcs: &Vec<u64>) -> Result<(), AllocError> {
     out.push_str("[])")
 }
 
-// Adds what the clause says if an arc is too large for the checker: which octets they are.
-fn push_list(out: &mut String, octets: &Vec<u8>) -> Result<(), AllocError> {
+/// Adds octets as a list of a clause.
+pub fn push_list(out: &mut String, octets: &Vec<u8>) -> Result<(), AllocError> {
     for octet in octets.iter() {
         write!(out, "{octet} ∷ ")?;
     }
     out.push_str("[]")
 }
 
-// Adds octets with commas between them.
-fn push_octets(out: &mut String, octets: &Vec<u8>) -> Result<(), AllocError> {
+/// Adds octets with commas between them.
+pub fn push_octets(out: &mut String, octets: &Vec<u8>) -> Result<(), AllocError> {
     for (count, octet) in octets.iter().enumerate() {
         if count > 0 {
             out.push_str(", ")?;

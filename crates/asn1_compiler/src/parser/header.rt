@@ -11,17 +11,19 @@ impl<'a> Parser<'a> {
     /// Parses up to the first assignment: a module without types and values.
     pub(super) fn head(&mut self) -> Result<Module<'a>, Failure<'a>> {
         let (name, tags) = self.header()?;
-        self.skip_exports()?;
+        let exports = self.exports()?;
         let imports = self.imports()?;
         Ok(Module {
             name,
             tags,
             imports,
+            exports,
             imported: Vec::new(self.alloc),
             types: Vec::new(self.alloc),
             values: Vec::new(self.alloc),
             constants: Vec::new(self.alloc),
             nodes: Vec::new(self.alloc),
+            warnings: Vec::new(self.alloc),
         })
     }
 
@@ -52,18 +54,20 @@ impl<'a> Parser<'a> {
         Ok(tags)
     }
 
-    // Parses `EXPORTS`, and returns the names behind it, of which `ALL` is one.
-    fn skip_exports(&mut self) -> Result<(), Failure<'a>> {
+    // Parses `EXPORTS`, and returns the names behind it.
+    fn exports(&mut self) -> Result<Vec<Item<'a>>, Failure<'a>> {
+        let mut names = Vec::new(self.alloc);
         if !self.takes("EXPORTS") {
-            return Ok(());
+            return Ok(names);
         }
         for _ in 0..self.items.len() {
             if self.takes(";") {
-                return Ok(());
+                return Ok(names);
             }
             let item = self.next();
             match item.kind {
-                ItemKind::UpperName | ItemKind::LowerName => {}
+                ItemKind::UpperName if item.text == "ALL" => {}
+                ItemKind::UpperName | ItemKind::LowerName => names.push(item)?,
                 _ if item.is(",") => {}
                 _ => return Err(refused(item, "a name, a comma or ;")),
             }
@@ -94,6 +98,9 @@ impl<'a> Parser<'a> {
                 ItemKind::UpperName | ItemKind::LowerName => names.push(name)?,
                 _ => return Err(refused(name, "a name that is imported")),
             }
+            if self.peek().is("{") {
+                return Err(refused(self.peek(), "no parameters, which are not supported"));
+            }
             if !self.takes(",") {
                 break;
             }
@@ -110,11 +117,22 @@ impl<'a> Parser<'a> {
         Ok(name)
     }
 
+    // Whether the name at this place is one that is imported from the next module.
+    fn begins_import(&self) -> bool {
+        self.peek_second().is(",") || self.peek_second().is("FROM")
+    }
+
     // Parses the names that one module defines, and its name.
     fn imports_of_module(&mut self, imports: &mut Vec<Import<'a>>) -> Result<(), Failure<'a>> {
         let names = self.imported_names()?;
         self.expect("FROM")?;
         let module = self.module_name()?;
+        if self.peek().kind == ItemKind::LowerName && !self.begins_import() {
+            return Err(refused(
+                self.peek(),
+                "no value for the module, which is not supported",
+            ));
+        }
         for name in names.iter() {
             imports.push(Import {
                 name: *name,

@@ -8,6 +8,8 @@ use crate::named_number::NamedNumber;
 
 const TOO_LARGE: &str = "a number below 18446744073709551616";
 
+const CLOSED_ENUMERATION: &str = "numbers that no item has are refused";
+
 impl<'a> Parser<'a> {
     /// Parses a number without a sign.
     pub(super) fn number(&mut self) -> Result<u64, Failure<'a>> {
@@ -40,14 +42,12 @@ impl<'a> Parser<'a> {
         Ok(Endpoint::Number(self.number()?))
     }
 
-    /// Parses names with numbers in braces: named numbers, named bits or the items of an ENUMERATED.
+    /// Parses names with numbers in braces: named numbers or named bits.
     pub(super) fn named_numbers(&mut self) -> Result<Vec<NamedNumber<'a>>, Failure<'a>> {
         self.expect("{")?;
         let mut numbers = Vec::new(self.alloc);
         for _ in 0..self.items.len() {
-            if !self.takes("...") {
-                numbers.push(self.named_number()?)?;
-            }
+            numbers.push(self.named_number(false)?)?;
             if !self.takes(",") {
                 break;
             }
@@ -56,16 +56,41 @@ impl<'a> Parser<'a> {
         Ok(numbers)
     }
 
-    fn named_number(&mut self) -> Result<NamedNumber<'a>, Failure<'a>> {
+    /// Parses the items of an ENUMERATED in braces.
+    pub(super) fn enumeration_items(&mut self) -> Result<Vec<NamedNumber<'a>>, Failure<'a>> {
+        self.expect("{")?;
+        let mut items = Vec::new(self.alloc);
+        let mut has_mark = false;
+        for _ in 0..self.items.len() {
+            if self.peek().is("...") && !has_mark && !items.is_empty() {
+                self.mark(CLOSED_ENUMERATION)?;
+                has_mark = true;
+            } else {
+                items.push(self.named_number(has_mark)?)?;
+            }
+            if !self.takes(",") {
+                break;
+            }
+        }
+        self.expect("}")?;
+        Ok(items)
+    }
+
+    fn named_number(&mut self, is_addition: bool) -> Result<NamedNumber<'a>, Failure<'a>> {
         let name = self.expect_kind(ItemKind::LowerName, "the name of a number")?;
         if !self.takes("(") {
-            return Ok(NamedNumber { name, number: None });
+            return Ok(NamedNumber {
+                name,
+                number: None,
+                is_addition,
+            });
         }
         let number = self.endpoint()?;
         self.expect(")")?;
         Ok(NamedNumber {
             name,
             number: Some(number),
+            is_addition,
         })
     }
 }

@@ -13,6 +13,10 @@ use crate::tag_class::TagClass;
 use crate::tagging::Tagging;
 use crate::type_node::{TypeForm, TypeNode};
 
+const CLOSED_SEQUENCE: &str = "elements that no component names are refused";
+
+const CLOSED_CHOICE: &str = "tags that no alternative has are refused";
+
 impl<'a> Parser<'a> {
     /// Parses a type in which types may stand at so many levels, and returns its index.
     #[cycle(types)]
@@ -21,23 +25,23 @@ impl<'a> Parser<'a> {
         if depth == 0 {
             return Err(refused(item, "at most 64 types around a type"));
         }
-        let mut size = Constraint::None;
-        let form = self.form(item, &mut size, depth - 1)?;
-        let constraint = self.constraint_behind(size, depth - 1)?;
+        let mut constraints = Vec::new(self.alloc);
+        let form = self.form(item, &mut constraints, depth - 1)?;
+        self.constraint_behind(&mut constraints, depth - 1)?;
         self.add(TypeNode {
             item,
             form,
-            constraint,
+            constraints,
         })
     }
 
     // Parses how a type is made. The size of a list, which stands in front of its items, goes to
-    // `size`.
+    // `constraints`.
     #[cycle(types)]
     fn form(
         &mut self,
         item: Item<'a>,
-        size: &mut Constraint<'a>,
+        constraints: &mut Vec<Constraint<'a>>,
         depth: u32,
     ) -> Result<TypeForm<'a>, Failure<'a>> {
         if item.is("[") {
@@ -45,10 +49,10 @@ impl<'a> Parser<'a> {
             return Ok(TypeForm::Tagged(prefix, self.type_at(depth)?));
         }
         if item.is("CHOICE") {
-            return Ok(TypeForm::Choice(self.components(depth)?));
+            return Ok(TypeForm::Choice(self.components(true, depth)?));
         }
         if item.is("SET") {
-            return Ok(TypeForm::SetOf(self.list_of(size, depth)?));
+            return Ok(TypeForm::SetOf(self.list_of(constraints, depth)?));
         }
         if !item.is("SEQUENCE") {
             return self.leaf(item);
@@ -57,9 +61,9 @@ impl<'a> Parser<'a> {
             return Ok(TypeForm::Simple(SimpleType::Unread));
         }
         if self.peek().is("{") {
-            return Ok(TypeForm::Sequence(self.components(depth)?));
+            return Ok(TypeForm::Sequence(self.components(false, depth)?));
         }
-        Ok(TypeForm::SequenceOf(self.list_of(size, depth)?))
+        Ok(TypeForm::SequenceOf(self.list_of(constraints, depth)?))
     }
 
     // Whether `{ ... }` stands here: a SEQUENCE of which no component is known. If so, moves past it.
@@ -75,8 +79,14 @@ impl<'a> Parser<'a> {
 
     // Parses what follows `SEQUENCE` or `SET` of a list: a size, `OF`, and the type of the items.
     #[cycle(types)]
-    fn list_of(&mut self, size: &mut Constraint<'a>, depth: u32) -> Result<usize, Failure<'a>> {
-        *size = self.list_size()?;
+    fn list_of(
+        &mut self,
+        constraints: &mut Vec<Constraint<'a>>,
+        depth: u32,
+    ) -> Result<usize, Failure<'a>> {
+        if let Some(size) = self.list_size()? {
+            constraints.push(size)?;
+        }
         self.expect("OF")?;
         if self.peek().kind == ItemKind::LowerName {
             self.at = self.at.saturating_add(1);
@@ -85,46 +95,112 @@ impl<'a> Parser<'a> {
     }
 
     // Parses the size of a list, if there is one.
-    fn list_size(&mut self) -> Result<Constraint<'a>, Failure<'a>> {
+    fn list_size(&mut self) -> Result<Option<Constraint<'a>>, Failure<'a>> {
         if self.peek().is("{") {
             return Err(refused(self.peek(), "OF (a SET with components is not supported)"));
         }
         if self.peek().is("SIZE") {
-            return self.constraint();
+            return Ok(Some(self.constraint()?));
         }
         if !self.takes("(") {
-            return Ok(Constraint::None);
+            return Ok(None);
         }
         let size = self.constraint()?;
         self.expect(")")?;
-        Ok(size)
+        Ok(Some(size))
     }
 
-    // Parses components in braces, without marks of extensions.
+    // Parses components or alternatives in braces.
     #[cycle(types)]
-    fn components(&mut self, depth: u32) -> Result<Vec<Component<'a>>, Failure<'a>> {
+    fn components(
+        &mut self,
+        is_choice: bool,
+        depth: u32,
+    ) -> Result<Vec<Component<'a>>, Failure<'a>> {
         self.expect("{")?;
+        let start = self.defined_by.len();
         let mut components = Vec::new(self.alloc);
+        let mut marks = 0u32;
         for _ in 0..self.items.len() {
             if self.takes("}") {
-                return Ok(components);
+                break;
             }
-            if !self.takes("...") {
-                components.push(self.component(depth)?)?;
+            if self.peek().is("...") {
+                self.component_mark(marks, is_choice)?;
+                marks = marks.saturating_add(1);
+            } else if is_choice && marks == 2 {
+                return Err(refused(self.peek(), "}"));
+            } else {
+                components.push(self.component(is_choice, marks == 1, depth)?)?;
             }
-            if !self.peek().is("}") {
-                self.expect(",")?;
+            self.component_end()?;
+        }
+        if !is_choice {
+            self.check_defined_by(start, &components)?;
+        }
+        Ok(components)
+    }
+
+    // Moves past an extension mark behind so many others.
+    fn component_mark(&mut self, marks: u32, is_choice: bool) -> Result<(), Failure<'a>> {
+        match (marks, is_choice) {
+            (0, true) => self.mark(CLOSED_CHOICE),
+            (0, false) => self.mark(CLOSED_SEQUENCE),
+            (1, _) => {
+                self.at = self.at.saturating_add(1);
+                Ok(())
+            }
+            _ => Err(refused(self.peek(), "at most two extension marks")),
+        }
+    }
+
+    // Moves past the comma behind a component, unless the components end there.
+    fn component_end(&mut self) -> Result<(), Failure<'a>> {
+        if self.peek().is("}") {
+            return Ok(());
+        }
+        self.expect(",")?;
+        if self.peek().is("}") {
+            return Err(refused(self.peek(), "a component behind the comma"));
+        }
+        Ok(())
+    }
+
+    // Checks that each name behind `DEFINED BY`, from this index on, is that of a component.
+    fn check_defined_by(
+        &mut self,
+        start: usize,
+        components: &Vec<Component<'a>>,
+    ) -> Result<(), Failure<'a>> {
+        for name in self.defined_by.iter().skip(start) {
+            if !has_component(components, name.text) {
+                return Err(refused(*name, "the name of a component of this SEQUENCE"));
             }
         }
-        Err(refused(self.peek(), "}"))
+        self.defined_by.truncate(start);
+        Ok(())
     }
 
     #[cycle(types)]
-    fn component(&mut self, depth: u32) -> Result<Component<'a>, Failure<'a>> {
+    fn component(
+        &mut self,
+        is_choice: bool,
+        is_addition: bool,
+        depth: u32,
+    ) -> Result<Component<'a>, Failure<'a>> {
         let name = self.component_name()?;
         let of = self.type_at(depth)?;
-        let presence = self.presence()?;
-        Ok(Component { name, of, presence })
+        let presence = if is_choice {
+            Presence::Required
+        } else {
+            self.presence(is_addition)?
+        };
+        Ok(Component {
+            name,
+            of,
+            presence,
+            is_addition,
+        })
     }
 
     fn component_name(&mut self) -> Result<Item<'a>, Failure<'a>> {
@@ -137,36 +213,40 @@ impl<'a> Parser<'a> {
         self.expect_kind(ItemKind::LowerName, "the name of a component")
     }
 
-    fn presence(&mut self) -> Result<Presence<'a>, Failure<'a>> {
+    // Parses whether a component may be absent, as any addition may: senders that know a former
+    // version of the module have none.
+    fn presence(&mut self, is_addition: bool) -> Result<Presence<'a>, Failure<'a>> {
         if self.takes("OPTIONAL") {
             return Ok(Presence::Optional);
         }
         if self.takes("DEFAULT") {
             return Ok(Presence::Default(self.value()?));
         }
+        if is_addition {
+            return Ok(Presence::Optional);
+        }
         Ok(Presence::Required)
     }
 
-    // Parses the constraints behind a type; the last one counts, and `found` if there is none.
+    // Parses the constraints behind a type.
     #[cycle(types)]
     fn constraint_behind(
         &mut self,
-        found: Constraint<'a>,
+        constraints: &mut Vec<Constraint<'a>>,
         depth: u32,
-    ) -> Result<Constraint<'a>, Failure<'a>> {
-        let mut found = found;
+    ) -> Result<(), Failure<'a>> {
         for _ in 0..self.items.len() {
             if !self.takes("(") {
                 break;
             }
             if self.takes("CONTAINING") {
-                found = Constraint::Containing(self.type_at(depth)?);
+                constraints.push(Constraint::Containing(self.type_at(depth)?))?;
             } else {
-                found = self.constraint()?;
+                constraints.push(self.constraint()?)?;
             }
             self.expect(")")?;
         }
-        Ok(found)
+        Ok(())
     }
 
     fn add(&mut self, node: TypeNode<'a>) -> Result<usize, Failure<'a>> {
@@ -209,7 +289,7 @@ impl<'a> Parser<'a> {
         match item.text {
             "INTEGER" if self.peek().is("{") => Ok(TypeForm::Integer(self.named_numbers()?)),
             "INTEGER" => Ok(TypeForm::Integer(Vec::new(self.alloc))),
-            "ENUMERATED" => Ok(TypeForm::Enumerated(self.named_numbers()?)),
+            "ENUMERATED" => Ok(TypeForm::Enumerated(self.enumeration_items()?)),
             "BIT" => {
                 self.expect("STRING")?;
                 self.bit_string()
@@ -240,7 +320,8 @@ impl<'a> Parser<'a> {
     fn any(&mut self) -> Result<TypeForm<'a>, Failure<'a>> {
         if self.takes("DEFINED") {
             self.expect("BY")?;
-            self.expect_kind(ItemKind::LowerName, "the name of a component")?;
+            let name = self.expect_kind(ItemKind::LowerName, "the name of a component")?;
+            self.defined_by.push(name)?;
         }
         Ok(TypeForm::Simple(SimpleType::Any))
     }
@@ -261,4 +342,14 @@ impl<'a> Parser<'a> {
             _ => Ok(TypeForm::Reference),
         }
     }
+}
+
+// Whether one of these components has this name.
+fn has_component(components: &Vec<Component<'_>>, name: &str) -> bool {
+    for component in components.iter() {
+        if component.name.text == name {
+            return true;
+        }
+    }
+    false
 }

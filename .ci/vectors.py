@@ -1,0 +1,137 @@
+"""Compares the types that the compiler of the checkout writes with what another compiler says of the
+same modules: the files tests/vectors/NAME.tsv, which `tools/asn1_oracle` wrote."""
+import os
+import re
+import subprocess
+import tempfile
+
+import checker
+from checker import TOP, crates, text_of
+
+VECTORS = f"{TOP}/tests/vectors"
+USES = ["der_asn1", "der", "der_core"]
+# Types whose words are no words of small letters.
+NAMES = {"AA": "Aa", "AB": "Ab", "ABC": "Abc"}
+
+MAIN = """//! Reads the octets of vectors, and prints whether they are accepted.
+#![tactic(auto)]
+
+mod asn1;
+
+use der::{{Decode, DecodeBytes, Encode, Error, SliceReader}};
+use der_asn1::{{Enumerated, NamedInteger}};
+use std::alloc::Global;
+use std::io;
+
+/// Whether the octets are accepted, and written again.
+fn answer<'a, T>(alloc: Global, octets: &'a [u8]) -> &'static str
+where
+    T: Decode<SliceReader<'a>, Error = Error> + DecodeBytes<'a> + Encode + Drop,
+{{
+    let Ok(value) = T::from_der(alloc, octets) else {{
+        return "refused";
+    }};
+    match value.to_der(alloc) {{
+        Ok(written) if written.as_slice() == octets => "ok",
+        _ => "written otherwise",
+    }}
+}}
+{functions}
+fn main(rt: HostRuntime) -> io::Result<()> {{
+{calls}    Ok(())
+}}
+"""
+
+FUNCTION = """
+fn answers_{at}(rt: &HostRuntime) -> io::Result<()> {{
+    let alloc = rt.alloc();
+{lines}    Ok(())
+}}
+"""
+
+
+def rows_of(name):
+    """The rows of a file: a type, octets, and the answer of the other compiler."""
+    return [it.split("\t") for it in text_of(f"{VECTORS}/{name}.tsv").splitlines() if not it.startswith("#")]
+
+
+def names():
+    return sorted(it[:-4] for it in os.listdir(VECTORS) if it.endswith(".tsv"))
+
+
+def rust_names(module, said):
+    """The name in Rust of each type of a module, of which the compiler said this: in words of an upper-case
+    letter and small ones, unless a warning says otherwise."""
+    names = re.findall(r"^([A-Z][\w-]*) ::=", module, re.M)
+    chosen = dict(re.findall(r": ([\w-]+): the name is `(\w+)` in Rust", said))
+    return {it: chosen.get(it) or NAMES.get(it) or it for it in names}
+
+
+def rust_types(folder, module, said):
+    """How Rust writes each type of the crate: with a lifetime if it has one; the items of an enumeration
+    stand in an ENUMERATED or an INTEGER, as the module says."""
+    texts = "".join(text_of(f"{folder}/src/asn1/{it}") for it in sorted(os.listdir(f"{folder}/src/asn1")))
+    found = {}
+    for name, rust in rust_names(module, said).items():
+        life = "<'_>" if re.search(rf"^pub (struct|enum|type) {rust}<'a>", texts, re.M) else ""
+        found[name] = f"asn1::{rust}{life}"
+        if f"impl Enumeration for {rust} " in texts:
+            is_integer = re.search(rf"^{name} ::= INTEGER", module, re.M)
+            found[name] = f"{'NamedInteger' if is_integer else 'Enumerated'}<asn1::{rust}>"
+    return found
+
+
+def program_text(types, rows):
+    """The text of a program that prints an answer for each row."""
+    functions, calls = "", ""
+    for at in range(0, len(rows), 50):
+        lines = ""
+        for name, octets, _ in rows[at:at + 50]:
+            listed = ", ".join(f"0x{octets[i:i + 2]}" for i in range(0, len(octets), 2))
+            lines += f'    println!(rt; "{{}}", answer::<{types[name]}>(alloc, &[{listed}]))?;\n'
+        functions += FUNCTION.format(at=at, lines=lines)
+        calls += f"    answers_{at}(&rt)?;\n"
+    return MAIN.format(functions=functions, calls=calls)
+
+
+def answers(compiler, name, rows):
+    """What the types of one module answer for each row."""
+    with tempfile.TemporaryDirectory() as folder:
+        words = [compiler, "--out", f"{folder}/vectors", f"{VECTORS}/{name}.asn1"]
+        ran = subprocess.run(words, stdin=subprocess.DEVNULL, check=False, text=True, capture_output=True)
+        if ran.returncode:
+            return (ran.stdout + ran.stderr).splitlines()
+        os.remove(f"{folder}/vectors/src/lib.rt")
+        types = rust_types(f"{folder}/vectors", text_of(f"{VECTORS}/{name}.asn1"), ran.stderr)
+        with open(f"{folder}/vectors/src/main.rt", "w", encoding="utf-8") as file:
+            file.write(program_text(types, rows))
+        ran = checker.try_unproved(f"{folder}/vectors", "vectors", USES + crates()["der_asn1"], [])
+        return ran.stdout.splitlines() if not ran.returncode else (ran.stdout + ran.stderr).splitlines()
+
+
+def compare(compiler, name):
+    """Compares the answers for one module with those of the other compiler, and returns for each row whether
+    it is the same."""
+    rows = rows_of(name)
+    said = answers(compiler, name, rows)
+    if len(said) != len(rows):
+        print("\n".join(said[-50:]))
+        said = ["none"] * len(rows)
+    for (of, octets, wanted), answer in zip(rows, said):
+        if answer != wanted:
+            print(f"test: vectors: {name}: {of} {octets} is {answer}, and {wanted} for asn1ct")
+    held = [answer == wanted for (_, _, wanted), answer in zip(rows, said)]
+    print(f"test: vectors: {name}: {sum(held)} of {len(held)} answers are those of asn1ct", flush=True)
+    return held
+
+
+def says_why(compiler):
+    """Whether the compiler prints to standard error what is stored beside its module with a fault, and nothing
+    else."""
+    of = "asn1_compile"
+    words, stored = checker.args_of(of), text_of(f"{checker.folder_of(of)}/stderr")
+    ran = subprocess.run([compiler, *words], cwd=f"{checker.folder_of(of)}/data", stdin=subprocess.DEVNULL,
+                         check=False, text=True, capture_output=True)
+    held = (ran.returncode, ran.stdout, ran.stderr) == (1, "", stored)
+    print(f"test: {of} says {'what' if held else 'something else than what'} is stored", flush=True)
+    return held

@@ -1,0 +1,34 @@
+//! Types of Rust for ranges, defaults and additions.
+use super::refusals::{compiled, has_text, module};
+use crate::checks::same_at;
+use std::test::Fail;
+
+#[test]
+fn ranges_and_defaults_reach_the_types(rt: HostRuntime) -> Result<(), Fail> {
+    let alloc = rt.alloc();
+    for (body, line) in [
+        ("A ::= SEQUENCE { a I (0..10) }\nI ::= INTEGER", "pub a: IntegerIn<0, 10>,"),
+        ("A ::= I (0..10)\nI ::= INTEGER", "pub type A = IntegerIn<0, 10>;"),
+        ("A ::= [0] I (3..4)\nI ::= INTEGER", "pub type A = Explicit<IntegerIn<3, 4>, 0>;"),
+        ("A ::= I (3..4)\nI ::= [0] IMPLICIT INTEGER", "pub type A = Implicit<IntegerIn<3, 4>, 0>;"),
+        ("A ::= I (one..two)\nI ::= INTEGER { one(1), two(2) }", "pub type A = IntegerIn<1, 2>;"),
+        ("A ::= INTEGER (1..10) (5..20)", "pub type A = IntegerIn<5, 10>;"),
+        ("A ::= INTEGER (0..5, ...) (0..3)", "pub type A = IntegerIn<0, 3>;"),
+        ("A ::= INTEGER (0..9) (0..3, ...)", "pub type A = IntegerIn<0, 9>;"),
+        ("A ::= OCTET STRING (CONTAINING I) (SIZE (4))\nI ::= INTEGER", "pub type A<'a> = OctetStringOf<I<'a>>;"),
+        ("A ::= SEQUENCE { a INTEGER (0..5) DEFAULT 3 }", "pub a: Defaulted<WithDefault<IntegerIn<0, 5>, AADefault>>,"),
+        ("A ::= SEQUENCE { a INTEGER DEFAULT -129 }", "<IntRef<'a>>::formed(&[0xFF, 0x7F])"),
+        ("A ::= SEQUENCE { a I DEFAULT 3 }\nI ::= [1] INTEGER", "pub a: Defaulted<Explicit<WithDefault<IntRef<'a>, AADefault>, 1>>,"),
+        ("A ::= SEQUENCE { a SET OF NULL DEFAULT {} }", "pub a: Defaulted<WithDefault<SetOf<'a, Null<'a>>, DefaultEmpty>>,"),
+        ("A ::= SEQUENCE { a INTEGER { b(0), c(1) } (0..1) DEFAULT 1 }", "AA::C"),
+        ("A ::= SEQUENCE { a NULL, ..., b BOOLEAN }", "pub b: Optional<BooleanRef<'a>>,"),
+        ("A ::= ENUMERATED { a(-1), b }", "pub type A<'a> = EnumeratedRef<'a>;"),
+    ] {
+        let text = module(alloc, "EXPLICIT", body)?;
+        match compiled(alloc, &Vec::new(alloc), &text) {
+            Ok(files) => has_text(&rt, &files, "src/asn1/a.rt", line),
+            Err(place) => same_at(&rt, body, Some(place), None),
+        }
+    }
+    Ok(())
+}
