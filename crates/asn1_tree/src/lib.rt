@@ -44,6 +44,7 @@ mod role;
 mod rule;
 mod select;
 mod shape;
+mod strings;
 mod tests;
 mod tree;
 mod typed;
