@@ -46,6 +46,7 @@ mod select;
 mod shape;
 mod strings;
 mod tests;
+mod texts;
 mod tree;
 mod typed;
 mod types;
