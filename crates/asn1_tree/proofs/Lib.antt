@@ -7,6 +7,8 @@ pub mod ComponentLemmas
 pub mod UntypedLemmas
 pub mod ValueLemmas
 pub mod DefaultLemmas
+pub mod StringLemmas
+pub mod SegmentLemmas
 pub mod ChosenLemmas
 pub mod WholeLemmas
 pub mod SizeLemmas

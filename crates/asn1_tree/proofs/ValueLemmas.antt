@@ -26,7 +26,7 @@ use Rattle.ber.specs.declared.universal.Universal.{Universal}
 use Rattle.ber.specs.declared.universal.Universal.TheVariants.{ObjectIdentifier}
 use Rattle.asn1_tree.specs.Enclosed.{IsCounted, ending}
 use Rattle.asn1_tree.specs.Known.{IsIdentifier}
-use Rattle.asn1_tree.specs.Value.{IsNoDefault, IsComponent, IsUnknownType, AreBounded, is_constructed}
+use Rattle.asn1_tree.specs.Value.{IsNoDefault, IsComponent, IsUnknownType, AreBounded, IsOfType, is_joined, is_constructed}
 use Rattle.asn1_tree.specs.declared.shape.Shape.{Shape}
 use Rattle.asn1_tree.specs.declared.shape.Shape.TheVariants.{Components, Of, Items, SortedItems, Inner, Untyped, Nothing}
 use Rattle.asn1_tree.proofs.ItemLemmas.{OfElements}
@@ -207,13 +207,14 @@ identifier_element t (suc d) rules known i x id is = at (slice_get t.nodes i) re
         of (chosen m open_kind is_chosen child) = let both : Universally ObjectIdentifier ≡ Open = sym its ∙ open_kind in absurd (cc)
         of (element h inner en has unknown are) = primitive h.constructed refl
           where
-            contents : IsUnknownType rules (IsAny (suc d - 1)) (Some ObjectIdentifier) h.constructed inner
-            contents = (subst (λ k. AreContents (shape_of k) rules t (IsValue t (suc d - 1)) (IsAny (suc d - 1)) known s.2.node h inner) its are).0
+            contents : (c : Bool) → h.constructed ≡ c → IsOfType (is_joined c ObjectIdentifier) c rules t (IsValue t (suc d - 1)) (IsAny (suc d - 1)) known s.2.node ObjectIdentifier inner
+            contents c e = subst (λ k. IsOfType (is_joined k ObjectIdentifier) k rules t (IsValue t (suc d - 1)) (IsAny (suc d - 1)) known s.2.node ObjectIdentifier inner) e
+                (subst (λ k. AreContents (shape_of k) rules t (IsValue t (suc d - 1)) (IsAny (suc d - 1)) known s.2.node h inner) its are)
 
             primitive : (b : Bool) → h.constructed ≡ b → (g : Header) × (c : List ℕ) × IsElement g c x
             primitive false off = (h, inner, definite_element en off)
             primitive true on =
-                let may : form_of ObjectIdentifier ≡ Constructed = (subst (λ b. IsUnknownType rules (IsAny (suc d - 1)) (Some ObjectIdentifier) b inner) on contents).0 in
+                let may : form_of ObjectIdentifier ≡ Constructed = (contents true on).0.0 in
                 absurd (cc)
 
 -- the encoding of a component

@@ -2,12 +2,18 @@
 use Rattle.std.proofs.Common.{◌≡◌, ◌↔◌, ℕ, Bool, true, false, List, [], ◌++◌, refl, sym, ap, ◌∙◌, subst}
 use Rattle.der_base.specs.declared.encoding_rules.EncodingRules.{EncodingRules}
 use Rattle.asn1_tree.specs.Verdict.{holds, worst}
-use Rattle.asn1_tree.specs.Reading.{Front, Body, Finds, verdict_of, Logs}
+use Rattle.asn1_tree.specs.Reading.{Front, IsWithin, Body, Finds, verdict_of, Logs}
 use Rattle.asn1_tree.specs.declared.departure.Departure.{Departure}
 use Rattle.asn1_tree.specs.declared.verdict.Verdict.{Verdict}
 use Rattle.asn1_schema.specs.Table.{Table}
 use Rattle.asn1_tree.specs.Known.{Known, IsUnknownOpen}
-use Rattle.asn1_tree.specs.Value.{Values, Contains, typed, untyped}
+use Rattle.der_base.specs.declared.encoding_rules.EncodingRules.TheVariants.{Ber}
+use Rattle.ber.specs.declared.universal.Universal.{Universal}
+use Rattle.asn1_contents.specs.Contents.{IsContents}
+use Rattle.asn1_schema.specs.declared.node.Node.{Node}
+use Rattle.asn1_tree.specs.Constraints.{IsConstrained}
+use Rattle.asn1_tree.specs.Strings.{AreSegments}
+use Rattle.asn1_tree.specs.Value.{IsJoinedText, Values, Contains, typed, untyped}
 use Rattle.asn1_tree.proofs.FindsLemmas.{worst_true, worst_both, finds_is, finds_and, status_ends}
 use Rattle.asn1_tree.proofs.ItemLemmas.{inner_found}
 use Rattle.asn1_tree.proofs.VerdictLemmas.{logs_then, worst_comm}
@@ -68,3 +74,19 @@ contains_value t Child known i inner {v} never test rules = ((λ on. typed ((tes
     back : Contains rules t Child known i inner → holds rules v ≡ true
     back (typed child) = (test rules).1 child
     back (untyped is) = absurd (never is)
+
+-- a constructed string, whose text is the only one
+pub finds_text : (t : Table) (n : Node) (u : Universal) (text : List ℕ) {v a b : Verdict} {rest : List ℕ} (m : Bool) (c octets : List ℕ)
+    → Finds (λ rules. Body m c (λ inner. (rules ≡ Ber) × ((s : List ℕ) × AreSegments 64 u inner s)) octets) v rest
+    → ((inner r s : List ℕ) → IsWithin m c octets inner r → AreSegments 64 u inner s → s ≡ text)
+    → ((rules : EncodingRules) → (holds rules a ≡ true) ↔ IsContents rules u text)
+    → ((rules : EncodingRules) → (holds rules b ≡ true) ↔ IsConstrained rules t n u text)
+    → Finds (λ rules. Body m c (IsJoinedText rules t n u) octets) (worst v (worst a b)) rest
+finds_text t n u text {v} {a} {b} m c octets f only whole kept =
+    finds_is (worst_comm v (worst a b)) (finds_and (worst a b) (λ rules. IsContents rules u text × IsConstrained rules t n u text) (both_tests whole kept)
+    (λ rules r is h.
+    let same = only h.0 r h.2.1.0 h.1 h.2.1.1 in
+    (h.0, h.1, (h.2.0, (h.2.1.0, h.2.1.1, subst (IsContents rules u) (sym same) is.0, subst (IsConstrained rules t n u) (sym same) is.1))))
+    (λ rules r h.
+    let same = only h.0 r h.2.1.0 h.1 h.2.1.1 in
+    ((subst (IsContents rules u) same h.2.1.2, subst (IsConstrained rules t n u) same h.2.1.3), (h.0, h.1, (h.2.0, (h.2.1.0, h.2.1.1))))) f)

@@ -8,5 +8,7 @@ pub mod Opened
 pub mod Constraints
 pub mod Value
 pub mod Reading
+pub mod Strings
+pub mod StringReading
 pub mod Departures
 pub mod Encoding

@@ -17,6 +17,7 @@ verdict_of_rule r.LongLength = Ber
 verdict_of_rule r.IndefiniteLength = Ber
 verdict_of_rule r.SetOrder = Ber
 verdict_of_rule r.DefaultEncoded = Ber
+verdict_of_rule r.ConstructedString = Ber
 verdict_of_rule (r.Contents rule) = verdict_of_contents rule
 verdict_of_rule _ = Neither
 

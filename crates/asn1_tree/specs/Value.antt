@@ -2,12 +2,13 @@
 -- of a table, in which nodes name each other by index; values are nested at most `depth` levels.
 use Rattle.std.specs.Prelude.{◌≡◌, ◌≢◌, ℕ, zero, suc, ◌==◌, ◌&&◌, ◌||◌, nat_eq, nat_lt, Bool, true, false, IsTrue, List, [], ◌∷◌, ◌++◌, Option, Some, None, slice_get, ◌⊎◌}
 use Rattle.der_base.specs.declared.encoding_rules.EncodingRules.{EncodingRules}
-use Rattle.der_base.specs.declared.encoding_rules.EncodingRules.TheVariants.{Der}
+use Rattle.der_base.specs.declared.encoding_rules.EncodingRules.TheVariants.{Der, Ber}
 use Rattle.ber.specs.Der.{type_of}
 use Rattle.ber.specs.Form.{allows}
 use Rattle.ber.specs.Universal.{form_of}
 use Rattle.ber.specs.Header.{label_of_header}
-use Rattle.ber.specs.declared.form.Form.TheVariants.{Constructed}
+use Rattle.ber.specs.declared.form.Form.{Form}
+use Rattle.ber.specs.declared.form.Form.TheVariants.{Primitive, Constructed, Either}
 use Rattle.ber.specs.declared.header.Header.{Header}
 use Rattle.ber.specs.declared.universal.Universal.{Universal}
 use Rattle.ber.specs.declared.universal.Universal.TheVariants.{OctetString, Sequence}
@@ -25,6 +26,7 @@ use Rattle.asn1_tree.specs.declared.shape.Shape.TheVariants.{Components, Of, Ite
 use Rattle.asn1_tree.specs.Known.{Known, Follows, IsChosen, IsUnknown, IsUnknownOpen}
 use Rattle.asn1_tree.specs.Constraints.{IsAllowedSize, IsConstrained}
 use Rattle.asn1_tree.specs.Enclosed.{IsEnclosed}
+use Rattle.asn1_tree.specs.Strings.{AreSegments}
 use Rattle.asn1_contents.specs.Contents.{IsContents}
 
 -- what is said of the encodings of values of nodes, after an OBJECT IDENTIFIER; and of those of any type
@@ -83,6 +85,12 @@ AreComponents Child rules t (suc n) k known octets =
     × IsComponent Child rules t known f x × Follows (slice_get t.nodes f.node) k x known after
     × AreComponents Child rules t n (suc k) after rest)
     ⊎ (MayBeAbsent f × AreComponents Child rules t n (suc k) known octets))
+
+-- a form that the sender chooses: that of a string
+abbrev pub is_string : Form → Bool
+is_string Either = true
+is_string Primitive = false
+is_string Constructed = false
 
 -- a universal type that may be constructed under DER
 abbrev pub MayBeConstructed : Option Universal → Type 0
@@ -163,13 +171,30 @@ AreAll true Child Item rules t n inner = SomeItems false rules (Item rules) IsAn
 AreAll false Child Item rules t n inner =
     AreComponents Child rules t n.parts.count n.parts.start None inner
 
+-- a string in the constructed form (8.6.4, 8.7.3, 8.23)
+abbrev pub is_joined : Bool → Universal → Bool
+is_joined constructed u = constructed && is_string (form_of u)
+
+-- contents of a constructed string of a node under BER: segments, nested at most 64 deep, that are
+-- joined to a text, which keeps the rules of the type and the constraints of the node
+abbrev pub IsJoinedText : EncodingRules → Table → Node → Universal → List ℕ → Type 0
+IsJoinedText rules t n u inner =
+    (rules ≡ Ber) × ((text : List ℕ) × AreSegments 64 u inner text × IsContents rules u text
+    × IsConstrained rules t n u text)
+
+-- contents of a node of a universal type without components, in the constructed form of a string or
+-- in another form
+abbrev pub IsOfType : Bool → Bool → EncodingRules → Table → Values → Elements → Known → Node → Universal → List ℕ → Type 0
+IsOfType true c rules t Child Item known n u inner = IsJoinedText rules t n u inner
+IsOfType false c rules t Child Item known n u inner =
+    IsUnknownType rules Item (Some u) c inner × AreBounded c rules t Child known n u inner
+
 -- the contents of an element whose tag is that of a node of a shape
 abbrev pub AreContents : Shape → EncodingRules → Table → Values → Elements → Known → Node → Header → List ℕ → Type 0
 AreContents Components rules t Child Item known n h inner =
     (h.constructed ≡ true) × AreAll (is_free n) Child Item rules t n inner
 AreContents (Of u) rules t Child Item known n h inner =
-    IsUnknownType rules Item (Some u) h.constructed inner
-    × AreBounded h.constructed rules t Child known n u inner
+    IsOfType (is_joined h.constructed u) h.constructed rules t Child Item known n u inner
 AreContents Items rules t Child Item known n h inner =
     (h.constructed ≡ true) × ((i : ℕ) × (n.inner ≡ Some i) × SomeItems false rules (Child rules known i) (IsAllowedSize t n.limits) inner)
 AreContents SortedItems rules t Child Item known n h inner =

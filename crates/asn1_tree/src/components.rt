@@ -26,12 +26,13 @@ use crate::types::field_of;
 use crate::untyped::{elements, finish};
 use crate::verdict::Verdict;
 use asn1_schema::{Node, Schema, Span};
-use std::alloc::AllocError;
+use std::alloc::{AllocError, Global};
 
 // Reads the components of a SEQUENCE, known or not.
 #[cycle(typed)]
 pub(crate) fn all_components<'a>(
     tree: &mut Tree,
+    alloc: Global,
     schema: &Schema<'_>,
     depth: usize,
     node: Node,
@@ -53,7 +54,7 @@ pub(crate) fn all_components<'a>(
     if is_free(node) {
         elements(tree, depth, at, opened)
     } else {
-        components(tree, schema, depth, node, at, opened)
+        components(tree, alloc, schema, depth, node, at, opened)
     }
 }
 
@@ -68,6 +69,7 @@ fn is_free(node: Node) -> bool
 #[cycle(typed)]
 fn components<'a>(
     tree: &mut Tree,
+    alloc: Global,
     schema: &Schema<'_>,
     depth: usize,
     node: Node,
@@ -96,6 +98,7 @@ fn components<'a>(
         left -= 1;
         let step = component(
             tree,
+            alloc,
             schema,
             depth,
             known,
@@ -128,6 +131,7 @@ fn index_of(span: Span, index: u32, rows: u32) -> u32
 #[cycle(typed)]
 fn component<'a>(
     tree: &mut Tree,
+    alloc: Global,
     schema: &Schema<'_>,
     depth: usize,
     known: Option<Known<'a>>,
@@ -160,7 +164,7 @@ fn component<'a>(
             field: index,
             ..Role::inside(at)
         };
-        let outcome = value(tree, schema, depth, known, field.node, role, place)?;
+        let outcome = value(tree, alloc, schema, depth, known, field.node, role, place)?;
         let octets = &place.octets[..place.octets.len() - outcome.rest.len()];
         let rule = default_rule(schema, field, octets);
         let verdict = tree.judge(rule, place.offset(), at)?;
@@ -189,6 +193,7 @@ fn component<'a>(
 #[cycle(typed)]
 pub(crate) fn items<'a>(
     tree: &mut Tree,
+    alloc: Global,
     schema: &Schema<'_>,
     depth: usize,
     known: Option<Known<'_>>,
@@ -217,7 +222,7 @@ pub(crate) fn items<'a>(
     let mut before: &[u8] = &[];
     'items: while !opened.at(rest).is_ended() {
         let place = opened.inside.at(rest);
-        let outcome = value(tree, schema, depth, known, item, role, place)?;
+        let outcome = value(tree, alloc, schema, depth, known, item, role, place)?;
         let octets = &rest[..rest.len() - outcome.rest.len()];
         let order = tree.judge(order_rule(sorted, before, octets), place.offset(), at)?;
         verdict = verdict.and(outcome.verdict).and(order);
@@ -237,6 +242,7 @@ pub(crate) fn items<'a>(
 #[cycle(typed)]
 pub(crate) fn explicit<'a>(
     tree: &mut Tree,
+    alloc: Global,
     schema: &Schema<'_>,
     depth: usize,
     known: Option<Known<'_>>,
@@ -255,7 +261,16 @@ pub(crate) fn explicit<'a>(
     ensures grows { OnOk result (vec_len tree.old.entries ≤ vec_len tree.new.entries) }
 {
     let role = Role::inside(at);
-    let outcome = value(tree, schema, depth, known, inner, role, opened.inside)?;
+    let outcome = value(
+        tree,
+        alloc,
+        schema,
+        depth,
+        known,
+        inner,
+        role,
+        opened.inside,
+    )?;
     let end = finish(tree, depth, at, opened.at(outcome.rest))?;
     Ok(Outcome {
         verdict: outcome.verdict.and(end.verdict),

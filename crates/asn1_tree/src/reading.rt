@@ -61,7 +61,7 @@ fn read_node(
         end: octets.len(),
     };
     let role = Role::inside(0);
-    let outcome = value(&mut tree, schema, 64, None, node, role, place)?;
+    let outcome = value(&mut tree, alloc, schema, 64, None, node, role, place)?;
     let rest = Opened {
         inside: place.at(outcome.rest),
         start: 0,

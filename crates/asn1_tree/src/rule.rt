@@ -16,6 +16,10 @@ pub enum Rule {
     SetOrder,
     /// The value of a DEFAULT is encoded (11.5).
     DefaultEncoded,
+    /// A string is constructed (10.2).
+    ConstructedString,
+    /// A segment of a BIT STRING follows one with unused bits (8.6.4.1).
+    UnusedBits,
     /// There is no header (8.1.2, 8.1.3).
     Header,
     /// The contents of an element are cut off (8.1.4).
@@ -54,6 +58,7 @@ impl Rule {
             Rule::IndefiniteLength => Verdict::Ber,
             Rule::SetOrder => Verdict::Ber,
             Rule::DefaultEncoded => Verdict::Ber,
+            Rule::ConstructedString => Verdict::Ber,
             Rule::Contents(rule) => contents_verdict(rule),
             _ => Verdict::Neither,
         }

@@ -8,6 +8,7 @@ ghost use Rattle.asn1_schema.specs.declared.node_kind.NodeKind.TheVariants.{Univ
 ghost use Rattle.ber.specs.declared.universal.Universal.TheVariants.{Sequence};
 ghost use Rattle.asn1_tree.specs.Verdict.{holds};
 ghost use Rattle.asn1_tree.specs.Rule.{verdict_of_option};
+ghost use Rattle.asn1_contents.specs.Contents.{IsContents};
 ghost use Rattle.asn1_tree.specs.Value.{IsNoDefault, MayBeConstructed, IsPrimitive};
 
 use crate::rule::Rule;
@@ -62,10 +63,7 @@ pub(crate) fn primitive_rule(universal: Option<Universal>, contents: &[u8]) -> O
     match universal {
         Some(universal) => {
             if universal.form().allows(false) {
-                match broken_rule(universal, contents) {
-                    Some(rule) => Some(Rule::Contents(rule)),
-                    None => None,
-                }
+                contents_rule(universal, contents)
             } else {
                 Some(Rule::Form)
             }
@@ -81,5 +79,16 @@ pub(crate) fn may_be_absent(field: Field) -> bool
     match field.presence {
         Presence::Required => field.addition != 0,
         _ => true,
+    }
+}
+
+/// The rule that contents of a universal type break.
+pub(crate) fn contents_rule(universal: Universal, contents: &[u8]) -> Option<Rule>
+    ensures { (rules : EncodingRules) → (holds rules (verdict_of_option result) ≡ true)
+        ↔ IsContents rules universal contents.now }
+{
+    match broken_rule(universal, contents) {
+        Some(rule) => Some(Rule::Contents(rule)),
+        None => None,
     }
 }

@@ -13,7 +13,7 @@ ghost use Rattle.asn1_schema.specs.Distinct.{AreDistinct};
 ghost use Rattle.asn1_tree.specs.Constraints.{bound_of};
 ghost use Rattle.asn1_tree.specs.declared.bound.Bound.TheVariants.{Items};
 ghost use Rattle.asn1_tree.specs.Known.{IsUnknownOpen, known_in};
-ghost use Rattle.asn1_tree.specs.Value.{IsValue, IsAny, IsNode, AreContents, AreBounded, IsUnknownType, Contains, IsContained, contained_in, shape_of};
+ghost use Rattle.asn1_tree.specs.Value.{IsValue, IsAny, IsNode, AreContents, IsOfType, is_joined, IsUnknownType, Contains, IsContained, contained_in, shape_of};
 ghost use Rattle.asn1_tree.specs.Reading.{Front, Body, Finds, Logs};
 
 use crate::chosen::chosen;
@@ -27,18 +27,20 @@ use crate::place::Place;
 use crate::role::Role;
 use crate::rule::Rule;
 use crate::shape::Shape;
+use crate::texts::{is_joined, joined_text};
 use crate::tree::Tree;
 use crate::types::{node_of, select};
 use crate::untyped::{any, finish, unknown_contents};
 use crate::verdict::Verdict;
 use asn1_schema::{Node, NodeKind, Schema};
 use ber::{Header, Universal, is_end_of_contents, read_header};
-use std::alloc::AllocError;
+use std::alloc::{AllocError, Global};
 
 // Reads the value of a node at the front.
 #[cycle(typed)]
 pub(crate) fn value<'a>(
     tree: &mut Tree,
+    alloc: Global,
     schema: &Schema<'_>,
     depth: usize,
     known: Option<Known<'_>>,
@@ -79,6 +81,7 @@ pub(crate) fn value<'a>(
         Some(selected) => {
             selected_value(
                 tree,
+                alloc,
                 schema,
                 depth - 1,
                 known,
@@ -103,6 +106,7 @@ pub(crate) fn value<'a>(
 #[cycle(typed)]
 fn selected_value<'a>(
     tree: &mut Tree,
+    alloc: Global,
     schema: &Schema<'_>,
     depth: usize,
     known: Option<Known<'_>>,
@@ -127,13 +131,15 @@ fn selected_value<'a>(
 {
     let node = node_of(schema, index);
     match chosen(schema, &node, known) {
-        Some(inner) => value(tree, schema, depth, known, inner, role, place),
+        Some(inner) => value(tree, alloc, schema, depth, known, inner, role, place),
         None => {
             let at = tree.enter(Entry::new(header, place, role, index, depth))?;
             let allowed = tree.judge_lengths(header, place.offset(), at)?;
             match after_header(header, place) {
                 Some(opened) => {
-                    let outcome = contents(tree, schema, depth, known, node, at, header, opened)?;
+                    let outcome = contents(
+                        tree, alloc, schema, depth, known, node, at, header, opened,
+                    )?;
                     tree.leave(at, opened, outcome.rest);
                     Ok(Outcome {
                         verdict: allowed.and(outcome.verdict),
@@ -156,6 +162,7 @@ fn selected_value<'a>(
 #[cycle(typed)]
 fn contents<'a>(
     tree: &mut Tree,
+    alloc: Global,
     schema: &Schema<'_>,
     depth: usize,
     known: Option<Known<'_>>,
@@ -186,13 +193,22 @@ fn contents<'a>(
         });
     }
     match shape {
-        Shape::Components => all_components(tree, schema, depth, node, at, opened),
+        Shape::Components => all_components(tree, alloc, schema, depth, node, at, opened),
         Shape::Of(universal) => of_type(
-            tree, schema, depth, known, node, universal, at, header, opened,
+            tree, alloc, schema, depth, known, node, universal, at, header, opened,
         ),
-        Shape::Items => items(tree, schema, depth, known, node, false, at, opened),
-        Shape::SortedItems => items(tree, schema, depth, known, node, true, at, opened),
-        Shape::Inner => explicit(tree, schema, depth, known, inner_of(node), at, opened),
+        Shape::Items => items(tree, alloc, schema, depth, known, node, false, at, opened),
+        Shape::SortedItems => items(tree, alloc, schema, depth, known, node, true, at, opened),
+        Shape::Inner => explicit(
+            tree,
+            alloc,
+            schema,
+            depth,
+            known,
+            inner_of(node),
+            at,
+            opened,
+        ),
         Shape::Untyped => {
             unknown_contents(
                 tree,
@@ -217,6 +233,7 @@ fn contents<'a>(
 #[cycle(typed)]
 fn of_type<'a>(
     tree: &mut Tree,
+    alloc: Global,
     schema: &Schema<'_>,
     depth: usize,
     known: Option<Known<'_>>,
@@ -231,15 +248,18 @@ fn of_type<'a>(
     requires distinct { AreDistinct (types_in schema.now.octets.now) }
     requires form { header.constructed ≡ false → opened.marked ≡ false }
     ensures finds { IfOk result (λ o. Finds (λ rules. Body opened.entry.marked opened.entry.beyond.now
-        (λ inner. IsUnknownType rules (IsAny depth) (Some universal) header.constructed inner
-        × AreBounded header.constructed rules (types_in schema.now.octets.now)
-        (IsValue (types_in schema.now.octets.now) depth) (known_in known.entry) node universal inner)
+        (IsOfType (is_joined header.constructed universal) header.constructed rules
+        (types_in schema.now.octets.now) (IsValue (types_in schema.now.octets.now) depth)
+        (IsAny depth) (known_in known.entry) node universal)
         opened.entry.inside.octets.now) o.verdict o.rest.now) }
     ensures shorter { IfOk result (λ o. length o.rest.now
         ≤ length opened.entry.inside.octets.now + length opened.entry.beyond.now) }
     ensures log { IfOk result (λ o. Logs o.verdict tree.old.departures.items tree.new.departures.items) }
     ensures grows { OnOk result (vec_len tree.old.entries ≤ vec_len tree.new.entries) }
 {
+    if is_joined(header.constructed, universal) {
+        return joined_text(tree, alloc, schema, node, universal, at, opened);
+    }
     let outcome = unknown_contents(tree, depth, Some(universal), header.constructed, at, opened)?;
     if header.constructed {
         return Ok(outcome);
@@ -247,7 +267,7 @@ fn of_type<'a>(
     let rule = constraint_rule(schema, node, universal, opened.inside.octets);
     let kept = tree.judge(rule, opened.start, at)?;
     let inner = contained_in(universal, node);
-    let value = contained(tree, schema, depth, known, inner, at, opened.inside)?;
+    let value = contained(tree, alloc, schema, depth, known, inner, at, opened.inside)?;
     Ok(Outcome {
         verdict: outcome.verdict.and(kept.and(value)),
         rest: outcome.rest,
@@ -268,6 +288,7 @@ fn contained_in(universal: Universal, node: Node) -> Option<u32>
 #[cycle(typed)]
 fn contained<'a>(
     tree: &mut Tree,
+    alloc: Global,
     schema: &Schema<'_>,
     depth: usize,
     known: Option<Known<'_>>,
@@ -284,7 +305,7 @@ fn contained<'a>(
     ensures grows { OnOk result (vec_len tree.old.entries ≤ vec_len tree.new.entries) }
 {
     match inner {
-        Some(index) => contained_value(tree, schema, depth, known, index, at, place),
+        Some(index) => contained_value(tree, alloc, schema, depth, known, index, at, place),
         None => Ok(Verdict::Der),
     }
 }
@@ -293,6 +314,7 @@ fn contained<'a>(
 #[cycle(typed)]
 fn contained_value<'a>(
     tree: &mut Tree,
+    alloc: Global,
     schema: &Schema<'_>,
     depth: usize,
     known: Option<Known<'_>>,
@@ -312,7 +334,7 @@ fn contained_value<'a>(
         return Ok(Verdict::Der);
     }
     let role = Role::inside(at);
-    let outcome = value(tree, schema, depth, known, index, role, place)?;
+    let outcome = value(tree, alloc, schema, depth, known, index, role, place)?;
     let rest = Opened {
         inside: place.at(outcome.rest),
         start: place.offset(),

@@ -6,7 +6,7 @@ use Rattle.asn1_tree.specs.Constraints.{IsAllowedSize}
 use Rattle.asn1_tree.specs.Types.{types_in}
 use Rattle.asn1_tree.specs.Known.{known_in, Follows}
 use Rattle.asn1_tree.specs.Verdict.{holds, worst}
-use Rattle.asn1_tree.specs.Value.{MayBeAbsent, IsValue, IsAny, IsNode, AreComponents, SomeItems, IsUnknownType, AreAll, AreBounded, IsContained, shape_of, is_constructed}
+use Rattle.asn1_tree.specs.Value.{MayBeAbsent, IsValue, IsAny, IsNode, AreComponents, SomeItems, IsUnknownType, AreAll, AreBounded, IsContained, shape_of, is_constructed, IsOfType}
 use Rattle.asn1_tree.specs.Reading.{Front, Body, Finds}
 use Rattle.asn1_tree.specs.declared.shape.Shape.TheVariants.{Components, Of, Items, SortedItems, Inner, Untyped}
 use Rattle.asn1_tree.proofs.VerdictLemmas.{logs_none, worst_neither, worst_assoc, logs_is, logs_then, logs_after, logs_left}
@@ -242,7 +242,8 @@ components::explicit-returns-clause-log t c =
 
 pub typed::of_type-returns-then-header-clause-finds : goal.typed::of_type-returns-then-header-clause-finds
 typed::of_type-returns-then-header-clause-finds t c =
-    finds_unbounded (types_in c.args.schema.now.octets.now) (IsValue (types_in c.args.schema.now.octets.now) c.args.depth) (known_in c.args.known) c.args.node c.args.universal (λ rules. IsUnknownType rules (IsAny c.args.depth) (Some c.args.universal) c.args.header.constructed) c.args.header.constructed c.args.opened.marked c.args.opened.beyond.now c.args.opened.inside.octets.now c.if-header.true c.in_ok-outcome.ensures.finds
+    subst (λ k. Finds (λ rules. Body c.args.opened.marked c.args.opened.beyond.now (IsOfType k c.args.header.constructed rules (types_in c.args.schema.now.octets.now) (IsValue (types_in c.args.schema.now.octets.now) c.args.depth) (IsAny c.args.depth) (known_in c.args.known) c.args.node c.args.universal) c.args.opened.inside.octets.now) c.in_ok-outcome.outcome.verdict c.in_ok-outcome.outcome.rest.now) (sym c.if-is_joined.false ∙ c.is_joined.ensures)
+    (finds_unbounded (types_in c.args.schema.now.octets.now) (IsValue (types_in c.args.schema.now.octets.now) c.args.depth) (known_in c.args.known) c.args.node c.args.universal (λ rules. IsUnknownType rules (IsAny c.args.depth) (Some c.args.universal) c.args.header.constructed) c.args.header.constructed c.args.opened.marked c.args.opened.beyond.now c.args.opened.inside.octets.now c.if-header.true c.in_ok-outcome.ensures.finds)
 
 pub components::items-items-init : goal.components::items-items-init
 components::items-items-init t c =
@@ -258,9 +259,10 @@ pub typed::of_type-returns-clause-finds : goal.typed::of_type-returns-clause-fin
 typed::of_type-returns-clause-finds t c =
     let test = subst (λ o. (r : EncodingRules) → (holds r c.in_ok-value.value ≡ true) ↔ IsContained r (types_in c.args.schema.now.octets.now) (IsValue (types_in c.args.schema.now.octets.now) c.args.depth) (known_in c.args.known) o c.args.opened.inside.octets.now) c.contained_in-inner.ensures c.in_ok-value.ensures.exact in
     let tests = both_tests (test_is c.in_ok-kept.ensures.verdict c.constraint_rule-rule.ensures) test in
-    finds_is (c.and-2.ensures ∙ ap (λ v. worst c.in_ok-outcome.outcome.verdict v) c.and.ensures)
+    subst (λ k. Finds (λ rules. Body c.args.opened.marked c.args.opened.beyond.now (IsOfType k c.args.header.constructed rules (types_in c.args.schema.now.octets.now) (IsValue (types_in c.args.schema.now.octets.now) c.args.depth) (IsAny c.args.depth) (known_in c.args.known) c.args.node c.args.universal) c.args.opened.inside.octets.now) c.and-2.result c.in_ok-outcome.outcome.rest.now) (sym c.if-is_joined.false ∙ c.is_joined.ensures)
+    (finds_is (c.and-2.ensures ∙ ap (λ v. worst c.in_ok-outcome.outcome.verdict v) c.and.ensures)
     (finds_also (λ rules. IsUnknownType rules (IsAny c.args.depth) (Some c.args.universal) c.args.header.constructed) (λ rules. AreBounded c.args.header.constructed rules (types_in c.args.schema.now.octets.now) (IsValue (types_in c.args.schema.now.octets.now) c.args.depth) (known_in c.args.known) c.args.node c.args.universal) c.args.opened.marked c.args.opened.beyond.now c.args.opened.inside.octets.now (c.requires.form c.if-header.false) c.in_ok-outcome.ensures.finds
-    (subst (λ k. (r : EncodingRules) → (holds r (worst c.in_ok-kept.kept c.in_ok-value.value) ≡ true) ↔ AreBounded k r (types_in c.args.schema.now.octets.now) (IsValue (types_in c.args.schema.now.octets.now) c.args.depth) (known_in c.args.known) c.args.node c.args.universal c.args.opened.inside.octets.now) (sym c.if-header.false) tests))
+    (subst (λ k. (r : EncodingRules) → (holds r (worst c.in_ok-kept.kept c.in_ok-value.value) ≡ true) ↔ AreBounded k r (types_in c.args.schema.now.octets.now) (IsValue (types_in c.args.schema.now.octets.now) c.args.depth) (known_in c.args.known) c.args.node c.args.universal c.args.opened.inside.octets.now) (sym c.if-header.false) tests)))
 
 pub typed::of_type-returns-clause-log : goal.typed::of_type-returns-clause-log
 typed::of_type-returns-clause-log t c =
@@ -283,3 +285,7 @@ components::all_components-returns-then-is_free-clause-finds t c =
 pub components::all_components-returns-else-is_free-clause-finds : goal.components::all_components-returns-else-is_free-clause-finds
 components::all_components-returns-else-is_free-clause-finds t c =
     if_ok c.components.result (λ o f. subst (λ k. Finds (λ rules. Body c.args.opened.marked c.args.opened.beyond.now (AreAll k (IsValue (types_in c.args.schema.now.octets.now) c.args.depth) (IsAny c.args.depth) rules (types_in c.args.schema.now.octets.now) c.args.node) c.args.opened.inside.octets.now) o.verdict o.rest.now) (sym c.if-is_free.false ∙ c.is_free.ensures) f) c.components.ensures.finds
+
+pub typed::of_type-returns-then-is_joined-clause-finds : goal.typed::of_type-returns-then-is_joined-clause-finds
+typed::of_type-returns-then-is_joined-clause-finds t c =
+    if_ok c.joined_text.result (λ o f. subst (λ k. Finds (λ rules. Body c.args.opened.marked c.args.opened.beyond.now (IsOfType k c.args.header.constructed rules (types_in c.args.schema.now.octets.now) (IsValue (types_in c.args.schema.now.octets.now) c.args.depth) (IsAny c.args.depth) (known_in c.args.known) c.args.node c.args.universal) c.args.opened.inside.octets.now) o.verdict o.rest.now) (sym c.if-is_joined.true ∙ c.is_joined.ensures) f) c.joined_text.ensures.finds

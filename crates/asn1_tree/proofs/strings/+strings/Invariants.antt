@@ -1,0 +1,28 @@
+use Rattle.std.proofs.Common.{◌*◌, ◌+◌, ◌≤◌, length, vec_len}
+use Rattle.asn1_tree.specs.Reading.{Logs}
+use Rattle.asn1_tree.specs.Strings.{IsSegment}
+use Rattle.asn1_tree.specs.StringReading.{IsText, MoreAfter, Stage}
+use Rattle.asn1_tree.proofs.strings.+strings.Given as goal
+
+abbrev pub decreases-segment : goal.decreases-segment
+decreases-segment l = 3 * l.depth
+
+abbrev pub decreases-segments : goal.decreases-segments
+decreases-segments l = 3 * l.depth + 1
+
+abbrev pub decreases-segment_contents : goal.decreases-segment_contents
+decreases-segment_contents l = 3 * l.depth + 2
+
+abbrev pub invariant-segments-segments : goal.invariant-segments-segments
+invariant-segments-segments l = record {
+  stage : Stage l.verdict
+      (MoreAfter l.opened.marked l.opened.beyond.now l.bits (IsSegment l.depth l.bits) l.text.items l.rest)
+      (MoreAfter l.opened.marked l.opened.beyond.now l.bits (IsSegment l.depth l.bits) l.fn.text.items l.opened.inside.octets.now);
+  text : IsText l.bits l.text.items;
+  log : Logs l.verdict l.fn.tree.departures.items l.tree.departures.items;
+  shorter : length l.rest ≤ length l.opened.inside.octets.now;
+  grows : vec_len l.fn.tree.entries ≤ vec_len l.tree.entries;
+}
+
+abbrev pub decreases-segments-segments : goal.decreases-segments-segments
+decreases-segments-segments l = length l.rest

@@ -1,0 +1,328 @@
+//! The reader of constructed strings.
+ghost use Rattle.std.specs.Prelude.{◌≡◌, ◌↔◌, ◌+◌, ◌<◌, ◌≤◌, ℕ, true, false, List, [], ◌∷◌, ◌++◌, length, vec_len, IfOk, IfErr, OnOk};
+ghost use Rattle.der_base.specs.declared.encoding_rules.EncodingRules.TheVariants.{Ber};
+ghost use Rattle.ber.specs.Header.{IsNext};
+ghost use Rattle.asn1_tree.specs.Verdict.{holds};
+ghost use Rattle.asn1_tree.specs.Rule.{verdict_of_rule};
+ghost use Rattle.asn1_tree.specs.declared.verdict.Verdict.TheVariants.{Neither};
+ghost use Rattle.asn1_tree.specs.Reading.{IsWithin, Body, Finds, Logs};
+ghost use Rattle.asn1_tree.specs.Strings.{is_bits, segment_type, IsJoined, AreJoined, HasText, HasSegmentTag, IsSegment, AreSegments};
+ghost use Rattle.asn1_tree.specs.StringReading.{IsText, IsWhole, BeginsAfter, BodyAfter, Reads};
+
+use crate::entry::Entry;
+use crate::opened::{Opened, after_header};
+use crate::outcome::Outcome;
+use crate::place::Place;
+use crate::role::{NO_INDEX, Role};
+use crate::rule::Rule;
+use crate::tests::primitive_rule;
+use crate::tree::Tree;
+use crate::untyped::{any, finish};
+use crate::verdict::Verdict;
+use ber::{Header, Universal, is_end_of_contents, read_header};
+use der_base::Class;
+use std::alloc::{AllocError, Global};
+
+/// A verdict on the contents of a constructed string, the octets that follow, and the text.
+#[derive(Drop)]
+pub(crate) struct JoinedText<'a> {
+    pub verdict: Verdict,
+    pub rest: &'a [u8],
+    pub text: Vec<u8>,
+}
+
+/// Reads the contents of a constructed string.
+pub(crate) fn joined<'a>(
+    tree: &mut Tree,
+    alloc: Global,
+    depth: usize,
+    universal: Universal,
+    at: usize,
+    opened: Opened<'a>,
+) -> Result<JoinedText<'a>, AllocError>
+    ensures finds { IfOk result (λ j. Finds
+        (λ rules. Body opened.entry.marked opened.entry.beyond.now
+        (λ inner. (rules ≡ Ber) × ((text : List ℕ) × AreSegments depth universal inner text))
+        opened.entry.inside.octets.now) j.verdict j.rest.now) }
+    ensures only { IfOk result (λ j. (inner r text : List ℕ)
+        → IsWithin opened.entry.marked opened.entry.beyond.now opened.entry.inside.octets.now
+        inner r → AreSegments depth universal inner text → text ≡ j.text.items) }
+    ensures shorter { IfOk result (λ j. length j.rest.now
+        ≤ length opened.entry.inside.octets.now + length opened.entry.beyond.now) }
+    ensures log { IfOk result
+        (λ j. Logs j.verdict tree.old.departures.items tree.new.departures.items) }
+    ensures grows { OnOk result (vec_len tree.old.entries ≤ vec_len tree.new.entries) }
+{
+    let whole = tree.depart(Rule::ConstructedString, opened.start, at)?;
+    let bits = is_bit_string(universal);
+    let mut text = empty_text(alloc, bits)?;
+    let outcome = segments(tree, depth, bits, at, opened, &mut text)?;
+    Ok(JoinedText {
+        verdict: whole.and(outcome.verdict),
+        rest: outcome.rest,
+        text,
+    })
+}
+
+fn is_bit_string(universal: Universal) -> bool
+    ensures { result ≡ is_bits universal }
+{
+    matches!(universal, Universal::BitString)
+}
+
+fn type_of_segments(bits: bool) -> Universal
+    ensures { result ≡ segment_type bits }
+{
+    if bits {
+        Universal::BitString
+    } else {
+        Universal::OctetString
+    }
+}
+
+// The text of no segments.
+fn empty_text(alloc: Global, bits: bool) -> Result<Vec<u8>, AllocError>
+    ensures { IfOk result (λ text. IsJoined bits [] text.items) }
+{
+    let mut text = Vec::new(alloc);
+    if bits {
+        text.push(0)?;
+    }
+    Ok(text)
+}
+
+// Reads segments, and appends their text to the text before them.
+#[cycle(strings)]
+fn segments<'a>(
+    tree: &mut Tree,
+    depth: usize,
+    bits: bool,
+    at: usize,
+    opened: Opened<'a>,
+    text: &mut Vec<u8>,
+) -> Result<Outcome<'a>, AllocError>
+    requires { IsWhole bits text.old.items }
+    ensures reads { IfOk result (λ o. Reads
+        (BodyAfter opened.entry.marked opened.entry.beyond.now bits text.old.items
+        (AreJoined bits (IsSegment depth bits)) opened.entry.inside.octets.now)
+        o.verdict o.rest.now text.new.items) }
+    ensures text { OnOk result (IsText bits text.new.items) }
+    ensures shorter { IfOk result (λ o. length o.rest.now
+        ≤ length opened.entry.inside.octets.now + length opened.entry.beyond.now) }
+    ensures log { IfOk result
+        (λ o. Logs o.verdict tree.old.departures.items tree.new.departures.items) }
+    ensures grows { OnOk result (vec_len tree.old.entries ≤ vec_len tree.new.entries) }
+{
+    let role = Role::inside(at);
+    let mut verdict = Verdict::Der;
+    let mut rest = opened.inside.octets;
+    'segments: while !opened.at(rest).is_ended() {
+        let place = opened.inside.at(rest);
+        let whole = make_whole(tree, bits, place.offset(), at, text)?;
+        let outcome = segment(tree, depth, bits, role, place, text)?;
+        verdict = verdict.and(whole.and(outcome.verdict));
+        rest = outcome.rest;
+    }
+    let end = finish(tree, depth, at, opened.at(rest))?;
+    Ok(Outcome {
+        verdict: verdict.and(end.verdict),
+        rest: end.rest,
+    })
+}
+
+// Adds a departure if no segment may follow this text, and makes it one that a segment may follow.
+fn make_whole(
+    tree: &mut Tree,
+    bits: bool,
+    offset: usize,
+    at: usize,
+    text: &mut Vec<u8>,
+) -> Result<Verdict, AllocError>
+    requires { IsText bits text.old.items }
+    ensures verdict { IfOk result (λ v. (holds Ber v ≡ true) ↔ IsWhole bits text.old.items) }
+    ensures same { OnOk result (IsWhole bits text.old.items → text.new.items ≡ text.old.items) }
+    ensures whole { OnOk result (IsWhole bits text.new.items) }
+    ensures log { IfOk result (λ v. Logs v tree.old.departures.items tree.new.departures.items) }
+    ensures entries { OnOk result (tree.new.entries.items ≡ tree.old.entries.items) }
+{
+    if bits && text[0] != 0 {
+        let verdict = tree.depart(Rule::UnusedBits, offset, at)?;
+        text[0] = 0;
+        return Ok(verdict);
+    }
+    Ok(Verdict::Der)
+}
+
+// Reads a segment at the front, and appends its text to the text before it.
+#[cycle(strings)]
+fn segment<'a>(
+    tree: &mut Tree,
+    depth: usize,
+    bits: bool,
+    role: Role,
+    place: Place<'a>,
+    text: &mut Vec<u8>,
+) -> Result<Outcome<'a>, AllocError>
+    requires { IsWhole bits text.old.items }
+    ensures reads { IfOk result (λ o. Reads (BeginsAfter bits (IsSegment depth bits) text.old.items
+        place.entry.octets.now) o.verdict o.rest.now text.new.items) }
+    ensures text { OnOk result (IsText bits text.new.items) }
+    ensures log { IfOk result
+        (λ o. Logs o.verdict tree.old.departures.items tree.new.departures.items) }
+    ensures shorter { IfOk result (λ o. length o.rest.now ≤ length place.entry.octets.now) }
+    ensures moves { IfOk result (λ o. 0 < length place.entry.octets.now
+        → length o.rest.now < length place.entry.octets.now) }
+    ensures grows { OnOk result (vec_len tree.old.entries ≤ vec_len tree.new.entries) }
+{
+    let header = match segment_header(place.octets, depth, bits) {
+        Ok(header) => header,
+        Err(rule) => return no_segment(tree, depth, rule, role, place),
+    };
+    let at = tree.enter(Entry::new(header, place, role, NO_INDEX, depth))?;
+    let allowed = tree.judge_lengths(header, place.offset(), at)?;
+    match after_header(header, place) {
+        Some(opened) => {
+            let outcome = segment_contents(
+                tree,
+                depth - 1,
+                bits,
+                header.constructed,
+                at,
+                opened,
+                text,
+            )?;
+            tree.leave(at, opened, outcome.rest);
+            Ok(Outcome {
+                verdict: allowed.and(outcome.verdict),
+                rest: outcome.rest,
+            })
+        }
+        None => {
+            let cut = tree.depart(Rule::Truncated, place.offset(), at)?;
+            Ok(Outcome {
+                verdict: allowed.and(cut),
+                rest: &[],
+            })
+        }
+    }
+}
+
+// The header of a segment at the front, or a rule that it breaks.
+fn segment_header(octets: &[u8], depth: usize, bits: bool) -> Result<Header, Rule>
+    ensures next { IfOk result (λ h. IsNext h octets.now) }
+    ensures tag { IfOk result (λ h. HasSegmentTag bits h) }
+    ensures some { OnOk result (0 < depth) }
+    ensures rule { IfErr result (λ rule. verdict_of_rule rule ≡ Neither) }
+    ensures none { IfErr result (λ _. (x rest text : List ℕ)
+        → octets.now ≡ x ++ rest → IsSegment depth bits x text → ⊥) }
+{
+    let header = match read_header(octets) {
+        Ok(header) => header,
+        Err(_) => return Err(Rule::Header),
+    };
+    if is_end_of_contents(octets) {
+        return Err(Rule::EndOfContents);
+    }
+    if !has_segment_tag(header, bits) {
+        return Err(Rule::Tag);
+    }
+    if depth == 0 {
+        return Err(Rule::Depth);
+    }
+    Ok(header)
+}
+
+fn has_segment_tag(header: Header, bits: bool) -> bool
+    ensures { (result ≡ true) ↔ HasSegmentTag bits header }
+{
+    let number = if bits { 3 } else { 4 };
+    matches!(header.class, Class::Universal) && header.number == number
+}
+
+// Passes what is no segment.
+fn no_segment<'a>(
+    tree: &mut Tree,
+    depth: usize,
+    rule: Rule,
+    role: Role,
+    place: Place<'a>,
+) -> Result<Outcome<'a>, AllocError>
+    requires { verdict_of_rule rule ≡ Neither }
+    ensures verdict { IfOk result (λ o. o.verdict ≡ Neither) }
+    ensures log { IfOk result
+        (λ o. Logs o.verdict tree.old.departures.items tree.new.departures.items) }
+    ensures shorter { IfOk result (λ o. length o.rest.now ≤ length place.entry.octets.now) }
+    ensures moves { IfOk result (λ o. 0 < length place.entry.octets.now
+        → length o.rest.now < length place.entry.octets.now) }
+    ensures grows { OnOk result (vec_len tree.old.entries ≤ vec_len tree.new.entries) }
+{
+    let verdict = tree.depart(rule, place.offset(), role.parent)?;
+    if is_end_of_contents(place.octets) {
+        return Ok(Outcome {
+            verdict,
+            rest: &place.octets[2..],
+        });
+    }
+    if matches!(rule, Rule::Tag) {
+        let outcome = any(tree, depth, role, place)?;
+        return Ok(Outcome {
+            verdict: verdict.and(outcome.verdict),
+            rest: outcome.rest,
+        });
+    }
+    Ok(Outcome { verdict, rest: &[] })
+}
+
+// Reads the contents of a segment, and appends their text to the text before it.
+#[cycle(strings)]
+fn segment_contents<'a>(
+    tree: &mut Tree,
+    depth: usize,
+    bits: bool,
+    constructed: bool,
+    at: usize,
+    opened: Opened<'a>,
+    text: &mut Vec<u8>,
+) -> Result<Outcome<'a>, AllocError>
+    requires form { constructed ≡ false → opened.marked ≡ false }
+    requires whole { IsWhole bits text.old.items }
+    ensures reads { IfOk result (λ o. Reads
+        (BodyAfter opened.entry.marked opened.entry.beyond.now bits text.old.items
+        (HasText bits (IsSegment depth bits) constructed) opened.entry.inside.octets.now)
+        o.verdict o.rest.now text.new.items) }
+    ensures text { OnOk result (IsText bits text.new.items) }
+    ensures shorter { IfOk result (λ o. length o.rest.now
+        ≤ length opened.entry.inside.octets.now + length opened.entry.beyond.now) }
+    ensures log { IfOk result
+        (λ o. Logs o.verdict tree.old.departures.items tree.new.departures.items) }
+    ensures grows { OnOk result (vec_len tree.old.entries ≤ vec_len tree.new.entries) }
+{
+    if constructed {
+        return segments(tree, depth, bits, at, opened, text);
+    }
+    let contents = opened.inside.octets;
+    let rule = primitive_rule(Some(type_of_segments(bits)), contents);
+    let verdict = tree.judge(rule, opened.start, at)?;
+    append(bits, contents, text)?;
+    Ok(Outcome {
+        verdict,
+        rest: opened.beyond,
+    })
+}
+
+// Appends the text of a segment to the text before it.
+fn append(bits: bool, contents: &[u8], text: &mut Vec<u8>) -> Result<(), AllocError>
+    requires { IsWhole bits text.old.items }
+    ensures joined { OnOk result (IsText bits contents.now
+        → IsJoined bits (text.old.items ∷ contents.now ∷ []) text.new.items) }
+    ensures text { OnOk result (IsText bits text.new.items) }
+{
+    if !bits {
+        return text.extend_from_slice(contents);
+    }
+    if contents.is_empty() {
+        return Ok(());
+    }
+    text[0] = contents[0];
+    text.extend_from_slice(&contents[1..])
+}

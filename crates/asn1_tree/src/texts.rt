@@ -1,0 +1,68 @@
+//! Constructed strings of a node.
+ghost use Rattle.std.specs.Prelude.{◌≡◌, ◌+◌, ◌≤◌, length, vec_len, IfOk, OnOk};
+ghost use Rattle.asn1_schema.specs.Node.{IsNode as IsRow};
+ghost use Rattle.asn1_schema.specs.Span.{IsWithin as IsRange};
+ghost use Rattle.asn1_tree.specs.Constraints.{bound_of};
+ghost use Rattle.asn1_tree.specs.declared.bound.Bound.TheVariants.{Items};
+ghost use Rattle.asn1_tree.specs.Types.{types_in};
+ghost use Rattle.asn1_tree.specs.Value.{IsJoinedText, is_joined, is_string};
+ghost use Rattle.asn1_tree.specs.Reading.{Body, Finds, Logs};
+
+use crate::constraints::constraint_rule;
+use crate::opened::Opened;
+use crate::outcome::Outcome;
+use crate::role::LEVELS;
+use crate::strings::joined;
+use crate::tests::contents_rule;
+use crate::tree::Tree;
+use asn1_schema::{Node, Schema};
+use ber::{Form, Universal};
+use std::alloc::{AllocError, Global};
+
+/// Whether an encoding is that of a string in the constructed form.
+pub(crate) fn is_joined(constructed: bool, universal: Universal) -> bool
+    ensures { result ≡ is_joined constructed universal }
+{
+    constructed && is_string(universal.form())
+}
+
+fn is_string(form: Form) -> bool
+    ensures { result ≡ is_string form }
+{
+    match form {
+        Form::Either => true,
+        Form::Primitive => false,
+        Form::Constructed => false,
+    }
+}
+
+/// Reads the contents of a constructed string.
+pub(crate) fn joined_text<'a>(
+    tree: &mut Tree,
+    alloc: Global,
+    schema: &Schema<'_>,
+    node: Node,
+    universal: Universal,
+    at: usize,
+    opened: Opened<'a>,
+) -> Result<Outcome<'a>, AllocError>
+    requires fits { IsRow schema.now.counts schema.now.pool.now node }
+    requires names { bound_of universal ≡ Items → IsRange node.parts schema.now.counts.names }
+    ensures finds { IfOk result (λ o. Finds (λ rules. Body opened.entry.marked opened.entry.beyond.now
+        (IsJoinedText rules (types_in schema.now.octets.now) node universal)
+        opened.entry.inside.octets.now) o.verdict o.rest.now) }
+    ensures shorter { IfOk result (λ o. length o.rest.now
+        ≤ length opened.entry.inside.octets.now + length opened.entry.beyond.now) }
+    ensures log { IfOk result (λ o. Logs o.verdict tree.old.departures.items tree.new.departures.items) }
+    ensures grows { OnOk result (vec_len tree.old.entries ≤ vec_len tree.new.entries) }
+{
+    let read = joined(tree, alloc, LEVELS, universal, at, opened)?;
+    let text = read.text.as_slice();
+    let whole = tree.judge(contents_rule(universal, text), opened.start, at)?;
+    let rule = constraint_rule(schema, node, universal, text);
+    let kept = tree.judge(rule, opened.start, at)?;
+    Ok(Outcome {
+        verdict: read.verdict.and(whole.and(kept)),
+        rest: read.rest,
+    })
+}
