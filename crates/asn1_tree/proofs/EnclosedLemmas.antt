@@ -3,7 +3,8 @@ use Rattle.std.proofs.Common.{◌≡◌, ◌≢◌, ◌↔◌, ℕ, ◌+◌, ◌
 use Rattle.der_base.specs.FixedOctets.{end_of_contents}
 use Rattle.der_base.specs.declared.encoding_rules.EncodingRules.{EncodingRules}
 use Rattle.der_base.proofs.DigitLemmas.{same_length_front}
-use Rattle.ber.specs.Header.{IsNext, end_header}
+use Rattle.ber.specs.Der.{HasReservedTag}
+use Rattle.ber.specs.Header.{label_of_header, IsNext, end_header}
 use Rattle.ber.specs.declared.header.Header.{Header}
 use Rattle.ber.specs.declared.length.Length.{Length}
 use Rattle.ber.specs.declared.length.Length.TheVariants.{Definite, Indefinite}
@@ -59,10 +60,10 @@ within_iff Indefinite after inner r o are = (
 
 -- what the contents are, the element is
 pub finds_element : {P : EncodingRules → Header → List ℕ → Type 0} {h : Header} {octets : List ℕ} {o : Opened} (a : Verdict) {v : Verdict} {rest : List ℕ}
-    → IsOpened h octets o → h ≢ end_header → ((rules : EncodingRules) → (holds rules a ≡ true) ↔ IsAllowed rules h)
+    → IsOpened h octets o → h ≢ end_header → (HasReservedTag (label_of_header h) → ⊥) → ((rules : EncodingRules) → (holds rules a ≡ true) ↔ IsAllowed rules h)
     → Finds (λ rules. Body o.marked o.beyond.now (P rules h) o.inside.octets.now) v rest
     → Finds (λ rules. Front (Elem P rules) octets) (worst a v) rest
-finds_element {P} {h} {octets} {o} a {v} {rest} is real test f = finds_and a (λ rules. IsAllowed rules h) test to from f
+finds_element {P} {h} {octets} {o} a {v} {rest} is real known test f = finds_and a (λ rules. IsAllowed rules h) test to from f
   where
     to : (rules : EncodingRules) (r : List ℕ) → IsAllowed rules h → Body o.marked o.beyond.now (P rules h) o.inside.octets.now r → Front (Elem P rules) octets r
     to rules r allowed b =
@@ -71,7 +72,7 @@ finds_element {P} {h} {octets} {o} a {v} {rest} is real test f = finds_and a (λ
         let whole : octets ≡ x ++ r =
         is.split ∙ ap (λ l. is.front ++ l) (back.1 ∙ sym (append_assoc b.0 (ending h.length) r))
         ∙ sym (append_assoc is.front (b.0 ++ ending h.length) r) in
-        (x, whole, (h, b.0, record { front = is.front; is = is.is; counted = back.0; spelled = refl; real = real; allowed = allowed }, b.2))
+        (x, whole, (h, b.0, record { front = is.front; is = is.is; counted = back.0; spelled = refl; real = real; known = known; allowed = allowed }, b.2))
 
     from : (rules : EncodingRules) (r : List ℕ) → Front (Elem P rules) octets r → IsAllowed rules h × Body o.marked o.beyond.now (P rules h) o.inside.octets.now r
     from rules r (x, e, (g, inner, en, p)) =
@@ -88,6 +89,15 @@ no_element P none rules r (x, e, (g, inner, en, p)) = none g (front_next r en e)
 -- nor do end-of-contents octets
 pub no_element_at_end : (P : EncodingRules → Header → List ℕ → Type 0) {octets : List ℕ} → IsNext end_header octets → (rules : EncodingRules) (r : List ℕ) → Front (Elem P rules) octets r → ⊥
 no_element_at_end P next rules r (x, e, (g, inner, en, p)) = en.real (sym (same_next r next en e))
+
+-- nor does a header with a tag that no type has
+pub no_element_reserved : (P : EncodingRules → Header → List ℕ → Type 0) {h : Header} {octets : List ℕ} → IsNext h octets → HasReservedTag (label_of_header h) → (rules : EncodingRules) (r : List ℕ) → Front (Elem P rules) octets r → ⊥
+no_element_reserved P {h} next reserved rules r (x, e, (g, inner, en, p)) =
+    en.known (subst (λ (k : Header). HasReservedTag (label_of_header k)) (same_next r next en e) reserved)
+
+-- a tag is not one of these, if a test says so
+pub is_known : (h : Header) (b : Bool) → (IsTrue b ↔ HasReservedTag (label_of_header h)) → b ≡ false → HasReservedTag (label_of_header h) → ⊥
+is_known h b test off reserved = let on : b ≡ true = test.1 reserved in absurd (cc)
 
 -- nor does a header whose contents are cut off
 pub no_element_cut : (P : EncodingRules → Header → List ℕ → Type 0) {h : Header} {octets : List ℕ} (n : ℕ) → IsNext h octets → h.length ≡ Definite n

@@ -1,10 +1,12 @@
 -- Segments at the front, and those after them.
-use Rattle.std.proofs.Common.{◌≡◌, ◌≢◌, ◌↔◌, ℕ, zero, suc, ◌+◌, ◌-◌, ◌<◌, Bool, true, false, List, [], ◌∷◌, ◌++◌, Some, length, refl, sym, ap, ◌∙◌, subst, append_assoc, arith}
+use Rattle.std.proofs.Common.{None, ◌≡◌, ◌≢◌, ◌↔◌, ℕ, zero, suc, ◌+◌, ◌-◌, ◌<◌, Bool, true, false, List, [], ◌∷◌, ◌++◌, Some, length, refl, sym, ap, ◌∙◌, subst, append_assoc, arith}
 use Rattle.der_base.specs.declared.encoding_rules.EncodingRules.{EncodingRules}
 use Rattle.der_base.specs.declared.encoding_rules.EncodingRules.TheVariants as kind
 use Rattle.ber.specs.Form.{allows}
 use Rattle.ber.specs.Universal.{form_of}
-use Rattle.ber.specs.Header.{IsNext, end_header}
+use Rattle.ber.specs.Der.{HasReservedTag}
+use Rattle.ber.specs.Universal.{universal_at}
+use Rattle.ber.specs.Header.{IsNext, end_header, label_of_header}
 use Rattle.ber.specs.declared.header.Header.{Header}
 use Rattle.ber.specs.declared.length.Length.TheVariants.{Definite}
 use Rattle.ber.proofs.GrammarLemmas.{one_header}
@@ -130,6 +132,13 @@ no_segment_cut d bits before n next definite short r t (own, (x, e, is), joined)
     let s = segment_element d bits x own is in
     no_element_cut (λ rules h inner. Unit {0}) n next definite short kind.Ber r (x, e, (s.0, s.1, s.2, tt))
 
+-- the tag of a segment is that of a type
+segment_known : (bits : Bool) (h : Header) → HasSegmentTag bits h → HasReservedTag (label_of_header h) → ⊥
+segment_known true h tag reserved =
+    let none : universal_at 3 ≡ None = subst (λ n. universal_at n ≡ None) tag.1 reserved.1 in absurd (cc)
+segment_known false h tag reserved =
+    let none : universal_at 4 ≡ None = subst (λ n. universal_at n ≡ None) tag.1 reserved.1 in absurd (cc)
+
 -- the contents of an element, and the element
 element_iff : (bits : Bool) (Is : Texts) (before : List ℕ) {h : Header} {octets : List ℕ} {o : Opened} → IsOpened h octets o → h ≢ end_header → HasSegmentTag bits h
     → (r t : List ℕ) → BodyAfter o.marked o.beyond.now bits before (HasText bits Is h.constructed) o.inside.octets.now r t ↔ BeginsAfter bits (IsSegmentOf bits Is) before octets r t
@@ -142,7 +151,7 @@ element_iff bits Is before {h} {octets} {o} is real tag r t = (to, from)
         let whole : octets ≡ x ++ r =
         is.split ∙ ap (λ l. is.front ++ l) (back.1 ∙ sym (append_assoc inner (ending h.length) r))
         ∙ sym (append_assoc is.front (inner ++ ending h.length) r) in
-        (own, (x, whole, (h, inner, record { front = is.front; is = is.is; counted = back.0; spelled = refl; real = real; allowed = tt }, tag, has)), joined)
+        (own, (x, whole, (h, inner, record { front = is.front; is = is.is; counted = back.0; spelled = refl; real = real; known = segment_known bits h tag; allowed = tt }, tag, has)), joined)
 
     from : BeginsAfter bits (IsSegmentOf bits Is) before octets r t → BodyAfter o.marked o.beyond.now bits before (HasText bits Is h.constructed) o.inside.octets.now r t
     from (own, (x, e, (g, inner, en, named, has)), joined) =

@@ -2,7 +2,8 @@
 use Rattle.std.specs.Prelude.{Result, Ok, Err, IfOk}
 use Rattle.std.proofs.Common.{◌≡◌, ◌≢◌, ◌↔◌, ℕ, zero, suc, ◌+◌, ◌-◌, ◌<◌, Bool, true, false, length, List, ◌++◌, Option, Some, None, slice_get, refl, sym, ap, ◌∙◌, subst, append-nil, arith}
 use Rattle.der_base.specs.declared.encoding_rules.EncodingRules.{EncodingRules}
-use Rattle.ber.specs.Header.{IsNext, end_header}
+use Rattle.ber.specs.Der.{HasReservedTag}
+use Rattle.ber.specs.Header.{IsNext, end_header, label_of_header}
 use Rattle.ber.specs.declared.header.Header.{Header}
 use Rattle.asn1_schema.specs.Table.{Table}
 use Rattle.asn1_schema.specs.declared.node.Node.{Node}
@@ -31,7 +32,7 @@ use Rattle.asn1_tree.specs.declared.shape.Shape.{Shape}
 use Rattle.asn1_tree.specs.declared.shape.Shape.TheVariants.{Components, Of, Items, SortedItems, Inner, Untyped, Nothing}
 use Rattle.asn1_tree.proofs.ItemLemmas.{OfElements}
 use Rattle.asn1_tree.proofs.FindsLemmas.{finds_as, body_as, Cases, both, first, second, cases, worst_true, worst_both}
-use Rattle.asn1_tree.proofs.EnclosedLemmas.{Elem, front_next, same_next, no_element_cut}
+use Rattle.asn1_tree.proofs.EnclosedLemmas.{Elem, front_next, same_next, no_element_cut, no_element_reserved}
 use Rattle.asn1_tree.proofs.ComponentLemmas.{BeginWell}
 use Rattle.asn1_schema.proofs.TagLemmas.{one_selected}
 
@@ -145,6 +146,11 @@ pub no_value_at_end : (t : Table) {octets : List ℕ} (d : ℕ) (known : Known) 
 no_value_at_end t d known i next rules r (x, e, is) =
     let b = value_begins t d rules known i x is in
     b.2.real (sym (same_next r next b.2 e))
+
+pub no_value_reserved : (t : Table) {h : Header} {octets : List ℕ} (d : ℕ) (known : Known) (i : ℕ) → IsNext h octets → HasReservedTag (label_of_header h) → (rules : EncodingRules) (r : List ℕ) → Front (IsValue t d rules known i) octets r → ⊥
+no_value_reserved t d known i next reserved rules r (x, e, is) =
+    let b = value_begins t d rules known i x is in
+    no_element_reserved (λ rules g inner. Unit {0}) next reserved rules r (x, e, (b.0, b.1, b.2, tt))
 
 pub no_value_of_tag : (t : Table) {h : Header} {octets : List ℕ} (d : ℕ) (known : Known) (i : ℕ) → IsNext h octets → (Begins t i h.class h.number → ⊥) → (rules : EncodingRules) (r : List ℕ) → Front (IsValue t d rules known i) octets r → ⊥
 no_value_of_tag t {h = h} d known i next none rules r (x, e, is) =

@@ -4,7 +4,8 @@ use Rattle.std.specs.Prelude.{◌≡◌, ◌≢◌, ℕ, true, List, [], ◌++�
 use Rattle.der_base.specs.FixedOctets.{end_of_contents}
 use Rattle.der_base.specs.declared.encoding_rules.EncodingRules.{EncodingRules}
 use Rattle.der_base.specs.declared.encoding_rules.EncodingRules.TheVariants.{Der, Ber}
-use Rattle.ber.specs.Header.{IsHeader, end_header}
+use Rattle.ber.specs.Der.{HasReservedTag}
+use Rattle.ber.specs.Header.{IsHeader, end_header, label_of_header}
 use Rattle.ber.specs.declared.header.Header.{Header}
 use Rattle.ber.specs.declared.length.Length.{Length}
 use Rattle.ber.specs.declared.length.Length.TheVariants.{Definite, Indefinite}
@@ -24,11 +25,13 @@ abbrev pub IsAllowed : EncodingRules → Header → Type 0
 IsAllowed Der h = (h.length ≢ Indefinite) × (h.minimal ≡ true)
 IsAllowed Ber h = Unit {0}
 
--- an element of these contents; end-of-contents octets are none
+-- an element of these contents, whose tag is none that no type has (X.680 8.4, table 1);
+-- end-of-contents octets are none
 pub record IsEnclosed (rules : EncodingRules) (h : Header) (inner octets : List ℕ) : Type 0 where
   pub front : List ℕ
   pub is : IsHeader h front
   pub counted : IsCounted h.length inner
   pub spelled : octets ≡ front ++ (inner ++ ending h.length)
   pub real : h ≢ end_header
+  pub known : HasReservedTag (label_of_header h) → ⊥
   pub allowed : IsAllowed rules h

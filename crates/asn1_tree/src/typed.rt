@@ -1,7 +1,8 @@
 //! The reader of values.
 ghost use Rattle.std.specs.Prelude.{◌≡◌, ◌≢◌, ◌↔◌, ◌+◌, ◌<◌, ◌≤◌, ℕ, true, false, [], Option, Some, None, slice_get, length, vec_len, IsSome, IfOk, OnOk};
 ghost use Rattle.der_base.specs.declared.encoding_rules.EncodingRules.{EncodingRules};
-ghost use Rattle.ber.specs.Header.{IsNext, end_header};
+ghost use Rattle.ber.specs.Der.{HasReservedTag};
+ghost use Rattle.ber.specs.Header.{IsNext, end_header, label_of_header};
 ghost use Rattle.asn1_tree.specs.Types.{types_in};
 ghost use Rattle.asn1_schema.specs.Node.{IsNode as IsRow};
 ghost use Rattle.asn1_schema.specs.Span.{IsWithin as IsRange};
@@ -21,7 +22,7 @@ use crate::components::{all_components, explicit, items};
 use crate::constraints::constraint_rule;
 use crate::entry::Entry;
 use crate::known::Known;
-use crate::opened::{Opened, after_header};
+use crate::opened::{Opened, after_header, skipped};
 use crate::outcome::Outcome;
 use crate::place::Place;
 use crate::role::Role;
@@ -73,6 +74,13 @@ pub(crate) fn value<'a>(
             rest: &place.octets[2..],
         });
     }
+    if header.has_reserved_tag() {
+        let verdict = tree.depart(Rule::Tag, place.offset(), role.parent)?;
+        return Ok(Outcome {
+            verdict,
+            rest: skipped(header, place),
+        });
+    }
     if depth == 0 {
         let verdict = tree.depart(Rule::Depth, place.offset(), role.parent)?;
         return Ok(Outcome { verdict, rest: &[] });
@@ -119,6 +127,7 @@ fn selected_value<'a>(
     requires distinct { AreDistinct (types_in schema.now.octets.now) }
     requires next { IsNext header place.octets.now }
     requires real { header ≢ end_header }
+    requires known { HasReservedTag (label_of_header header) → ⊥ }
     requires tagged { (n : ANode) → slice_get (types_in schema.now.octets.now).nodes index ≡ Some n
         → HasTag n header.class header.number }
     ensures finds { IfOk result (λ o. (n : ANode)

@@ -4,7 +4,7 @@ ghost use Rattle.asn1_tree.specs.Value.{IsAny, IsAnyCount, IsUnknownType, SomeIt
 ghost use Rattle.asn1_tree.specs.Reading.{Front, Body, Finds, Logs};
 
 use crate::entry::Entry;
-use crate::opened::{Opened, after_header};
+use crate::opened::{Opened, after_header, skipped};
 use crate::outcome::Outcome;
 use crate::place::Place;
 use crate::role::{NO_INDEX, Role};
@@ -43,6 +43,13 @@ pub(crate) fn any<'a>(
         return Ok(Outcome {
             verdict,
             rest: &place.octets[2..],
+        });
+    }
+    if header.has_reserved_tag() {
+        let verdict = tree.depart(Rule::Tag, place.offset(), role.parent)?;
+        return Ok(Outcome {
+            verdict,
+            rest: skipped(header, place),
         });
     }
     if depth == 0 {

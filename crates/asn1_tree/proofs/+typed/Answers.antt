@@ -18,7 +18,7 @@ use Rattle.asn1_tree.proofs.WholeLemmas.{both_tests, finds_also, whole_found, ex
 use Rattle.asn1_tree.specs.declared.verdict.Verdict.{Verdict}
 use Rattle.der_base.specs.declared.encoding_rules.EncodingRules.{EncodingRules}
 use Rattle.asn1_tree.proofs.ComponentLemmas.{component_found, component_absent, component_missing, none_later, status_next, status_at}
-use Rattle.asn1_tree.proofs.ValueLemmas.{value_begins, finds_selected, finds_node, finds_chosen, no_value, no_value_at_end, no_value_of_tag, no_value_at_depth, no_node_cut, value_elements, identifier_element, component_finds, finds_given, finds_inner, finds_shape, finds_unbounded, finds_items, if_ok}
+use Rattle.asn1_tree.proofs.ValueLemmas.{value_begins, finds_selected, finds_node, finds_chosen, no_value, no_value_at_end, no_value_reserved, no_value_of_tag, no_value_at_depth, no_node_cut, value_elements, identifier_element, component_finds, finds_given, finds_inner, finds_shape, finds_unbounded, finds_items, if_ok}
 use Rattle.asn1_tree.proofs.+typed.Goals as goal
 
 pub typed::value-returns-in-Err-clause-finds : goal.typed::value-returns-in-Err-clause-finds
@@ -33,7 +33,7 @@ typed::value-returns-then-is_end_of_contents-clause-finds t c =
 
 pub typed::value-returns-then-depth-eq0-clause-finds : goal.typed::value-returns-then-depth-eq0-clause-finds
 typed::value-returns-then-depth-eq0-clause-finds t c =
-    finds_never c.in_ok-verdict-2.ensures.verdict
+    finds_never c.in_ok-verdict-3.ensures.verdict
     (no_value_at_depth (types_in c.args.schema.now.octets.now) c.args.depth (known_in c.args.known) c.args.node c.if-depth-eq0.true)
 
 pub typed::value-returns-in-Some-clause-finds : goal.typed::value-returns-in-Some-clause-finds
@@ -67,7 +67,7 @@ typed::selected_value-returns-in_ok-outcome-in-Some-after_header-clause-finds t 
     finds_is c.and.ensures
     (subst (λ q. Finds (λ rules. Front (IsNode rules (types_in c.args.schema.now.octets.now) (IsValue (types_in c.args.schema.now.octets.now) c.args.depth) (IsAny c.args.depth) (known_in c.args.known) q) c.args.place.octets.now) (worst c.in_ok-allowed-in-None.allowed c.in_ok-outcome-in-Some-after_header.outcome.verdict) c.in_ok-outcome-in-Some-after_header.outcome.rest.now) it
     (finds_node (known_in c.args.known) c.node_of-node.result c.args.header c.requires.next (c.requires.tagged c.node_of-node.result c.node_of-node.ensures.value) c.in-None.ensures.none
-    (finds_element c.in_ok-allowed-in-None.allowed c.in-Some-after_header.ensures.some c.requires.real c.in_ok-allowed-in-None.ensures.verdict c.in_ok-outcome-in-Some-after_header.ensures.finds)))
+    (finds_element c.in_ok-allowed-in-None.allowed c.in-Some-after_header.ensures.some c.requires.real c.requires.known c.in_ok-allowed-in-None.ensures.verdict c.in_ok-outcome-in-Some-after_header.ensures.finds)))
 
 pub typed::selected_value-returns-in_ok-outcome-in-Some-after_header-clause-log :
     goal.typed::selected_value-returns-in_ok-outcome-in-Some-after_header-clause-log
@@ -289,3 +289,9 @@ components::all_components-returns-else-is_free-clause-finds t c =
 pub typed::of_type-returns-then-is_joined-clause-finds : goal.typed::of_type-returns-then-is_joined-clause-finds
 typed::of_type-returns-then-is_joined-clause-finds t c =
     if_ok c.joined_text.result (λ o f. subst (λ k. Finds (λ rules. Body c.args.opened.marked c.args.opened.beyond.now (IsOfType k c.args.header.constructed rules (types_in c.args.schema.now.octets.now) (IsValue (types_in c.args.schema.now.octets.now) c.args.depth) (IsAny c.args.depth) (known_in c.args.known) c.args.node c.args.universal) c.args.opened.inside.octets.now) o.verdict o.rest.now) (sym c.if-is_joined.true ∙ c.is_joined.ensures) f) c.joined_text.ensures.finds
+
+pub typed::value-returns-then-has_reserved_tag-clause-finds :
+    goal.typed::value-returns-then-has_reserved_tag-clause-finds
+typed::value-returns-then-has_reserved_tag-clause-finds t c =
+    finds_never c.in_ok-verdict-2.ensures.verdict
+    (no_value_reserved (types_in c.args.schema.now.octets.now) c.args.depth (known_in c.args.known) c.args.node c.in-Ok.ensures.found (c.has_reserved_tag.ensures.0 c.if-has_reserved_tag.true))

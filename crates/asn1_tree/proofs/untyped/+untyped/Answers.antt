@@ -5,7 +5,7 @@ use Rattle.asn1_tree.specs.Reading.{Body, Finds}
 use Rattle.ber.proofs.HeaderLemmas.{end_header_next}
 use Rattle.asn1_tree.proofs.VerdictLemmas.{kept, worst_neither, logs_is, logs_then, logs_after, logs_left}
 use Rattle.asn1_tree.proofs.FindsLemmas.{finds_is, finds_never, finds_at, body_at, status_is, status_then, status_ends}
-use Rattle.asn1_tree.proofs.EnclosedLemmas.{finds_element, no_element_cut, real_header, taken}
+use Rattle.asn1_tree.proofs.EnclosedLemmas.{finds_element, no_element_cut, no_element_reserved, is_known, real_header, taken}
 use Rattle.asn1_tree.proofs.ItemLemmas.{items_end, item_plain, goes_on, has_ended}
 use Rattle.asn1_tree.proofs.UntypedLemmas.{AnyContents, any_none, any_finds, any_elements, no_any, no_any_at_end, no_any_cut, test_is, finds_constructed, finds_primitive}
 use Rattle.asn1_tree.proofs.untyped.+untyped.Goals as goal
@@ -22,7 +22,7 @@ any-returns-then-is_end_of_contents-clause-finds t c =
 
 pub any-returns-then-depth-eq0-clause-finds : goal.any-returns-then-depth-eq0-clause-finds
 any-returns-then-depth-eq0-clause-finds t c =
-    finds_never c.in_ok-verdict-2.ensures.verdict
+    finds_never c.in_ok-verdict-3.ensures.verdict
     (λ rules r f. any_none rules f.0 (subst (λ d. IsAny d rules f.0) c.if-depth-eq0.true f.2))
 
 pub any-returns-in_ok-outcome-in-Some-clause-finds :
@@ -32,6 +32,7 @@ any-returns-in_ok-outcome-in-Some-clause-finds t c =
     (any_finds c.args.depth (omega (arith, c.if-depth-eq0.false))
     (finds_element c.in_ok-allowed.allowed c.in-Some.ensures.some
     (real_header c.args.place.octets.now c.is_end_of_contents.result c.in-Ok.ensures.found c.is_end_of_contents.ensures c.if-is_end_of_contents.false)
+    (is_known c.in-Ok.header c.has_reserved_tag.result c.has_reserved_tag.ensures c.if-has_reserved_tag.false)
     c.in_ok-allowed.ensures.verdict
     (subst (λ u. Finds (λ rules. Body c.in-Some.opened.marked c.in-Some.opened.beyond.now (IsUnknownType rules (IsAny (c.args.depth - 1)) u c.in-Ok.header.constructed) c.in-Some.opened.inside.octets.now) c.in_ok-outcome-in-Some.outcome.verdict c.in_ok-outcome-in-Some.outcome.rest.now) c.universal.ensures c.in_ok-outcome-in-Some.ensures.finds)))
 
@@ -95,3 +96,9 @@ unknown_contents-returns-clause-finds t c =
     finds_primitive c.args.depth c.args.universal c.args.constructed c.args.opened.marked c.args.opened.beyond.now c.args.opened.inside.octets.now
     c.if-constructed.false (c.requires.form c.if-constructed.false)
     (test_is c.in_ok-verdict-2.ensures.verdict c.primitive_rule-rule.ensures)
+
+pub any-returns-then-has_reserved_tag-clause-finds :
+    goal.any-returns-then-has_reserved_tag-clause-finds
+any-returns-then-has_reserved_tag-clause-finds t c =
+    finds_never c.in_ok-verdict-2.ensures.verdict
+    (no_any_cut c.args.depth (no_element_reserved (AnyContents (c.args.depth - 1)) c.in-Ok.ensures.found (c.has_reserved_tag.ensures.0 c.if-has_reserved_tag.true)))
