@@ -27,7 +27,7 @@ use Rattle.ber.specs.declared.universal.Universal.{Universal}
 use Rattle.ber.specs.declared.universal.Universal.TheVariants.{ObjectIdentifier}
 use Rattle.asn1_tree.specs.Enclosed.{IsCounted, ending}
 use Rattle.asn1_tree.specs.Known.{IsIdentifier}
-use Rattle.asn1_tree.specs.Value.{IsNoDefault, IsComponent, IsUnknownType, AreBounded, IsOfType, is_joined, is_constructed}
+use Rattle.asn1_tree.specs.Value.{IsNoDefault, IsComponent, AreBounded, IsOfType, is_joined, is_constructed}
 use Rattle.asn1_tree.specs.declared.shape.Shape.{Shape}
 use Rattle.asn1_tree.specs.declared.shape.Shape.TheVariants.{Components, Of, Items, SortedItems, Inner, Untyped, Nothing}
 use Rattle.asn1_tree.proofs.ItemLemmas.{OfElements}
