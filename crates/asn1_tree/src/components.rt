@@ -23,9 +23,10 @@ use crate::tests::{default_rule, may_be_absent};
 use crate::tree::Tree;
 use crate::typed::{inner_of, value};
 use crate::types::field_of;
-use crate::untyped::{elements, finish};
+use crate::untyped::{any, elements, finish};
 use crate::verdict::Verdict;
 use asn1_schema::{Node, Schema, Span};
+use ber::is_end_of_contents;
 use std::alloc::{AllocError, Global};
 
 // Reads the components of a SEQUENCE, known or not.
@@ -119,6 +120,25 @@ fn components<'a>(
     })
 }
 
+// Whether no component can begin here, or one of the last fields of a SEQUENCE does: then the field
+// before them is missing, and otherwise the next element has another tag than it.
+fn begins_later(schema: &Schema<'_>, node: Node, left: u32, octets: &[u8]) -> bool
+    requires { IsRange node.parts schema.now.counts.fields }
+{
+    if octets.is_empty() || is_end_of_contents(octets) {
+        return true;
+    }
+    let mut i = node.parts.count.saturating_sub(left);
+    'fields: while i < node.parts.count {
+        let index = index_of(node.parts, i, schema.counts().fields);
+        if begins(schema, field_of(schema, index).node, octets) {
+            return true;
+        }
+        i += 1;
+    }
+    false
+}
+
 // The index of a row of a range, which is one of so many rows.
 fn index_of(span: Span, index: u32, rows: u32) -> u32
     requires { span.start + index < rows }
@@ -181,10 +201,19 @@ fn component<'a>(
             known,
         });
     }
-    let verdict = tree.depart(Rule::Missing, place.offset(), at)?;
+    if begins_later(schema, node, left, place.octets) {
+        let verdict = tree.depart(Rule::Missing, place.offset(), at)?;
+        return Ok(Step {
+            verdict,
+            rest: place.octets,
+            known,
+        });
+    }
+    let verdict = tree.depart(Rule::Tag, place.offset(), at)?;
+    let outcome = any(tree, depth, Role::inside(at), place)?;
     Ok(Step {
-        verdict,
-        rest: place.octets,
+        verdict: verdict.and(outcome.verdict),
+        rest: outcome.rest,
         known,
     })
 }

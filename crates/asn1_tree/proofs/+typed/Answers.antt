@@ -159,10 +159,20 @@ components::component-returns-then-may_be_absent-clause-status t c =
     status_next (types_in c.args.schema.now.octets.now) (IsValue (types_in c.args.schema.now.octets.now) c.args.depth) c.args.opened.marked c.args.opened.beyond.now c.args.opened.inside.octets.now c.args.opened.inside.octets.now c.args.left c.args.index (known_in c.args.known) (known_in c.args.known)
     (component_absent (value_begins (types_in c.args.schema.now.octets.now) c.args.depth) c.args.opened.marked c.args.opened.beyond.now c.args.opened.inside.octets.now c.args.left c.args.index c.field_of-field.result (known_in c.args.known) c.field_of-field.ensures.value (c.begins.ensures.none c.if-begins.false) (sym c.may_be_absent.ensures ∙ c.if-may_be_absent.true))
 
-pub components::component-returns-clause-status : goal.components::component-returns-clause-status
-components::component-returns-clause-status t c =
+pub components::component-returns-then-begins_later-clause-status :
+    goal.components::component-returns-then-begins_later-clause-status
+components::component-returns-then-begins_later-clause-status t c =
     status_next (types_in c.args.schema.now.octets.now) (IsValue (types_in c.args.schema.now.octets.now) c.args.depth) c.args.opened.marked c.args.opened.beyond.now c.args.opened.inside.octets.now c.args.opened.inside.octets.now c.args.left c.args.index (known_in c.args.known) (known_in c.args.known)
     (status_is c.in_ok-verdict-2.ensures.verdict (component_missing (value_begins (types_in c.args.schema.now.octets.now) c.args.depth) c.args.opened.marked c.args.opened.beyond.now c.args.opened.inside.octets.now c.args.opened.inside.octets.now c.args.left c.args.index c.field_of-field.result (known_in c.args.known) (known_in c.args.known) c.field_of-field.ensures.value (c.begins.ensures.none c.if-begins.false) (sym c.may_be_absent.ensures ∙ c.if-may_be_absent.false)))
+
+pub components::component-returns-clause-status : goal.components::component-returns-clause-status
+components::component-returns-clause-status t c =
+    status_next (types_in c.args.schema.now.octets.now) (IsValue (types_in c.args.schema.now.octets.now) c.args.depth) c.args.opened.marked c.args.opened.beyond.now c.args.opened.inside.octets.now c.in_ok-outcome-2.outcome.rest.now c.args.left c.args.index (known_in c.args.known) (known_in c.args.known)
+    (status_is (c.and-2.ensures ∙ ap (λ v. worst v c.in_ok-outcome-2.outcome.verdict) c.in_ok-verdict-3.ensures.verdict) (component_missing (value_begins (types_in c.args.schema.now.octets.now) c.args.depth) c.args.opened.marked c.args.opened.beyond.now c.args.opened.inside.octets.now c.in_ok-outcome-2.outcome.rest.now c.args.left c.args.index c.field_of-field.result (known_in c.args.known) (known_in c.args.known) c.field_of-field.ensures.value (c.begins.ensures.none c.if-begins.false) (sym c.may_be_absent.ensures ∙ c.if-may_be_absent.false)))
+
+pub components::component-returns-clause-log : goal.components::component-returns-clause-log
+components::component-returns-clause-log t c =
+    logs_is c.and-2.ensures (logs_then c.in_ok-verdict-3.ensures.log c.in_ok-outcome-2.ensures.log)
 
 pub components::components-fields-preserved : goal.components::components-fields-preserved
 components::components-fields-preserved t c =
