@@ -13,6 +13,8 @@ mod asn1_contents;
 #[cfg(test)]
 mod asn1_schema;
 #[cfg(test)]
+mod asn1_tree;
+#[cfg(test)]
 mod ber;
 #[cfg(test)]
 mod checks;

@@ -3,7 +3,7 @@
 ghost use Rattle.ber.specs.Header.{IsNext};
 
 use crate::place::Place;
-use crate::role::{LEVELS, Role};
+use crate::role::Role;
 use ber::Header;
 
 /// An element of the input. At most 40 octets of memory.
@@ -23,14 +23,14 @@ pub struct Entry {
     pub alternative: u32,
     /// The number of octets of its header.
     pub header_len: u8,
-    /// At how many levels of nesting it is.
+    /// How many elements it is inside.
     pub depth: u8,
 }
 
 impl Entry {
-    // The element of a header at a place, which so many levels may be nested in. The length of its contents
-    // is known when they have been read.
-    pub(crate) fn new(header: Header, place: Place<'_>, role: Role, kind: u32, depth: usize) -> Self
+    // The element of a header at a place. The length of its contents is known when they have been read, and
+    // its depth when it is in a tree.
+    pub(crate) fn new(header: Header, place: Place<'_>, role: Role, kind: u32) -> Self
         requires { IsNext header place.octets.now }
     {
         Entry {
@@ -41,16 +41,7 @@ impl Entry {
             field: role.field,
             alternative: role.alternative,
             header_len: header.header_len as u8,
-            depth: level(depth),
+            depth: 0,
         }
-    }
-}
-
-// The level at which so many more may be nested.
-fn level(depth: usize) -> u8 {
-    if depth < LEVELS {
-        (LEVELS - depth) as u8
-    } else {
-        0
     }
 }

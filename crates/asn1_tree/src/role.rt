@@ -24,11 +24,14 @@ impl Role {
         }
     }
 
-    /// The same as the alternative of a CHOICE.
+    /// The same as the alternative of a CHOICE, if it is one.
     pub fn through(self, alternative: Option<u32>) -> Self {
-        Role {
-            alternative: alternative.unwrap_or(NO_INDEX),
-            ..self
+        match alternative {
+            Some(alternative) => Role {
+                alternative,
+                ..self
+            },
+            None => self,
         }
     }
 }

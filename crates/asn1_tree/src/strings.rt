@@ -178,7 +178,7 @@ fn segment<'a>(
         Ok(header) => header,
         Err(rule) => return no_segment(tree, depth, rule, role, place),
     };
-    let at = tree.enter(Entry::new(header, place, role, NO_INDEX, depth))?;
+    let at = tree.enter(Entry::new(header, place, role, NO_INDEX))?;
     let allowed = tree.judge_lengths(header, place.offset(), at)?;
     match after_header(header, place) {
         Some(opened) => {

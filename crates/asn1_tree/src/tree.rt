@@ -84,6 +84,11 @@ impl Tree {
         ensures more { OnOk result (vec_len self.old.entries ≤ vec_len self.new.entries) }
     {
         let index = self.entries.len();
+        let depth = match self.entries.get(entry.parent) {
+            Some(parent) => parent.depth.saturating_add(1),
+            None => 0,
+        };
+        let entry = Entry { depth, ..entry };
         self.entries.push(entry)?;
         Ok(index)
     }

@@ -94,7 +94,7 @@ pub(crate) fn value<'a>(
                 depth - 1,
                 known,
                 selected.node,
-                role,
+                role.through(selected.field),
                 header,
                 place,
             )
@@ -142,7 +142,7 @@ fn selected_value<'a>(
     match chosen(schema, &node, known) {
         Some(inner) => value(tree, alloc, schema, depth, known, inner, role, place),
         None => {
-            let at = tree.enter(Entry::new(header, place, role, index, depth))?;
+            let at = tree.enter(Entry::new(header, place, role, index))?;
             let allowed = tree.judge_lengths(header, place.offset(), at)?;
             match after_header(header, place) {
                 Some(opened) => {

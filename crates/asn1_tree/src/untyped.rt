@@ -56,7 +56,7 @@ pub(crate) fn any<'a>(
         let verdict = tree.depart(Rule::Depth, place.offset(), role.parent)?;
         return Ok(Outcome { verdict, rest: &[] });
     }
-    let at = tree.enter(Entry::new(header, place, role, NO_INDEX, depth))?;
+    let at = tree.enter(Entry::new(header, place, role, NO_INDEX))?;
     let allowed = tree.judge_lengths(header, place.offset(), at)?;
     match after_header(header, place) {
         Some(opened) => {
