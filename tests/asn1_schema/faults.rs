@@ -4,9 +4,15 @@ use crate::checks::{holds_at, same_at};
 use asn1_schema::{Fault, FaultKind, Schema};
 use std::process::Abort;
 
-// The fault of the table whose octet at an offset is another one.
-fn faulty(rt: &impl Abort, at: usize, octet: u8, kind: FaultKind, offset: usize) {
-    let mut table = TABLE;
+/// Aborts the test if a table in which one octet is changed does not have the expected fault.
+pub fn faulty<const N: usize>(
+    rt: &impl Abort,
+    mut table: [u8; N],
+    at: usize,
+    octet: u8,
+    kind: FaultKind,
+    offset: usize,
+) {
     if at >= table.len() {
         holds_at(rt, at, false);
         return;
@@ -20,10 +26,10 @@ fn faulty(rt: &impl Abort, at: usize, octet: u8, kind: FaultKind, offset: usize)
 
 #[test]
 fn headers(rt: HostRuntime) {
-    faulty(&rt, 3, b'X', FaultKind::Magic, 0);
-    faulty(&rt, 7, 2, FaultKind::Version, 4);
-    faulty(&rt, 11, 10, FaultKind::Size, 898);
-    faulty(&rt, 8, 255, FaultKind::Size, 898);
+    faulty(&rt, TABLE, 3, b'X', FaultKind::Magic, 0);
+    faulty(&rt, TABLE, 7, 2, FaultKind::Version, 4);
+    faulty(&rt, TABLE, 11, 10, FaultKind::Size, 898);
+    faulty(&rt, TABLE, 8, 255, FaultKind::Size, 898);
     match Schema::new(&TABLE[..31]) {
         Ok(_) => holds_at(&rt, 31, false),
         Err(fault) => {
@@ -38,23 +44,23 @@ fn headers(rt: HostRuntime) {
 
 #[test]
 fn rows(rt: HostRuntime) {
-    faulty(&rt, 32, 15, FaultKind::Kind, 32);
-    faulty(&rt, 33, 1, FaultKind::Class, 33);
-    faulty(&rt, 34, 2, FaultKind::Flag, 34);
-    faulty(&rt, 35, 2, FaultKind::Flag, 35);
-    faulty(&rt, 35, 1, FaultKind::Inner, 48);
-    faulty(&rt, 43, 131, FaultKind::Name, 40);
-    faulty(&rt, 59, 7, FaultKind::Parts, 52);
-    faulty(&rt, 67, 3, FaultKind::Limits, 60);
-    faulty(&rt, 71, 1, FaultKind::Chooser, 68);
-    faulty(&rt, 475, 3, FaultKind::Presence, 472);
-    faulty(&rt, 491, 11, FaultKind::Node, 488);
-    faulty(&rt, 643, 3, FaultKind::Limit, 640);
-    faulty(&rt, 768, 0x80, FaultKind::Name, 40);
+    faulty(&rt, TABLE, 32, 15, FaultKind::Kind, 32);
+    faulty(&rt, TABLE, 33, 1, FaultKind::Class, 33);
+    faulty(&rt, TABLE, 34, 2, FaultKind::Flag, 34);
+    faulty(&rt, TABLE, 35, 2, FaultKind::Flag, 35);
+    faulty(&rt, TABLE, 35, 1, FaultKind::Inner, 48);
+    faulty(&rt, TABLE, 43, 131, FaultKind::Name, 40);
+    faulty(&rt, TABLE, 59, 7, FaultKind::Parts, 52);
+    faulty(&rt, TABLE, 67, 3, FaultKind::Limits, 60);
+    faulty(&rt, TABLE, 71, 1, FaultKind::Chooser, 68);
+    faulty(&rt, TABLE, 475, 3, FaultKind::Presence, 472);
+    faulty(&rt, TABLE, 491, 11, FaultKind::Node, 488);
+    faulty(&rt, TABLE, 643, 3, FaultKind::Limit, 640);
+    faulty(&rt, TABLE, 768, 0x80, FaultKind::Name, 40);
 }
 
 #[test]
 fn order(rt: HostRuntime) {
-    faulty(&rt, 894, 0x14, FaultKind::Order, 756);
-    faulty(&rt, 755, 11, FaultKind::Node, 752);
+    faulty(&rt, TABLE, 894, 0x14, FaultKind::Order, 756);
+    faulty(&rt, TABLE, 755, 11, FaultKind::Node, 752);
 }

@@ -1,9 +1,9 @@
 //! What tags select, and tables whose tags are not distinct.
 use super::choices::CHOICES;
-use crate::checks::{holds, holds_at, same, same_at, same_octets};
-use asn1_schema::{Fault, FaultKind, LimitKind, Schema, Selected};
+use super::faults::faulty;
+use crate::checks::{holds, same, same_at, same_octets};
+use asn1_schema::{FaultKind, LimitKind, Schema, Selected};
 use der_base::Class;
-use std::process::Abort;
 
 #[test]
 fn selected(rt: HostRuntime) {
@@ -68,38 +68,24 @@ fn names_and_limits(rt: HostRuntime) {
     );
 }
 
-// The fault of the table whose octet at an offset is another one.
-fn faulty(rt: &impl Abort, at: usize, octet: u8, kind: FaultKind, offset: usize) {
-    let mut table = CHOICES;
-    if at >= table.len() {
-        holds_at(rt, at, false);
-        return;
-    }
-    table[at] = octet;
-    match Schema::new(&table) {
-        Ok(_) => holds_at(rt, at, false),
-        Err(fault) => same_at(rt, at, fault, Fault { kind, offset }),
-    }
-}
-
 #[test]
 fn same_tags(rt: HostRuntime) {
     // the OCTET STRING of Outer becomes an INTEGER, as an alternative of Inner is
-    faulty(&rt, 239, 2, FaultKind::Tag, 516);
+    faulty(&rt, CHOICES, 239, 2, FaultKind::Tag, 516);
     // [1] of the second component becomes [2], as the third is
-    faulty(&rt, 279, 2, FaultKind::Tag, 600);
+    faulty(&rt, CHOICES, 279, 2, FaultKind::Tag, 600);
     // the third component, a required extension addition, becomes NULL, as the last is
-    faulty(&rt, 619, 8, FaultKind::Tag, 628);
+    faulty(&rt, CHOICES, 619, 8, FaultKind::Tag, 628);
     // both components of a SET are flags
-    faulty(&rt, 703, 3, FaultKind::Tag, 684);
+    faulty(&rt, CHOICES, 703, 3, FaultKind::Tag, 684);
 }
 
 #[test]
 fn choices(rt: HostRuntime) {
     // Inner has no alternative
-    faulty(&rt, 59, 0, FaultKind::Parts, 52);
+    faulty(&rt, CHOICES, 59, 0, FaultKind::Parts, 52);
     // Outer is an alternative of itself
-    faulty(&rt, 507, 1, FaultKind::Choice, 504);
+    faulty(&rt, CHOICES, 507, 1, FaultKind::Choice, 504);
     // the insertion point of Record is after more fields than it has
-    faulty(&rt, 151, 5, FaultKind::Chooser, 148);
+    faulty(&rt, CHOICES, 151, 5, FaultKind::Chooser, 148);
 }
