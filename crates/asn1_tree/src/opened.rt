@@ -84,7 +84,7 @@ pub(crate) fn after_header<'a>(header: Header, place: Place<'a>) -> Option<Opene
     }
 }
 
-/// The octets after the element of a header at the front, as far as they can be told.
+/// The octets after the element of a header at the front; none if it is cut or its length is indefinite.
 pub(crate) fn skipped<'a>(header: Header, place: Place<'a>) -> &'a [u8]
     requires { IsNext header place.octets.now }
     ensures { length result.now < length place.entry.octets.now }
