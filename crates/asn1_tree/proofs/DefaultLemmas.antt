@@ -7,7 +7,7 @@ use Rattle.asn1_schema.specs.Pool.{octets_of}
 use Rattle.asn1_schema.specs.declared.field.Field.{Field}
 use Rattle.asn1_schema.specs.declared.presence.Presence.TheVariants.{Default}
 use Rattle.asn1_tree.specs.Verdict.{holds}
-use Rattle.asn1_tree.specs.Value.{IsNoDefault}
+use Rattle.asn1_tree.specs.Components.{IsNoDefault}
 use Rattle.asn1_tree.specs.declared.verdict.Verdict.TheVariants.{Der, Ber}
 use Rattle.asn1_tree.proofs.VerdictLemmas.{holds_der}
 

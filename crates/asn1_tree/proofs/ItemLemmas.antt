@@ -8,7 +8,7 @@ use Rattle.ber.proofs.HeaderLemmas.{end_header_next}
 use Rattle.asn1_tree.specs.Verdict.{holds, worst}
 use Rattle.asn1_tree.specs.Enclosed.{ending, IsEnclosed}
 use Rattle.asn1_tree.specs.Opened.{IsEnded}
-use Rattle.asn1_tree.specs.Value.{IsInOrder, AreItems, IsAnyCount}
+use Rattle.asn1_tree.specs.Items.{IsInOrder, AreItems, IsAnyCount}
 use Rattle.asn1_tree.specs.Reading.{Front, IsWithin, Body, Finds, Status}
 use Rattle.asn1_tree.specs.declared.verdict.Verdict.{Verdict}
 use Rattle.asn1_tree.specs.declared.verdict.Verdict.TheVariants.{Der}

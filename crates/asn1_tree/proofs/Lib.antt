@@ -1,3 +1,4 @@
+pub mod AdditionLemmas
 pub mod VerdictLemmas
 pub mod FindsLemmas
 pub mod EnclosedLemmas

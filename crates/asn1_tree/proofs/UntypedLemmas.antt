@@ -5,7 +5,8 @@ use Rattle.ber.specs.Der.{type_of}
 use Rattle.ber.specs.Header.{IsNext, end_header, label_of_header}
 use Rattle.ber.specs.declared.header.Header.{Header}
 use Rattle.ber.specs.declared.universal.Universal.{Universal}
-use Rattle.asn1_tree.specs.Value.{MayBeConstructed, IsAnyCount, SomeItems, IsPrimitive, IsUnknownType, IsElementOfAny, IsAny}
+use Rattle.asn1_tree.specs.Items.{IsAnyCount, SomeItems}
+use Rattle.asn1_tree.specs.Value.{MayBeConstructed, IsPrimitive, IsUnknownType, IsElementOfAny, IsAny}
 use Rattle.asn1_tree.specs.Verdict.{holds, worst}
 use Rattle.asn1_tree.specs.Reading.{Front, Body, Finds}
 use Rattle.asn1_tree.specs.declared.verdict.Verdict.{Verdict}

@@ -13,7 +13,8 @@ use Rattle.asn1_schema.specs.Distinct.{AreDistinct}
 use Rattle.asn1_tree.specs.Verdict.{holds, worst}
 use Rattle.asn1_tree.specs.Enclosed.{IsEnclosed}
 use Rattle.asn1_tree.specs.Known.{Known, IsChosen, IsUnknown}
-use Rattle.asn1_tree.specs.Value.{Values, Elements, IsAny, AreContents, shape_of, IsNode, element, chosen, IsValue}
+use Rattle.asn1_tree.specs.Components.{Values, Elements}
+use Rattle.asn1_tree.specs.Value.{IsAny, AreContents, shape_of, IsNode, element, chosen, IsValue}
 use Rattle.asn1_tree.specs.Reading.{Front, Body, Finds}
 use Rattle.asn1_tree.specs.declared.verdict.Verdict.{Verdict}
 use Rattle.asn1_schema.specs.declared.field.Field.{Field}
@@ -27,13 +28,14 @@ use Rattle.ber.specs.declared.universal.Universal.{Universal}
 use Rattle.ber.specs.declared.universal.Universal.TheVariants.{ObjectIdentifier}
 use Rattle.asn1_tree.specs.Enclosed.{IsCounted, ending}
 use Rattle.asn1_tree.specs.Known.{IsIdentifier}
-use Rattle.asn1_tree.specs.Value.{IsNoDefault, IsComponent, AreBounded, IsOfType, is_joined, is_constructed}
+use Rattle.asn1_tree.specs.Components.{IsNoDefault, IsComponent}
+use Rattle.asn1_tree.specs.Value.{AreBounded, IsOfType, is_joined, is_constructed}
 use Rattle.asn1_tree.specs.declared.shape.Shape.{Shape}
 use Rattle.asn1_tree.specs.declared.shape.Shape.TheVariants.{Components, Of, Items, SortedItems, Inner, Untyped, Nothing}
 use Rattle.asn1_tree.proofs.ItemLemmas.{OfElements}
 use Rattle.asn1_tree.proofs.FindsLemmas.{finds_as, body_as, Cases, both, first, second, cases, worst_true, worst_both}
 use Rattle.asn1_tree.proofs.EnclosedLemmas.{Elem, front_next, same_next, no_element_cut, no_element_reserved}
-use Rattle.asn1_tree.proofs.ComponentLemmas.{BeginWell}
+use Rattle.asn1_tree.proofs.AdditionLemmas.{BeginWell}
 use Rattle.asn1_schema.proofs.TagLemmas.{one_selected}
 
 -- one level of nesting

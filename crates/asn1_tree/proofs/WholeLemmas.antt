@@ -13,7 +13,8 @@ use Rattle.asn1_contents.specs.Contents.{IsContents}
 use Rattle.asn1_schema.specs.declared.node.Node.{Node}
 use Rattle.asn1_tree.specs.Constraints.{IsConstrained}
 use Rattle.asn1_tree.specs.Strings.{AreSegments}
-use Rattle.asn1_tree.specs.Value.{IsJoinedText, Values, Contains, typed, untyped}
+use Rattle.asn1_tree.specs.Components.{Values}
+use Rattle.asn1_tree.specs.Value.{IsJoinedText, Contains, typed, untyped}
 use Rattle.asn1_tree.proofs.FindsLemmas.{worst_true, worst_both, finds_is, finds_and, status_ends}
 use Rattle.asn1_tree.proofs.ItemLemmas.{inner_found}
 use Rattle.asn1_tree.proofs.VerdictLemmas.{logs_then, worst_comm}

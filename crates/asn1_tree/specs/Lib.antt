@@ -3,8 +3,10 @@ pub mod Rule
 pub mod Enclosed
 pub mod Types
 pub mod Tags
+pub mod Items
 pub mod Known
 pub mod Opened
+pub mod Components
 pub mod Constraints
 pub mod Value
 pub mod Reading

@@ -1,8 +1,8 @@
 -- The encodings of the values of a type (X.680), under DER and under BER: `IsValue`. Types are those
 -- of a table, in which nodes name each other by index; values are nested at most `depth` levels.
-use Rattle.std.specs.Prelude.{◌≡◌, ◌≢◌, ℕ, zero, suc, ◌==◌, ◌&&◌, ◌||◌, nat_eq, nat_lt, Bool, true, false, IsTrue, List, [], ◌∷◌, ◌++◌, Option, Some, None, slice_get, ◌⊎◌}
+use Rattle.std.specs.Prelude.{◌≡◌, ℕ, zero, suc, ◌&&◌, Bool, true, false, List, Option, Some, None, slice_get}
 use Rattle.der_base.specs.declared.encoding_rules.EncodingRules.{EncodingRules}
-use Rattle.der_base.specs.declared.encoding_rules.EncodingRules.TheVariants.{Der, Ber}
+use Rattle.der_base.specs.declared.encoding_rules.EncodingRules.TheVariants.{Ber}
 use Rattle.ber.specs.Der.{type_of}
 use Rattle.ber.specs.Form.{allows}
 use Rattle.ber.specs.Universal.{form_of}
@@ -13,78 +13,19 @@ use Rattle.ber.specs.declared.header.Header.{Header}
 use Rattle.ber.specs.declared.universal.Universal.{Universal}
 use Rattle.ber.specs.declared.universal.Universal.TheVariants.{OctetString, Sequence}
 use Rattle.asn1_schema.specs.Table.{Table}
-use Rattle.asn1_schema.specs.Pool.{octets_of}
-use Rattle.asn1_schema.specs.declared.field.Field.{Field}
 use Rattle.asn1_schema.specs.declared.node.Node.{Node}
 use Rattle.asn1_schema.specs.declared.node_kind.NodeKind.{NodeKind}
 use Rattle.asn1_schema.specs.declared.node_kind.NodeKind.TheVariants.{Universal as Universally, SequenceOf, SetOf, Choice, Explicit, Any, Open}
-use Rattle.asn1_schema.specs.declared.presence.Presence.TheVariants.{Default}
-use Rattle.asn1_schema.specs.Distinct.{may_be_missing}
 use Rattle.asn1_schema.specs.Tags.{SelectsOne, HasTag}
 use Rattle.asn1_tree.specs.declared.shape.Shape.{Shape}
 use Rattle.asn1_tree.specs.declared.shape.Shape.TheVariants.{Components, Of, Items, SortedItems, Inner, Untyped, Nothing}
-use Rattle.asn1_tree.specs.Known.{Known, Follows, IsChosen, IsUnknown, IsUnknownOpen}
+use Rattle.asn1_tree.specs.Components.{Values, Elements, AreFrom}
+use Rattle.asn1_tree.specs.Items.{SomeItems, IsAnyCount}
+use Rattle.asn1_tree.specs.Known.{Known, IsChosen, IsUnknown, IsUnknownOpen}
 use Rattle.asn1_tree.specs.Constraints.{IsAllowedSize, IsConstrained}
 use Rattle.asn1_tree.specs.Enclosed.{IsEnclosed}
 use Rattle.asn1_tree.specs.Strings.{AreSegments}
 use Rattle.asn1_contents.specs.Contents.{IsContents}
-
--- what is said of the encodings of values of nodes, after an OBJECT IDENTIFIER; and of those of any type
-abbrev pub Values : Type 1
-Values = EncodingRules → Known → ℕ → List ℕ → Type 0
-
-abbrev pub Elements : Type 1
-Elements = EncodingRules → List ℕ → Type 0
-
--- an encoding is not after another, where the shorter has octets 0 after it (X.690 11.6)
-abbrev pub not_after : List ℕ → List ℕ → Bool
-not_after [] b = true
-not_after (x ∷ a) [] = x == 0 && not_after a []
-not_after (x ∷ a) (y ∷ b) = nat_lt x y || (x == y && not_after a b)
-
--- in a SET OF an encoding is not before the one before it, under DER (11.6)
-abbrev pub IsInOrder : EncodingRules → Bool → List ℕ → List ℕ → Type 0
-IsInOrder rules sorted before x = sorted ≡ true → rules ≡ Der → IsTrue (not_after before x)
-
--- so many elements, one after the other (8.10.2, 8.12.2)
-abbrev pub AreItems : Bool → EncodingRules → (List ℕ → Type 0) → List ℕ → ℕ → List ℕ → Type 0
-AreItems sorted rules IsItem before zero octets = octets ≡ []
-AreItems sorted rules IsItem before (suc n) octets =
-    (x : List ℕ) × (rest : List ℕ) × (octets ≡ x ++ rest) × IsItem x × IsInOrder rules sorted before x
-    × AreItems sorted rules IsItem x n rest
-
--- any number of elements, of which this is said
-abbrev pub SomeItems : Bool → EncodingRules → (List ℕ → Type 0) → (ℕ → Type 0) → List ℕ → Type 0
-SomeItems sorted rules IsItem IsCount octets =
-    (n : ℕ) × AreItems sorted rules IsItem [] n octets × IsCount n
-
--- all numbers of elements
-abbrev pub IsAnyCount : ℕ → Type 0
-IsAnyCount n = Unit {0}
-
--- a value is not that of a DEFAULT, under DER (11.5)
-abbrev pub IsNoDefault : EncodingRules → Table → Field → List ℕ → Type 0
-IsNoDefault rules t f x =
-    rules ≡ Der → f.presence ≡ Default → x ≢ octets_of t.pool f.default
-
--- the encoding of a component
-abbrev pub IsComponent : Values → EncodingRules → Table → Known → Field → List ℕ → Type 0
-IsComponent Child rules t known f x = Child rules known f.node x × IsNoDefault rules t f x
-
--- a component of a SEQUENCE that may be absent
-abbrev pub MayBeAbsent : Field → Type 0
-MayBeAbsent f = may_be_missing (Universally Sequence) f ≡ true
-
--- so many components from a field on, in order, of which those that are OPTIONAL, have a DEFAULT or
--- are extension additions may be absent (8.9.2, 8.9.3)
-abbrev pub AreComponents : Values → EncodingRules → Table → ℕ → ℕ → Known → List ℕ → Type 0
-AreComponents Child rules t zero k known octets = octets ≡ []
-AreComponents Child rules t (suc n) k known octets =
-    (f : Field) × (slice_get t.fields k ≡ Some f)
-    × (((x : List ℕ) × (rest : List ℕ) × (after : Known) × (octets ≡ x ++ rest)
-    × IsComponent Child rules t known f x × Follows (slice_get t.nodes f.node) k x known after
-    × AreComponents Child rules t n (suc k) after rest)
-    ⊎ (MayBeAbsent f × AreComponents Child rules t n (suc k) known octets))
 
 -- a form that the sender chooses: that of a string
 abbrev pub is_string : Form → Bool
@@ -161,16 +102,6 @@ AreBounded false rules t Child known n u inner =
     IsConstrained rules t n u inner
     × IsContained rules t Child known (contained_in u n) inner
 
--- a SEQUENCE with an extension marker and no known component
-abbrev pub is_free : Node → Bool
-is_free n = n.extensible && nat_eq n.parts.count 0
-
--- the components of a SEQUENCE: any elements, if none is known; otherwise those that are known
-abbrev pub AreAll : Bool → Values → Elements → EncodingRules → Table → Node → List ℕ → Type 0
-AreAll true Child Item rules t n inner = SomeItems false rules (Item rules) IsAnyCount inner
-AreAll false Child Item rules t n inner =
-    AreComponents Child rules t n.parts.count n.parts.start None inner
-
 -- a string in the constructed form (8.6.4, 8.7.3, 8.23)
 abbrev pub is_joined : Bool → Universal → Bool
 is_joined constructed u = constructed && is_string (form_of u)
@@ -192,7 +123,7 @@ IsOfType false c rules t Child Item known n u inner =
 -- the contents of an element whose tag is that of a node of a shape
 abbrev pub AreContents : Shape → EncodingRules → Table → Values → Elements → Known → Node → Header → List ℕ → Type 0
 AreContents Components rules t Child Item known n h inner =
-    (h.constructed ≡ true) × AreAll (is_free n) Child Item rules t n inner
+    (h.constructed ≡ true) × AreFrom Child Item rules t n n.parts.count n.parts.start None inner
 AreContents (Of u) rules t Child Item known n h inner =
     IsOfType (is_joined h.constructed u) h.constructed rules t Child Item known n u inner
 AreContents Items rules t Child Item known n h inner =

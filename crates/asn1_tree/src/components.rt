@@ -8,14 +8,19 @@ ghost use Rattle.ber.specs.declared.universal.Universal.TheVariants.{Sequence};
 ghost use Rattle.asn1_schema.specs.Distinct.{AreDistinct};
 ghost use Rattle.asn1_tree.specs.Constraints.{IsAllowedSize};
 ghost use Rattle.asn1_tree.specs.Known.{known_in};
-ghost use Rattle.asn1_tree.specs.Value.{IsValue, IsAny, AreComponents, AreAll, SomeItems, is_free};
-ghost use Rattle.asn1_tree.specs.Reading.{Body, Finds, Status, Logs};
+ghost use Rattle.asn1_schema.specs.declared.field.Field.{Field as AField};
+ghost use Rattle.asn1_tree.specs.Components.{IsComponent, AreComponents, AreFrom};
+ghost use Rattle.asn1_tree.specs.Items.{SomeItems};
+ghost use Rattle.asn1_tree.specs.Value.{IsValue, IsAny};
+ghost use Rattle.asn1_tree.specs.Reading.{Front, Body, Finds, Status, Logs};
 
-use crate::constraints::count_rule;
+use crate::additions::{additions, is_taken};
+use crate::constraints::{count_rule, end_of};
 use crate::known::{Known, known_after};
 use crate::opened::Opened;
 use crate::order::order_rule;
 use crate::outcome::{Outcome, Step};
+use crate::place::Place;
 use crate::role::Role;
 use crate::rule::Rule;
 use crate::select::begins;
@@ -23,52 +28,15 @@ use crate::tests::{default_rule, may_be_absent};
 use crate::tree::Tree;
 use crate::typed::{inner_of, value};
 use crate::types::field_of;
-use crate::untyped::{any, elements, finish};
+use crate::untyped::{any, finish};
 use crate::verdict::Verdict;
-use asn1_schema::{Node, Schema, Span};
+use asn1_schema::{Node, Schema};
 use ber::is_end_of_contents;
 use std::alloc::{AllocError, Global};
 
-// Reads the components of a SEQUENCE, known or not.
-#[cycle(typed)]
-pub(crate) fn all_components<'a>(
-    tree: &mut Tree,
-    alloc: Global,
-    schema: &Schema<'_>,
-    depth: usize,
-    node: Node,
-    at: usize,
-    opened: Opened<'a>,
-) -> Result<Outcome<'a>, AllocError>
-    requires kind { node.kind ≡ Universally Sequence }
-    requires there { IsRange node.parts schema.now.counts.fields }
-    requires distinct { AreDistinct (types_in schema.now.octets.now) }
-    requires row { (i : ℕ) × (slice_get (types_in schema.now.octets.now).nodes i ≡ Some node) }
-    ensures finds { IfOk result (λ o. Finds (λ rules. Body opened.entry.marked opened.entry.beyond.now
-        (AreAll (is_free node) (IsValue (types_in schema.now.octets.now) depth) (IsAny depth) rules
-        (types_in schema.now.octets.now) node) opened.entry.inside.octets.now) o.verdict o.rest.now) }
-    ensures shorter { IfOk result (λ o. length o.rest.now
-        ≤ length opened.entry.inside.octets.now + length opened.entry.beyond.now) }
-    ensures log { IfOk result (λ o. Logs o.verdict tree.old.departures.items tree.new.departures.items) }
-    ensures grows { OnOk result (vec_len tree.old.entries ≤ vec_len tree.new.entries) }
-{
-    if is_free(node) {
-        elements(tree, depth, at, opened)
-    } else {
-        components(tree, alloc, schema, depth, node, at, opened)
-    }
-}
-
-// Whether a SEQUENCE has an extension marker and no known component.
-fn is_free(node: Node) -> bool
-    ensures { result ≡ is_free node }
-{
-    node.extensible && node.parts.count == 0
-}
-
 // Reads the components of a SEQUENCE.
 #[cycle(typed)]
-fn components<'a>(
+pub(crate) fn components<'a>(
     tree: &mut Tree,
     alloc: Global,
     schema: &Schema<'_>,
@@ -82,72 +50,46 @@ fn components<'a>(
     requires distinct { AreDistinct (types_in schema.now.octets.now) }
     requires row { (i : ℕ) × (slice_get (types_in schema.now.octets.now).nodes i ≡ Some node) }
     ensures finds { IfOk result (λ o. Finds (λ rules. Body opened.entry.marked opened.entry.beyond.now
-        (AreComponents (IsValue (types_in schema.now.octets.now) depth) rules
-        (types_in schema.now.octets.now) node.parts.count node.parts.start None) opened.entry.inside.octets.now)
-        o.verdict o.rest.now) }
+        (AreFrom (IsValue (types_in schema.now.octets.now) depth) (IsAny depth) rules
+        (types_in schema.now.octets.now) node node.parts.count node.parts.start None)
+        opened.entry.inside.octets.now) o.verdict o.rest.now) }
     ensures shorter { IfOk result (λ o. length o.rest.now
         ≤ length opened.entry.inside.octets.now + length opened.entry.beyond.now) }
     ensures log { IfOk result (λ o. Logs o.verdict tree.old.departures.items tree.new.departures.items) }
     ensures grows { OnOk result (vec_len tree.old.entries ≤ vec_len tree.new.entries) }
 {
-    let mut verdict = Verdict::Der;
-    let mut rest = opened.inside.octets;
+    let mut index = node.parts.start;
+    let end = end_of(node.parts, schema.counts().fields);
+    let before = additions(tree, schema, depth, node, index, at, opened)?;
+    let mut verdict = before.verdict;
+    let mut rest = before.rest;
     let mut known = None;
-    let mut left = node.parts.count;
-    'fields: while left > 0 {
-        let field = index_of(node.parts, node.parts.count - left, schema.counts().fields);
-        left -= 1;
-        let step = component(
-            tree,
-            alloc,
-            schema,
-            depth,
-            known,
-            node,
-            field,
-            left,
-            at,
-            opened.at(rest),
-        )?;
-        verdict = verdict.and(step.verdict);
-        rest = step.rest;
+    'fields: while index < end {
+        let here = opened.at(rest);
+        let step = component(tree, alloc, schema, depth, known, node, index, at, here)?;
+        index += 1;
+        let after = additions(tree, schema, depth, node, index, at, opened.at(step.rest))?;
+        verdict = verdict.and(step.verdict).and(after.verdict);
+        rest = after.rest;
         known = step.known;
     }
-    let end = finish(tree, depth, at, opened.at(rest))?;
+    let last = finish(tree, depth, at, opened.at(rest))?;
     Ok(Outcome {
-        verdict: verdict.and(end.verdict),
-        rest: end.rest,
+        verdict: verdict.and(last.verdict),
+        rest: last.rest,
     })
 }
 
-// Whether no component can begin here, or one of the last fields of a SEQUENCE does: then the field
+// Whether no component can begin here, or one of the later fields of a SEQUENCE does: then the field
 // before them is missing, and otherwise the next element has another tag than it.
-fn begins_later(schema: &Schema<'_>, node: Node, left: u32, octets: &[u8]) -> bool
-    requires { IsRange node.parts schema.now.counts.fields }
+fn begins_later(schema: &Schema<'_>, node: Node, index: u32, octets: &[u8]) -> bool
+    requires there { IsRange node.parts schema.now.counts.fields }
+    requires part { (node.parts.start ≤ index) × (index < node.parts.start + node.parts.count) }
 {
-    if octets.is_empty() || is_end_of_contents(octets) {
-        return true;
-    }
-    let mut i = node.parts.count.saturating_sub(left);
-    'fields: while i < node.parts.count {
-        let index = index_of(node.parts, i, schema.counts().fields);
-        if begins(schema, field_of(schema, index).node, octets) {
-            return true;
-        }
-        i += 1;
-    }
-    false
+    octets.is_empty() || is_end_of_contents(octets) || is_taken(schema, node, index, octets)
 }
 
-// The index of a row of a range, which is one of so many rows.
-fn index_of(span: Span, index: u32, rows: u32) -> u32
-    requires { span.start + index < rows }
-    ensures { result ≡ span.start + index }
-{
-    span.start + index
-}
-
-// Reads the component of a field, if it is there. So many fields follow it.
+// Reads the component of a field, if it is there.
 #[cycle(typed)]
 fn component<'a>(
     tree: &mut Tree,
@@ -157,22 +99,22 @@ fn component<'a>(
     known: Option<Known<'a>>,
     node: Node,
     index: u32,
-    left: u32,
     at: usize,
     opened: Opened<'a>,
 ) -> Result<Step<'a>, AllocError>
     requires kind { node.kind ≡ Universally Sequence }
     requires there { IsRange node.parts schema.now.counts.fields }
-    requires part { (node.parts.start ≤ index) × (index + left + 1 ≡ node.parts.start + node.parts.count) }
+    requires part { (node.parts.start ≤ index) × (index < node.parts.start + node.parts.count) }
     requires distinct { AreDistinct (types_in schema.now.octets.now) }
     requires row { (i : ℕ) × (slice_get (types_in schema.now.octets.now).nodes i ≡ Some node) }
-    ensures status { IfOk result (λ s. Status s.verdict
+    ensures status { IfOk result (λ s. (left : ℕ) → index + (left + 1) ≡ node.parts.start + node.parts.count
+        → Status s.verdict (λ rules. Body opened.entry.marked opened.entry.beyond.now
+        (AreFrom (IsValue (types_in schema.now.octets.now) depth) (IsAny depth) rules
+        (types_in schema.now.octets.now) node left (index + 1) (known_in s.known)) s.rest.now)
         (λ rules. Body opened.entry.marked opened.entry.beyond.now
-        (AreComponents (IsValue (types_in schema.now.octets.now) depth) rules
-        (types_in schema.now.octets.now) left (index + 1) (known_in s.known)) s.rest.now)
-        (λ rules. Body opened.entry.marked opened.entry.beyond.now
-        (AreComponents (IsValue (types_in schema.now.octets.now) depth) rules
-        (types_in schema.now.octets.now) (left + 1) index (known_in known.entry)) opened.entry.inside.octets.now)) }
+        (AreComponents (IsValue (types_in schema.now.octets.now) depth) (IsAny depth) rules
+        (types_in schema.now.octets.now) node (left + 1) index (known_in known.entry))
+        opened.entry.inside.octets.now)) }
     ensures log { IfOk result (λ s. Logs s.verdict tree.old.departures.items tree.new.departures.items) }
     ensures shorter { IfOk result (λ s. length s.rest.now ≤ length opened.entry.inside.octets.now) }
     ensures grows { OnOk result (vec_len tree.old.entries ≤ vec_len tree.new.entries) }
@@ -180,16 +122,10 @@ fn component<'a>(
     let field = field_of(schema, index);
     let place = opened.inside;
     if begins(schema, field.node, place.octets) {
-        let role = Role {
-            field: index,
-            ..Role::inside(at)
-        };
-        let outcome = value(tree, alloc, schema, depth, known, field.node, role, place)?;
+        let outcome = field_value(tree, alloc, schema, depth, known, index, at, place)?;
         let octets = &place.octets[..place.octets.len() - outcome.rest.len()];
-        let rule = default_rule(schema, field, octets);
-        let verdict = tree.judge(rule, place.offset(), at)?;
         return Ok(Step {
-            verdict: outcome.verdict.and(verdict),
+            verdict: outcome.verdict,
             rest: outcome.rest,
             known: known_after(schema, field.node, index, octets, known),
         });
@@ -201,7 +137,7 @@ fn component<'a>(
             known,
         });
     }
-    if begins_later(schema, node, left, place.octets) {
+    if begins_later(schema, node, index, place.octets) {
         let verdict = tree.depart(Rule::Missing, place.offset(), at)?;
         return Ok(Step {
             verdict,
@@ -215,6 +151,45 @@ fn component<'a>(
         verdict: verdict.and(outcome.verdict),
         rest: outcome.rest,
         known,
+    })
+}
+
+// Reads the value of a field.
+#[cycle(typed)]
+pub(crate) fn field_value<'a>(
+    tree: &mut Tree,
+    alloc: Global,
+    schema: &Schema<'_>,
+    depth: usize,
+    known: Option<Known<'_>>,
+    index: u32,
+    at: usize,
+    place: Place<'a>,
+) -> Result<Outcome<'a>, AllocError>
+    requires there { index < schema.now.counts.fields }
+    requires distinct { AreDistinct (types_in schema.now.octets.now) }
+    ensures finds { IfOk result (λ o. (f : AField)
+        → slice_get (types_in schema.now.octets.now).fields index ≡ Some f → Finds (λ rules. Front
+        (IsComponent (IsValue (types_in schema.now.octets.now) depth) rules
+        (types_in schema.now.octets.now) (known_in known.entry) f) place.entry.octets.now)
+        o.verdict o.rest.now) }
+    ensures log { IfOk result (λ o. Logs o.verdict tree.old.departures.items tree.new.departures.items) }
+    ensures shorter { IfOk result (λ o. length o.rest.now ≤ length place.entry.octets.now) }
+    ensures moves { IfOk result
+        (λ o. 0 < length place.entry.octets.now → length o.rest.now < length place.entry.octets.now) }
+    ensures grows { OnOk result (vec_len tree.old.entries ≤ vec_len tree.new.entries) }
+{
+    let field = field_of(schema, index);
+    let role = Role {
+        field: index,
+        ..Role::inside(at)
+    };
+    let outcome = value(tree, alloc, schema, depth, known, field.node, role, place)?;
+    let octets = &place.octets[..place.octets.len() - outcome.rest.len()];
+    let encoded = tree.judge(default_rule(schema, field, octets), place.offset(), at)?;
+    Ok(Outcome {
+        verdict: outcome.verdict.and(encoded),
+        rest: outcome.rest,
     })
 }
 

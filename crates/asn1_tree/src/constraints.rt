@@ -39,8 +39,8 @@ pub(crate) fn is_allowed_value(schema: &Schema<'_>, limits: Span, contents: &[u8
     !limited
 }
 
-// The index after the last of a range, which is one of so many rows.
-fn end_of(span: Span, rows: u32) -> u32
+/// The index after the last row of a range, which is one of so many rows.
+pub(crate) fn end_of(span: Span, rows: u32) -> u32
     requires { span.start + span.count ≤ rows }
     ensures { result ≡ span.start + span.count }
 {

@@ -28,6 +28,7 @@
 //! which rule a departure names, its offset, and the rows of the tree.
 #![tactic(auto)]
 
+mod additions;
 mod bound;
 mod chosen;
 mod components;

@@ -3,7 +3,7 @@ ghost use Rattle.std.specs.Prelude.{◌≡◌, ◌↔◌, true};
 ghost use Rattle.der_base.specs.declared.encoding_rules.EncodingRules.{EncodingRules};
 ghost use Rattle.asn1_tree.specs.Verdict.{holds};
 ghost use Rattle.asn1_tree.specs.Rule.{verdict_of_option};
-ghost use Rattle.asn1_tree.specs.Value.{not_after, IsInOrder};
+ghost use Rattle.asn1_tree.specs.Items.{not_after, IsInOrder};
 
 use crate::rule::Rule;
 

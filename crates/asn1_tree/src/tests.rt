@@ -9,7 +9,8 @@ ghost use Rattle.ber.specs.declared.universal.Universal.TheVariants.{Sequence};
 ghost use Rattle.asn1_tree.specs.Verdict.{holds};
 ghost use Rattle.asn1_tree.specs.Rule.{verdict_of_option};
 ghost use Rattle.asn1_contents.specs.Contents.{IsContents};
-ghost use Rattle.asn1_tree.specs.Value.{IsNoDefault, MayBeConstructed, IsPrimitive};
+ghost use Rattle.asn1_tree.specs.Components.{IsNoDefault};
+ghost use Rattle.asn1_tree.specs.Value.{MayBeConstructed, IsPrimitive};
 
 use crate::rule::Rule;
 use crate::types::default_of;

@@ -18,7 +18,7 @@ ghost use Rattle.asn1_tree.specs.Value.{IsValue, IsAny, IsNode, AreContents, IsO
 ghost use Rattle.asn1_tree.specs.Reading.{Front, Body, Finds, Logs};
 
 use crate::chosen::chosen;
-use crate::components::{all_components, explicit, items};
+use crate::components::{components, explicit, items};
 use crate::constraints::constraint_rule;
 use crate::entry::Entry;
 use crate::known::Known;
@@ -202,7 +202,7 @@ fn contents<'a>(
         });
     }
     match shape {
-        Shape::Components => all_components(tree, alloc, schema, depth, node, at, opened),
+        Shape::Components => components(tree, alloc, schema, depth, node, at, opened),
         Shape::Of(universal) => of_type(
             tree, alloc, schema, depth, known, node, universal, at, header, opened,
         ),

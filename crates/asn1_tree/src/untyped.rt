@@ -1,6 +1,7 @@
 //! The reader of values of any type.
 ghost use Rattle.std.specs.Prelude.{◌≡◌, ◌*◌, ◌+◌, ◌<◌, ◌≤◌, false, [], length, vec_len, IfOk, OnOk};
-ghost use Rattle.asn1_tree.specs.Value.{IsAny, IsAnyCount, IsUnknownType, SomeItems};
+ghost use Rattle.asn1_tree.specs.Items.{IsAnyCount, SomeItems};
+ghost use Rattle.asn1_tree.specs.Value.{IsAny, IsUnknownType};
 ghost use Rattle.asn1_tree.specs.Reading.{Front, Body, Finds, Logs};
 
 use crate::entry::Entry;

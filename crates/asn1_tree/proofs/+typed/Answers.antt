@@ -1,4 +1,4 @@
-use Rattle.std.proofs.Common.{rules, ◌≡◌, ◌↔◌, ◌+◌, ◌-◌, ◌∙◌, false, true, [], length, take, refl, sym, ap, subst, ℕ, suc, List, Some, slice_get, arith}
+use Rattle.std.proofs.Common.{rules, ◌≡◌, ◌↔◌, ◌+◌, ◌-◌, ◌∙◌, false, true, [], length, take, refl, sym, ap, subst, ℕ, suc, List, None, Some, slice_get, arith}
 use Rattle.ber.specs.Element.{IsElement}
 use Rattle.ber.proofs.HeaderLemmas.{end_header_next}
 use Rattle.asn1_schema.specs.declared.field.Field.{Field}
@@ -6,14 +6,16 @@ use Rattle.asn1_tree.specs.Constraints.{IsAllowedSize}
 use Rattle.asn1_tree.specs.Types.{types_in}
 use Rattle.asn1_tree.specs.Known.{known_in, Follows}
 use Rattle.asn1_tree.specs.Verdict.{holds, worst}
-use Rattle.asn1_tree.specs.Value.{MayBeAbsent, IsValue, IsAny, IsNode, AreComponents, SomeItems, IsUnknownType, AreAll, AreBounded, IsContained, shape_of, is_constructed, IsOfType}
-use Rattle.asn1_tree.specs.Reading.{Front, Body, Finds}
+use Rattle.asn1_tree.specs.Components.{MayBeAbsent, IsComponent, AreComponents, AreFrom}
+use Rattle.asn1_tree.specs.Items.{SomeItems}
+use Rattle.asn1_tree.specs.Value.{IsValue, IsAny, IsNode, IsUnknownType, AreBounded, IsContained, shape_of, is_constructed, IsOfType}
+use Rattle.asn1_tree.specs.Reading.{Front, Body, Finds, Status}
 use Rattle.asn1_tree.specs.declared.shape.Shape.TheVariants.{Components, Of, Items, SortedItems, Inner, Untyped}
 use Rattle.asn1_tree.proofs.VerdictLemmas.{logs_none, worst_neither, worst_assoc, logs_is, logs_then, logs_after, logs_left}
 use Rattle.asn1_tree.proofs.FindsLemmas.{finds_is, finds_never, finds_at, body_at, status_is, status_then, status_ends}
 use Rattle.asn1_tree.proofs.EnclosedLemmas.{finds_element, taken}
 use Rattle.asn1_tree.proofs.ItemLemmas.{items_end, item_found, item_counted, items_begin, some_left, inner_found, goes_on, has_ended}
-use Rattle.asn1_tree.proofs.UntypedLemmas.{test_is}
+use Rattle.asn1_tree.proofs.UntypedLemmas.{any_elements, test_is}
 use Rattle.asn1_tree.proofs.WholeLemmas.{both_tests, finds_also, whole_found, exact_of, contains_value}
 use Rattle.asn1_tree.specs.declared.verdict.Verdict.{Verdict}
 use Rattle.der_base.specs.declared.encoding_rules.EncodingRules.{EncodingRules}
@@ -89,8 +91,8 @@ pub typed::contents-returns-in-Components-clause-finds : goal.typed::contents-re
 typed::contents-returns-in-Components-clause-finds t c =
     let shape : shape_of c.args.node.kind ≡ Components = sym c.of-shape.ensures ∙ c.in-Components.is in
     let on = c.has_wrong_form.ensures.right c.if-has_wrong_form.false (ap is_constructed c.in-Components.is) in
-    if_ok c.all_components.result (λ o f. finds_shape (types_in c.args.schema.now.octets.now) (IsValue (types_in c.args.schema.now.octets.now) c.args.depth) (IsAny c.args.depth) (known_in c.args.known) c.args.node c.args.header c.args.opened.marked c.args.opened.beyond.now c.args.opened.inside.octets.now shape
-    (finds_given c.args.opened.marked c.args.opened.beyond.now c.args.opened.inside.octets.now on f)) c.all_components.ensures.finds
+    if_ok c.components.result (λ o f. finds_shape (types_in c.args.schema.now.octets.now) (IsValue (types_in c.args.schema.now.octets.now) c.args.depth) (IsAny c.args.depth) (known_in c.args.known) c.args.node c.args.header c.args.opened.marked c.args.opened.beyond.now c.args.opened.inside.octets.now shape
+    (finds_given c.args.opened.marked c.args.opened.beyond.now c.args.opened.inside.octets.now on f)) c.components.ensures.finds
 
 pub typed::contents-returns-in-Of-clause-finds : goal.typed::contents-returns-in-Of-clause-finds
 typed::contents-returns-in-Of-clause-finds t c =
@@ -125,22 +127,22 @@ typed::contents-returns-in-Untyped-clause-finds t c =
     (subst (λ u. Finds (λ rules. Body c.args.opened.marked c.args.opened.beyond.now (IsUnknownType rules (IsAny c.args.depth) u c.args.header.constructed) c.args.opened.inside.octets.now) o.verdict o.rest.now) c.universal.ensures f)) c.unknown_contents.ensures.finds
 
 pub components::component-returns-then-begins-clause-status : goal.components::component-returns-then-begins-clause-status
-components::component-returns-then-begins-clause-status t c =
+components::component-returns-then-begins-clause-status t c left size =
     let octets = c.args.opened.inside.octets.now in
     let rest = c.in_ok-outcome.outcome.rest.now in
     let here = take (length octets - length rest) octets in
     let f = c.field_of-field.result in
     let begun = c.begins.ensures.found c.if-begins.true in
-    let finds = component_finds (types_in c.args.schema.now.octets.now) (IsValue (types_in c.args.schema.now.octets.now) c.args.depth) (known_in c.args.known) f here c.in_ok-outcome.ensures.finds (λ x e. taken octets x rest e) (test_is c.in_ok-verdict.ensures.verdict c.default_rule-rule.ensures) in
-    status_next (types_in c.args.schema.now.octets.now) (IsValue (types_in c.args.schema.now.octets.now) c.args.depth) c.args.opened.marked c.args.opened.beyond.now octets rest c.args.left c.args.index (known_in c.args.known) (known_in c.known_after.result)
-    (status_is c.and.ensures (component_found (types_in c.args.schema.now.octets.now) (IsValue (types_in c.args.schema.now.octets.now) c.args.depth) c.args.opened.marked c.args.opened.beyond.now octets rest c.args.left c.args.index f (known_in c.args.known) (known_in c.known_after.result) c.field_of-field.ensures.value finds
+    let finds = c.in_ok-outcome.ensures.finds f c.field_of-field.ensures.value in
+    status_next (types_in c.args.schema.now.octets.now) (IsValue (types_in c.args.schema.now.octets.now) c.args.depth) (IsAny c.args.depth) c.args.node c.args.opened.marked c.args.opened.beyond.now octets rest left c.args.index (known_in c.args.known) (known_in c.known_after.result)
+    (component_found (types_in c.args.schema.now.octets.now) (IsValue (types_in c.args.schema.now.octets.now) c.args.depth) (IsAny c.args.depth) c.args.node c.args.opened.marked c.args.opened.beyond.now octets rest left c.args.index f (known_in c.args.known) (known_in c.known_after.result) c.field_of-field.ensures.value finds
     (λ rules x e is.
     let it : here ≡ x = taken octets x rest e in
     subst (λ y. Follows (slice_get (types_in c.args.schema.now.octets.now).nodes f.node) c.args.index y (known_in c.args.known) (known_in c.known_after.result)) it
     (c.known_after.ensures (λ id. let el = identifier_element (types_in c.args.schema.now.octets.now) c.args.depth rules (known_in c.args.known) f.node x id is.0 in (el.0, el.1, subst (λ y. IsElement el.0 el.1 y) (sym it) el.2))))
-    (λ may. none_later (value_begins (types_in c.args.schema.now.octets.now) c.args.depth) c.args.node c.requires.kind (c.requires.distinct c.requires.row.0 c.args.node c.requires.row.1) c.args.opened.marked c.args.opened.beyond.now octets begun.0 begun.1 begun.2 c.args.index f
-    (record { part = (c.requires.part.0, omega (arith, c.requires.part.1)); row = c.field_of-field.ensures.value }) begun.3 c.args.left (suc c.args.index) (known_in c.args.known) (omega arith) (omega (arith, c.requires.part.1))
-    (λ l g low high is. only may l g (omega (arith, low, high)) is.row))))
+    (λ may. none_later (value_begins (types_in c.args.schema.now.octets.now) c.args.depth) (any_elements c.args.depth) c.args.node c.requires.kind (c.requires.distinct c.requires.row.0 c.args.node c.requires.row.1) c.args.opened.marked c.args.opened.beyond.now octets begun.0 begun.1 begun.2 c.args.index f
+    (record { part = c.requires.part; row = c.field_of-field.ensures.value }) begun.3 left (suc c.args.index) (known_in c.args.known) (omega arith) (omega (arith, size))
+    (λ l g low high is. only may l g (omega (arith, low, high)) is.row)))
   where
     only : MayBeAbsent c.field_of-field.result → (l : ℕ) (g : Field) → l ≡ c.args.index → slice_get (types_in c.args.schema.now.octets.now).fields l ≡ Some g → MayBeAbsent g
     only may l g e row =
@@ -149,58 +151,80 @@ components::component-returns-then-begins-clause-status t c =
         let it : c.field_of-field.result ≡ g = cc in
         subst MayBeAbsent it may
 
-pub components::component-returns-then-begins-clause-log : goal.components::component-returns-then-begins-clause-log
-components::component-returns-then-begins-clause-log t c =
-    logs_is c.and.ensures (logs_then c.in_ok-outcome.ensures.log c.in_ok-verdict.ensures.log)
+pub components::field_value-returns-clause-finds : goal.components::field_value-returns-clause-finds
+components::field_value-returns-clause-finds t c f row =
+    let octets = c.args.place.octets.now in
+    let rest = c.in_ok-outcome.outcome.rest.now in
+    let here = take (length octets - length rest) octets in
+    let both : Some c.field_of-field.result ≡ Some f = sym c.field_of-field.ensures.value ∙ row in
+    let it : c.field_of-field.result ≡ f = cc in
+    finds_is c.and.ensures
+    (subst (λ g. Finds (λ rules. Front (IsComponent (IsValue (types_in c.args.schema.now.octets.now) c.args.depth) rules (types_in c.args.schema.now.octets.now) (known_in c.args.known) g) octets) (worst c.in_ok-outcome.outcome.verdict c.in_ok-encoded.encoded) rest) it
+    (component_finds (types_in c.args.schema.now.octets.now) (IsValue (types_in c.args.schema.now.octets.now) c.args.depth) (known_in c.args.known) c.field_of-field.result here c.in_ok-outcome.ensures.finds (λ x e. taken octets x rest e) (test_is c.in_ok-encoded.ensures.verdict c.default_rule.ensures)))
+
+pub components::field_value-returns-clause-log : goal.components::field_value-returns-clause-log
+components::field_value-returns-clause-log t c =
+    logs_is c.and.ensures (logs_then c.in_ok-outcome.ensures.log c.in_ok-encoded.ensures.log)
 
 pub components::component-returns-then-may_be_absent-clause-status :
     goal.components::component-returns-then-may_be_absent-clause-status
-components::component-returns-then-may_be_absent-clause-status t c =
-    status_next (types_in c.args.schema.now.octets.now) (IsValue (types_in c.args.schema.now.octets.now) c.args.depth) c.args.opened.marked c.args.opened.beyond.now c.args.opened.inside.octets.now c.args.opened.inside.octets.now c.args.left c.args.index (known_in c.args.known) (known_in c.args.known)
-    (component_absent (value_begins (types_in c.args.schema.now.octets.now) c.args.depth) c.args.opened.marked c.args.opened.beyond.now c.args.opened.inside.octets.now c.args.left c.args.index c.field_of-field.result (known_in c.args.known) c.field_of-field.ensures.value (c.begins.ensures.none c.if-begins.false) (sym c.may_be_absent.ensures ∙ c.if-may_be_absent.true))
+components::component-returns-then-may_be_absent-clause-status t c left size =
+    status_next (types_in c.args.schema.now.octets.now) (IsValue (types_in c.args.schema.now.octets.now) c.args.depth) (IsAny c.args.depth) c.args.node c.args.opened.marked c.args.opened.beyond.now c.args.opened.inside.octets.now c.args.opened.inside.octets.now left c.args.index (known_in c.args.known) (known_in c.args.known)
+    (component_absent (IsAny c.args.depth) c.args.node (value_begins (types_in c.args.schema.now.octets.now) c.args.depth) c.args.opened.marked c.args.opened.beyond.now c.args.opened.inside.octets.now left c.args.index c.field_of-field.result (known_in c.args.known) c.field_of-field.ensures.value (c.begins.ensures.none c.if-begins.false) (sym c.may_be_absent.ensures ∙ c.if-may_be_absent.true))
 
 pub components::component-returns-then-begins_later-clause-status :
     goal.components::component-returns-then-begins_later-clause-status
-components::component-returns-then-begins_later-clause-status t c =
-    status_next (types_in c.args.schema.now.octets.now) (IsValue (types_in c.args.schema.now.octets.now) c.args.depth) c.args.opened.marked c.args.opened.beyond.now c.args.opened.inside.octets.now c.args.opened.inside.octets.now c.args.left c.args.index (known_in c.args.known) (known_in c.args.known)
-    (status_is c.in_ok-verdict-2.ensures.verdict (component_missing (value_begins (types_in c.args.schema.now.octets.now) c.args.depth) c.args.opened.marked c.args.opened.beyond.now c.args.opened.inside.octets.now c.args.opened.inside.octets.now c.args.left c.args.index c.field_of-field.result (known_in c.args.known) (known_in c.args.known) c.field_of-field.ensures.value (c.begins.ensures.none c.if-begins.false) (sym c.may_be_absent.ensures ∙ c.if-may_be_absent.false)))
+components::component-returns-then-begins_later-clause-status t c left size =
+    status_next (types_in c.args.schema.now.octets.now) (IsValue (types_in c.args.schema.now.octets.now) c.args.depth) (IsAny c.args.depth) c.args.node c.args.opened.marked c.args.opened.beyond.now c.args.opened.inside.octets.now c.args.opened.inside.octets.now left c.args.index (known_in c.args.known) (known_in c.args.known)
+    (status_is c.in_ok-verdict.ensures.verdict (component_missing (IsAny c.args.depth) c.args.node (value_begins (types_in c.args.schema.now.octets.now) c.args.depth) c.args.opened.marked c.args.opened.beyond.now c.args.opened.inside.octets.now c.args.opened.inside.octets.now left c.args.index c.field_of-field.result (known_in c.args.known) (known_in c.args.known) c.field_of-field.ensures.value (c.begins.ensures.none c.if-begins.false) (sym c.may_be_absent.ensures ∙ c.if-may_be_absent.false)))
 
 pub components::component-returns-clause-status : goal.components::component-returns-clause-status
-components::component-returns-clause-status t c =
-    status_next (types_in c.args.schema.now.octets.now) (IsValue (types_in c.args.schema.now.octets.now) c.args.depth) c.args.opened.marked c.args.opened.beyond.now c.args.opened.inside.octets.now c.in_ok-outcome-2.outcome.rest.now c.args.left c.args.index (known_in c.args.known) (known_in c.args.known)
-    (status_is (c.and-2.ensures ∙ ap (λ v. worst v c.in_ok-outcome-2.outcome.verdict) c.in_ok-verdict-3.ensures.verdict) (component_missing (value_begins (types_in c.args.schema.now.octets.now) c.args.depth) c.args.opened.marked c.args.opened.beyond.now c.args.opened.inside.octets.now c.in_ok-outcome-2.outcome.rest.now c.args.left c.args.index c.field_of-field.result (known_in c.args.known) (known_in c.args.known) c.field_of-field.ensures.value (c.begins.ensures.none c.if-begins.false) (sym c.may_be_absent.ensures ∙ c.if-may_be_absent.false)))
+components::component-returns-clause-status t c left size =
+    status_next (types_in c.args.schema.now.octets.now) (IsValue (types_in c.args.schema.now.octets.now) c.args.depth) (IsAny c.args.depth) c.args.node c.args.opened.marked c.args.opened.beyond.now c.args.opened.inside.octets.now c.in_ok-outcome-2.outcome.rest.now left c.args.index (known_in c.args.known) (known_in c.args.known)
+    (status_is (c.and.ensures ∙ ap (λ v. worst v c.in_ok-outcome-2.outcome.verdict) c.in_ok-verdict-2.ensures.verdict) (component_missing (IsAny c.args.depth) c.args.node (value_begins (types_in c.args.schema.now.octets.now) c.args.depth) c.args.opened.marked c.args.opened.beyond.now c.args.opened.inside.octets.now c.in_ok-outcome-2.outcome.rest.now left c.args.index c.field_of-field.result (known_in c.args.known) (known_in c.args.known) c.field_of-field.ensures.value (c.begins.ensures.none c.if-begins.false) (sym c.may_be_absent.ensures ∙ c.if-may_be_absent.false)))
 
 pub components::component-returns-clause-log : goal.components::component-returns-clause-log
 components::component-returns-clause-log t c =
-    logs_is c.and-2.ensures (logs_then c.in_ok-verdict-3.ensures.log c.in_ok-outcome-2.ensures.log)
+    logs_is c.and.ensures (logs_then c.in_ok-verdict-2.ensures.log c.in_ok-outcome-2.ensures.log)
+
+pub components::components-fields-init : goal.components::components-fields-init
+components::components-fields-init t c = record {
+  status = λ left size.
+      let all : left ≡ c.args.node.parts.count = omega (arith, size) in
+      subst (λ n. Status c.in_ok-before.before.verdict (λ rules. Body c.args.opened.marked c.args.opened.beyond.now (AreComponents (IsValue (types_in c.args.schema.now.octets.now) c.args.depth) (IsAny c.args.depth) rules (types_in c.args.schema.now.octets.now) c.args.node n c.args.node.parts.start None) c.in_ok-before.before.rest.now) (λ rules. Body c.args.opened.marked c.args.opened.beyond.now (AreFrom (IsValue (types_in c.args.schema.now.octets.now) c.args.depth) (IsAny c.args.depth) rules (types_in c.args.schema.now.octets.now) c.args.node c.args.node.parts.count c.args.node.parts.start None) c.args.opened.inside.octets.now)) (sym all)
+      (c.in_ok-before.ensures.status c.args.node.parts.count None refl);
+  low = omega arith;
+  high = omega arith;
+  log = c.in_ok-before.ensures.log;
+  shorter = c.in_ok-before.ensures.shorter;
+  grows = c.in_ok-before.ensures.grows;
+}
 
 pub components::components-fields-preserved : goal.components::components-fields-preserved
 components::components-fields-preserved t c =
-    let parts = c.args.node.parts in
-    let left = c.fields.left in
-    let n : (left - 1) + 1 ≡ left = omega (arith, c.fields-test.true) in
-    let k : c.index_of-field.result + 1 ≡ parts.start + (parts.count - (left - 1)) = omega (arith, c.index_of-field.ensures, c.fields-test.true, c.fields.invariant.part) in
+    let Are : ℕ → ℕ → EncodingRules → List ℕ → Type 0 = λ left index rules. AreComponents (IsValue (types_in c.args.schema.now.octets.now) c.args.depth) (IsAny c.args.depth) rules (types_in c.args.schema.now.octets.now) c.args.node left index (known_in c.fields.known) in
+    let From : ℕ → EncodingRules → List ℕ → Type 0 = λ left rules. AreFrom (IsValue (types_in c.args.schema.now.octets.now) c.args.depth) (IsAny c.args.depth) rules (types_in c.args.schema.now.octets.now) c.args.node left (c.fields.index + 1) (known_in c.in_ok-step.step.known) in
+    let Next : ℕ → EncodingRules → List ℕ → Type 0 = λ left rules. AreComponents (IsValue (types_in c.args.schema.now.octets.now) c.args.depth) (IsAny c.args.depth) rules (types_in c.args.schema.now.octets.now) c.args.node left (c.fields.index + 1) (known_in c.in_ok-step.step.known) in
     record {
-      status = status_is c.and-verdict.ensures (status_then c.fields.invariant.status
-          (status_at (types_in c.args.schema.now.octets.now) (IsValue (types_in c.args.schema.now.octets.now) c.args.depth) (left - 1) c.in_ok-step.step.rest.now (known_in c.fields.known) (known_in c.in_ok-step.step.known) c.at.ensures.marked c.at.ensures.beyond c.at.ensures.octets n c.index_of-field.ensures k c.in_ok-step.ensures.status));
-      part = omega (arith, c.fields.invariant.part);
-      log = logs_is c.and-verdict.ensures (logs_then c.fields.invariant.log c.in_ok-step.ensures.log);
-      shorter = omega (arith, c.fields.invariant.shorter, c.in_ok-step.ensures.shorter, ap length c.at.ensures.octets);
-      grows = omega (arith, c.fields.invariant.grows, c.in_ok-step.ensures.grows);
+      status = λ left size. status_is (c.and-verdict.ensures ∙ ap (λ v. worst v c.in_ok-after.after.verdict) c.and.ensures)
+          (status_then (status_then (c.fields.invariant.status (left + 1) (omega (arith, size)))
+          (status_at (Are (left + 1) c.fields.index) (From left) c.in_ok-step.step.rest.now c.at-here.ensures.marked c.at-here.ensures.beyond c.at-here.ensures.octets (c.in_ok-step.ensures.status left (omega (arith, size)))))
+          (status_at (From left) (Next left) c.in_ok-after.after.rest.now c.at.ensures.marked c.at.ensures.beyond c.at.ensures.octets (c.in_ok-after.ensures.status left (known_in c.in_ok-step.step.known) (omega (arith, size)))));
+      low = omega (arith, c.fields.invariant.low);
+      high = omega (arith, c.fields-test.true, c.end_of-end.ensures);
+      log = logs_is (c.and-verdict.ensures ∙ ap (λ v. worst v c.in_ok-after.after.verdict) c.and.ensures) (logs_then (logs_then c.fields.invariant.log c.in_ok-step.ensures.log) c.in_ok-after.ensures.log);
+      shorter = omega (arith, c.fields.invariant.shorter, c.in_ok-step.ensures.shorter, ap length c.at-here.ensures.octets, c.in_ok-after.ensures.shorter, ap length c.at.ensures.octets);
+      grows = omega (arith, c.fields.invariant.grows, c.in_ok-step.ensures.grows, c.in_ok-after.ensures.grows);
     }
 
 pub components::components-returns-clause-finds : goal.components::components-returns-clause-finds
 components::components-returns-clause-finds t c =
-    let parts = c.args.node.parts in
-    let left = c.fields.left in
-    let none : 0 ≡ left = omega (arith, c.fields-test.false) in
-    let end = body_at (λ rules inner. inner ≡ []) c.at-2.ensures.marked c.at-2.ensures.beyond c.at-2.ensures.octets c.in_ok-end.ensures.finds in
-    finds_is c.and.ensures (status_ends c.fields.invariant.status
-    (subst (λ n. Finds (λ rules. Body c.args.opened.marked c.args.opened.beyond.now (AreComponents (IsValue (types_in c.args.schema.now.octets.now) c.args.depth) rules (types_in c.args.schema.now.octets.now) n (parts.start + (parts.count - left)) (known_in c.fields.known)) c.fields.rest.now) c.in_ok-end.end.verdict c.in_ok-end.end.rest.now) none end))
+    let end = body_at (λ rules inner. inner ≡ []) c.at-2.ensures.marked c.at-2.ensures.beyond c.at-2.ensures.octets c.in_ok-last.ensures.finds in
+    finds_is c.and-2.ensures (status_ends (c.fields.invariant.status 0 (omega (arith, c.fields-test.false, c.end_of-end.ensures, c.fields.invariant.high))) end)
 
 pub components::components-returns-clause-log : goal.components::components-returns-clause-log
 components::components-returns-clause-log t c =
-    logs_is c.and.ensures (logs_then c.fields.invariant.log c.in_ok-end.ensures.log)
+    logs_is c.and-2.ensures (logs_then c.fields.invariant.log c.in_ok-last.ensures.log)
 
 pub components::items-items-preserved : goal.components::items-items-preserved
 components::items-items-preserved t c =
@@ -287,14 +311,6 @@ typed::contained_value-returns-clause-exact t c =
 pub typed::contained_value-returns-clause-log : goal.typed::contained_value-returns-clause-log
 typed::contained_value-returns-clause-log t c =
     logs_is c.and.ensures (logs_then c.in_ok-outcome.ensures.log c.in_ok-end.ensures.log)
-
-pub components::all_components-returns-then-is_free-clause-finds : goal.components::all_components-returns-then-is_free-clause-finds
-components::all_components-returns-then-is_free-clause-finds t c =
-    if_ok c.elements.result (λ o f. subst (λ k. Finds (λ rules. Body c.args.opened.marked c.args.opened.beyond.now (AreAll k (IsValue (types_in c.args.schema.now.octets.now) c.args.depth) (IsAny c.args.depth) rules (types_in c.args.schema.now.octets.now) c.args.node) c.args.opened.inside.octets.now) o.verdict o.rest.now) (sym c.if-is_free.true ∙ c.is_free.ensures) f) c.elements.ensures.finds
-
-pub components::all_components-returns-else-is_free-clause-finds : goal.components::all_components-returns-else-is_free-clause-finds
-components::all_components-returns-else-is_free-clause-finds t c =
-    if_ok c.components.result (λ o f. subst (λ k. Finds (λ rules. Body c.args.opened.marked c.args.opened.beyond.now (AreAll k (IsValue (types_in c.args.schema.now.octets.now) c.args.depth) (IsAny c.args.depth) rules (types_in c.args.schema.now.octets.now) c.args.node) c.args.opened.inside.octets.now) o.verdict o.rest.now) (sym c.if-is_free.false ∙ c.is_free.ensures) f) c.components.ensures.finds
 
 pub typed::of_type-returns-then-is_joined-clause-finds : goal.typed::of_type-returns-then-is_joined-clause-finds
 typed::of_type-returns-then-is_joined-clause-finds t c =

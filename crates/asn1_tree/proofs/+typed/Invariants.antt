@@ -1,8 +1,10 @@
-use Rattle.std.proofs.Common.{◌*◌, ◌+◌, ◌-◌, ◌≤◌, None, length, vec_len}
+use Rattle.std.proofs.Common.{◌≡◌, ◌*◌, ◌+◌, ◌-◌, ◌≤◌, ℕ, None, length, vec_len}
 use Rattle.asn1_tree.specs.Types.{types_in}
 use Rattle.asn1_tree.specs.Constraints.{IsAllowedSize}
 use Rattle.asn1_tree.specs.Known.{known_in}
-use Rattle.asn1_tree.specs.Value.{IsValue, SomeItems, AreComponents}
+use Rattle.asn1_tree.specs.Components.{AreComponents, AreFrom}
+use Rattle.asn1_tree.specs.Items.{SomeItems}
+use Rattle.asn1_tree.specs.Value.{IsValue, IsAny}
 use Rattle.asn1_tree.specs.Reading.{Body, Status, Logs}
 use Rattle.asn1_tree.proofs.ItemLemmas.{Items}
 use Rattle.asn1_tree.proofs.+typed.Given as goal
@@ -10,11 +12,14 @@ use Rattle.asn1_tree.proofs.+typed.Given as goal
 abbrev pub decreases-typed::value : goal.decreases-typed::value
 decreases-typed::value l = 7 * l.depth
 
+abbrev pub decreases-components::field_value : goal.decreases-components::field_value
+decreases-components::field_value l = 7 * l.depth + 1
+
 abbrev pub decreases-components::component : goal.decreases-components::component
-decreases-components::component l = 7 * l.depth + 1
+decreases-components::component l = 7 * l.depth + 2
 
 abbrev pub decreases-components::components : goal.decreases-components::components
-decreases-components::components l = 7 * l.depth + 2
+decreases-components::components l = 7 * l.depth + 3
 
 abbrev pub decreases-components::items : goal.decreases-components::items
 decreases-components::items l = 7 * l.depth + 2
@@ -28,9 +33,6 @@ decreases-typed::contents l = 7 * l.depth + 5
 abbrev pub decreases-typed::selected_value : goal.decreases-typed::selected_value
 decreases-typed::selected_value l = 7 * l.depth + 6
 
-abbrev pub decreases-components::all_components : goal.decreases-components::all_components
-decreases-components::all_components l = 7 * l.depth + 3
-
 abbrev pub decreases-typed::of_type : goal.decreases-typed::of_type
 decreases-typed::of_type l = 7 * l.depth + 4
 
@@ -42,17 +44,18 @@ decreases-typed::contained_value l = 7 * l.depth + 2
 
 abbrev pub invariant-components::components-fields : goal.invariant-components::components-fields
 invariant-components::components-fields l = record {
-  status : Status l.verdict
-      (λ rules. Body l.opened.marked l.opened.beyond.now (AreComponents (IsValue (types_in l.schema.octets.now) l.depth) rules (types_in l.schema.octets.now) l.left (l.node.parts.start + (l.node.parts.count - l.left)) (known_in l.known)) l.rest)
-      (λ rules. Body l.opened.marked l.opened.beyond.now (AreComponents (IsValue (types_in l.schema.octets.now) l.depth) rules (types_in l.schema.octets.now) l.node.parts.count l.node.parts.start None) l.opened.inside.octets.now);
-  part : l.left ≤ l.node.parts.count;
+  status : (left : ℕ) → l.index + left ≡ l.node.parts.start + l.node.parts.count → Status l.verdict
+      (λ rules. Body l.opened.marked l.opened.beyond.now (AreComponents (IsValue (types_in l.schema.octets.now) l.depth) (IsAny l.depth) rules (types_in l.schema.octets.now) l.node left l.index (known_in l.known)) l.rest)
+      (λ rules. Body l.opened.marked l.opened.beyond.now (AreFrom (IsValue (types_in l.schema.octets.now) l.depth) (IsAny l.depth) rules (types_in l.schema.octets.now) l.node l.node.parts.count l.node.parts.start None) l.opened.inside.octets.now);
+  low : l.node.parts.start ≤ l.index;
+  high : l.index ≤ l.node.parts.start + l.node.parts.count;
   log : Logs l.verdict l.fn.tree.departures.items l.tree.departures.items;
   shorter : length l.rest ≤ length l.opened.inside.octets.now;
   grows : vec_len l.fn.tree.entries ≤ vec_len l.tree.entries;
 }
 
 abbrev pub decreases-components::components-fields : goal.decreases-components::components-fields
-decreases-components::components-fields l = l.left
+decreases-components::components-fields l = l.end - l.index
 
 abbrev pub invariant-components::items-items : goal.invariant-components::items-items
 invariant-components::items-items l = record {

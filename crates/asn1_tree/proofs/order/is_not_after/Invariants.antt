@@ -1,5 +1,5 @@
 use Rattle.std.proofs.Common.{◌≡◌, drop}
-use Rattle.asn1_tree.specs.Value.{not_after}
+use Rattle.asn1_tree.specs.Items.{not_after}
 use Rattle.asn1_tree.proofs.order.is_not_after.Given as goal
 
 abbrev pub invariant-loop-i : goal.invariant-loop-i

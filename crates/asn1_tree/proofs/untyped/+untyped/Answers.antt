@@ -1,5 +1,6 @@
 use Rattle.std.proofs.Common.{rules, ◌≡◌, ◌-◌, ◌∙◌, false, [], length, take, ap, subst, arith}
-use Rattle.asn1_tree.specs.Value.{IsAny, IsAnyCount, IsUnknownType}
+use Rattle.asn1_tree.specs.Items.{IsAnyCount}
+use Rattle.asn1_tree.specs.Value.{IsAny, IsUnknownType}
 use Rattle.asn1_tree.specs.Verdict.{worst}
 use Rattle.asn1_tree.specs.Reading.{Body, Finds}
 use Rattle.ber.proofs.HeaderLemmas.{end_header_next}

@@ -1,5 +1,6 @@
 use Rattle.std.proofs.Common.{◌*◌, ◌+◌, ◌≤◌, ℕ, List, false, length, vec_len}
-use Rattle.asn1_tree.specs.Value.{IsAny, IsAnyCount, SomeItems}
+use Rattle.asn1_tree.specs.Items.{IsAnyCount, SomeItems}
+use Rattle.asn1_tree.specs.Value.{IsAny}
 use Rattle.asn1_tree.specs.Reading.{Body, Status, Logs}
 use Rattle.asn1_tree.proofs.ItemLemmas.{Items}
 use Rattle.asn1_tree.proofs.untyped.+untyped.Given as goal

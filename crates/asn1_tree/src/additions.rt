@@ -1,0 +1,112 @@
+//! The reader of extension additions that a type does not have.
+ghost use Rattle.std.specs.Prelude.{◌≡◌, ◌↔◌, ◌+◌, ◌<◌, ◌≤◌, ℕ, true, false, IsTrue, length, vec_len, IfOk, OnOk};
+ghost use Rattle.asn1_schema.specs.Span.{IsWithin as IsRange};
+ghost use Rattle.asn1_schema.specs.Tags.{IsFieldOf};
+ghost use Rattle.asn1_schema.specs.declared.field.Field.{Field as AField};
+ghost use Rattle.asn1_tree.specs.Known.{Known};
+ghost use Rattle.asn1_tree.specs.Reading.{Body, Status, Logs};
+ghost use Rattle.asn1_tree.specs.Tags.{IsBegun, NoneBegins};
+ghost use Rattle.asn1_tree.specs.Types.{types_in};
+ghost use Rattle.asn1_tree.specs.Components.{IsInsertion, MayBeAbsent, AreComponents, AreFrom};
+ghost use Rattle.asn1_tree.specs.Value.{IsValue, IsAny};
+
+use crate::constraints::end_of;
+use crate::opened::Opened;
+use crate::outcome::Outcome;
+use crate::role::Role;
+use crate::select::begins;
+use crate::tests::may_be_absent;
+use crate::tree::Tree;
+use crate::types::field_of;
+use crate::untyped::any;
+use crate::verdict::Verdict;
+use asn1_schema::{Node, Schema};
+use std::alloc::AllocError;
+
+/// Reads the extension additions that a SEQUENCE does not have, before the field with an index: none,
+/// if its extension insertion point is elsewhere.
+pub(crate) fn additions<'a>(
+    tree: &mut Tree,
+    schema: &Schema<'_>,
+    depth: usize,
+    node: Node,
+    index: u32,
+    at: usize,
+    opened: Opened<'a>,
+) -> Result<Outcome<'a>, AllocError>
+    requires there { IsRange node.parts schema.now.counts.fields }
+    requires part { (node.parts.start ≤ index) × (index ≤ node.parts.start + node.parts.count) }
+    ensures status { IfOk result (λ o. (left : ℕ) (known : Known)
+        → index + left ≡ node.parts.start + node.parts.count → Status o.verdict
+        (λ rules. Body opened.entry.marked opened.entry.beyond.now
+        (AreComponents (IsValue (types_in schema.now.octets.now) depth) (IsAny depth) rules
+        (types_in schema.now.octets.now) node left index known) o.rest.now)
+        (λ rules. Body opened.entry.marked opened.entry.beyond.now
+        (AreFrom (IsValue (types_in schema.now.octets.now) depth) (IsAny depth) rules
+        (types_in schema.now.octets.now) node left index known) opened.entry.inside.octets.now)) }
+    ensures log { IfOk result (λ o. Logs o.verdict tree.old.departures.items tree.new.departures.items) }
+    ensures shorter { IfOk result (λ o. length o.rest.now ≤ length opened.entry.inside.octets.now) }
+    ensures grows { OnOk result (vec_len tree.old.entries ≤ vec_len tree.new.entries) }
+{
+    let role = Role::inside(at);
+    let mut verdict = Verdict::Der;
+    let mut rest = opened.inside.octets;
+    if !is_insertion(node, index) {
+        return Ok(Outcome { verdict, rest });
+    }
+    let first = first_taker(schema, node, index);
+    'additions: while !opened.at(rest).is_ended() && !is_taken(schema, node, first, rest) {
+        let outcome = any(tree, depth, role, opened.inside.at(rest))?;
+        verdict = verdict.and(outcome.verdict);
+        rest = outcome.rest;
+    }
+    Ok(Outcome { verdict, rest })
+}
+
+// Whether the extension insertion point of a node is before the field with an index.
+fn is_insertion(node: Node, index: u32) -> bool
+    requires { node.parts.start ≤ index }
+    ensures { (result ≡ true) ↔ IsInsertion node index }
+{
+    match node.insertion() {
+        Some(before) => index - node.parts.start == before,
+        None => false,
+    }
+}
+
+// The first field that takes an element at the extension insertion point before the field with an index.
+fn first_taker(schema: &Schema<'_>, node: Node, index: u32) -> u32
+    requires there { IsRange node.parts schema.now.counts.fields }
+    requires part { (node.parts.start ≤ index) × (index ≤ node.parts.start + node.parts.count) }
+    ensures first { node.parts.start ≤ result }
+    ensures absent { (k : ℕ) (f : AField) → result ≤ k → k < index
+        → IsFieldOf (types_in schema.now.octets.now) node k f → MayBeAbsent f }
+    ensures others { (k : ℕ) → ((l : ℕ) (f : AField) → k ≤ l → l < index
+        → IsFieldOf (types_in schema.now.octets.now) node l f → MayBeAbsent f)
+        → node.parts.start ≤ k → result ≤ k }
+{
+    let mut first = index;
+    'fields: while first > node.parts.start && may_be_absent(field_of(schema, first - 1)) {
+        first -= 1;
+    }
+    first
+}
+
+/// Whether octets begin with a tag of a field of a node, from a field on.
+pub(crate) fn is_taken(schema: &Schema<'_>, node: Node, first: u32, octets: &[u8]) -> bool
+    requires there { IsRange node.parts schema.now.counts.fields }
+    requires part { node.parts.start ≤ first }
+    ensures found { IsTrue result → (k : ℕ) × (f : AField) × (first ≤ k)
+        × IsFieldOf (types_in schema.now.octets.now) node k f
+        × IsBegun (types_in schema.now.octets.now) f.node octets.now }
+    ensures none { (result ≡ false) → (k : ℕ) (f : AField) → first ≤ k
+        → IsFieldOf (types_in schema.now.octets.now) node k f
+        → NoneBegins (types_in schema.now.octets.now) f.node octets.now }
+{
+    for k in first..end_of(node.parts, schema.counts().fields) {
+        if begins(schema, field_of(schema, k).node, octets) {
+            return true;
+        }
+    }
+    false
+}
