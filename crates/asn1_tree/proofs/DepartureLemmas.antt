@@ -24,6 +24,7 @@ rule_departs : (r : Rule) → Departs (verdict_of_rule r)
 rule_departs rule.LongLength = inl refl
 rule_departs rule.IndefiniteLength = inl refl
 rule_departs rule.SetOrder = inl refl
+rule_departs rule.ComponentOrder = inl refl
 rule_departs rule.DefaultEncoded = inl refl
 rule_departs rule.ConstructedString = inl refl
 rule_departs rule.UnusedBits = inr refl
@@ -34,6 +35,7 @@ rule_departs rule.Unended = inr refl
 rule_departs rule.Form = inr refl
 rule_departs (rule.Contents r) = of_bool (is_of_der r)
 rule_departs rule.Tag = inr refl
+rule_departs rule.Duplicate = inr refl
 rule_departs rule.Missing = inr refl
 rule_departs rule.Unexpected = inr refl
 rule_departs rule.ValueRange = inr refl

@@ -26,7 +26,7 @@ of_universal (kind.Universal type.Utf8String) u e = let f : type.Utf8String ≡ 
 of_universal (kind.Universal type.RelativeOid) u e = let f : type.RelativeOid ≡ u = cc in ap kind.Universal f
 of_universal (kind.Universal type.Time) u e = let f : type.Time ≡ u = cc in ap kind.Universal f
 of_universal (kind.Universal type.Sequence) u e = absurd (cc)
-of_universal (kind.Universal type.Set) u e = let f : type.Set ≡ u = cc in ap kind.Universal f
+of_universal (kind.Universal type.Set) u e = absurd (cc)
 of_universal (kind.Universal type.NumericString) u e = let f : type.NumericString ≡ u = cc in ap kind.Universal f
 of_universal (kind.Universal type.PrintableString) u e = let f : type.PrintableString ≡ u = cc in ap kind.Universal f
 of_universal (kind.Universal type.TeletexString) u e = let f : type.TeletexString ≡ u = cc in ap kind.Universal f

@@ -5,6 +5,7 @@ pub mod EnclosedLemmas
 pub mod ItemLemmas
 pub mod KnownLemmas
 pub mod ComponentLemmas
+pub mod MemberLemmas
 pub mod UntypedLemmas
 pub mod ValueLemmas
 pub mod DefaultLemmas

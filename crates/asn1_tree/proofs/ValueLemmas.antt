@@ -31,7 +31,7 @@ use Rattle.asn1_tree.specs.Known.{IsIdentifier}
 use Rattle.asn1_tree.specs.Components.{IsNoDefault, IsComponent}
 use Rattle.asn1_tree.specs.Value.{AreBounded, IsOfType, is_joined, is_constructed}
 use Rattle.asn1_tree.specs.declared.shape.Shape.{Shape}
-use Rattle.asn1_tree.specs.declared.shape.Shape.TheVariants.{Components, Of, Items, SortedItems, Inner, Untyped, Nothing}
+use Rattle.asn1_tree.specs.declared.shape.Shape.TheVariants.{Components, Members, Of, Items, SortedItems, Inner, Untyped, Nothing}
 use Rattle.asn1_tree.proofs.ItemLemmas.{OfElements}
 use Rattle.asn1_tree.proofs.FindsLemmas.{finds_as, body_as, Cases, both, first, second, cases, worst_true, worst_both}
 use Rattle.asn1_tree.proofs.EnclosedLemmas.{Elem, front_next, same_next, no_element_cut, no_element_reserved}
@@ -274,6 +274,7 @@ finds_inner P {A} m b octets o i a e f = finds_as (λ rules r. body_as m b octet
 pub needs_constructed : (rules : EncodingRules) (t : Table) (Child : Values) (Item : Elements) (known : Known) (n : Node) (h : Header) (inner : List ℕ) (s : Shape) → is_constructed s ≡ true
     → AreContents s rules t Child Item known n h inner → h.constructed ≡ true
 needs_constructed rules t Child Item known n h inner Components e are = are.0
+needs_constructed rules t Child Item known n h inner Members e are = are.0
 needs_constructed rules t Child Item known n h inner (Of u) e are = absurd (cc)
 needs_constructed rules t Child Item known n h inner Items e are = are.0
 needs_constructed rules t Child Item known n h inner SortedItems e are = are.0

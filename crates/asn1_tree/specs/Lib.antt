@@ -7,6 +7,7 @@ pub mod Items
 pub mod Known
 pub mod Opened
 pub mod Components
+pub mod Members
 pub mod Constraints
 pub mod Value
 pub mod Reading

@@ -16,6 +16,7 @@ abbrev pub verdict_of_rule : Rule → Verdict
 verdict_of_rule r.LongLength = Ber
 verdict_of_rule r.IndefiniteLength = Ber
 verdict_of_rule r.SetOrder = Ber
+verdict_of_rule r.ComponentOrder = Ber
 verdict_of_rule r.DefaultEncoded = Ber
 verdict_of_rule r.ConstructedString = Ber
 verdict_of_rule (r.Contents rule) = verdict_of_contents rule

@@ -1,6 +1,6 @@
 -- The encodings of the values of a type (X.680), under DER and under BER: `IsValue`. Types are those
 -- of a table, in which nodes name each other by index; values are nested at most `depth` levels.
-use Rattle.std.specs.Prelude.{◌≡◌, ℕ, zero, suc, ◌&&◌, Bool, true, false, List, Option, Some, None, slice_get}
+use Rattle.std.specs.Prelude.{◌≡◌, ℕ, zero, suc, ◌&&◌, Bool, true, false, List, [], Option, Some, None, slice_get}
 use Rattle.der_base.specs.declared.encoding_rules.EncodingRules.{EncodingRules}
 use Rattle.der_base.specs.declared.encoding_rules.EncodingRules.TheVariants.{Ber}
 use Rattle.ber.specs.Der.{type_of}
@@ -11,16 +11,17 @@ use Rattle.ber.specs.declared.form.Form.{Form}
 use Rattle.ber.specs.declared.form.Form.TheVariants.{Primitive, Constructed, Either}
 use Rattle.ber.specs.declared.header.Header.{Header}
 use Rattle.ber.specs.declared.universal.Universal.{Universal}
-use Rattle.ber.specs.declared.universal.Universal.TheVariants.{OctetString, Sequence}
+use Rattle.ber.specs.declared.universal.Universal.TheVariants.{OctetString, Sequence, Set}
 use Rattle.asn1_schema.specs.Table.{Table}
 use Rattle.asn1_schema.specs.declared.node.Node.{Node}
 use Rattle.asn1_schema.specs.declared.node_kind.NodeKind.{NodeKind}
 use Rattle.asn1_schema.specs.declared.node_kind.NodeKind.TheVariants.{Universal as Universally, SequenceOf, SetOf, Choice, Explicit, Any, Open}
 use Rattle.asn1_schema.specs.Tags.{SelectsOne, HasTag}
 use Rattle.asn1_tree.specs.declared.shape.Shape.{Shape}
-use Rattle.asn1_tree.specs.declared.shape.Shape.TheVariants.{Components, Of, Items, SortedItems, Inner, Untyped, Nothing}
+use Rattle.asn1_tree.specs.declared.shape.Shape.TheVariants.{Components, Members, Of, Items, SortedItems, Inner, Untyped, Nothing}
 use Rattle.asn1_tree.specs.Components.{Values, Elements, AreFrom}
 use Rattle.asn1_tree.specs.Items.{SomeItems, IsAnyCount}
+use Rattle.asn1_tree.specs.Members.{SomeMembers}
 use Rattle.asn1_tree.specs.Known.{Known, IsChosen, IsUnknown, IsUnknownOpen}
 use Rattle.asn1_tree.specs.Constraints.{IsAllowedSize, IsConstrained}
 use Rattle.asn1_tree.specs.Enclosed.{IsEnclosed}
@@ -41,6 +42,7 @@ MayBeConstructed (Some u) = form_of u ≡ Constructed
 -- what the contents of a value of a kind are
 abbrev pub shape_of : NodeKind → Shape
 shape_of (Universally Sequence) = Components
+shape_of (Universally Set) = Members
 shape_of (Universally u) = Of u
 shape_of SequenceOf = Items
 shape_of SetOf = SortedItems
@@ -52,6 +54,7 @@ shape_of Open = Untyped
 -- contents that are constructed, whatever the tag is
 abbrev pub is_constructed : Shape → Bool
 is_constructed Components = true
+is_constructed Members = true
 is_constructed (Of u) = false
 is_constructed Items = true
 is_constructed SortedItems = true
@@ -124,6 +127,8 @@ IsOfType false c rules t Child Item known n u inner =
 abbrev pub AreContents : Shape → EncodingRules → Table → Values → Elements → Known → Node → Header → List ℕ → Type 0
 AreContents Components rules t Child Item known n h inner =
     (h.constructed ≡ true) × AreFrom Child Item rules t n n.parts.count n.parts.start None inner
+AreContents Members rules t Child Item known n h inner =
+    (h.constructed ≡ true) × SomeMembers Child Item rules t n [] [] inner
 AreContents (Of u) rules t Child Item known n h inner =
     IsOfType (is_joined h.constructed u) h.constructed rules t Child Item known n u inner
 AreContents Items rules t Child Item known n h inner =

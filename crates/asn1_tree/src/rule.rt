@@ -14,6 +14,8 @@ pub enum Rule {
     IndefiniteLength,
     /// The encodings in a SET OF are not in ascending order (11.6).
     SetOrder,
+    /// The components of a SET are not in the order of their tags (10.3).
+    ComponentOrder,
     /// The value of a DEFAULT is encoded (11.5).
     DefaultEncoded,
     /// A string is constructed (10.2).
@@ -34,6 +36,8 @@ pub enum Rule {
     Contents(ContentsRule),
     /// The tag is none of the type (X.680 31).
     Tag,
+    /// A component of a SET is there twice (X.680 27).
+    Duplicate,
     /// A component is missing (X.680 25).
     Missing,
     /// An element follows the last component, or the value.
@@ -57,6 +61,7 @@ impl Rule {
             Rule::LongLength => Verdict::Ber,
             Rule::IndefiniteLength => Verdict::Ber,
             Rule::SetOrder => Verdict::Ber,
+            Rule::ComponentOrder => Verdict::Ber,
             Rule::DefaultEncoded => Verdict::Ber,
             Rule::ConstructedString => Verdict::Ber,
             Rule::Contents(rule) => contents_verdict(rule),

@@ -10,6 +10,8 @@ use ber::Universal;
 pub(crate) enum Shape {
     /// The components of a SEQUENCE.
     Components,
+    /// The elements of a SET.
+    Members,
     /// Those of another universal type.
     Of(Universal),
     /// The values of a SEQUENCE OF.
@@ -31,6 +33,7 @@ impl Shape {
     {
         match kind {
             NodeKind::Universal(Universal::Sequence) => Shape::Components,
+            NodeKind::Universal(Universal::Set) => Shape::Members,
             NodeKind::Universal(universal) => Shape::Of(universal),
             NodeKind::SequenceOf => Shape::Items,
             NodeKind::SetOf => Shape::SortedItems,
@@ -47,7 +50,8 @@ impl Shape {
         ensures wrong { (result ≡ true) → (is_constructed self ≡ true) × (constructed ≡ false) }
     {
         match self {
-            Shape::Components | Shape::Items | Shape::SortedItems | Shape::Inner => !constructed,
+            Shape::Components | Shape::Members | Shape::Items | Shape::SortedItems | Shape::Inner =>
+                !constructed,
             _ => false,
         }
     }

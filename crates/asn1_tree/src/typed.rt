@@ -22,6 +22,7 @@ use crate::components::{components, explicit, items};
 use crate::constraints::constraint_rule;
 use crate::entry::Entry;
 use crate::known::Known;
+use crate::members::members;
 use crate::opened::{Opened, after_header, skipped};
 use crate::outcome::Outcome;
 use crate::place::Place;
@@ -203,6 +204,7 @@ fn contents<'a>(
     }
     match shape {
         Shape::Components => components(tree, alloc, schema, depth, node, at, opened),
+        Shape::Members => members(tree, alloc, schema, depth, node, at, opened),
         Shape::Of(universal) => of_type(
             tree, alloc, schema, depth, known, node, universal, at, header, opened,
         ),

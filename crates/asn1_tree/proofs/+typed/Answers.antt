@@ -6,15 +6,18 @@ use Rattle.asn1_tree.specs.Constraints.{IsAllowedSize}
 use Rattle.asn1_tree.specs.Types.{types_in}
 use Rattle.asn1_tree.specs.Known.{known_in, Follows}
 use Rattle.asn1_tree.specs.Verdict.{holds, worst}
+use Rattle.asn1_tree.specs.declared.verdict.Verdict.TheVariants.{Der}
 use Rattle.asn1_tree.specs.Components.{MayBeAbsent, IsComponent, AreComponents, AreFrom}
 use Rattle.asn1_tree.specs.Items.{SomeItems}
 use Rattle.asn1_tree.specs.Value.{IsValue, IsAny, IsNode, IsUnknownType, AreBounded, IsContained, shape_of, is_constructed, IsOfType}
 use Rattle.asn1_tree.specs.Reading.{Front, Body, Finds, Status}
-use Rattle.asn1_tree.specs.declared.shape.Shape.TheVariants.{Components, Of, Items, SortedItems, Inner, Untyped}
+use Rattle.asn1_tree.specs.declared.shape.Shape.TheVariants.{Components, Members, Of, Items, SortedItems, Inner, Untyped}
 use Rattle.asn1_tree.proofs.VerdictLemmas.{logs_none, worst_neither, worst_assoc, logs_is, logs_then, logs_after, logs_left}
-use Rattle.asn1_tree.proofs.FindsLemmas.{finds_is, finds_never, finds_at, body_at, status_is, status_then, status_ends}
+use Rattle.asn1_tree.proofs.FindsLemmas.{finds_is, finds_never, finds_at, body_at, status_is, status_same, status_then, status_ends}
 use Rattle.asn1_tree.proofs.EnclosedLemmas.{finds_element, taken}
 use Rattle.asn1_tree.proofs.ItemLemmas.{items_end, item_found, item_counted, items_begin, some_left, inner_found, goes_on, has_ended}
+use Rattle.asn1_tree.specs.Members.{is_seen, ArePresent, SomeMembers}
+use Rattle.asn1_tree.proofs.MemberLemmas.{IsSomeMember, member_of_field, member_of_none, finds_component, finds_addition, member_found, members_end}
 use Rattle.asn1_tree.proofs.UntypedLemmas.{any_elements, test_is}
 use Rattle.asn1_tree.proofs.WholeLemmas.{both_tests, finds_also, whole_found, exact_of, contains_value}
 use Rattle.asn1_tree.specs.declared.verdict.Verdict.{Verdict}
@@ -321,3 +324,111 @@ pub typed::value-returns-then-has_reserved_tag-clause-finds :
 typed::value-returns-then-has_reserved_tag-clause-finds t c =
     finds_never c.in_ok-verdict-2.ensures.verdict
     (no_value_reserved (types_in c.args.schema.now.octets.now) c.args.depth (known_in c.args.known) c.args.node c.in-Ok.ensures.found (c.has_reserved_tag.ensures.0 c.if-has_reserved_tag.true))
+
+pub typed::contents-returns-in-Members-clause-finds : goal.typed::contents-returns-in-Members-clause-finds
+typed::contents-returns-in-Members-clause-finds t c =
+    let shape : shape_of c.args.node.kind ≡ Members = sym c.of-shape.ensures ∙ c.in-Members.is in
+    let on = c.has_wrong_form.ensures.right c.if-has_wrong_form.false (ap is_constructed c.in-Members.is) in
+    if_ok c.members.result (λ o f. finds_shape (types_in c.args.schema.now.octets.now) (IsValue (types_in c.args.schema.now.octets.now) c.args.depth) (IsAny c.args.depth) (known_in c.args.known) c.args.node c.args.header c.args.opened.marked c.args.opened.beyond.now c.args.opened.inside.octets.now shape
+    (finds_given c.args.opened.marked c.args.opened.beyond.now c.args.opened.inside.octets.now on f)) c.members.ensures.finds
+
+pub members::members-members-init : goal.members::members-members-init
+members::members-members-init t c = record {
+  status = none_seen c.new-seen.result.items search;
+  log = logs_none c.args.tree.now.departures.items;
+  shorter = omega arith;
+  grows = omega arith;
+}
+  where
+    none_seen : (seen : List ℕ) → seen ≡ []
+        → Status Der (λ rules. Body c.args.opened.marked c.args.opened.beyond.now (SomeMembers (IsValue (types_in c.args.schema.now.octets.now) c.args.depth) (IsAny c.args.depth) rules (types_in c.args.schema.now.octets.now) c.args.node seen []) c.args.opened.inside.octets.now)
+        (λ rules. Body c.args.opened.marked c.args.opened.beyond.now (SomeMembers (IsValue (types_in c.args.schema.now.octets.now) c.args.depth) (IsAny c.args.depth) rules (types_in c.args.schema.now.octets.now) c.args.node [] []) c.args.opened.inside.octets.now)
+    none_seen seen e =
+        subst (λ q. Status Der (λ rules. Body c.args.opened.marked c.args.opened.beyond.now (SomeMembers (IsValue (types_in c.args.schema.now.octets.now) c.args.depth) (IsAny c.args.depth) rules (types_in c.args.schema.now.octets.now) c.args.node q []) c.args.opened.inside.octets.now) (λ rules. Body c.args.opened.marked c.args.opened.beyond.now (SomeMembers (IsValue (types_in c.args.schema.now.octets.now) c.args.depth) (IsAny c.args.depth) rules (types_in c.args.schema.now.octets.now) c.args.node [] []) c.args.opened.inside.octets.now)) (sym e)
+        (status_same (λ rules r. ((λ h. h), (λ h. h))))
+
+pub members::members-members-preserved : goal.members::members-members-preserved
+members::members-members-preserved t c =
+    let now = c.members.rest.now in
+    let after = c.in_ok-outcome.outcome.rest.now in
+    let here = take (length now - length after) now in
+    let on = goes_on c.is_ended.result c.is_ended.ensures c.at.ensures.marked c.at.ensures.octets (search rules) in
+    let finds = finds_at (λ rules. IsSomeMember (IsValue (types_in c.args.schema.now.octets.now) c.args.depth) (IsAny c.args.depth) (types_in c.args.schema.now.octets.now) c.args.node c.members.seen.items rules) c.at-place.ensures.octets c.in_ok-outcome.ensures.finds in
+    record {
+      status = status_is (c.and-verdict.ensures ∙ ap (λ v. worst v c.in_ok-order.order) c.and.ensures ∙ worst_assoc c.members.verdict c.in_ok-outcome.outcome.verdict c.in_ok-order.order)
+          (status_then c.members.invariant.status
+          (member_found c.members.seen.items c.member.new.seen.items c.members.before.now now after here c.in_ok-order.order c.args.opened.marked c.args.opened.beyond.now on finds
+          (λ rules x r s e is. c.in_ok-outcome.ensures.only rules x r s (c.at-place.ensures.octets ∙ e) is)
+          (λ x e. taken now x after e) (test_is c.in_ok-order.ensures.verdict c.tag_order_rule.ensures)));
+      log = logs_is (c.and-verdict.ensures ∙ ap (λ v. worst v c.in_ok-order.order) c.and.ensures) (logs_then (logs_then c.members.invariant.log c.in_ok-outcome.ensures.log) c.in_ok-order.ensures.log);
+      shorter = omega (arith, c.members.invariant.shorter, c.in_ok-outcome.ensures.shorter, ap length c.at-place.ensures.octets);
+      grows = omega (arith, c.members.invariant.grows, c.in_ok-outcome.ensures.grows, ap length c.in_ok-order.ensures.entries);
+    }
+
+pub members::members-returns-clause-finds : goal.members::members-returns-clause-finds
+members::members-returns-clause-finds t c =
+    let now = c.members.rest.now in
+    let at = has_ended c.is_ended.result c.is_ended.ensures c.at.ensures.marked c.at.ensures.octets (search rules) in
+    let end = body_at (λ rules inner. inner ≡ []) c.at-3.ensures.marked c.at-3.ensures.beyond c.at-3.ensures.octets c.in_ok-end.ensures.finds in
+    let present = subst (λ s. (rules : EncodingRules) → (holds rules c.in_ok-present.present ≡ true) ↔ ArePresent (types_in c.args.schema.now.octets.now) c.args.node s) c.as_slice.ensures.value c.in_ok-present.ensures.exact in
+    finds_is (c.and-3.ensures ∙ ap (λ v. worst c.members.verdict v) c.and-2.ensures) (status_ends c.members.invariant.status
+    (members_end (value_begins (types_in c.args.schema.now.octets.now) c.args.depth) (any_elements c.args.depth) c.args.node c.members.seen.items c.members.before.now now c.args.opened.marked c.args.opened.beyond.now at present end))
+
+pub members::members-returns-clause-log : goal.members::members-returns-clause-log
+members::members-returns-clause-log t c =
+    logs_is (c.and-3.ensures ∙ ap (λ v. worst c.members.verdict v) c.and-2.ensures) (logs_then c.members.invariant.log (logs_then c.in_ok-present.ensures.log c.in_ok-end.ensures.log))
+
+pub members::member-returns-then-is_seen-clause-finds : goal.members::member-returns-then-is_seen-clause-finds
+members::member-returns-then-is_seen-clause-finds t c =
+    finds_never (c.and.ensures ∙ ap (λ v. worst v c.in_ok-outcome-in-Some.outcome.verdict) c.in_ok-again-in-Some.ensures.verdict)
+    (λ rules r f.
+    let found = c.in-Some.ensures.found in
+    let new = (member_of_field (value_begins (types_in c.args.schema.now.octets.now) c.args.depth) (any_elements c.args.depth) c.args.node c.requires.kind (c.requires.distinct c.requires.row.0 c.args.node c.requires.row.1) found.2.0 c.args.place.octets.now found.2.1 c.in-Some.index found.0 found.1 found.2.3 c.args.seen.now.items rules f.0 r f.2.0 f.1 f.2.1).0 in
+    let seen : is_seen c.args.seen.now.items c.in-Some.index ≡ true = subst (λ q. is_seen q c.in-Some.index ≡ true) c.as_slice.ensures.value (sym c.is_seen.ensures ∙ c.if-is_seen.true) in
+    absurd (cc))
+
+pub members::member-returns-then-is_seen-clause-only : goal.members::member-returns-then-is_seen-clause-only
+members::member-returns-then-is_seen-clause-only t c rules x r after e is =
+    let found = c.in-Some.ensures.found in
+    let new = (member_of_field (value_begins (types_in c.args.schema.now.octets.now) c.args.depth) (any_elements c.args.depth) c.args.node c.requires.kind (c.requires.distinct c.requires.row.0 c.args.node c.requires.row.1) found.2.0 c.args.place.octets.now found.2.1 c.in-Some.index found.0 found.1 found.2.3 c.args.seen.now.items rules x r after e is).0 in
+    let seen : is_seen c.args.seen.now.items c.in-Some.index ≡ true = subst (λ q. is_seen q c.in-Some.index ≡ true) c.as_slice.ensures.value (sym c.is_seen.ensures ∙ c.if-is_seen.true) in
+    absurd (cc)
+
+pub members::member-returns-then-is_seen-clause-log : goal.members::member-returns-then-is_seen-clause-log
+members::member-returns-then-is_seen-clause-log t c =
+    logs_is c.and.ensures (logs_then c.in_ok-again-in-Some.ensures.log c.in_ok-outcome-in-Some.ensures.log)
+
+pub members::member-returns-in_ok-push-in-Some-clause-finds : goal.members::member-returns-in_ok-push-in-Some-clause-finds
+members::member-returns-in_ok-push-in-Some-clause-finds t c =
+    let found = c.in-Some.ensures.found in
+    let new : is_seen c.args.seen.now.items c.in-Some.index ≡ false = subst (λ q. is_seen q c.in-Some.index ≡ false) c.as_slice.ensures.value (sym c.is_seen.ensures ∙ c.if-is_seen.false) in
+    if_ok c.field_value-in-Some.result (λ o f. finds_component (value_begins (types_in c.args.schema.now.octets.now) c.args.depth) (any_elements c.args.depth) c.args.node c.requires.kind (c.requires.distinct c.requires.row.0 c.args.node c.requires.row.1) found.2.0 c.args.place.octets.now found.2.1 c.in-Some.index found.0 found.1 found.2.3 c.args.seen.now.items new (f found.0 found.1.row)) c.field_value-in-Some.ensures.finds
+
+pub members::member-returns-in_ok-push-in-Some-clause-only : goal.members::member-returns-in_ok-push-in-Some-clause-only
+members::member-returns-in_ok-push-in-Some-clause-only t c =
+    let found = c.in-Some.ensures.found in
+    if_ok c.field_value-in-Some.result (λ o log rules x r after e is. (member_of_field (value_begins (types_in c.args.schema.now.octets.now) c.args.depth) (any_elements c.args.depth) c.args.node c.requires.kind (c.requires.distinct c.requires.row.0 c.args.node c.requires.row.1) found.2.0 c.args.place.octets.now found.2.1 c.in-Some.index found.0 found.1 found.2.3 c.args.seen.now.items rules x r after e is).1 ∙ sym c.in_ok-push-in-Some.ensures.items) c.field_value-in-Some.ensures.log
+
+pub members::member-returns-then-node-clause-finds : goal.members::member-returns-then-node-clause-finds
+members::member-returns-then-node-clause-finds t c =
+    if_ok c.any.result (λ o f. finds_addition (value_begins (types_in c.args.schema.now.octets.now) c.args.depth) (any_elements c.args.depth) c.args.node c.if-node.true c.args.place.octets.now c.in-None.ensures.none c.args.seen.now.items f) c.any.ensures.finds
+
+pub members::member-returns-then-node-clause-only : goal.members::member-returns-then-node-clause-only
+members::member-returns-then-node-clause-only t c =
+    if_ok c.any.result (λ o log rules x r after e is. (member_of_none (value_begins (types_in c.args.schema.now.octets.now) c.args.depth) c.args.node c.args.place.octets.now c.in-None.ensures.none c.args.seen.now.items rules x r after e is).1) c.any.ensures.log
+
+pub members::member-returns-in_ok-outcome-in-None-clause-finds : goal.members::member-returns-in_ok-outcome-in-None-clause-finds
+members::member-returns-in_ok-outcome-in-None-clause-finds t c =
+    finds_never (c.and-in-None.ensures ∙ ap (λ v. worst v c.in_ok-outcome-in-None.outcome.verdict) c.in_ok-other-in-None.ensures.verdict)
+    (λ rules r f.
+    let on = (member_of_none (value_begins (types_in c.args.schema.now.octets.now) c.args.depth) c.args.node c.args.place.octets.now c.in-None.ensures.none c.args.seen.now.items rules f.0 r f.2.0 f.1 f.2.1).0 in
+    let off = c.if-node.false in
+    absurd (cc))
+
+pub members::member-returns-in_ok-outcome-in-None-clause-only : goal.members::member-returns-in_ok-outcome-in-None-clause-only
+members::member-returns-in_ok-outcome-in-None-clause-only t c rules x r after e is =
+    (member_of_none (value_begins (types_in c.args.schema.now.octets.now) c.args.depth) c.args.node c.args.place.octets.now c.in-None.ensures.none c.args.seen.now.items rules x r after e is).1
+
+pub members::member-returns-in_ok-outcome-in-None-clause-log : goal.members::member-returns-in_ok-outcome-in-None-clause-log
+members::member-returns-in_ok-outcome-in-None-clause-log t c =
+    logs_is c.and-in-None.ensures (logs_then c.in_ok-other-in-None.ensures.log c.in_ok-outcome-in-None.ensures.log)

@@ -1,7 +1,8 @@
-use Rattle.std.proofs.Common.{◌≡◌, ◌*◌, ◌+◌, ◌-◌, ◌≤◌, ℕ, None, length, vec_len}
+use Rattle.std.proofs.Common.{◌≡◌, ◌*◌, ◌+◌, ◌-◌, ◌≤◌, ℕ, [], None, length, vec_len}
 use Rattle.asn1_tree.specs.Types.{types_in}
 use Rattle.asn1_tree.specs.Constraints.{IsAllowedSize}
 use Rattle.asn1_tree.specs.Known.{known_in}
+use Rattle.asn1_tree.specs.Members.{SomeMembers}
 use Rattle.asn1_tree.specs.Components.{AreComponents, AreFrom}
 use Rattle.asn1_tree.specs.Items.{SomeItems}
 use Rattle.asn1_tree.specs.Value.{IsValue, IsAny}
@@ -42,6 +43,12 @@ decreases-typed::contained l = 7 * l.depth + 3
 abbrev pub decreases-typed::contained_value : goal.decreases-typed::contained_value
 decreases-typed::contained_value l = 7 * l.depth + 2
 
+abbrev pub decreases-members::member : goal.decreases-members::member
+decreases-members::member l = 7 * l.depth + 2
+
+abbrev pub decreases-members::members : goal.decreases-members::members
+decreases-members::members l = 7 * l.depth + 3
+
 abbrev pub invariant-components::components-fields : goal.invariant-components::components-fields
 invariant-components::components-fields l = record {
   status : (left : ℕ) → l.index + left ≡ l.node.parts.start + l.node.parts.count → Status l.verdict
@@ -69,3 +76,16 @@ invariant-components::items-items l = record {
 
 abbrev pub decreases-components::items-items : goal.decreases-components::items-items
 decreases-components::items-items l = length l.rest
+
+abbrev pub invariant-members::members-members : goal.invariant-members::members-members
+invariant-members::members-members l = record {
+  status : Status l.verdict
+      (λ rules. Body l.opened.marked l.opened.beyond.now (SomeMembers (IsValue (types_in l.schema.octets.now) l.depth) (IsAny l.depth) rules (types_in l.schema.octets.now) l.node l.seen.items l.before) l.rest)
+      (λ rules. Body l.opened.marked l.opened.beyond.now (SomeMembers (IsValue (types_in l.schema.octets.now) l.depth) (IsAny l.depth) rules (types_in l.schema.octets.now) l.node [] []) l.opened.inside.octets.now);
+  log : Logs l.verdict l.fn.tree.departures.items l.tree.departures.items;
+  shorter : length l.rest ≤ length l.opened.inside.octets.now;
+  grows : vec_len l.fn.tree.entries ≤ vec_len l.tree.entries;
+}
+
+abbrev pub decreases-members::members-members : goal.decreases-members::members-members
+decreases-members::members-members l = length l.rest

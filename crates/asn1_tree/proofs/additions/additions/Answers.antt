@@ -51,11 +51,11 @@ returns-clause-status c left known size =
     none : (rules : EncodingRules) (x r : List ℕ) → now ≡ x ++ r → IsAddition (IsAny c.args.depth) rules (types_in c.args.schema.now.octets.now) c.args.node c.args.index x → ⊥
     none rules x r e addition =
         elim c.additions-test.branch [
-        then-additions-test+else-not-is_taken w ↦
-            let found = w.is_taken.ensures.found (search) in
-            taken_element (any_elements c.args.depth) c.args.node c.args.index now found.4.1
-            (record { index = found.0; by = found.1; may = record { field = found.3; absent = λ l g low high is. c.first_taker-first.ensures.absent l g (omega (arith, found.2, low)) high is }; begins = found.4.3 }) rules x r e addition
-        | else-additions-test w ↦
-            none_at_end (IsAny c.args.depth rules) (any_elements c.args.depth rules) c.args.opened.marked now x r
-            (has_ended c.is_ended.result c.is_ended.ensures c.at.ensures.marked c.at.ensures.octets (search)) e addition.item
+          | then-additions-test+else-not-is_taken w ↦
+              let found = w.is_taken.ensures.found (search) in
+              taken_element (any_elements c.args.depth) c.args.node c.args.index now found.4.1
+              (record { index = found.0; by = found.1; may = record { field = found.3; absent = λ l g low high is. c.first_taker-first.ensures.absent l g (omega (arith, found.2, low)) high is }; begins = found.4.3 }) rules x r e addition
+          | else-additions-test w ↦
+              none_at_end (IsAny c.args.depth rules) (any_elements c.args.depth rules) c.args.opened.marked now x r
+              (has_ended c.is_ended.result c.is_ended.ensures c.at.ensures.marked c.at.ensures.octets (search)) e addition.item
         ]

@@ -1,0 +1,21 @@
+use Rattle.std.proofs.Common.{◌≡◌, ◌<◌, ⊎_elim, ℕ, Some, slice_get, sym, ◌∙◌, subst, arith}
+use Rattle.std.proofs.lemmas.Bool.{cases_lt}
+use Rattle.asn1_schema.specs.declared.field.Field.{Field}
+use Rattle.asn1_tree.specs.Tags.{NoneBegins}
+use Rattle.asn1_tree.specs.Types.{types_in}
+use Rattle.asn1_tree.proofs.members.find_member.Goals as goal
+
+pub loop-k-preserved : goal.loop-k-preserved
+loop-k-preserved c k f high is =
+    ⊎_elim (λ less. c.loop-k.invariant k f less is) (λ over. here (omega (arith, high, over))) (cases_lt k c.loop-k.k)
+  where
+    here : k ≡ c.loop-k.k → NoneBegins (types_in c.args.schema.now.octets.now) f.node c.args.octets.now
+    here e =
+        let row : slice_get (types_in c.args.schema.now.octets.now).fields c.loop-k.k ≡ Some f = subst (λ q. slice_get (types_in c.args.schema.now.octets.now).fields q ≡ Some f) e is.row in
+        let both : Some c.field_of.result ≡ Some f = sym c.field_of.ensures.value ∙ row in
+        let it : c.field_of.result ≡ f = cc in
+        subst (λ (g : Field). NoneBegins (types_in c.args.schema.now.octets.now) g.node c.args.octets.now) it (c.begins.ensures.none c.if-begins.false)
+
+pub returns-clause-none : goal.returns-clause-none
+returns-clause-none c k f is =
+    c.loop-k.invariant k f (omega (arith, is.part.1, c.loop-k-test.false, c.end_of-k-end.ensures)) is

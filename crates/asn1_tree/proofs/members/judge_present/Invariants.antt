@@ -1,0 +1,20 @@
+use Rattle.std.proofs.Common.{◌≡◌, ◌↔◌, ◌⊎◌, ◌<◌, ◌≤◌, ℕ, true}
+use Rattle.der_base.specs.declared.encoding_rules.EncodingRules.{EncodingRules}
+use Rattle.asn1_schema.specs.Tags.{IsFieldOf}
+use Rattle.asn1_schema.specs.declared.field.Field.{Field}
+use Rattle.asn1_tree.specs.Components.{MayBeAbsent}
+use Rattle.asn1_tree.specs.Members.{is_seen}
+use Rattle.asn1_tree.specs.Reading.{Logs}
+use Rattle.asn1_tree.specs.Types.{types_in}
+use Rattle.asn1_tree.specs.Verdict.{holds}
+use Rattle.asn1_tree.proofs.members.judge_present.Given as goal
+
+abbrev pub invariant-loop-k : goal.invariant-loop-k
+invariant-loop-k l = record {
+  low : l.fn.node.parts.start ≤ l.k;
+  exact : (rules : EncodingRules) → (holds rules l.verdict ≡ true)
+      ↔ ((k : ℕ) (f : Field) → k < l.k → IsFieldOf (types_in l.schema.octets.now) l.fn.node k f
+      → MayBeAbsent f ⊎ (is_seen l.seen k ≡ true));
+  log : Logs l.verdict l.fn.tree.departures.items l.tree.departures.items;
+  grows : l.tree.entries.items ≡ l.fn.tree.entries.items;
+}

@@ -1,0 +1,207 @@
+//! The reader of a SET.
+ghost use Rattle.std.specs.Prelude.{◌≡◌, ◌↔◌, ◌⊎◌, ◌+◌, ◌<◌, ◌≤◌, ℕ, true, false, List, [], ◌++◌, Option, Some, None, slice_get, length, vec_len, IsTrue, IfOk, IfSome, IfNone, OnOk};
+ghost use Rattle.der_base.specs.declared.encoding_rules.EncodingRules.{EncodingRules};
+ghost use Rattle.ber.specs.declared.universal.Universal.TheVariants.{Set};
+ghost use Rattle.asn1_schema.specs.Distinct.{AreDistinct};
+ghost use Rattle.asn1_schema.specs.Span.{IsWithin as IsRange};
+ghost use Rattle.asn1_schema.specs.Tags.{IsFieldOf};
+ghost use Rattle.asn1_schema.specs.declared.field.Field.{Field as AField};
+ghost use Rattle.asn1_schema.specs.declared.node_kind.NodeKind.TheVariants.{Universal as Universally};
+ghost use Rattle.asn1_tree.specs.Members.{is_seen, IsMember, ArePresent, SomeMembers};
+ghost use Rattle.asn1_tree.specs.Components.{MayBeAbsent};
+ghost use Rattle.asn1_tree.specs.Reading.{Front, Body, Finds, Logs};
+ghost use Rattle.asn1_tree.specs.Rule.{verdict_of_option};
+ghost use Rattle.asn1_tree.specs.Tags.{IsBegun, NoneBegins};
+ghost use Rattle.asn1_tree.specs.Types.{types_in};
+ghost use Rattle.asn1_tree.specs.Value.{IsValue, IsAny};
+ghost use Rattle.asn1_tree.specs.Verdict.{holds};
+
+use crate::components::field_value;
+use crate::constraints::end_of;
+use crate::opened::Opened;
+use crate::outcome::Outcome;
+use crate::place::Place;
+use crate::role::Role;
+use crate::rule::Rule;
+use crate::select::begins;
+use crate::tag_order::tag_order_rule;
+use crate::tests::may_be_absent;
+use crate::tree::Tree;
+use crate::types::field_of;
+use crate::untyped::{any, finish};
+use crate::verdict::Verdict;
+use asn1_schema::{Field, Node, Schema};
+use std::alloc::{AllocError, Global};
+
+// Reads the elements of a SET.
+#[cycle(typed)]
+pub(crate) fn members<'a>(
+    tree: &mut Tree,
+    alloc: Global,
+    schema: &Schema<'_>,
+    depth: usize,
+    node: Node,
+    at: usize,
+    opened: Opened<'a>,
+) -> Result<Outcome<'a>, AllocError>
+    requires kind { node.kind ≡ Universally Set }
+    requires there { IsRange node.parts schema.now.counts.fields }
+    requires distinct { AreDistinct (types_in schema.now.octets.now) }
+    requires row { (i : ℕ) × (slice_get (types_in schema.now.octets.now).nodes i ≡ Some node) }
+    ensures finds { IfOk result (λ o. Finds (λ rules. Body opened.entry.marked opened.entry.beyond.now
+        (SomeMembers (IsValue (types_in schema.now.octets.now) depth) (IsAny depth) rules
+        (types_in schema.now.octets.now) node [] []) opened.entry.inside.octets.now) o.verdict o.rest.now) }
+    ensures shorter { IfOk result (λ o. length o.rest.now
+        ≤ length opened.entry.inside.octets.now + length opened.entry.beyond.now) }
+    ensures log { IfOk result (λ o. Logs o.verdict tree.old.departures.items tree.new.departures.items) }
+    ensures grows { OnOk result (vec_len tree.old.entries ≤ vec_len tree.new.entries) }
+{
+    let mut seen = Vec::new(alloc);
+    let mut verdict = Verdict::Der;
+    let mut rest = opened.inside.octets;
+    let mut before: &[u8] = &[];
+    'members: while !opened.at(rest).is_ended() {
+        let place = opened.inside.at(rest);
+        let outcome = member(tree, alloc, schema, depth, node, at, place, &mut seen)?;
+        let octets = &rest[..rest.len() - outcome.rest.len()];
+        let order = tree.judge(tag_order_rule(before, octets), place.offset(), at)?;
+        verdict = verdict.and(outcome.verdict).and(order);
+        rest = outcome.rest;
+        before = octets;
+    }
+    let present = judge_present(
+        tree,
+        schema,
+        node,
+        seen.as_slice(),
+        at,
+        opened.at(rest).inside.offset(),
+    )?;
+    let end = finish(tree, depth, at, opened.at(rest))?;
+    Ok(Outcome {
+        verdict: verdict.and(present.and(end.verdict)),
+        rest: end.rest,
+    })
+}
+
+// Reads an element of a SET, and notes the field that it is the component of.
+#[cycle(typed)]
+fn member<'a>(
+    tree: &mut Tree,
+    alloc: Global,
+    schema: &Schema<'_>,
+    depth: usize,
+    node: Node,
+    at: usize,
+    place: Place<'a>,
+    seen: &mut Vec<u32>,
+) -> Result<Outcome<'a>, AllocError>
+    requires kind { node.kind ≡ Universally Set }
+    requires there { IsRange node.parts schema.now.counts.fields }
+    requires distinct { AreDistinct (types_in schema.now.octets.now) }
+    requires row { (i : ℕ) × (slice_get (types_in schema.now.octets.now).nodes i ≡ Some node) }
+    ensures finds { IfOk result (λ o. Finds (λ rules. Front (λ x. (after : List ℕ)
+        × IsMember (IsValue (types_in schema.now.octets.now) depth) (IsAny depth) rules
+        (types_in schema.now.octets.now) node seen.old.items x after) place.entry.octets.now)
+        o.verdict o.rest.now) }
+    ensures only { OnOk result ((rules : EncodingRules) (x r after : List ℕ) → place.entry.octets.now ≡ x ++ r
+        → IsMember (IsValue (types_in schema.now.octets.now) depth) (IsAny depth) rules
+        (types_in schema.now.octets.now) node seen.old.items x after → after ≡ seen.new.items) }
+    ensures log { IfOk result (λ o. Logs o.verdict tree.old.departures.items tree.new.departures.items) }
+    ensures shorter { IfOk result (λ o. length o.rest.now ≤ length place.entry.octets.now) }
+    ensures moves { IfOk result
+        (λ o. 0 < length place.entry.octets.now → length o.rest.now < length place.entry.octets.now) }
+    ensures grows { OnOk result (vec_len tree.old.entries ≤ vec_len tree.new.entries) }
+{
+    match find_member(schema, node, place.octets) {
+        Some(index) => {
+            if is_seen(seen.as_slice(), index) {
+                let again = tree.depart(Rule::Duplicate, place.offset(), at)?;
+                let outcome = field_value(tree, alloc, schema, depth, None, index, at, place)?;
+                return Ok(Outcome {
+                    verdict: again.and(outcome.verdict),
+                    rest: outcome.rest,
+                });
+            }
+            seen.push(index)?;
+            field_value(tree, alloc, schema, depth, None, index, at, place)
+        }
+        None => {
+            if node.extensible {
+                return any(tree, depth, Role::inside(at), place);
+            }
+            let other = tree.depart(Rule::Unexpected, place.offset(), at)?;
+            let outcome = any(tree, depth, Role::inside(at), place)?;
+            Ok(Outcome {
+                verdict: other.and(outcome.verdict),
+                rest: outcome.rest,
+            })
+        }
+    }
+}
+
+// Whether octets begin with a tag of a field of a node, and of which.
+fn find_member(schema: &Schema<'_>, node: Node, octets: &[u8]) -> Option<u32>
+    requires { IsRange node.parts schema.now.counts.fields }
+    ensures found { IfSome result (λ k. (f : AField)
+        × IsFieldOf (types_in schema.now.octets.now) node k f
+        × IsBegun (types_in schema.now.octets.now) f.node octets.now) }
+    ensures none { IfNone result ((k : ℕ) (f : AField)
+        → IsFieldOf (types_in schema.now.octets.now) node k f
+        → NoneBegins (types_in schema.now.octets.now) f.node octets.now) }
+{
+    for k in node.parts.start..end_of(node.parts, schema.counts().fields) {
+        if begins(schema, field_of(schema, k).node, octets) {
+            return Some(k);
+        }
+    }
+    None
+}
+
+// Whether the field of an index is one of those that were there.
+fn is_seen(seen: &[u32], index: u32) -> bool
+    ensures { result ≡ is_seen seen.now index }
+{
+    for field in seen {
+        if *field == index {
+            return true;
+        }
+    }
+    false
+}
+
+// Adds a departure for each field of a SET that was not there, and may not be absent.
+fn judge_present(
+    tree: &mut Tree,
+    schema: &Schema<'_>,
+    node: Node,
+    seen: &[u32],
+    at: usize,
+    offset: usize,
+) -> Result<Verdict, AllocError>
+    requires { IsRange node.parts schema.now.counts.fields }
+    ensures exact { IfOk result (λ v. (rules : EncodingRules) → (holds rules v ≡ true)
+        ↔ ArePresent (types_in schema.now.octets.now) node seen.now) }
+    ensures log { IfOk result (λ v. Logs v tree.old.departures.items tree.new.departures.items) }
+    ensures grows { OnOk result (tree.new.entries.items ≡ tree.old.entries.items) }
+{
+    let mut verdict = Verdict::Der;
+    for k in node.parts.start..end_of(node.parts, schema.counts().fields) {
+        let rule = presence_rule(field_of(schema, k), is_seen(seen, k));
+        let present = tree.judge(rule, offset, at)?;
+        verdict = verdict.and(present);
+    }
+    Ok(verdict)
+}
+
+// The rule that a field of a SET breaks if it was not there.
+fn presence_rule(field: Field, seen: bool) -> Option<Rule>
+    ensures { (rules : EncodingRules) → (holds rules (verdict_of_option result) ≡ true)
+        ↔ (MayBeAbsent field ⊎ (seen ≡ true)) }
+{
+    if seen || may_be_absent(field) {
+        None
+    } else {
+        Some(Rule::Missing)
+    }
+}
