@@ -1,6 +1,7 @@
 //! `asn1_trees TABLE PLAIN CASES` reads each case of the third file as a value of its type: by the
 //! compiled type, by the table of types in the first file, and by that in the second one. For each
-//! case a line has the three answers. `.ci/trees.py` writes these files.
+//! case a line has the three answers, and what the octets are by the second table. `.ci/trees.py` writes
+//! these files.
 #![tactic(auto)]
 
 mod answer;
@@ -9,7 +10,7 @@ mod compiled;
 
 use answer::Answer;
 use asn1_schema::Schema;
-use asn1_tree::read;
+use asn1_tree::{Tree, Verdict, read};
 use case::Case;
 use std::alloc::{AllocError, Global};
 use std::{env, fs, io};
@@ -43,13 +44,30 @@ fn run<R: Print>(rt: &R, alloc: Global, tables: &[Schema<'_>; 2], octets: &[u8])
             },
             None => print!(rt; "- none")?,
         }
+        let mut verdict = Verdict::Der;
         for (table, node) in tables.iter().zip([case.node, case.plain]) {
             match read(alloc, table, node, case.octets) {
-                Ok(tree) => print!(rt; "\t{}", Answer::of(table, &tree))?,
+                Ok(tree) => {
+                    print!(rt; "\t{}", Answer::of(table, &tree))?;
+                    verdict = verdict_of(&tree);
+                }
                 Err(AllocError) => print!(rt; "\tout of memory")?,
             }
         }
-        println!(rt; "")?;
+        println!(rt; "\t{verdict:?}")?;
     }
     Ok(())
+}
+
+// What the departures of a tree leave.
+fn verdict_of(tree: &Tree) -> Verdict {
+    let mut verdict = Verdict::Der;
+    for departure in tree.departures.iter() {
+        match departure.rule.verdict() {
+            Verdict::Neither => return Verdict::Neither,
+            Verdict::Ber => verdict = Verdict::Ber,
+            Verdict::Der => {}
+        }
+    }
+    verdict
 }
