@@ -1,25 +1,23 @@
 -- Extension additions that a type does not have.
-use Rattle.std.proofs.Common.{◌≡◌, ◌≢◌, ◌↔◌, ◌⊎◌, ℕ, zero, suc, ◌+◌, ◌<◌, ◌≤◌, Bool, true, false, List, [], ◌++◌, Some, slice_get, refl, sym, ap, ◌∙◌, subst, append_assoc, append-nil, arith, inl, inr}
+use Rattle.std.proofs.Common.{◌≡◌, ◌≢◌, ◌↔◌, ◌⊎◌, ℕ, zero, suc, ◌+◌, ◌≤◌, Bool, true, false, List, [], ◌++◌, Some, refl, sym, ap, ◌∙◌, subst, append_assoc, append-nil, arith, inl, inr}
 use Rattle.der_base.specs.declared.encoding_rules.EncodingRules.{EncodingRules}
 use Rattle.ber.specs.Header.{IsNext, end_header}
 use Rattle.ber.specs.declared.header.Header.{Header}
 use Rattle.asn1_schema.specs.Table.{Table}
-use Rattle.asn1_schema.specs.Node.{insertion_of}
-use Rattle.asn1_schema.specs.declared.field.Field.{Field}
 use Rattle.asn1_schema.specs.declared.node.Node.{Node}
-use Rattle.asn1_schema.specs.Tags.{IsFieldOf, Begins}
+use Rattle.asn1_schema.specs.Tags.{Begins}
 use Rattle.asn1_tree.specs.Verdict.{holds}
 use Rattle.asn1_tree.specs.Enclosed.{IsEnclosed}
 use Rattle.asn1_tree.specs.Known.{Known}
 use Rattle.asn1_tree.specs.Opened.{IsEnded}
-use Rattle.asn1_tree.specs.Components.{Values, Elements, IsInsertion, MayTake, IsTaken, IsAddition, AfterAdditions, AreComponents}
-use Rattle.asn1_tree.specs.Items.{AreItems, SomeItems, IsAnyCount}
+use Rattle.asn1_tree.specs.Components.{Values, Elements, IsInsertion, IsTaken, IsAddition, AfterAdditions, AreComponents}
+use Rattle.asn1_tree.specs.Items.{AreItems}
 use Rattle.asn1_tree.specs.Reading.{Front, IsWithin, Body, Finds, Status}
 use Rattle.asn1_tree.specs.declared.verdict.Verdict.{Verdict}
 use Rattle.asn1_tree.specs.declared.verdict.Verdict.TheVariants.{Der}
 use Rattle.asn1_tree.proofs.FindsLemmas.{Said, status_same}
 use Rattle.asn1_tree.proofs.EnclosedLemmas.{front_next, same_next, within_step, within_front}
-use Rattle.asn1_tree.proofs.ItemLemmas.{OfElements, none_at_end, ends_here}
+use Rattle.asn1_tree.proofs.ItemLemmas.{OfElements, ends_here}
 
 -- each value is an element that begins as the table says
 abbrev pub BeginWell : Table → Values → Type 0

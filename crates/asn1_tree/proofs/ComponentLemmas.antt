@@ -14,7 +14,7 @@ use Rattle.asn1_schema.specs.Distinct.{may_be_missing, IsDistinct}
 use Rattle.asn1_tree.specs.Verdict.{holds}
 use Rattle.asn1_tree.specs.Known.{Known, Follows}
 use Rattle.asn1_tree.specs.Opened.{IsEnded}
-use Rattle.asn1_tree.specs.Components.{Values, Elements, IsComponent, MayBeAbsent, MayTake, IsAddition, AfterAdditions, AreComponents, AreFrom}
+use Rattle.asn1_tree.specs.Components.{Values, Elements, IsComponent, MayBeAbsent, IsAddition, AfterAdditions, AreComponents, AreFrom}
 use Rattle.asn1_tree.specs.Reading.{Front, IsWithin, Body, Finds, Status}
 use Rattle.asn1_tree.specs.declared.verdict.Verdict.{Verdict}
 use Rattle.asn1_tree.specs.declared.verdict.Verdict.TheVariants.{Der, Neither}

@@ -1,8 +1,8 @@
 -- The elements of a SET.
-use Rattle.std.proofs.Common.{◌≡◌, ◌≢◌, ◌↔◌, ⊎_elim, ℕ, zero, suc, ◌+◌, ◌<◌, ◌≤◌, Bool, true, false, List, [], ◌∷◌, ◌++◌, Some, None, slice_get, refl, sym, ap, ◌∙◌, subst, append-nil, arith}
+use Rattle.std.proofs.Common.{◌≡◌, ◌↔◌, ⊎_elim, ℕ, zero, suc, ◌<◌, Bool, true, false, List, [], ◌∷◌, ◌++◌, Some, None, slice_get, refl, sym, ap, ◌∙◌, subst, arith}
 use Rattle.std.proofs.lemmas.Bool.{cases_lt}
 use Rattle.der_base.specs.declared.encoding_rules.EncodingRules.{EncodingRules}
-use Rattle.ber.specs.Header.{IsNext, end_header}
+use Rattle.ber.specs.Header.{IsNext}
 use Rattle.ber.specs.declared.header.Header.{Header}
 use Rattle.ber.specs.declared.universal.Universal.TheVariants.{Set}
 use Rattle.asn1_schema.specs.Table.{Table}
@@ -20,7 +20,7 @@ use Rattle.asn1_tree.specs.Tags.{NoneBegins}
 use Rattle.asn1_tree.specs.declared.verdict.Verdict.{Verdict}
 use Rattle.asn1_tree.proofs.AdditionLemmas.{BeginWell, AreElements, next_longer, item_header}
 use Rattle.asn1_tree.proofs.ComponentLemmas.{none_there}
-use Rattle.asn1_tree.proofs.EnclosedLemmas.{front_next, same_next, within_step, within_front}
+use Rattle.asn1_tree.proofs.EnclosedLemmas.{same_next, within_step, within_front}
 use Rattle.asn1_tree.proofs.FindsLemmas.{Said, finds_as, finds_and, Cases, both, first, second, cases, worst_true, worst_both}
 use Rattle.asn1_tree.proofs.ItemLemmas.{OfElements, none_at_end, ends_here}
 

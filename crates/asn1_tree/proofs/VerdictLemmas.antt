@@ -1,11 +1,12 @@
 -- Verdicts on parts together, and what is added to a list of departures.
-use Rattle.std.proofs.Common.{◌≡◌, ◌↔◌, ◌&&◌, true, false, List, [], ◌∷◌, ◌++◌, refl, sym, ap, ◌∙◌, append_assoc, append-nil}
+use Rattle.std.proofs.Common.{◌≡◌, ◌↔◌, ◌&&◌, true, false, List, [], ◌∷◌, ◌++◌, refl, sym, ap, ◌∙◌, subst, append_assoc, append-nil}
 use Rattle.der_base.specs.declared.encoding_rules.EncodingRules.{EncodingRules}
 use Rattle.der_base.specs.declared.encoding_rules.EncodingRules.TheVariants as rules
 use Rattle.asn1_tree.specs.Verdict.{holds, worst}
 use Rattle.asn1_tree.specs.Rule.{verdict_of_rule}
-use Rattle.asn1_tree.specs.Reading.{verdict_of, Logs}
+use Rattle.asn1_tree.specs.Reading.{verdict_of, Adds, Logs}
 use Rattle.asn1_tree.specs.declared.departure.Departure.{Departure}
+use Rattle.asn1_tree.specs.declared.notes.Notes.{Notes}
 use Rattle.asn1_tree.specs.declared.verdict.Verdict.{Verdict}
 use Rattle.asn1_tree.specs.declared.verdict.Verdict.TheVariants.{Der, Ber, Neither}
 
@@ -50,29 +51,35 @@ verdict_append (d ∷ ds) b =
     ap (λ v. worst (verdict_of_rule d.rule) v) (verdict_append ds b)
     ∙ sym (worst_assoc (verdict_of_rule d.rule) (verdict_of ds) (verdict_of b))
 
-pub logs_then : {v w : Verdict} {a b c : List Departure} → Logs v a b → Logs w b c → Logs (worst v w) a c
-logs_then {v = v} {w = w} {a = a} s t = record {
+pub adds_then : {v w : Verdict} {a b c : List Departure} → Adds v a b → Adds w b c → Adds (worst v w) a c
+adds_then {v = v} {w = w} {a = a} s t = record {
   added = s.added ++ t.added;
   split = t.split ∙ ap (λ l. l ++ t.added) s.split ∙ append_assoc a s.added t.added;
   verdict = ap (λ x. worst x w) s.verdict ∙ ap (λ x. worst (verdict_of s.added) x) t.verdict ∙ sym (verdict_append s.added t.added);
 }
 
-pub logs_none : (a : List Departure) → Logs Der a a
-logs_none a = record { added = []; split = sym (append-nil a); verdict = refl }
+pub adds_none : (a : List Departure) → Adds Der a a
+adds_none a = record { added = []; split = sym (append-nil a); verdict = refl }
 
-pub logs_one : (d : Departure) (a : List Departure) → Logs (verdict_of_rule d.rule) a (a ++ d ∷ [])
-logs_one d a = record { added = d ∷ []; split = refl; verdict = sym (worst_der (verdict_of_rule d.rule)) }
+pub adds_one : (d : Departure) (a : List Departure) → Adds (verdict_of_rule d.rule) a (a ++ d ∷ [])
+adds_one d a = record { added = d ∷ []; split = refl; verdict = sym (worst_der (verdict_of_rule d.rule)) }
+
+pub logs_then : {v w : Verdict} {a b c : Notes} → Logs v a b → Logs w b c → Logs (worst v w) a c
+logs_then s t = record { same = t.same ∙ s.same; adds = λ on. adds_then (s.adds on) (t.adds (s.same ∙ on)) }
+
+pub logs_none : (a : Notes) → Logs Der a a
+logs_none a = record { same = refl; adds = λ on. adds_none a.departures.items }
 
 pub worst_neither : (v : Verdict) → worst v Neither ≡ Neither
 worst_neither Der = refl
 worst_neither Ber = refl
 worst_neither Neither = refl
 
-pub logs_is : {v w : Verdict} {a b : List Departure} → v ≡ w → Logs w a b → Logs v a b
-logs_is e s = record { added = s.added; split = s.split; verdict = e ∙ s.verdict }
+pub logs_is : {v w : Verdict} {a b : Notes} → v ≡ w → Logs w a b → Logs v a b
+logs_is {a = a} {b = b} e s = subst (λ u. Logs u a b) (sym e) s
 
-pub logs_after : {v : Verdict} {a b c : List Departure} → b ≡ a → Logs v b c → Logs v a c
-logs_after e s = record { added = s.added; split = s.split ∙ ap (λ l. l ++ s.added) e; verdict = s.verdict }
+pub logs_after : {v : Verdict} {a b c : Notes} → Logs Der a b → Logs v b c → Logs v a c
+logs_after s t = logs_then s t
 
 -- a rule that is kept, and one that is broken under all rules
 pub kept : {P : EncodingRules → Type 0} → ((r : EncodingRules) → P r) → (r : EncodingRules) → (holds r Der ≡ true) ↔ P r
@@ -92,5 +99,5 @@ worst_comm Neither Der = refl
 worst_comm Neither Ber = refl
 worst_comm Neither Neither = refl
 
-pub logs_left : {v : Verdict} {a b c : List Departure} → c ≡ b → Logs v a b → Logs v a c
-logs_left e s = record { added = s.added; split = e ∙ s.split; verdict = s.verdict }
+pub logs_left : {v : Verdict} {a b c : Notes} → Logs Der b c → Logs v a b → Logs v a c
+logs_left {v = v} t s = logs_is (sym (worst_der v)) (logs_then s t)

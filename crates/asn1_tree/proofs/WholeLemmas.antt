@@ -3,7 +3,7 @@ use Rattle.std.proofs.Common.{◌≡◌, ◌↔◌, ℕ, Bool, true, false, List
 use Rattle.der_base.specs.declared.encoding_rules.EncodingRules.{EncodingRules}
 use Rattle.asn1_tree.specs.Verdict.{holds, worst}
 use Rattle.asn1_tree.specs.Reading.{Front, IsWithin, Body, Finds, verdict_of, Logs}
-use Rattle.asn1_tree.specs.declared.departure.Departure.{Departure}
+use Rattle.asn1_tree.specs.declared.notes.Notes.{Notes}
 use Rattle.asn1_tree.specs.declared.verdict.Verdict.{Verdict}
 use Rattle.asn1_schema.specs.Table.{Table}
 use Rattle.asn1_tree.specs.Known.{Known, IsUnknownOpen}
@@ -17,7 +17,7 @@ use Rattle.asn1_tree.specs.Components.{Values}
 use Rattle.asn1_tree.specs.Value.{IsJoinedText, Contains, typed, untyped}
 use Rattle.asn1_tree.proofs.FindsLemmas.{worst_true, worst_both, finds_is, finds_and, status_ends}
 use Rattle.asn1_tree.proofs.ItemLemmas.{inner_found}
-use Rattle.asn1_tree.proofs.VerdictLemmas.{logs_then, worst_comm}
+use Rattle.asn1_tree.proofs.VerdictLemmas.{worst_comm}
 
 yes_or_no : {P : Type 0} (b : Bool) → (b ≡ false → P → ⊥) → (b ≡ true → P) → (b ≡ true) ↔ P
 yes_or_no true never is = ((λ on. is refl), (λ p. refl))
@@ -38,11 +38,11 @@ whole_found {Child} {v} {w} {rest} {last} octets value end rules = yes_or_no (ho
     is : holds rules (worst v w) ≡ true → Child rules octets
     is on = let there = (all.exact rules on last).1 refl in subst (Child rules) (sym there.1.0) there.2
 
--- the verdict that a list of departures leaves
-pub verdict_logged : {v w : Verdict} {old mid new : List Departure} → old ≡ [] → Logs v old mid → Logs w mid new → worst v w ≡ verdict_of new
-verdict_logged {v} {w} none a b =
-    let both = logs_then a b in
-    both.verdict ∙ ap verdict_of (sym (both.split ∙ ap (λ l. l ++ both.added) none))
+-- the verdict on what was walked is that of the departures which notes have, if they are kept
+pub kept_verdict : {v : Verdict} {old new : Notes} → old.departures.items ≡ [] → old.kept ≡ true → Logs v old new → v ≡ verdict_of new.departures.items
+kept_verdict none kept logs =
+    let adds = logs.adds kept in
+    adds.verdict ∙ ap verdict_of (sym (adds.split ∙ ap (λ l. l ++ adds.added) none))
 
 pub exact_of : {P : EncodingRules → Type 0} {v w : Verdict} → v ≡ w → ((rules : EncodingRules) → (holds rules v ≡ true) ↔ P rules) → (rules : EncodingRules) → (holds rules w ≡ true) ↔ P rules
 exact_of {P} e f rules = subst (λ u. (holds rules u ≡ true) ↔ P rules) e (f rules)

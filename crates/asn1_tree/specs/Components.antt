@@ -1,7 +1,6 @@
 -- The components of a SEQUENCE (X.690 8.9), and extension additions that the type
 -- does not have.
-use Rattle.std.specs.Prelude.{◌≡◌, ◌≢◌, ◌⊎◌, ℕ, zero, suc, ◌+◌, ◌<◌, ◌≤◌, nat_eq, ◌||◌, Bool, true, false, List, [], ◌∷◌, ◌++◌, Option, Some, None, slice_get}
-use Rattle.der_base.specs.Class.{class_number}
+use Rattle.std.specs.Prelude.{◌≡◌, ◌≢◌, ◌⊎◌, ℕ, zero, suc, ◌+◌, ◌<◌, ◌≤◌, true, false, List, [], ◌++◌, Some, slice_get}
 use Rattle.der_base.specs.declared.encoding_rules.EncodingRules.{EncodingRules}
 use Rattle.der_base.specs.declared.encoding_rules.EncodingRules.TheVariants.{Der}
 use Rattle.ber.specs.Header.{IsNext}

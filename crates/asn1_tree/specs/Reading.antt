@@ -4,6 +4,7 @@ use Rattle.der_base.specs.FixedOctets.{end_of_contents}
 use Rattle.der_base.specs.declared.encoding_rules.EncodingRules.{EncodingRules}
 use Rattle.asn1_tree.specs.Verdict.{holds, worst}
 use Rattle.asn1_tree.specs.declared.departure.Departure.{Departure}
+use Rattle.asn1_tree.specs.declared.notes.Notes.{Notes}
 use Rattle.asn1_tree.specs.declared.verdict.Verdict.{Verdict}
 use Rattle.asn1_tree.specs.declared.verdict.Verdict.TheVariants.{Der}
 use Rattle.asn1_tree.specs.Rule.{verdict_of_rule}
@@ -37,7 +38,12 @@ verdict_of [] = Der
 verdict_of (d ∷ ds) = worst (verdict_of_rule d.rule) (verdict_of ds)
 
 -- departures are added that leave this verdict
-pub record Logs (v : Verdict) (old new : List Departure) : Type 0 where
+pub record Adds (v : Verdict) (old new : List Departure) : Type 0 where
   pub added : List Departure
   pub split : new ≡ old ++ added
   pub verdict : v ≡ verdict_of added
+
+-- a walk adds such departures to its notes, if it keeps them
+pub record Logs (v : Verdict) (old new : Notes) : Type 0 where
+  pub same : new.kept ≡ old.kept
+  pub adds : old.kept ≡ true → Adds v old.departures.items new.departures.items

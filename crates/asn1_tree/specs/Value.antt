@@ -1,6 +1,6 @@
 -- The encodings of the values of a type (X.680), under DER and under BER: `IsValue`. Types are those
 -- of a table, in which nodes name each other by index; values are nested at most `depth` levels.
-use Rattle.std.specs.Prelude.{◌≡◌, ℕ, zero, suc, ◌&&◌, Bool, true, false, List, [], Option, Some, None, slice_get}
+use Rattle.std.specs.Prelude.{◌≡◌, ℕ, zero, suc, ◌&&◌, Bool, true, false, List, [], Option, Some, None}
 use Rattle.der_base.specs.declared.encoding_rules.EncodingRules.{EncodingRules}
 use Rattle.der_base.specs.declared.encoding_rules.EncodingRules.TheVariants.{Ber}
 use Rattle.ber.specs.Der.{type_of}

@@ -1,5 +1,5 @@
 //! The reader of extension additions that a type does not have.
-ghost use Rattle.std.specs.Prelude.{◌≡◌, ◌↔◌, ◌+◌, ◌<◌, ◌≤◌, ℕ, true, false, IsTrue, length, vec_len, IfOk, OnOk};
+ghost use Rattle.std.specs.Prelude.{◌≡◌, ◌↔◌, ◌+◌, ◌<◌, ◌≤◌, ℕ, true, false, IsTrue, length, IfOk};
 ghost use Rattle.asn1_schema.specs.Span.{IsWithin as IsRange};
 ghost use Rattle.asn1_schema.specs.Tags.{IsFieldOf};
 ghost use Rattle.asn1_schema.specs.declared.field.Field.{Field as AField};
@@ -11,12 +11,12 @@ ghost use Rattle.asn1_tree.specs.Components.{IsInsertion, MayBeAbsent, AreCompon
 ghost use Rattle.asn1_tree.specs.Value.{IsValue, IsAny};
 
 use crate::constraints::end_of;
+use crate::notes::Notes;
 use crate::opened::Opened;
 use crate::outcome::Outcome;
 use crate::role::Role;
 use crate::select::begins;
 use crate::tests::may_be_absent;
-use crate::tree::Tree;
 use crate::types::field_of;
 use crate::untyped::any;
 use crate::verdict::Verdict;
@@ -26,7 +26,7 @@ use std::alloc::AllocError;
 /// Reads the extension additions that a SEQUENCE does not have, before the field with an index: none,
 /// if its extension insertion point is elsewhere.
 pub(crate) fn additions<'a>(
-    tree: &mut Tree,
+    notes: &mut Notes,
     schema: &Schema<'_>,
     depth: usize,
     node: Node,
@@ -44,9 +44,8 @@ pub(crate) fn additions<'a>(
         (λ rules. Body opened.entry.marked opened.entry.beyond.now
         (AreFrom (IsValue (types_in schema.now.octets.now) depth) (IsAny depth) rules
         (types_in schema.now.octets.now) node left index known) opened.entry.inside.octets.now)) }
-    ensures log { IfOk result (λ o. Logs o.verdict tree.old.departures.items tree.new.departures.items) }
+    ensures log { IfOk result (λ o. Logs o.verdict notes.old notes.new) }
     ensures shorter { IfOk result (λ o. length o.rest.now ≤ length opened.entry.inside.octets.now) }
-    ensures grows { OnOk result (vec_len tree.old.entries ≤ vec_len tree.new.entries) }
 {
     let role = Role::inside(at);
     let mut verdict = Verdict::Der;
@@ -56,7 +55,7 @@ pub(crate) fn additions<'a>(
     }
     let first = first_taker(schema, node, index);
     'additions: while !opened.at(rest).is_ended() && !is_taken(schema, node, first, rest) {
-        let outcome = any(tree, depth, role, opened.inside.at(rest))?;
+        let outcome = any(notes, depth, role, opened.inside.at(rest))?;
         verdict = verdict.and(outcome.verdict);
         rest = outcome.rest;
     }

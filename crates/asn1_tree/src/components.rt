@@ -1,5 +1,5 @@
 //! The reader of components and items.
-ghost use Rattle.std.specs.Prelude.{◌≡◌, ◌+◌, ◌<◌, ◌≤◌, ℕ, [], Option, Some, None, slice_get, length, vec_len, IsSome, IfOk, OnOk};
+ghost use Rattle.std.specs.Prelude.{◌≡◌, ◌+◌, ◌<◌, ◌≤◌, ℕ, [], Option, Some, None, slice_get, length, IsSome, IfOk};
 ghost use Rattle.asn1_tree.specs.Types.{types_in};
 ghost use Rattle.asn1_schema.specs.Node.{IsNode as IsRow};
 ghost use Rattle.asn1_schema.specs.Span.{IsWithin as IsRange};
@@ -17,6 +17,7 @@ ghost use Rattle.asn1_tree.specs.Reading.{Front, Body, Finds, Status, Logs};
 use crate::additions::{additions, is_taken};
 use crate::constraints::{count_rule, end_of};
 use crate::known::{Known, known_after};
+use crate::notes::Notes;
 use crate::opened::Opened;
 use crate::order::order_rule;
 use crate::outcome::{Outcome, Step};
@@ -25,7 +26,6 @@ use crate::role::Role;
 use crate::rule::Rule;
 use crate::select::begins;
 use crate::tests::{default_rule, may_be_absent};
-use crate::tree::Tree;
 use crate::typed::{inner_of, value};
 use crate::types::field_of;
 use crate::untyped::{any, finish};
@@ -37,7 +37,7 @@ use std::alloc::{AllocError, Global};
 // Reads the components of a SEQUENCE.
 #[cycle(typed)]
 pub(crate) fn components<'a>(
-    tree: &mut Tree,
+    notes: &mut Notes,
     alloc: Global,
     schema: &Schema<'_>,
     depth: usize,
@@ -55,25 +55,24 @@ pub(crate) fn components<'a>(
         opened.entry.inside.octets.now) o.verdict o.rest.now) }
     ensures shorter { IfOk result (λ o. length o.rest.now
         ≤ length opened.entry.inside.octets.now + length opened.entry.beyond.now) }
-    ensures log { IfOk result (λ o. Logs o.verdict tree.old.departures.items tree.new.departures.items) }
-    ensures grows { OnOk result (vec_len tree.old.entries ≤ vec_len tree.new.entries) }
+    ensures log { IfOk result (λ o. Logs o.verdict notes.old notes.new) }
 {
     let mut index = node.parts.start;
     let end = end_of(node.parts, schema.counts().fields);
-    let before = additions(tree, schema, depth, node, index, at, opened)?;
+    let before = additions(notes, schema, depth, node, index, at, opened)?;
     let mut verdict = before.verdict;
     let mut rest = before.rest;
     let mut known = None;
     'fields: while index < end {
         let here = opened.at(rest);
-        let step = component(tree, alloc, schema, depth, known, node, index, at, here)?;
+        let step = component(notes, alloc, schema, depth, known, node, index, at, here)?;
         index += 1;
-        let after = additions(tree, schema, depth, node, index, at, opened.at(step.rest))?;
+        let after = additions(notes, schema, depth, node, index, at, opened.at(step.rest))?;
         verdict = verdict.and(step.verdict).and(after.verdict);
         rest = after.rest;
         known = step.known;
     }
-    let last = finish(tree, depth, at, opened.at(rest))?;
+    let last = finish(notes, depth, at, opened.at(rest))?;
     Ok(Outcome {
         verdict: verdict.and(last.verdict),
         rest: last.rest,
@@ -92,7 +91,7 @@ fn begins_later(schema: &Schema<'_>, node: Node, index: u32, octets: &[u8]) -> b
 // Reads the component of a field, if it is there.
 #[cycle(typed)]
 fn component<'a>(
-    tree: &mut Tree,
+    notes: &mut Notes,
     alloc: Global,
     schema: &Schema<'_>,
     depth: usize,
@@ -115,14 +114,13 @@ fn component<'a>(
         (AreComponents (IsValue (types_in schema.now.octets.now) depth) (IsAny depth) rules
         (types_in schema.now.octets.now) node (left + 1) index (known_in known.entry))
         opened.entry.inside.octets.now)) }
-    ensures log { IfOk result (λ s. Logs s.verdict tree.old.departures.items tree.new.departures.items) }
+    ensures log { IfOk result (λ s. Logs s.verdict notes.old notes.new) }
     ensures shorter { IfOk result (λ s. length s.rest.now ≤ length opened.entry.inside.octets.now) }
-    ensures grows { OnOk result (vec_len tree.old.entries ≤ vec_len tree.new.entries) }
 {
     let field = field_of(schema, index);
     let place = opened.inside;
     if begins(schema, field.node, place.octets) {
-        let outcome = field_value(tree, alloc, schema, depth, known, index, at, place)?;
+        let outcome = field_value(notes, alloc, schema, depth, known, index, at, place)?;
         let octets = &place.octets[..place.octets.len() - outcome.rest.len()];
         return Ok(Step {
             verdict: outcome.verdict,
@@ -138,15 +136,15 @@ fn component<'a>(
         });
     }
     if begins_later(schema, node, index, place.octets) {
-        let verdict = tree.depart(Rule::Missing, place.offset(), at)?;
+        let verdict = notes.depart(Rule::Missing, place.offset(), at)?;
         return Ok(Step {
             verdict,
             rest: place.octets,
             known,
         });
     }
-    let verdict = tree.depart(Rule::Tag, place.offset(), at)?;
-    let outcome = any(tree, depth, Role::inside(at), place)?;
+    let verdict = notes.depart(Rule::Tag, place.offset(), at)?;
+    let outcome = any(notes, depth, Role::inside(at), place)?;
     Ok(Step {
         verdict: verdict.and(outcome.verdict),
         rest: outcome.rest,
@@ -157,7 +155,7 @@ fn component<'a>(
 // Reads the value of a field.
 #[cycle(typed)]
 pub(crate) fn field_value<'a>(
-    tree: &mut Tree,
+    notes: &mut Notes,
     alloc: Global,
     schema: &Schema<'_>,
     depth: usize,
@@ -173,20 +171,19 @@ pub(crate) fn field_value<'a>(
         (IsComponent (IsValue (types_in schema.now.octets.now) depth) rules
         (types_in schema.now.octets.now) (known_in known.entry) f) place.entry.octets.now)
         o.verdict o.rest.now) }
-    ensures log { IfOk result (λ o. Logs o.verdict tree.old.departures.items tree.new.departures.items) }
+    ensures log { IfOk result (λ o. Logs o.verdict notes.old notes.new) }
     ensures shorter { IfOk result (λ o. length o.rest.now ≤ length place.entry.octets.now) }
     ensures moves { IfOk result
         (λ o. 0 < length place.entry.octets.now → length o.rest.now < length place.entry.octets.now) }
-    ensures grows { OnOk result (vec_len tree.old.entries ≤ vec_len tree.new.entries) }
 {
     let field = field_of(schema, index);
     let role = Role {
         field: index,
         ..Role::inside(at)
     };
-    let outcome = value(tree, alloc, schema, depth, known, field.node, role, place)?;
+    let outcome = value(notes, alloc, schema, depth, known, field.node, role, place)?;
     let octets = &place.octets[..place.octets.len() - outcome.rest.len()];
-    let encoded = tree.judge(default_rule(schema, field, octets), place.offset(), at)?;
+    let encoded = notes.judge(default_rule(schema, field, octets), place.offset(), at)?;
     Ok(Outcome {
         verdict: outcome.verdict.and(encoded),
         rest: outcome.rest,
@@ -196,7 +193,7 @@ pub(crate) fn field_value<'a>(
 // Reads the values of a SEQUENCE OF or a SET OF.
 #[cycle(typed)]
 pub(crate) fn items<'a>(
-    tree: &mut Tree,
+    notes: &mut Notes,
     alloc: Global,
     schema: &Schema<'_>,
     depth: usize,
@@ -215,8 +212,7 @@ pub(crate) fn items<'a>(
         (IsAllowedSize (types_in schema.now.octets.now) node.limits) inner) opened.entry.inside.octets.now) o.verdict o.rest.now) }
     ensures shorter { IfOk result (λ o. length o.rest.now
         ≤ length opened.entry.inside.octets.now + length opened.entry.beyond.now) }
-    ensures log { IfOk result (λ o. Logs o.verdict tree.old.departures.items tree.new.departures.items) }
-    ensures grows { OnOk result (vec_len tree.old.entries ≤ vec_len tree.new.entries) }
+    ensures log { IfOk result (λ o. Logs o.verdict notes.old notes.new) }
 {
     let role = Role::inside(at);
     let item = inner_of(node);
@@ -226,16 +222,16 @@ pub(crate) fn items<'a>(
     let mut before: &[u8] = &[];
     'items: while !opened.at(rest).is_ended() {
         let place = opened.inside.at(rest);
-        let outcome = value(tree, alloc, schema, depth, known, item, role, place)?;
+        let outcome = value(notes, alloc, schema, depth, known, item, role, place)?;
         let octets = &rest[..rest.len() - outcome.rest.len()];
-        let order = tree.judge(order_rule(sorted, before, octets), place.offset(), at)?;
+        let order = notes.judge(order_rule(sorted, before, octets), place.offset(), at)?;
         verdict = verdict.and(outcome.verdict).and(order);
         rest = outcome.rest;
         before = octets;
         count += 1;
     }
-    let size = tree.judge(count_rule(schema, node.limits, count), opened.start, at)?;
-    let end = finish(tree, depth, at, opened.at(rest))?;
+    let size = notes.judge(count_rule(schema, node.limits, count), opened.start, at)?;
+    let end = finish(notes, depth, at, opened.at(rest))?;
     Ok(Outcome {
         verdict: verdict.and(size.and(end.verdict)),
         rest: end.rest,
@@ -245,7 +241,7 @@ pub(crate) fn items<'a>(
 // Reads the value inside an EXPLICIT tag.
 #[cycle(typed)]
 pub(crate) fn explicit<'a>(
-    tree: &mut Tree,
+    notes: &mut Notes,
     alloc: Global,
     schema: &Schema<'_>,
     depth: usize,
@@ -261,12 +257,11 @@ pub(crate) fn explicit<'a>(
         opened.entry.inside.octets.now) o.verdict o.rest.now) }
     ensures shorter { IfOk result (λ o. length o.rest.now
         ≤ length opened.entry.inside.octets.now + length opened.entry.beyond.now) }
-    ensures log { IfOk result (λ o. Logs o.verdict tree.old.departures.items tree.new.departures.items) }
-    ensures grows { OnOk result (vec_len tree.old.entries ≤ vec_len tree.new.entries) }
+    ensures log { IfOk result (λ o. Logs o.verdict notes.old notes.new) }
 {
     let role = Role::inside(at);
     let outcome = value(
-        tree,
+        notes,
         alloc,
         schema,
         depth,
@@ -275,7 +270,7 @@ pub(crate) fn explicit<'a>(
         role,
         opened.inside,
     )?;
-    let end = finish(tree, depth, at, opened.at(outcome.rest))?;
+    let end = finish(notes, depth, at, opened.at(outcome.rest))?;
     Ok(Outcome {
         verdict: outcome.verdict.and(end.verdict),
         rest: end.rest,

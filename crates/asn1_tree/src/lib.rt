@@ -37,6 +37,7 @@ mod departure;
 mod entry;
 mod known;
 mod members;
+mod notes;
 mod opened;
 mod order;
 mod outcome;
@@ -58,7 +59,7 @@ mod verdict;
 
 pub use departure::Departure;
 pub use entry::Entry;
-pub use reading::read;
+pub use reading::{is_ber, is_der, read};
 pub use rule::Rule;
 pub use tree::Tree;
 pub use verdict::Verdict;

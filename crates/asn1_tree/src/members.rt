@@ -1,5 +1,5 @@
 //! The reader of a SET.
-ghost use Rattle.std.specs.Prelude.{◌≡◌, ◌↔◌, ◌⊎◌, ◌+◌, ◌<◌, ◌≤◌, ℕ, true, false, List, [], ◌++◌, Option, Some, None, slice_get, length, vec_len, IsTrue, IfOk, IfSome, IfNone, OnOk};
+ghost use Rattle.std.specs.Prelude.{◌≡◌, ◌↔◌, ◌⊎◌, ◌+◌, ◌<◌, ◌≤◌, ℕ, true, false, List, [], ◌++◌, Option, Some, None, slice_get, length, IsTrue, IfOk, IfSome, IfNone, OnOk};
 ghost use Rattle.der_base.specs.declared.encoding_rules.EncodingRules.{EncodingRules};
 ghost use Rattle.ber.specs.declared.universal.Universal.TheVariants.{Set};
 ghost use Rattle.asn1_schema.specs.Distinct.{AreDistinct};
@@ -18,6 +18,7 @@ ghost use Rattle.asn1_tree.specs.Verdict.{holds};
 
 use crate::components::field_value;
 use crate::constraints::end_of;
+use crate::notes::Notes;
 use crate::opened::Opened;
 use crate::outcome::Outcome;
 use crate::place::Place;
@@ -26,7 +27,6 @@ use crate::rule::Rule;
 use crate::select::begins;
 use crate::tag_order::tag_order_rule;
 use crate::tests::may_be_absent;
-use crate::tree::Tree;
 use crate::types::field_of;
 use crate::untyped::{any, finish};
 use crate::verdict::Verdict;
@@ -36,7 +36,7 @@ use std::alloc::{AllocError, Global};
 // Reads the elements of a SET.
 #[cycle(typed)]
 pub(crate) fn members<'a>(
-    tree: &mut Tree,
+    notes: &mut Notes,
     alloc: Global,
     schema: &Schema<'_>,
     depth: usize,
@@ -53,8 +53,7 @@ pub(crate) fn members<'a>(
         (types_in schema.now.octets.now) node [] []) opened.entry.inside.octets.now) o.verdict o.rest.now) }
     ensures shorter { IfOk result (λ o. length o.rest.now
         ≤ length opened.entry.inside.octets.now + length opened.entry.beyond.now) }
-    ensures log { IfOk result (λ o. Logs o.verdict tree.old.departures.items tree.new.departures.items) }
-    ensures grows { OnOk result (vec_len tree.old.entries ≤ vec_len tree.new.entries) }
+    ensures log { IfOk result (λ o. Logs o.verdict notes.old notes.new) }
 {
     let mut seen = Vec::new(alloc);
     let mut verdict = Verdict::Der;
@@ -62,22 +61,22 @@ pub(crate) fn members<'a>(
     let mut before: &[u8] = &[];
     'members: while !opened.at(rest).is_ended() {
         let place = opened.inside.at(rest);
-        let outcome = member(tree, alloc, schema, depth, node, at, place, &mut seen)?;
+        let outcome = member(notes, alloc, schema, depth, node, at, place, &mut seen)?;
         let octets = &rest[..rest.len() - outcome.rest.len()];
-        let order = tree.judge(tag_order_rule(before, octets), place.offset(), at)?;
+        let order = notes.judge(tag_order_rule(before, octets), place.offset(), at)?;
         verdict = verdict.and(outcome.verdict).and(order);
         rest = outcome.rest;
         before = octets;
     }
     let present = judge_present(
-        tree,
+        notes,
         schema,
         node,
         seen.as_slice(),
         at,
         opened.at(rest).inside.offset(),
     )?;
-    let end = finish(tree, depth, at, opened.at(rest))?;
+    let end = finish(notes, depth, at, opened.at(rest))?;
     Ok(Outcome {
         verdict: verdict.and(present.and(end.verdict)),
         rest: end.rest,
@@ -87,7 +86,7 @@ pub(crate) fn members<'a>(
 // Reads an element of a SET, and notes the field that it is the component of.
 #[cycle(typed)]
 fn member<'a>(
-    tree: &mut Tree,
+    notes: &mut Notes,
     alloc: Global,
     schema: &Schema<'_>,
     depth: usize,
@@ -107,31 +106,30 @@ fn member<'a>(
     ensures only { OnOk result ((rules : EncodingRules) (x r after : List ℕ) → place.entry.octets.now ≡ x ++ r
         → IsMember (IsValue (types_in schema.now.octets.now) depth) (IsAny depth) rules
         (types_in schema.now.octets.now) node seen.old.items x after → after ≡ seen.new.items) }
-    ensures log { IfOk result (λ o. Logs o.verdict tree.old.departures.items tree.new.departures.items) }
+    ensures log { IfOk result (λ o. Logs o.verdict notes.old notes.new) }
     ensures shorter { IfOk result (λ o. length o.rest.now ≤ length place.entry.octets.now) }
     ensures moves { IfOk result
         (λ o. 0 < length place.entry.octets.now → length o.rest.now < length place.entry.octets.now) }
-    ensures grows { OnOk result (vec_len tree.old.entries ≤ vec_len tree.new.entries) }
 {
     match find_member(schema, node, place.octets) {
         Some(index) => {
             if is_seen(seen.as_slice(), index) {
-                let again = tree.depart(Rule::Duplicate, place.offset(), at)?;
-                let outcome = field_value(tree, alloc, schema, depth, None, index, at, place)?;
+                let again = notes.depart(Rule::Duplicate, place.offset(), at)?;
+                let outcome = field_value(notes, alloc, schema, depth, None, index, at, place)?;
                 return Ok(Outcome {
                     verdict: again.and(outcome.verdict),
                     rest: outcome.rest,
                 });
             }
             seen.push(index)?;
-            field_value(tree, alloc, schema, depth, None, index, at, place)
+            field_value(notes, alloc, schema, depth, None, index, at, place)
         }
         None => {
             if node.extensible {
-                return any(tree, depth, Role::inside(at), place);
+                return any(notes, depth, Role::inside(at), place);
             }
-            let other = tree.depart(Rule::Unexpected, place.offset(), at)?;
-            let outcome = any(tree, depth, Role::inside(at), place)?;
+            let other = notes.depart(Rule::Unexpected, place.offset(), at)?;
+            let outcome = any(notes, depth, Role::inside(at), place)?;
             Ok(Outcome {
                 verdict: other.and(outcome.verdict),
                 rest: outcome.rest,
@@ -172,7 +170,7 @@ fn is_seen(seen: &[u32], index: u32) -> bool
 
 // Adds a departure for each field of a SET that was not there, and may not be absent.
 fn judge_present(
-    tree: &mut Tree,
+    notes: &mut Notes,
     schema: &Schema<'_>,
     node: Node,
     seen: &[u32],
@@ -182,13 +180,12 @@ fn judge_present(
     requires { IsRange node.parts schema.now.counts.fields }
     ensures exact { IfOk result (λ v. (rules : EncodingRules) → (holds rules v ≡ true)
         ↔ ArePresent (types_in schema.now.octets.now) node seen.now) }
-    ensures log { IfOk result (λ v. Logs v tree.old.departures.items tree.new.departures.items) }
-    ensures grows { OnOk result (tree.new.entries.items ≡ tree.old.entries.items) }
+    ensures log { IfOk result (λ v. Logs v notes.old notes.new) }
 {
     let mut verdict = Verdict::Der;
     for k in node.parts.start..end_of(node.parts, schema.counts().fields) {
         let rule = presence_rule(field_of(schema, k), is_seen(seen, k));
-        let present = tree.judge(rule, offset, at)?;
+        let present = notes.judge(rule, offset, at)?;
         verdict = verdict.and(present);
     }
     Ok(verdict)

@@ -4,17 +4,19 @@ ghost use Rattle.der_base.specs.declared.encoding_rules.EncodingRules.{EncodingR
 ghost use Rattle.asn1_schema.specs.Table.{table_in};
 ghost use Rattle.asn1_tree.specs.Departures.{AreOfDer};
 ghost use Rattle.asn1_tree.specs.Encoding.{IsDer, IsBer};
-ghost use Rattle.asn1_tree.specs.Reading.{verdict_of};
+ghost use Rattle.asn1_tree.specs.Reading.{Logs};
 ghost use Rattle.asn1_tree.specs.Types.{types_in};
 ghost use Rattle.asn1_tree.specs.Value.{IsValue};
 ghost use Rattle.asn1_tree.specs.Verdict.{holds};
 
+use crate::notes::Notes;
 use crate::opened::Opened;
 use crate::place::Place;
-use crate::role::Role;
+use crate::role::{LEVELS, Role};
 use crate::tree::Tree;
 use crate::typed::value;
 use crate::untyped::finish;
+use crate::verdict::Verdict;
 use asn1_schema::Schema;
 use std::alloc::{AllocError, Global};
 
@@ -37,37 +39,78 @@ pub fn read(
     ensures ber { IfOk result (λ tree. AreOfDer tree.departures.items
         ↔ IsBer (table_in schema.now.octets.now) node octets.now) }
 {
-    read_node(alloc, schema, node, octets)
+    let mut notes = Notes::new(alloc, true);
+    walk(&mut notes, alloc, schema, node, octets)?;
+    Ok(Tree {
+        entries: notes.entries,
+        departures: notes.departures,
+    })
 }
 
-// The same, with one clause for both rules.
-fn read_node(
+/// Whether octets are the DER encoding of a value of a node of a table. No tree is made: memory is
+/// needed only for the text of a string in the constructed form, and for a SET. The caller must ensure
+/// that there is such a node.
+///
+/// # Errors
+///
+/// There is no such memory.
+pub fn is_der(
     alloc: Global,
     schema: &Schema<'_>,
     node: u32,
     octets: &[u8],
-) -> Result<Tree, AllocError>
+) -> Result<bool, AllocError>
     requires { node < schema.now.counts.nodes }
-    ensures exact { IfOk result (λ tree. (rules : EncodingRules)
-        → (holds rules (verdict_of tree.departures.items) ≡ true)
-        ↔ IsValue (types_in schema.now.octets.now) 64 rules None node octets.now) }
+    ensures { IfOk result (λ is. (is ≡ true) ↔ IsDer (table_in schema.now.octets.now) node octets.now) }
 {
-    let mut tree = Tree {
-        entries: Vec::new(alloc),
-        departures: Vec::new(alloc),
-    };
+    let verdict = walk(&mut Notes::new(alloc, false), alloc, schema, node, octets)?;
+    Ok(verdict.is_der())
+}
+
+/// Whether octets are a BER encoding of a value of a node of a table. Memory is needed as for [`is_der`].
+/// The caller must ensure that there is such a node.
+///
+/// # Errors
+///
+/// There is no such memory.
+pub fn is_ber(
+    alloc: Global,
+    schema: &Schema<'_>,
+    node: u32,
+    octets: &[u8],
+) -> Result<bool, AllocError>
+    requires { node < schema.now.counts.nodes }
+    ensures { IfOk result (λ is. (is ≡ true) ↔ IsBer (table_in schema.now.octets.now) node octets.now) }
+{
+    let verdict = walk(&mut Notes::new(alloc, false), alloc, schema, node, octets)?;
+    Ok(verdict.is_ber())
+}
+
+// Reads octets as a value of a node.
+fn walk(
+    notes: &mut Notes,
+    alloc: Global,
+    schema: &Schema<'_>,
+    node: u32,
+    octets: &[u8],
+) -> Result<Verdict, AllocError>
+    requires { node < schema.now.counts.nodes }
+    ensures exact { IfOk result (λ v. (rules : EncodingRules) → (holds rules v ≡ true)
+        ↔ IsValue (types_in schema.now.octets.now) 64 rules None node octets.now) }
+    ensures log { IfOk result (λ v. Logs v notes.old notes.new) }
+{
     let place = Place {
         octets,
         end: octets.len(),
     };
     let role = Role::inside(0);
-    let outcome = value(&mut tree, alloc, schema, 64, None, node, role, place)?;
+    let outcome = value(notes, alloc, schema, LEVELS, None, node, role, place)?;
     let rest = Opened {
         inside: place.at(outcome.rest),
         start: 0,
         marked: false,
         beyond: &[],
     };
-    finish(&mut tree, 64, 0, rest)?;
-    Ok(tree)
+    let end = finish(notes, LEVELS, 0, rest)?;
+    Ok(outcome.verdict.and(end.verdict))
 }

@@ -1,5 +1,5 @@
 //! The reader of constructed strings.
-ghost use Rattle.std.specs.Prelude.{◌≡◌, ◌↔◌, ◌+◌, ◌<◌, ◌≤◌, ℕ, true, false, List, [], ◌∷◌, ◌++◌, length, vec_len, IfOk, IfErr, OnOk};
+ghost use Rattle.std.specs.Prelude.{◌≡◌, ◌↔◌, ◌+◌, ◌<◌, ◌≤◌, ℕ, true, false, List, [], ◌∷◌, ◌++◌, length, IfOk, IfErr, OnOk};
 ghost use Rattle.der_base.specs.declared.encoding_rules.EncodingRules.TheVariants.{Ber};
 ghost use Rattle.ber.specs.Header.{IsNext};
 ghost use Rattle.asn1_tree.specs.Verdict.{holds};
@@ -10,13 +10,13 @@ ghost use Rattle.asn1_tree.specs.Strings.{is_bits, segment_type, IsJoined, AreJo
 ghost use Rattle.asn1_tree.specs.StringReading.{IsText, IsWhole, BeginsAfter, BodyAfter, Reads};
 
 use crate::entry::Entry;
+use crate::notes::Notes;
 use crate::opened::{Opened, after_header};
 use crate::outcome::Outcome;
 use crate::place::Place;
 use crate::role::{NO_INDEX, Role};
 use crate::rule::Rule;
 use crate::tests::primitive_rule;
-use crate::tree::Tree;
 use crate::untyped::{any, finish};
 use crate::verdict::Verdict;
 use ber::{Header, Universal, is_end_of_contents, read_header};
@@ -33,7 +33,7 @@ pub(crate) struct JoinedText<'a> {
 
 /// Reads the contents of a constructed string.
 pub(crate) fn joined<'a>(
-    tree: &mut Tree,
+    notes: &mut Notes,
     alloc: Global,
     depth: usize,
     universal: Universal,
@@ -50,13 +50,12 @@ pub(crate) fn joined<'a>(
     ensures shorter { IfOk result (λ j. length j.rest.now
         ≤ length opened.entry.inside.octets.now + length opened.entry.beyond.now) }
     ensures log { IfOk result
-        (λ j. Logs j.verdict tree.old.departures.items tree.new.departures.items) }
-    ensures grows { OnOk result (vec_len tree.old.entries ≤ vec_len tree.new.entries) }
+        (λ j. Logs j.verdict notes.old notes.new) }
 {
-    let whole = tree.depart(Rule::ConstructedString, opened.start, at)?;
+    let whole = notes.depart(Rule::ConstructedString, opened.start, at)?;
     let bits = is_bit_string(universal);
     let mut text = empty_text(alloc, bits)?;
-    let outcome = segments(tree, depth, bits, at, opened, &mut text)?;
+    let outcome = segments(notes, depth, bits, at, opened, &mut text)?;
     Ok(JoinedText {
         verdict: whole.and(outcome.verdict),
         rest: outcome.rest,
@@ -94,7 +93,7 @@ fn empty_text(alloc: Global, bits: bool) -> Result<Vec<u8>, AllocError>
 // Reads segments, and appends their text to the text before them.
 #[cycle(strings)]
 fn segments<'a>(
-    tree: &mut Tree,
+    notes: &mut Notes,
     depth: usize,
     bits: bool,
     at: usize,
@@ -110,20 +109,19 @@ fn segments<'a>(
     ensures shorter { IfOk result (λ o. length o.rest.now
         ≤ length opened.entry.inside.octets.now + length opened.entry.beyond.now) }
     ensures log { IfOk result
-        (λ o. Logs o.verdict tree.old.departures.items tree.new.departures.items) }
-    ensures grows { OnOk result (vec_len tree.old.entries ≤ vec_len tree.new.entries) }
+        (λ o. Logs o.verdict notes.old notes.new) }
 {
     let role = Role::inside(at);
     let mut verdict = Verdict::Der;
     let mut rest = opened.inside.octets;
     'segments: while !opened.at(rest).is_ended() {
         let place = opened.inside.at(rest);
-        let whole = make_whole(tree, bits, place.offset(), at, text)?;
-        let outcome = segment(tree, depth, bits, role, place, text)?;
+        let whole = make_whole(notes, bits, place.offset(), at, text)?;
+        let outcome = segment(notes, depth, bits, role, place, text)?;
         verdict = verdict.and(whole.and(outcome.verdict));
         rest = outcome.rest;
     }
-    let end = finish(tree, depth, at, opened.at(rest))?;
+    let end = finish(notes, depth, at, opened.at(rest))?;
     Ok(Outcome {
         verdict: verdict.and(end.verdict),
         rest: end.rest,
@@ -132,7 +130,7 @@ fn segments<'a>(
 
 // Adds a departure if no segment may follow this text, and makes it one that a segment may follow.
 fn make_whole(
-    tree: &mut Tree,
+    notes: &mut Notes,
     bits: bool,
     offset: usize,
     at: usize,
@@ -142,11 +140,10 @@ fn make_whole(
     ensures verdict { IfOk result (λ v. (holds Ber v ≡ true) ↔ IsWhole bits text.old.items) }
     ensures same { OnOk result (IsWhole bits text.old.items → text.new.items ≡ text.old.items) }
     ensures whole { OnOk result (IsWhole bits text.new.items) }
-    ensures log { IfOk result (λ v. Logs v tree.old.departures.items tree.new.departures.items) }
-    ensures entries { OnOk result (tree.new.entries.items ≡ tree.old.entries.items) }
+    ensures log { IfOk result (λ v. Logs v notes.old notes.new) }
 {
     if bits && text[0] != 0 {
-        let verdict = tree.depart(Rule::UnusedBits, offset, at)?;
+        let verdict = notes.depart(Rule::UnusedBits, offset, at)?;
         text[0] = 0;
         return Ok(verdict);
     }
@@ -156,7 +153,7 @@ fn make_whole(
 // Reads a segment at the front, and appends its text to the text before it.
 #[cycle(strings)]
 fn segment<'a>(
-    tree: &mut Tree,
+    notes: &mut Notes,
     depth: usize,
     bits: bool,
     role: Role,
@@ -168,22 +165,21 @@ fn segment<'a>(
         place.entry.octets.now) o.verdict o.rest.now text.new.items) }
     ensures text { OnOk result (IsText bits text.new.items) }
     ensures log { IfOk result
-        (λ o. Logs o.verdict tree.old.departures.items tree.new.departures.items) }
+        (λ o. Logs o.verdict notes.old notes.new) }
     ensures shorter { IfOk result (λ o. length o.rest.now ≤ length place.entry.octets.now) }
     ensures moves { IfOk result (λ o. 0 < length place.entry.octets.now
         → length o.rest.now < length place.entry.octets.now) }
-    ensures grows { OnOk result (vec_len tree.old.entries ≤ vec_len tree.new.entries) }
 {
     let header = match segment_header(place.octets, depth, bits) {
         Ok(header) => header,
-        Err(rule) => return no_segment(tree, depth, rule, role, place),
+        Err(rule) => return no_segment(notes, depth, rule, role, place),
     };
-    let at = tree.enter(Entry::new(header, place, role, NO_INDEX))?;
-    let allowed = tree.judge_lengths(header, place.offset(), at)?;
+    let at = notes.enter(Entry::new(header, place, role, NO_INDEX))?;
+    let allowed = notes.judge_lengths(header, place.offset(), at)?;
     match after_header(header, place) {
         Some(opened) => {
             let outcome = segment_contents(
-                tree,
+                notes,
                 depth - 1,
                 bits,
                 header.constructed,
@@ -191,14 +187,14 @@ fn segment<'a>(
                 opened,
                 text,
             )?;
-            tree.leave(at, opened, outcome.rest);
+            notes.leave(at, opened, outcome.rest);
             Ok(Outcome {
                 verdict: allowed.and(outcome.verdict),
                 rest: outcome.rest,
             })
         }
         None => {
-            let cut = tree.depart(Rule::Truncated, place.offset(), at)?;
+            let cut = notes.depart(Rule::Truncated, place.offset(), at)?;
             Ok(Outcome {
                 verdict: allowed.and(cut),
                 rest: &[],
@@ -241,7 +237,7 @@ fn has_segment_tag(header: Header, bits: bool) -> bool
 
 // Passes what is no segment.
 fn no_segment<'a>(
-    tree: &mut Tree,
+    notes: &mut Notes,
     depth: usize,
     rule: Rule,
     role: Role,
@@ -250,13 +246,12 @@ fn no_segment<'a>(
     requires { verdict_of_rule rule ≡ Neither }
     ensures verdict { IfOk result (λ o. o.verdict ≡ Neither) }
     ensures log { IfOk result
-        (λ o. Logs o.verdict tree.old.departures.items tree.new.departures.items) }
+        (λ o. Logs o.verdict notes.old notes.new) }
     ensures shorter { IfOk result (λ o. length o.rest.now ≤ length place.entry.octets.now) }
     ensures moves { IfOk result (λ o. 0 < length place.entry.octets.now
         → length o.rest.now < length place.entry.octets.now) }
-    ensures grows { OnOk result (vec_len tree.old.entries ≤ vec_len tree.new.entries) }
 {
-    let verdict = tree.depart(rule, place.offset(), role.parent)?;
+    let verdict = notes.depart(rule, place.offset(), role.parent)?;
     if is_end_of_contents(place.octets) {
         return Ok(Outcome {
             verdict,
@@ -264,7 +259,7 @@ fn no_segment<'a>(
         });
     }
     if matches!(rule, Rule::Tag) {
-        let outcome = any(tree, depth, role, place)?;
+        let outcome = any(notes, depth, role, place)?;
         return Ok(Outcome {
             verdict: verdict.and(outcome.verdict),
             rest: outcome.rest,
@@ -276,7 +271,7 @@ fn no_segment<'a>(
 // Reads the contents of a segment, and appends their text to the text before it.
 #[cycle(strings)]
 fn segment_contents<'a>(
-    tree: &mut Tree,
+    notes: &mut Notes,
     depth: usize,
     bits: bool,
     constructed: bool,
@@ -294,15 +289,14 @@ fn segment_contents<'a>(
     ensures shorter { IfOk result (λ o. length o.rest.now
         ≤ length opened.entry.inside.octets.now + length opened.entry.beyond.now) }
     ensures log { IfOk result
-        (λ o. Logs o.verdict tree.old.departures.items tree.new.departures.items) }
-    ensures grows { OnOk result (vec_len tree.old.entries ≤ vec_len tree.new.entries) }
+        (λ o. Logs o.verdict notes.old notes.new) }
 {
     if constructed {
-        return segments(tree, depth, bits, at, opened, text);
+        return segments(notes, depth, bits, at, opened, text);
     }
     let contents = opened.inside.octets;
     let rule = primitive_rule(Some(type_of_segments(bits)), contents);
-    let verdict = tree.judge(rule, opened.start, at)?;
+    let verdict = notes.judge(rule, opened.start, at)?;
     append(bits, contents, text)?;
     Ok(Outcome {
         verdict,

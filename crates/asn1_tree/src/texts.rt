@@ -1,5 +1,5 @@
 //! Constructed strings of a node.
-ghost use Rattle.std.specs.Prelude.{◌≡◌, ◌+◌, ◌≤◌, length, vec_len, IfOk, OnOk};
+ghost use Rattle.std.specs.Prelude.{◌≡◌, ◌+◌, ◌≤◌, length, IfOk};
 ghost use Rattle.asn1_schema.specs.Node.{IsNode as IsRow};
 ghost use Rattle.asn1_schema.specs.Span.{IsWithin as IsRange};
 ghost use Rattle.asn1_tree.specs.Constraints.{bound_of};
@@ -9,12 +9,12 @@ ghost use Rattle.asn1_tree.specs.Value.{IsJoinedText, is_joined, is_string};
 ghost use Rattle.asn1_tree.specs.Reading.{Body, Finds, Logs};
 
 use crate::constraints::constraint_rule;
+use crate::notes::Notes;
 use crate::opened::Opened;
 use crate::outcome::Outcome;
 use crate::role::LEVELS;
 use crate::strings::joined;
 use crate::tests::contents_rule;
-use crate::tree::Tree;
 use asn1_schema::{Node, Schema};
 use ber::{Form, Universal};
 use std::alloc::{AllocError, Global};
@@ -38,7 +38,7 @@ fn is_string(form: Form) -> bool
 
 /// Reads the contents of a constructed string.
 pub(crate) fn joined_text<'a>(
-    tree: &mut Tree,
+    notes: &mut Notes,
     alloc: Global,
     schema: &Schema<'_>,
     node: Node,
@@ -53,14 +53,13 @@ pub(crate) fn joined_text<'a>(
         opened.entry.inside.octets.now) o.verdict o.rest.now) }
     ensures shorter { IfOk result (λ o. length o.rest.now
         ≤ length opened.entry.inside.octets.now + length opened.entry.beyond.now) }
-    ensures log { IfOk result (λ o. Logs o.verdict tree.old.departures.items tree.new.departures.items) }
-    ensures grows { OnOk result (vec_len tree.old.entries ≤ vec_len tree.new.entries) }
+    ensures log { IfOk result (λ o. Logs o.verdict notes.old notes.new) }
 {
-    let read = joined(tree, alloc, LEVELS, universal, at, opened)?;
+    let read = joined(notes, alloc, LEVELS, universal, at, opened)?;
     let text = read.text.as_slice();
-    let whole = tree.judge(contents_rule(universal, text), opened.start, at)?;
+    let whole = notes.judge(contents_rule(universal, text), opened.start, at)?;
     let rule = constraint_rule(schema, node, universal, text);
-    let kept = tree.judge(rule, opened.start, at)?;
+    let kept = notes.judge(rule, opened.start, at)?;
     Ok(Outcome {
         verdict: read.verdict.and(whole.and(kept)),
         rest: read.rest,

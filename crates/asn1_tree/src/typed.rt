@@ -1,5 +1,5 @@
 //! The reader of values.
-ghost use Rattle.std.specs.Prelude.{◌≡◌, ◌≢◌, ◌↔◌, ◌+◌, ◌<◌, ◌≤◌, ℕ, true, false, [], Option, Some, None, slice_get, length, vec_len, IsSome, IfOk, OnOk};
+ghost use Rattle.std.specs.Prelude.{◌≡◌, ◌≢◌, ◌↔◌, ◌+◌, ◌<◌, ◌≤◌, ℕ, true, false, [], Option, Some, None, slice_get, length, IsSome, IfOk};
 ghost use Rattle.der_base.specs.declared.encoding_rules.EncodingRules.{EncodingRules};
 ghost use Rattle.ber.specs.Der.{HasReservedTag};
 ghost use Rattle.ber.specs.Header.{IsNext, end_header, label_of_header};
@@ -23,6 +23,7 @@ use crate::constraints::constraint_rule;
 use crate::entry::Entry;
 use crate::known::Known;
 use crate::members::members;
+use crate::notes::Notes;
 use crate::opened::{Opened, after_header, skipped};
 use crate::outcome::Outcome;
 use crate::place::Place;
@@ -30,7 +31,6 @@ use crate::role::Role;
 use crate::rule::Rule;
 use crate::shape::Shape;
 use crate::texts::{is_joined, joined_text};
-use crate::tree::Tree;
 use crate::types::{node_of, select};
 use crate::untyped::{any, finish, unknown_contents};
 use crate::verdict::Verdict;
@@ -41,7 +41,7 @@ use std::alloc::{AllocError, Global};
 // Reads the value of a node at the front.
 #[cycle(typed)]
 pub(crate) fn value<'a>(
-    tree: &mut Tree,
+    notes: &mut Notes,
     alloc: Global,
     schema: &Schema<'_>,
     depth: usize,
@@ -55,41 +55,40 @@ pub(crate) fn value<'a>(
     ensures finds { IfOk result (λ o. Finds (λ rules. Front
         (IsValue (types_in schema.now.octets.now) depth rules (known_in known.entry) node) place.entry.octets.now)
         o.verdict o.rest.now) }
-    ensures log { IfOk result (λ o. Logs o.verdict tree.old.departures.items tree.new.departures.items) }
+    ensures log { IfOk result (λ o. Logs o.verdict notes.old notes.new) }
     ensures shorter { IfOk result (λ o. length o.rest.now ≤ length place.entry.octets.now) }
     ensures moves { IfOk result
         (λ o. 0 < length place.entry.octets.now → length o.rest.now < length place.entry.octets.now) }
-    ensures grows { OnOk result (vec_len tree.old.entries ≤ vec_len tree.new.entries) }
 {
     let header = match read_header(place.octets) {
         Ok(header) => header,
         Err(_) => {
-            let verdict = tree.depart(Rule::Header, place.offset(), role.parent)?;
+            let verdict = notes.depart(Rule::Header, place.offset(), role.parent)?;
             return Ok(Outcome { verdict, rest: &[] });
         }
     };
     if is_end_of_contents(place.octets) {
-        let verdict = tree.depart(Rule::EndOfContents, place.offset(), role.parent)?;
+        let verdict = notes.depart(Rule::EndOfContents, place.offset(), role.parent)?;
         return Ok(Outcome {
             verdict,
             rest: &place.octets[2..],
         });
     }
     if header.has_reserved_tag() {
-        let verdict = tree.depart(Rule::Tag, place.offset(), role.parent)?;
+        let verdict = notes.depart(Rule::Tag, place.offset(), role.parent)?;
         return Ok(Outcome {
             verdict,
             rest: skipped(header, place),
         });
     }
     if depth == 0 {
-        let verdict = tree.depart(Rule::Depth, place.offset(), role.parent)?;
+        let verdict = notes.depart(Rule::Depth, place.offset(), role.parent)?;
         return Ok(Outcome { verdict, rest: &[] });
     }
     match select(schema, node, header.class, header.number) {
         Some(selected) => {
             selected_value(
-                tree,
+                notes,
                 alloc,
                 schema,
                 depth - 1,
@@ -101,8 +100,8 @@ pub(crate) fn value<'a>(
             )
         }
         None => {
-            let verdict = tree.depart(Rule::Tag, place.offset(), role.parent)?;
-            let outcome = any(tree, depth, role, place)?;
+            let verdict = notes.depart(Rule::Tag, place.offset(), role.parent)?;
+            let outcome = any(notes, depth, role, place)?;
             Ok(Outcome {
                 verdict: verdict.and(outcome.verdict),
                 rest: outcome.rest,
@@ -114,7 +113,7 @@ pub(crate) fn value<'a>(
 // Reads the value of a node that is no CHOICE, and has the tag of the header at the front.
 #[cycle(typed)]
 fn selected_value<'a>(
-    tree: &mut Tree,
+    notes: &mut Notes,
     alloc: Global,
     schema: &Schema<'_>,
     depth: usize,
@@ -135,29 +134,28 @@ fn selected_value<'a>(
         → slice_get (types_in schema.now.octets.now).nodes index ≡ Some n → Finds (λ rules. Front
         (IsNode rules (types_in schema.now.octets.now) (IsValue (types_in schema.now.octets.now) depth)
         (IsAny depth) (known_in known.entry) n) place.entry.octets.now) o.verdict o.rest.now) }
-    ensures log { IfOk result (λ o. Logs o.verdict tree.old.departures.items tree.new.departures.items) }
+    ensures log { IfOk result (λ o. Logs o.verdict notes.old notes.new) }
     ensures moves { IfOk result (λ o. length o.rest.now < length place.entry.octets.now) }
-    ensures grows { OnOk result (vec_len tree.old.entries ≤ vec_len tree.new.entries) }
 {
     let node = node_of(schema, index);
     match chosen(schema, &node, known) {
-        Some(inner) => value(tree, alloc, schema, depth, known, inner, role, place),
+        Some(inner) => value(notes, alloc, schema, depth, known, inner, role, place),
         None => {
-            let at = tree.enter(Entry::new(header, place, role, index))?;
-            let allowed = tree.judge_lengths(header, place.offset(), at)?;
+            let at = notes.enter(Entry::new(header, place, role, index))?;
+            let allowed = notes.judge_lengths(header, place.offset(), at)?;
             match after_header(header, place) {
                 Some(opened) => {
                     let outcome = contents(
-                        tree, alloc, schema, depth, known, node, at, header, opened,
+                        notes, alloc, schema, depth, known, node, at, header, opened,
                     )?;
-                    tree.leave(at, opened, outcome.rest);
+                    notes.leave(at, opened, outcome.rest);
                     Ok(Outcome {
                         verdict: allowed.and(outcome.verdict),
                         rest: outcome.rest,
                     })
                 }
                 None => {
-                    let cut = tree.depart(Rule::Truncated, place.offset(), at)?;
+                    let cut = notes.depart(Rule::Truncated, place.offset(), at)?;
                     Ok(Outcome {
                         verdict: allowed.and(cut),
                         rest: &[],
@@ -171,7 +169,7 @@ fn selected_value<'a>(
 // Reads the contents of an element with the tag of a node.
 #[cycle(typed)]
 fn contents<'a>(
-    tree: &mut Tree,
+    notes: &mut Notes,
     alloc: Global,
     schema: &Schema<'_>,
     depth: usize,
@@ -191,27 +189,26 @@ fn contents<'a>(
         opened.entry.inside.octets.now) o.verdict o.rest.now) }
     ensures shorter { IfOk result (λ o. length o.rest.now
         ≤ length opened.entry.inside.octets.now + length opened.entry.beyond.now) }
-    ensures log { IfOk result (λ o. Logs o.verdict tree.old.departures.items tree.new.departures.items) }
-    ensures grows { OnOk result (vec_len tree.old.entries ≤ vec_len tree.new.entries) }
+    ensures log { IfOk result (λ o. Logs o.verdict notes.old notes.new) }
 {
     let shape = Shape::of(node.kind);
     if shape.has_wrong_form(header.constructed) {
-        let verdict = tree.depart(Rule::Form, opened.start, at)?;
+        let verdict = notes.depart(Rule::Form, opened.start, at)?;
         return Ok(Outcome {
             verdict,
             rest: opened.beyond,
         });
     }
     match shape {
-        Shape::Components => components(tree, alloc, schema, depth, node, at, opened),
-        Shape::Members => members(tree, alloc, schema, depth, node, at, opened),
+        Shape::Components => components(notes, alloc, schema, depth, node, at, opened),
+        Shape::Members => members(notes, alloc, schema, depth, node, at, opened),
         Shape::Of(universal) => of_type(
-            tree, alloc, schema, depth, known, node, universal, at, header, opened,
+            notes, alloc, schema, depth, known, node, universal, at, header, opened,
         ),
-        Shape::Items => items(tree, alloc, schema, depth, known, node, false, at, opened),
-        Shape::SortedItems => items(tree, alloc, schema, depth, known, node, true, at, opened),
+        Shape::Items => items(notes, alloc, schema, depth, known, node, false, at, opened),
+        Shape::SortedItems => items(notes, alloc, schema, depth, known, node, true, at, opened),
         Shape::Inner => explicit(
-            tree,
+            notes,
             alloc,
             schema,
             depth,
@@ -222,7 +219,7 @@ fn contents<'a>(
         ),
         Shape::Untyped => {
             unknown_contents(
-                tree,
+                notes,
                 depth,
                 header.universal(),
                 header.constructed,
@@ -231,7 +228,7 @@ fn contents<'a>(
             )
         }
         Shape::Nothing => {
-            let verdict = tree.depart(Rule::Tag, opened.start, at)?;
+            let verdict = notes.depart(Rule::Tag, opened.start, at)?;
             Ok(Outcome {
                 verdict,
                 rest: opened.beyond,
@@ -243,7 +240,7 @@ fn contents<'a>(
 // Reads the contents of a universal type that has no components.
 #[cycle(typed)]
 fn of_type<'a>(
-    tree: &mut Tree,
+    notes: &mut Notes,
     alloc: Global,
     schema: &Schema<'_>,
     depth: usize,
@@ -265,20 +262,26 @@ fn of_type<'a>(
         opened.entry.inside.octets.now) o.verdict o.rest.now) }
     ensures shorter { IfOk result (λ o. length o.rest.now
         ≤ length opened.entry.inside.octets.now + length opened.entry.beyond.now) }
-    ensures log { IfOk result (λ o. Logs o.verdict tree.old.departures.items tree.new.departures.items) }
-    ensures grows { OnOk result (vec_len tree.old.entries ≤ vec_len tree.new.entries) }
+    ensures log { IfOk result (λ o. Logs o.verdict notes.old notes.new) }
 {
     if is_joined(header.constructed, universal) {
-        return joined_text(tree, alloc, schema, node, universal, at, opened);
+        return joined_text(notes, alloc, schema, node, universal, at, opened);
     }
-    let outcome = unknown_contents(tree, depth, Some(universal), header.constructed, at, opened)?;
+    let outcome = unknown_contents(
+        notes,
+        depth,
+        Some(universal),
+        header.constructed,
+        at,
+        opened,
+    )?;
     if header.constructed {
         return Ok(outcome);
     }
     let rule = constraint_rule(schema, node, universal, opened.inside.octets);
-    let kept = tree.judge(rule, opened.start, at)?;
+    let kept = notes.judge(rule, opened.start, at)?;
     let inner = contained_in(universal, node);
-    let value = contained(tree, alloc, schema, depth, known, inner, at, opened.inside)?;
+    let value = contained(notes, alloc, schema, depth, known, inner, at, opened.inside)?;
     Ok(Outcome {
         verdict: outcome.verdict.and(kept.and(value)),
         rest: outcome.rest,
@@ -298,7 +301,7 @@ fn contained_in(universal: Universal, node: Node) -> Option<u32>
 // Reads the value in a string with a constraint CONTAINING, if it has one.
 #[cycle(typed)]
 fn contained<'a>(
-    tree: &mut Tree,
+    notes: &mut Notes,
     alloc: Global,
     schema: &Schema<'_>,
     depth: usize,
@@ -312,11 +315,10 @@ fn contained<'a>(
     ensures exact { IfOk result (λ v. (rules : EncodingRules) → (holds rules v ≡ true)
         ↔ IsContained rules (types_in schema.now.octets.now)
         (IsValue (types_in schema.now.octets.now) depth) (known_in known.entry) inner place.entry.octets.now) }
-    ensures log { IfOk result (λ v. Logs v tree.old.departures.items tree.new.departures.items) }
-    ensures grows { OnOk result (vec_len tree.old.entries ≤ vec_len tree.new.entries) }
+    ensures log { IfOk result (λ v. Logs v notes.old notes.new) }
 {
     match inner {
-        Some(index) => contained_value(tree, alloc, schema, depth, known, index, at, place),
+        Some(index) => contained_value(notes, alloc, schema, depth, known, index, at, place),
         None => Ok(Verdict::Der),
     }
 }
@@ -324,7 +326,7 @@ fn contained<'a>(
 // Reads the value of a node in a string.
 #[cycle(typed)]
 fn contained_value<'a>(
-    tree: &mut Tree,
+    notes: &mut Notes,
     alloc: Global,
     schema: &Schema<'_>,
     depth: usize,
@@ -338,21 +340,20 @@ fn contained_value<'a>(
     ensures exact { IfOk result (λ v. (rules : EncodingRules) → (holds rules v ≡ true)
         ↔ Contains rules (types_in schema.now.octets.now)
         (IsValue (types_in schema.now.octets.now) depth) (known_in known.entry) index place.entry.octets.now) }
-    ensures log { IfOk result (λ v. Logs v tree.old.departures.items tree.new.departures.items) }
-    ensures grows { OnOk result (vec_len tree.old.entries ≤ vec_len tree.new.entries) }
+    ensures log { IfOk result (λ v. Logs v notes.old notes.new) }
 {
     if is_unknown(schema, index, known) {
         return Ok(Verdict::Der);
     }
     let role = Role::inside(at);
-    let outcome = value(tree, alloc, schema, depth, known, index, role, place)?;
+    let outcome = value(notes, alloc, schema, depth, known, index, role, place)?;
     let rest = Opened {
         inside: place.at(outcome.rest),
         start: place.offset(),
         marked: false,
         beyond: &[],
     };
-    let end = finish(tree, depth, at, rest)?;
+    let end = finish(notes, depth, at, rest)?;
     Ok(outcome.verdict.and(end.verdict))
 }
 

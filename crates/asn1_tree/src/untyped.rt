@@ -1,17 +1,17 @@
 //! The reader of values of any type.
-ghost use Rattle.std.specs.Prelude.{◌≡◌, ◌*◌, ◌+◌, ◌<◌, ◌≤◌, false, [], length, vec_len, IfOk, OnOk};
+ghost use Rattle.std.specs.Prelude.{◌≡◌, ◌*◌, ◌+◌, ◌<◌, ◌≤◌, false, [], length, IfOk};
 ghost use Rattle.asn1_tree.specs.Items.{IsAnyCount, SomeItems};
 ghost use Rattle.asn1_tree.specs.Value.{IsAny, IsUnknownType};
 ghost use Rattle.asn1_tree.specs.Reading.{Front, Body, Finds, Logs};
 
 use crate::entry::Entry;
+use crate::notes::Notes;
 use crate::opened::{Opened, after_header, skipped};
 use crate::outcome::Outcome;
 use crate::place::Place;
 use crate::role::{NO_INDEX, Role};
 use crate::rule::Rule;
 use crate::tests::{form_rule, primitive_rule};
-use crate::tree::Tree;
 use crate::verdict::Verdict;
 use ber::{Universal, is_end_of_contents, read_header};
 use std::alloc::AllocError;
@@ -19,64 +19,63 @@ use std::alloc::AllocError;
 // Reads an element of any type at the front.
 #[cycle(untyped)]
 pub(crate) fn any<'a>(
-    tree: &mut Tree,
+    notes: &mut Notes,
     depth: usize,
     role: Role,
     place: Place<'a>,
 ) -> Result<Outcome<'a>, AllocError>
     ensures finds { IfOk result (λ o. Finds (λ rules. Front (IsAny depth rules) place.entry.octets.now)
         o.verdict o.rest.now) }
-    ensures log { IfOk result (λ o. Logs o.verdict tree.old.departures.items tree.new.departures.items) }
+    ensures log { IfOk result (λ o. Logs o.verdict notes.old notes.new) }
     ensures shorter { IfOk result (λ o. length o.rest.now ≤ length place.entry.octets.now) }
     ensures moves { IfOk result
         (λ o. 0 < length place.entry.octets.now → length o.rest.now < length place.entry.octets.now) }
-    ensures grows { OnOk result (vec_len tree.old.entries ≤ vec_len tree.new.entries) }
 {
     let header = match read_header(place.octets) {
         Ok(header) => header,
         Err(_) => {
-            let verdict = tree.depart(Rule::Header, place.offset(), role.parent)?;
+            let verdict = notes.depart(Rule::Header, place.offset(), role.parent)?;
             return Ok(Outcome { verdict, rest: &[] });
         }
     };
     if is_end_of_contents(place.octets) {
-        let verdict = tree.depart(Rule::EndOfContents, place.offset(), role.parent)?;
+        let verdict = notes.depart(Rule::EndOfContents, place.offset(), role.parent)?;
         return Ok(Outcome {
             verdict,
             rest: &place.octets[2..],
         });
     }
     if header.has_reserved_tag() {
-        let verdict = tree.depart(Rule::Tag, place.offset(), role.parent)?;
+        let verdict = notes.depart(Rule::Tag, place.offset(), role.parent)?;
         return Ok(Outcome {
             verdict,
             rest: skipped(header, place),
         });
     }
     if depth == 0 {
-        let verdict = tree.depart(Rule::Depth, place.offset(), role.parent)?;
+        let verdict = notes.depart(Rule::Depth, place.offset(), role.parent)?;
         return Ok(Outcome { verdict, rest: &[] });
     }
-    let at = tree.enter(Entry::new(header, place, role, NO_INDEX))?;
-    let allowed = tree.judge_lengths(header, place.offset(), at)?;
+    let at = notes.enter(Entry::new(header, place, role, NO_INDEX))?;
+    let allowed = notes.judge_lengths(header, place.offset(), at)?;
     match after_header(header, place) {
         Some(opened) => {
             let outcome = unknown_contents(
-                tree,
+                notes,
                 depth - 1,
                 header.universal(),
                 header.constructed,
                 at,
                 opened,
             )?;
-            tree.leave(at, opened, outcome.rest);
+            notes.leave(at, opened, outcome.rest);
             Ok(Outcome {
                 verdict: allowed.and(outcome.verdict),
                 rest: outcome.rest,
             })
         }
         None => {
-            let cut = tree.depart(Rule::Truncated, place.offset(), at)?;
+            let cut = notes.depart(Rule::Truncated, place.offset(), at)?;
             Ok(Outcome {
                 verdict: allowed.and(cut),
                 rest: &[],
@@ -88,7 +87,7 @@ pub(crate) fn any<'a>(
 // Reads the contents of an element of a universal type, or of another.
 #[cycle(untyped)]
 pub(crate) fn unknown_contents<'a>(
-    tree: &mut Tree,
+    notes: &mut Notes,
     depth: usize,
     universal: Option<Universal>,
     constructed: bool,
@@ -101,19 +100,18 @@ pub(crate) fn unknown_contents<'a>(
         o.verdict o.rest.now) }
     ensures shorter { IfOk result (λ o. length o.rest.now
         ≤ length opened.entry.inside.octets.now + length opened.entry.beyond.now) }
-    ensures log { IfOk result (λ o. Logs o.verdict tree.old.departures.items tree.new.departures.items) }
-    ensures grows { OnOk result (vec_len tree.old.entries ≤ vec_len tree.new.entries) }
+    ensures log { IfOk result (λ o. Logs o.verdict notes.old notes.new) }
 {
     if constructed {
-        let verdict = tree.judge(form_rule(universal), opened.start, at)?;
-        let outcome = elements(tree, depth, at, opened)?;
+        let verdict = notes.judge(form_rule(universal), opened.start, at)?;
+        let outcome = elements(notes, depth, at, opened)?;
         return Ok(Outcome {
             verdict: verdict.and(outcome.verdict),
             rest: outcome.rest,
         });
     }
     let rule = primitive_rule(universal, opened.inside.octets);
-    let verdict = tree.judge(rule, opened.start, at)?;
+    let verdict = notes.judge(rule, opened.start, at)?;
     Ok(Outcome {
         verdict,
         rest: opened.beyond,
@@ -123,7 +121,7 @@ pub(crate) fn unknown_contents<'a>(
 // Reads elements of any type.
 #[cycle(untyped)]
 pub(crate) fn elements<'a>(
-    tree: &mut Tree,
+    notes: &mut Notes,
     depth: usize,
     at: usize,
     opened: Opened<'a>,
@@ -132,18 +130,17 @@ pub(crate) fn elements<'a>(
         (SomeItems false rules (IsAny depth rules) IsAnyCount) opened.entry.inside.octets.now) o.verdict o.rest.now) }
     ensures shorter { IfOk result (λ o. length o.rest.now
         ≤ length opened.entry.inside.octets.now + length opened.entry.beyond.now) }
-    ensures log { IfOk result (λ o. Logs o.verdict tree.old.departures.items tree.new.departures.items) }
-    ensures grows { OnOk result (vec_len tree.old.entries ≤ vec_len tree.new.entries) }
+    ensures log { IfOk result (λ o. Logs o.verdict notes.old notes.new) }
 {
     let role = Role::inside(at);
     let mut verdict = Verdict::Der;
     let mut rest = opened.inside.octets;
     'elements: while !opened.at(rest).is_ended() {
-        let outcome = any(tree, depth, role, opened.inside.at(rest))?;
+        let outcome = any(notes, depth, role, opened.inside.at(rest))?;
         verdict = verdict.and(outcome.verdict);
         rest = outcome.rest;
     }
-    let end = ended(tree, at, opened.at(rest))?;
+    let end = ended(notes, at, opened.at(rest))?;
     Ok(Outcome {
         verdict: verdict.and(end.verdict),
         rest: end.rest,
@@ -151,13 +148,12 @@ pub(crate) fn elements<'a>(
 }
 
 // Passes the end of contents, which have no more elements.
-fn ended<'a>(tree: &mut Tree, at: usize, opened: Opened<'a>) -> Result<Outcome<'a>, AllocError>
+fn ended<'a>(notes: &mut Notes, at: usize, opened: Opened<'a>) -> Result<Outcome<'a>, AllocError>
     ensures finds { IfOk result (λ o. Finds (λ rules. Body opened.entry.marked opened.entry.beyond.now
         (λ inner. inner ≡ []) opened.entry.inside.octets.now) o.verdict o.rest.now) }
     ensures shorter { IfOk result (λ o. length o.rest.now
         ≤ length opened.entry.inside.octets.now + length opened.entry.beyond.now) }
-    ensures log { IfOk result (λ o. Logs o.verdict tree.old.departures.items tree.new.departures.items) }
-    ensures grows { OnOk result (vec_len tree.old.entries ≤ vec_len tree.new.entries) }
+    ensures log { IfOk result (λ o. Logs o.verdict notes.old notes.new) }
 {
     let octets = opened.inside.octets;
     if opened.marked {
@@ -167,7 +163,7 @@ fn ended<'a>(tree: &mut Tree, at: usize, opened: Opened<'a>) -> Result<Outcome<'
                 rest: &octets[2..],
             });
         }
-        let verdict = tree.depart(Rule::Unended, opened.inside.offset(), at)?;
+        let verdict = notes.depart(Rule::Unended, opened.inside.offset(), at)?;
         return Ok(Outcome { verdict, rest: &[] });
     }
     if octets.is_empty() {
@@ -176,7 +172,7 @@ fn ended<'a>(tree: &mut Tree, at: usize, opened: Opened<'a>) -> Result<Outcome<'
             rest: opened.beyond,
         });
     }
-    let verdict = tree.depart(Rule::Unexpected, opened.inside.offset(), at)?;
+    let verdict = notes.depart(Rule::Unexpected, opened.inside.offset(), at)?;
     Ok(Outcome {
         verdict,
         rest: opened.beyond,
@@ -185,7 +181,7 @@ fn ended<'a>(tree: &mut Tree, at: usize, opened: Opened<'a>) -> Result<Outcome<'
 
 // Passes the end of contents. Elements before it are unexpected.
 pub(crate) fn finish<'a>(
-    tree: &mut Tree,
+    notes: &mut Notes,
     depth: usize,
     at: usize,
     opened: Opened<'a>,
@@ -194,14 +190,13 @@ pub(crate) fn finish<'a>(
         (λ inner. inner ≡ []) opened.entry.inside.octets.now) o.verdict o.rest.now) }
     ensures shorter { IfOk result (λ o. length o.rest.now
         ≤ length opened.entry.inside.octets.now + length opened.entry.beyond.now) }
-    ensures log { IfOk result (λ o. Logs o.verdict tree.old.departures.items tree.new.departures.items) }
-    ensures grows { OnOk result (vec_len tree.old.entries ≤ vec_len tree.new.entries) }
+    ensures log { IfOk result (λ o. Logs o.verdict notes.old notes.new) }
 {
     if opened.is_ended() {
-        return ended(tree, at, opened);
+        return ended(notes, at, opened);
     }
-    let unexpected = tree.depart(Rule::Unexpected, opened.inside.offset(), at)?;
-    let outcome = elements(tree, depth, at, opened)?;
+    let unexpected = notes.depart(Rule::Unexpected, opened.inside.offset(), at)?;
+    let outcome = elements(notes, depth, at, opened)?;
     Ok(Outcome {
         verdict: unexpected.and(outcome.verdict),
         rest: outcome.rest,

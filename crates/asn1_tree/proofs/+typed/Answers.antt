@@ -200,7 +200,6 @@ components::components-fields-init t c = record {
   high = omega arith;
   log = c.in_ok-before.ensures.log;
   shorter = c.in_ok-before.ensures.shorter;
-  grows = c.in_ok-before.ensures.grows;
 }
 
 pub components::components-fields-preserved : goal.components::components-fields-preserved
@@ -217,7 +216,6 @@ components::components-fields-preserved t c =
       high = omega (arith, c.fields-test.true, c.end_of-end.ensures);
       log = logs_is (c.and-verdict.ensures ∙ ap (λ v. worst v c.in_ok-after.after.verdict) c.and.ensures) (logs_then (logs_then c.fields.invariant.log c.in_ok-step.ensures.log) c.in_ok-after.ensures.log);
       shorter = omega (arith, c.fields.invariant.shorter, c.in_ok-step.ensures.shorter, ap length c.at-here.ensures.octets, c.in_ok-after.ensures.shorter, ap length c.at.ensures.octets);
-      grows = omega (arith, c.fields.invariant.grows, c.in_ok-step.ensures.grows, c.in_ok-after.ensures.grows);
     }
 
 pub components::components-returns-clause-finds : goal.components::components-returns-clause-finds
@@ -244,7 +242,6 @@ components::items-items-preserved t c =
           (item_found c.args.sorted (λ n. Count (c.items.count + n)) c.in_ok-order.order c.args.opened.marked c.args.opened.beyond.now c.items.before.now now after here on finds (λ x e. taken now x after e) (test_is c.in_ok-order.ensures.verdict c.order_rule.ensures))));
       log = logs_is (c.and-verdict.ensures ∙ ap (λ v. worst v c.in_ok-order.order) c.and.ensures) (logs_then (logs_then c.items.invariant.log c.in_ok-outcome.ensures.log) c.in_ok-order.ensures.log);
       few = omega (arith, c.items.invariant.few, c.in_ok-outcome.ensures.moves (omega (arith, some_left c.args.opened.marked now on, ap length c.at-place.ensures.octets)), ap length c.at-place.ensures.octets);
-      grows = omega (arith, c.items.invariant.grows, c.in_ok-outcome.ensures.grows, ap length c.in_ok-order.ensures.entries);
     }
 
 pub components::items-returns-clause-finds : goal.components::items-returns-clause-finds
@@ -287,9 +284,8 @@ components::items-items-init t c =
     let Count : ℕ → Type 0 = IsAllowedSize (types_in c.args.schema.now.octets.now) c.args.node.limits in
     record {
       status = items_begin c.args.sorted (λ rules. IsValue (types_in c.args.schema.now.octets.now) c.args.depth rules (known_in c.args.known) c.inner_of-item.result) Count c.args.opened.marked c.args.opened.beyond.now c.args.opened.inside.octets.now;
-      log = logs_none c.args.tree.now.departures.items;
+      log = logs_none c.args.notes.now;
       few = omega arith;
-      grows = omega arith;
     }
 
 pub typed::of_type-returns-clause-finds : goal.typed::of_type-returns-clause-finds
@@ -335,9 +331,8 @@ typed::contents-returns-in-Members-clause-finds t c =
 pub members::members-members-init : goal.members::members-members-init
 members::members-members-init t c = record {
   status = none_seen c.new-seen.result.items search;
-  log = logs_none c.args.tree.now.departures.items;
+  log = logs_none c.args.notes.now;
   shorter = omega arith;
-  grows = omega arith;
 }
   where
     none_seen : (seen : List ℕ) → seen ≡ []
@@ -362,7 +357,6 @@ members::members-members-preserved t c =
           (λ x e. taken now x after e) (test_is c.in_ok-order.ensures.verdict c.tag_order_rule.ensures)));
       log = logs_is (c.and-verdict.ensures ∙ ap (λ v. worst v c.in_ok-order.order) c.and.ensures) (logs_then (logs_then c.members.invariant.log c.in_ok-outcome.ensures.log) c.in_ok-order.ensures.log);
       shorter = omega (arith, c.members.invariant.shorter, c.in_ok-outcome.ensures.shorter, ap length c.at-place.ensures.octets);
-      grows = omega (arith, c.members.invariant.grows, c.in_ok-outcome.ensures.grows, ap length c.in_ok-order.ensures.entries);
     }
 
 pub members::members-returns-clause-finds : goal.members::members-returns-clause-finds

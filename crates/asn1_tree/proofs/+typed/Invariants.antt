@@ -1,4 +1,4 @@
-use Rattle.std.proofs.Common.{◌≡◌, ◌*◌, ◌+◌, ◌-◌, ◌≤◌, ℕ, [], None, length, vec_len}
+use Rattle.std.proofs.Common.{◌≡◌, ◌*◌, ◌+◌, ◌-◌, ◌≤◌, ℕ, [], None, length}
 use Rattle.asn1_tree.specs.Types.{types_in}
 use Rattle.asn1_tree.specs.Constraints.{IsAllowedSize}
 use Rattle.asn1_tree.specs.Known.{known_in}
@@ -56,9 +56,8 @@ invariant-components::components-fields l = record {
       (λ rules. Body l.opened.marked l.opened.beyond.now (AreFrom (IsValue (types_in l.schema.octets.now) l.depth) (IsAny l.depth) rules (types_in l.schema.octets.now) l.node l.node.parts.count l.node.parts.start None) l.opened.inside.octets.now);
   low : l.node.parts.start ≤ l.index;
   high : l.index ≤ l.node.parts.start + l.node.parts.count;
-  log : Logs l.verdict l.fn.tree.departures.items l.tree.departures.items;
+  log : Logs l.verdict l.fn.notes l.notes;
   shorter : length l.rest ≤ length l.opened.inside.octets.now;
-  grows : vec_len l.fn.tree.entries ≤ vec_len l.tree.entries;
 }
 
 abbrev pub decreases-components::components-fields : goal.decreases-components::components-fields
@@ -69,9 +68,8 @@ invariant-components::items-items l = record {
   status : Status l.verdict
       (λ rules. Body l.opened.marked l.opened.beyond.now (Items l.sorted rules (IsValue (types_in l.schema.octets.now) l.depth rules (known_in l.known) l.item) (λ n. IsAllowedSize (types_in l.schema.octets.now) l.node.limits (l.count + n)) l.before) l.rest)
       (λ rules. Body l.opened.marked l.opened.beyond.now (SomeItems l.sorted rules (IsValue (types_in l.schema.octets.now) l.depth rules (known_in l.known) l.item) (IsAllowedSize (types_in l.schema.octets.now) l.node.limits)) l.opened.inside.octets.now);
-  log : Logs l.verdict l.fn.tree.departures.items l.tree.departures.items;
+  log : Logs l.verdict l.fn.notes l.notes;
   few : l.count + length l.rest ≤ length l.opened.inside.octets.now;
-  grows : vec_len l.fn.tree.entries ≤ vec_len l.tree.entries;
 }
 
 abbrev pub decreases-components::items-items : goal.decreases-components::items-items
@@ -82,9 +80,8 @@ invariant-members::members-members l = record {
   status : Status l.verdict
       (λ rules. Body l.opened.marked l.opened.beyond.now (SomeMembers (IsValue (types_in l.schema.octets.now) l.depth) (IsAny l.depth) rules (types_in l.schema.octets.now) l.node l.seen.items l.before) l.rest)
       (λ rules. Body l.opened.marked l.opened.beyond.now (SomeMembers (IsValue (types_in l.schema.octets.now) l.depth) (IsAny l.depth) rules (types_in l.schema.octets.now) l.node [] []) l.opened.inside.octets.now);
-  log : Logs l.verdict l.fn.tree.departures.items l.tree.departures.items;
+  log : Logs l.verdict l.fn.notes l.notes;
   shorter : length l.rest ≤ length l.opened.inside.octets.now;
-  grows : vec_len l.fn.tree.entries ≤ vec_len l.tree.entries;
 }
 
 abbrev pub decreases-members::members-members : goal.decreases-members::members-members

@@ -7,7 +7,7 @@ use Rattle.asn1_tree.specs.Types.{types_in}
 use Rattle.asn1_tree.specs.Value.{IsValue, IsAny}
 use Rattle.asn1_tree.proofs.AdditionLemmas.{addition_found, additions_end, none_taken, taken_element, untaken_element}
 use Rattle.asn1_tree.proofs.FindsLemmas.{finds_at, status_is, status_then}
-use Rattle.asn1_tree.proofs.ItemLemmas.{none_at_end, goes_on, has_ended, some_left}
+use Rattle.asn1_tree.proofs.ItemLemmas.{none_at_end, goes_on, has_ended}
 use Rattle.asn1_tree.proofs.UntypedLemmas.{any_elements}
 use Rattle.asn1_tree.proofs.ValueLemmas.{value_begins}
 use Rattle.asn1_tree.proofs.VerdictLemmas.{worst_der, logs_is, logs_then}
@@ -32,7 +32,6 @@ additions-preserved c =
           (finds_at (IsAny c.args.depth) c.at-in-additions.ensures.octets c.in_ok-outcome.ensures.finds)));
       log = logs_is c.and-verdict.ensures (logs_then c.additions.invariant.log c.in_ok-outcome.ensures.log);
       shorter = omega (arith, c.additions.invariant.shorter, c.in_ok-outcome.ensures.shorter, ap length c.at-in-additions.ensures.octets);
-      grows = omega (arith, c.additions.invariant.grows, c.in_ok-outcome.ensures.grows);
     }
   where
     untaken : (h : Header) → IsNext h c.additions.rest.now → h ≢ end_header → IsTaken (types_in c.args.schema.now.octets.now) c.args.node c.args.index h → ⊥

@@ -1,4 +1,4 @@
-use Rattle.std.proofs.Common.{◌≡◌, ◌+◌, ◌≤◌, ℕ, length, vec_len}
+use Rattle.std.proofs.Common.{◌≡◌, ◌+◌, ◌≤◌, ℕ, length}
 use Rattle.asn1_tree.specs.Components.{AreFrom}
 use Rattle.asn1_tree.specs.Known.{Known}
 use Rattle.asn1_tree.specs.Reading.{Body, Status, Logs}
@@ -11,9 +11,8 @@ invariant-additions l = record {
   status : (left : ℕ) (known : Known) → l.index + left ≡ l.node.parts.start + l.node.parts.count → Status l.verdict
       (λ rules. Body l.opened.marked l.opened.beyond.now (AreFrom (IsValue (types_in l.schema.octets.now) l.depth) (IsAny l.depth) rules (types_in l.schema.octets.now) l.node left l.index known) l.rest)
       (λ rules. Body l.opened.marked l.opened.beyond.now (AreFrom (IsValue (types_in l.schema.octets.now) l.depth) (IsAny l.depth) rules (types_in l.schema.octets.now) l.node left l.index known) l.opened.inside.octets.now);
-  log : Logs l.verdict l.fn.tree.departures.items l.tree.departures.items;
+  log : Logs l.verdict l.fn.notes l.notes;
   shorter : length l.rest ≤ length l.opened.inside.octets.now;
-  grows : vec_len l.fn.tree.entries ≤ vec_len l.tree.entries;
 }
 
 abbrev pub decreases-additions : goal.decreases-additions

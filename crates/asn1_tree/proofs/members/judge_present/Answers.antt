@@ -17,7 +17,6 @@ loop-k-preserved c = record {
   low = omega (arith, c.loop-k.invariant.low);
   exact = λ rules. (forward rules, backward rules);
   log = logs_is c.and-verdict.ensures (logs_then c.loop-k.invariant.log c.in_ok-present.ensures.log);
-  grows = c.in_ok-present.ensures.entries ∙ c.loop-k.invariant.grows;
 }
   where
     IsThere : ℕ → Field → Type 0

@@ -15,6 +15,5 @@ invariant-loop-k l = record {
   exact : (rules : EncodingRules) → (holds rules l.verdict ≡ true)
       ↔ ((k : ℕ) (f : Field) → k < l.k → IsFieldOf (types_in l.schema.octets.now) l.fn.node k f
       → MayBeAbsent f ⊎ (is_seen l.seen k ≡ true));
-  log : Logs l.verdict l.fn.tree.departures.items l.tree.departures.items;
-  grows : l.tree.entries.items ≡ l.fn.tree.entries.items;
+  log : Logs l.verdict l.fn.notes l.notes;
 }

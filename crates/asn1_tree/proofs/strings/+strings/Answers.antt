@@ -61,7 +61,6 @@ segments-segments-preserved t c =
       text = c.in_ok-outcome.ensures.text;
       log = logs_is verdict (logs_then c.segments.invariant.log (logs_then c.in_ok-whole.ensures.log c.in_ok-outcome.ensures.log));
       shorter = omega (arith, c.segments.invariant.shorter, c.in_ok-outcome.ensures.shorter, ap length c.at-place.ensures.octets);
-      grows = omega (arith, c.segments.invariant.grows, c.in_ok-outcome.ensures.grows, ap length c.in_ok-whole.ensures.entries);
     }
 
 pub segments-returns-clause-reads : goal.segments-returns-clause-reads

@@ -1,4 +1,4 @@
-use Rattle.std.proofs.Common.{◌*◌, ◌+◌, ◌≤◌, length, vec_len}
+use Rattle.std.proofs.Common.{◌*◌, ◌+◌, ◌≤◌, length}
 use Rattle.asn1_tree.specs.Reading.{Logs}
 use Rattle.asn1_tree.specs.Strings.{IsSegment}
 use Rattle.asn1_tree.specs.StringReading.{IsText, MoreAfter, Stage}
@@ -19,9 +19,8 @@ invariant-segments-segments l = record {
       (MoreAfter l.opened.marked l.opened.beyond.now l.bits (IsSegment l.depth l.bits) l.text.items l.rest)
       (MoreAfter l.opened.marked l.opened.beyond.now l.bits (IsSegment l.depth l.bits) l.fn.text.items l.opened.inside.octets.now);
   text : IsText l.bits l.text.items;
-  log : Logs l.verdict l.fn.tree.departures.items l.tree.departures.items;
+  log : Logs l.verdict l.fn.notes l.notes;
   shorter : length l.rest ≤ length l.opened.inside.octets.now;
-  grows : vec_len l.fn.tree.entries ≤ vec_len l.tree.entries;
 }
 
 abbrev pub decreases-segments-segments : goal.decreases-segments-segments

@@ -1,4 +1,4 @@
-use Rattle.std.proofs.Common.{◌*◌, ◌+◌, ◌≤◌, ℕ, List, false, length, vec_len}
+use Rattle.std.proofs.Common.{◌*◌, ◌+◌, ◌≤◌, ℕ, List, false, length}
 use Rattle.asn1_tree.specs.Items.{IsAnyCount, SomeItems}
 use Rattle.asn1_tree.specs.Value.{IsAny}
 use Rattle.asn1_tree.specs.Reading.{Body, Status, Logs}
@@ -19,9 +19,8 @@ invariant-elements-elements l = record {
   status : (before : List ℕ) × Status l.verdict
       (λ rules. Body l.opened.marked l.opened.beyond.now (Items false rules (IsAny l.depth rules) IsAnyCount before) l.rest)
       (λ rules. Body l.opened.marked l.opened.beyond.now (SomeItems false rules (IsAny l.depth rules) IsAnyCount) l.opened.inside.octets.now);
-  log : Logs l.verdict l.fn.tree.departures.items l.tree.departures.items;
+  log : Logs l.verdict l.fn.notes l.notes;
   shorter : length l.rest ≤ length l.opened.inside.octets.now;
-  grows : vec_len l.fn.tree.entries ≤ vec_len l.tree.entries;
 }
 
 abbrev pub decreases-elements-elements : goal.decreases-elements-elements
