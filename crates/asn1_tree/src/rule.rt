@@ -42,6 +42,8 @@ pub enum Rule {
     ValueRange,
     /// A size is none of the sizes (51.5).
     Size,
+    /// A character is none of the permitted alphabet (51.7).
+    Alphabet,
     /// The number of an ENUMERATED is none of its items (20).
     Unlisted,
     /// Elements are nested more than 64 deep.
