@@ -3,3 +3,4 @@
 
 mod alphabets;
 mod entries;
+mod rules;
