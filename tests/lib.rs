@@ -11,6 +11,8 @@ mod asn1_compiler;
 #[cfg(test)]
 mod asn1_contents;
 #[cfg(test)]
+mod asn1_cursor;
+#[cfg(test)]
 mod asn1_schema;
 #[cfg(test)]
 mod asn1_tree;

@@ -5,6 +5,8 @@ use Rattle.std.specs.Str.{is_utf8, chars}
 use Rattle.ber.specs.declared.universal.Universal.{Universal}
 use Rattle.ber.specs.declared.universal.Universal.TheVariants.{BitString, Utf8String, UniversalString, BmpString}
 use Rattle.der_asn1.specs.NamedBits.{bit_count}
+use Rattle.asn1_contents.specs.declared.codes.Codes.{Codes}
+use Rattle.asn1_contents.specs.declared.codes.Codes.TheVariants.{Octets, Pairs, Fours, Text}
 
 -- codes of two octets, and of four; octets of a code that is not whole are left out
 abbrev pub codes_of_two : List ℕ → List ℕ
@@ -27,6 +29,13 @@ characters_of Utf8String octets = if is_utf8 octets then chars octets else octet
 characters_of BmpString octets = codes_of_two octets
 characters_of UniversalString octets = codes_of_four octets
 characters_of universal octets = octets
+
+-- the codes that are left of those
+abbrev pub codes_left : Codes → List ℕ
+codes_left (Octets octets) = octets.now
+codes_left (Pairs octets) = codes_of_two octets.now
+codes_left (Fours octets) = codes_of_four octets.now
+codes_left (Text text) = chars text.now
 
 -- the size of contents: the bits of a BIT STRING, the characters of a character string, the octets
 -- of any other type

@@ -4,119 +4,119 @@ ghost use Rattle.std.specs.Prelude.{◌≡◌};
 use std::fmt;
 
 /// A rule of the contents octets of a primitive encoding (X.690 8.2 to 8.26, 11). Each is what the
-/// standard demands; the rules of a type stand in the order in which they are checked.
+/// standard demands, in the section that [`ContentsRule::section`] returns; the rules of a type stand
+/// in the order in which they are checked.
 #[derive(Debug, Clone, Copy, PartialEq, Eq)]
 pub enum ContentsRule {
-    /// A BOOLEAN has one octet (8.2.1).
+    /// A BOOLEAN has one octet.
     BooleanLength,
-    /// The octet of a BOOLEAN is `0x00` or `0xFF` (11.1).
+    /// The octet of a BOOLEAN is `0x00` or `0xFF`.
     BooleanValue,
-    /// An INTEGER or ENUMERATED has one octet or more (8.3.1).
+    /// An INTEGER or ENUMERATED has one octet or more.
     IntegerEmpty,
-    /// The first nine bits of an INTEGER or ENUMERATED are not all equal (8.3.2).
+    /// The first nine bits of an INTEGER or ENUMERATED are not all equal.
     IntegerLong,
-    /// A BIT STRING has an initial octet (8.6.2.1).
+    /// A BIT STRING has an initial octet.
     BitStringEmpty,
-    /// The initial octet of a BIT STRING, the number of unused bits, is zero to seven (8.6.2.2).
+    /// The initial octet of a BIT STRING, the number of unused bits, is zero to seven.
     UnusedBits,
-    /// The initial octet of a BIT STRING without bits is zero (8.6.2.3).
+    /// The initial octet of a BIT STRING without bits is zero.
     UnusedBitsOfNone,
-    /// Each unused bit is zero (11.2.1).
+    /// Each unused bit is zero.
     UnusedBitsNotZero,
-    /// A BIT STRING with named bits has no trailing zero bits (11.2.2).
+    /// A BIT STRING with named bits has no trailing zero bits.
     TrailingZeroBits,
-    /// A NULL has no octets (8.8.2).
+    /// A NULL has no octets.
     NullLength,
-    /// An OBJECT IDENTIFIER or RELATIVE-OID has one subidentifier or more (8.19.2).
+    /// An OBJECT IDENTIFIER or RELATIVE-OID has one subidentifier or more.
     IdentifierEmpty,
-    /// Bit 8 of the last octet of an OBJECT IDENTIFIER or RELATIVE-OID is zero (8.19.2).
+    /// Bit 8 of the last octet of an OBJECT IDENTIFIER or RELATIVE-OID is zero.
     IdentifierCut,
-    /// No subidentifier begins with octet `0x80` (8.19.2).
+    /// No subidentifier begins with octet `0x80`.
     IdentifierLong,
-    /// A special value of REAL is one octet, `0x40` to `0x43` (8.5.9).
+    /// A special value of REAL is one octet, `0x40` to `0x43`.
     RealSpecial,
-    /// The base of a binary REAL is not the reserved one (8.5.7.2).
+    /// The base of a binary REAL is not the reserved one.
     RealBase,
     /// The exponent of a binary REAL has as many octets as are announced; if they are counted,
-    /// there is one at least, and the first nine bits are not all equal (8.5.7.4).
+    /// there is one at least, and the first nine bits are not all equal.
     RealExponent,
-    /// A decimal REAL is a number of the form NR1, NR2 or NR3 of ISO 6093 (8.5.8).
+    /// A decimal REAL is a number of the form NR1, NR2 or NR3 of ISO 6093.
     RealDecimal,
-    /// A REAL that is zero has no octets, or is the special value minus zero (8.5.2).
+    /// A REAL that is zero has no octets, or is the special value minus zero.
     RealZero,
-    /// A binary REAL has base 2 and scaling factor zero (11.3.1).
+    /// A binary REAL has base 2 and scaling factor zero.
     RealBaseTwo,
     /// The exponent of a binary REAL has the fewest octets, which are counted only if there are
-    /// more than three (11.3.1).
+    /// more than three.
     RealExponentLong,
-    /// The mantissa of a binary REAL is odd and has the fewest octets (11.3.1).
+    /// The mantissa of a binary REAL is odd and has the fewest octets.
     RealMantissa,
-    /// A decimal REAL has the form NR3 (11.3.2.1).
+    /// A decimal REAL has the form NR3.
     RealForm,
     /// The digits of a decimal REAL are `[-]m.E[-]e` or `[-]m.E+0`, where `m` neither begins nor
-    /// ends with 0, and `e` does not begin with 0 (11.3.2.2 to 11.3.2.6).
+    /// ends with 0, and `e` does not begin with 0.
     RealDigits,
-    /// A UTF8String is UTF-8, each character in the fewest octets (8.23.10).
+    /// A UTF8String is UTF-8, each character in the fewest octets.
     Utf8Characters,
-    /// A NumericString has digits and spaces (X.680 41.2).
+    /// A NumericString has digits and spaces.
     NumericCharacters,
-    /// A PrintableString has letters, digits, spaces and `'()+,-./:=?` (X.680 41.4).
+    /// A PrintableString has letters, digits, spaces and `'()+,-./:=?`.
     PrintableCharacters,
-    /// An IA5String has characters of 7 bits (X.680 41.1).
+    /// An IA5String has characters of 7 bits.
     Ia5Characters,
-    /// A VisibleString has spaces and printing characters of 7 bits (X.680 41.1).
+    /// A VisibleString has spaces and printing characters of 7 bits.
     VisibleCharacters,
-    /// A UniversalString has whole characters of four octets, each at most 10FFFF and no surrogate
-    /// (8.23.7).
+    /// A UniversalString has whole characters of four octets, each at most 10FFFF and no surrogate.
     UniversalCharacters,
-    /// A BMPString has whole characters of two octets, none of which is a surrogate (8.23.8).
+    /// A BMPString has whole characters of two octets, none of which is a surrogate.
     BmpCharacters,
-    /// A UTCTime has the form `YYMMDDhhmm[ss](Z|+hhmm|-hhmm)` (X.680 47).
+    /// A UTCTime has the form `YYMMDDhhmm[ss](Z|+hhmm|-hhmm)`.
     UtcTimeForm,
     /// The date, the time and the difference of a UTCTime exist; its year is one from 1950 to 2049,
-    /// and second 60 does not exist (X.680 47).
+    /// and second 60 does not exist.
     UtcTimeExists,
-    /// A UTCTime ends in Z (11.8.1).
+    /// A UTCTime ends in Z.
     UtcTimeZone,
-    /// A UTCTime has seconds (11.8.2).
+    /// A UTCTime has seconds.
     UtcTimeSeconds,
-    /// A GeneralizedTime has the form `YYYYMMDDhh[mm[ss]][(.|,)f..][Z|+hh[mm]|-hh[mm]]` (X.680 46).
+    /// A GeneralizedTime has the form `YYYYMMDDhh[mm[ss]][(.|,)f..][Z|+hh[mm]|-hh[mm]]`.
     GeneralizedTimeForm,
     /// The date, the time and the difference of a GeneralizedTime exist; second 60 and hour 24 do
-    /// not (X.680 46).
+    /// not.
     GeneralizedTimeExists,
-    /// A GeneralizedTime ends in Z (11.7.1).
+    /// A GeneralizedTime ends in Z.
     GeneralizedTimeZone,
-    /// A GeneralizedTime has seconds (11.7.2).
+    /// A GeneralizedTime has seconds.
     GeneralizedTimeSeconds,
-    /// A fraction of a second does not end in 0 (11.7.3).
+    /// A fraction of a second does not end in 0.
     GeneralizedTimeFraction,
-    /// A fraction of a second begins with a full stop (11.7.4).
+    /// A fraction of a second begins with a full stop.
     GeneralizedTimePoint,
-    /// A TIME has printing characters, one at least. Its form is not checked (8.25).
+    /// A TIME has printing characters, one at least. Its form is not checked.
     TimeCharacters,
-    /// A DATE has the form `YYYYMMDD` (8.26).
+    /// A DATE has the form `YYYYMMDD`.
     DateForm,
-    /// The date of a DATE exists, in a year from 1582 on (8.26).
+    /// The date of a DATE exists, in a year from 1582 on.
     DateExists,
-    /// A TIME-OF-DAY has the form `hhmmss` (8.26).
+    /// A TIME-OF-DAY has the form `hhmmss`.
     TimeOfDayForm,
-    /// The time of a TIME-OF-DAY exists; 24:00:00 does, second 60 does not (8.26).
+    /// The time of a TIME-OF-DAY exists; 24:00:00 does, second 60 does not.
     TimeOfDayExists,
-    /// A DATE-TIME has the form `YYYYMMDDhhmmss` (8.26).
+    /// A DATE-TIME has the form `YYYYMMDDhhmmss`.
     DateTimeForm,
-    /// The date and the time of a DATE-TIME exist, as those of DATE and TIME-OF-DAY (8.26).
+    /// The date and the time of a DATE-TIME exist, as those of DATE and TIME-OF-DAY.
     DateTimeExists,
-    /// A DURATION has printing characters, one at least. Its form is not checked (8.26).
+    /// A DURATION has printing characters, one at least. Its form is not checked.
     DurationCharacters,
-    /// An OID-IRI or RELATIVE-OID-IRI is UTF-8 (8.21).
+    /// An OID-IRI or RELATIVE-OID-IRI is UTF-8.
     IriUtf8,
-    /// An OID-IRI begins with a solidus (8.21).
+    /// An OID-IRI begins with a solidus.
     IriSolidus,
-    /// A RELATIVE-OID-IRI has one character or more, and does not begin with a solidus (8.22).
+    /// A RELATIVE-OID-IRI has one character or more, and does not begin with a solidus.
     RelativeIriSolidus,
     /// The type has no primitive encodings: it is SEQUENCE, SET, EXTERNAL, EMBEDDED PDV or
-    /// CHARACTER STRING (8.9 to 8.11, 8.17, 8.18, 8.24).
+    /// CHARACTER STRING.
     Constructed,
 }
 
@@ -174,7 +174,7 @@ impl ContentsRule {
             | ContentsRule::RealExponentLong
             | ContentsRule::RealMantissa => "X.690 11.3.1",
             ContentsRule::RealForm => "X.690 11.3.2.1",
-            ContentsRule::RealDigits => "X.690 11.3.2",
+            ContentsRule::RealDigits => "X.690 11.3.2.2 to 11.3.2.6",
             ContentsRule::Utf8Characters => "X.690 8.23.10",
             ContentsRule::NumericCharacters => "X.680 41.2",
             ContentsRule::PrintableCharacters => "X.680 41.4",

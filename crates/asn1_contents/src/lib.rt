@@ -3,8 +3,8 @@
 //!
 //! [`broken_rule`] is for any type, [`named_bits_rule`] for a BIT STRING with named bits. A
 //! [`ContentsRule`] has its section, and says whether contents that break it are still BER.
-//! [`is_in_range`], [`size_of`] and [`are_characters_in`] read what constraints are about. Nothing here
-//! allocates.
+//! [`is_in_range`], [`size_of`], [`Codes`] and [`are_characters_in`] read what constraints are about.
+//! Nothing here allocates.
 //!
 //! Proved: the first broken rule is found exactly, so it is known which contents are DER, which are BER
 //! alone, and which are neither; and for each type that `der_asn1` reads, the contents that are DER are
@@ -14,6 +14,7 @@
 mod alphabet;
 mod broken;
 mod characters;
+mod codes;
 mod contents_rule;
 mod decimal;
 mod decimal_text;
@@ -32,6 +33,7 @@ mod zone;
 
 pub use alphabet::are_characters_in;
 pub use broken::{broken_rule, named_bits_rule};
+pub use codes::Codes;
 pub use contents_rule::ContentsRule;
 pub use range::is_in_range;
 pub use rules::{named_bits_rules, rules_of};

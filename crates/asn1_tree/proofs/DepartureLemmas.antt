@@ -40,6 +40,7 @@ rule_departs rule.Missing = inr refl
 rule_departs rule.Unexpected = inr refl
 rule_departs rule.ValueRange = inr refl
 rule_departs rule.Size = inr refl
+rule_departs rule.Alphabet = inr refl
 rule_departs rule.Unlisted = inr refl
 rule_departs rule.Depth = inr refl
 

@@ -1,21 +1,23 @@
--- Constraints on values (X.680 51): value ranges, sizes, named bits, and the numbers of an ENUMERATED.
+-- Constraints on values (X.680 51): value ranges, sizes, permitted alphabets, named bits, and the numbers
+-- of an ENUMERATED.
 use Rattle.std.specs.Prelude.{◌≡◌, ◌-◌, ◌^◌, min, ℕ, ℤ, pos, true, List, slice_get, Some, ◌⊎◌}
+use Rattle.std.specs.List.{AllByRecursion}
 use Rattle.der_base.specs.declared.encoding_rules.EncodingRules.{EncodingRules}
 use Rattle.ber.specs.declared.universal.Universal.{Universal}
-use Rattle.ber.specs.declared.universal.Universal.TheVariants.{Integer, Enumerated, BitString}
-use Rattle.asn1_contents.specs.Characters.{size_of}
+use Rattle.ber.specs.declared.universal.Universal.TheVariants.{Integer, Enumerated, BitString, Utf8String, NumericString, PrintableString, TeletexString, VideotexString, Ia5String, GraphicString, VisibleString, GeneralString, UniversalString, BmpString}
+use Rattle.asn1_contents.specs.Characters.{size_of, characters_of}
 use Rattle.asn1_contents.specs.Contents.{IsNamedBits}
 use Rattle.asn1_contents.specs.Values.{integer_value, IsInRange}
 use Rattle.asn1_schema.specs.Allowed.{IsLimitOf, IsAllowed}
 use Rattle.asn1_schema.specs.Table.{Table}
 use Rattle.asn1_schema.specs.Tags.{IsPart}
 use Rattle.asn1_schema.specs.declared.limit.Limit.{Limit}
-use Rattle.asn1_schema.specs.declared.limit_kind.LimitKind.TheVariants.{Value, Size}
+use Rattle.asn1_schema.specs.declared.limit_kind.LimitKind.TheVariants.{Value, Size, Alphabet}
 use Rattle.asn1_schema.specs.declared.name.Name.{Name}
 use Rattle.asn1_schema.specs.declared.node.Node.{Node}
 use Rattle.asn1_schema.specs.declared.span.Span.{Span}
 use Rattle.asn1_tree.specs.declared.bound.Bound.{Bound}
-use Rattle.asn1_tree.specs.declared.bound.Bound.TheVariants.{Numbers, Items, Bits, Sizes}
+use Rattle.asn1_tree.specs.declared.bound.Bound.TheVariants.{Numbers, Items, Bits, Characters, Sizes}
 
 -- a number is in one of the value ranges, or there is none (51.4)
 pub data IsAllowedValue (t : Table) (limits : Span) (number : ℤ) : Type 0 where
@@ -30,6 +32,14 @@ counted size = min size (2 ^ 63 - 1)
 -- a size is one of the sizes, or there is none (51.5)
 abbrev pub IsAllowedSize : Table → Span → ℕ → Type 0
 IsAllowedSize t limits size = IsAllowed t limits Size (pos (counted size))
+
+-- the code of a character is in the permitted alphabet, or there is none (51.7)
+abbrev pub IsAllowedCode : Table → Span → ℕ → Type 0
+IsAllowedCode t limits code = IsAllowed t limits Alphabet (pos code)
+
+-- those of all characters are
+abbrev pub AreAllowedCodes : Table → Span → List ℕ → Type 0
+AreAllowedCodes t limits codes = AllByRecursion (IsAllowedCode t limits) codes
 
 -- a number is that of one of the names (20)
 pub record IsListed (t : Table) (names : Span) (number : ℤ) : Type 0 where
@@ -48,6 +58,17 @@ abbrev pub bound_of : Universal → Bound
 bound_of Integer = Numbers
 bound_of Enumerated = Items
 bound_of BitString = Bits
+bound_of Utf8String = Characters
+bound_of NumericString = Characters
+bound_of PrintableString = Characters
+bound_of TeletexString = Characters
+bound_of VideotexString = Characters
+bound_of Ia5String = Characters
+bound_of GraphicString = Characters
+bound_of VisibleString = Characters
+bound_of GeneralString = Characters
+bound_of UniversalString = Characters
+bound_of BmpString = Characters
 bound_of u = Sizes
 
 -- contents of a primitive encoding of a node keep constraints
@@ -58,6 +79,8 @@ AreKept Items rules t n u inner =
 AreKept Bits rules t n u inner =
     IsAllowedSize t n.limits (size_of u inner)
     × ((n.parts.count ≡ 0) ⊎ IsNamedBits rules inner)
+AreKept Characters rules t n u inner =
+    IsAllowedSize t n.limits (size_of u inner) × AreAllowedCodes t n.limits (characters_of u inner)
 AreKept Sizes rules t n u inner = IsAllowedSize t n.limits (size_of u inner)
 
 -- they keep those of the node

@@ -13,6 +13,8 @@ pub(crate) enum Bound {
     Items,
     /// The size of a BIT STRING, and its named bits.
     Bits,
+    /// The size of a restricted character string, and its characters.
+    Characters,
     /// The size of another type.
     Sizes,
 }
@@ -26,6 +28,17 @@ impl Bound {
             Universal::Integer => Bound::Numbers,
             Universal::Enumerated => Bound::Items,
             Universal::BitString => Bound::Bits,
+            Universal::Utf8String
+            | Universal::NumericString
+            | Universal::PrintableString
+            | Universal::TeletexString
+            | Universal::VideotexString
+            | Universal::Ia5String
+            | Universal::GraphicString
+            | Universal::VisibleString
+            | Universal::GeneralString
+            | Universal::UniversalString
+            | Universal::BmpString => Bound::Characters,
             _ => Bound::Sizes,
         }
     }

@@ -13,6 +13,7 @@ ghost use Rattle.asn1_tree.specs.Rule.{verdict_of_option};
 ghost use Rattle.asn1_tree.specs.Types.{types_in};
 ghost use Rattle.asn1_tree.specs.Verdict.{holds};
 
+use crate::alphabet::text_rule;
 use crate::bound::Bound;
 use crate::rule::Rule;
 use crate::types::{is_size_allowed, limit_of, name_of};
@@ -111,6 +112,7 @@ pub(crate) fn constraint_rule(
                 Some(Rule::Size)
             }
         }
+        Bound::Characters => text_rule(schema, node.limits, universal, contents),
         Bound::Sizes => size_rule(schema, node.limits, universal, contents),
     }
 }
@@ -144,7 +146,8 @@ fn size_rule(
     }
 }
 
-fn has_allowed_size(
+/// Whether the size of contents is one of the sizes of a node.
+pub(crate) fn has_allowed_size(
     schema: &Schema<'_>,
     limits: Span,
     universal: Universal,

@@ -16,9 +16,8 @@
 //!
 //! # What it does not do
 //!
-//! It does not check permitted alphabets, nor CONTAINING in a BIT STRING or in a string in the
-//! constructed form. The contents of a SET with components, and those of EXTERNAL and its kin, are
-//! read as elements of any type. Among these a string in the constructed form is no encoding, though
+//! It does not check CONTAINING in a BIT STRING or in a string in the constructed form. The contents
+//! of a SET with components, and those of EXTERNAL and its kin, are read as elements of any type. Among these a string in the constructed form is no encoding, though
 //! BER allows it; nor is a value with an extension addition that the table does not have. The OBJECT
 //! IDENTIFIER that chooses an open type has to be in the innermost SEQUENCE around it. Sizes are
 //! counted up to 2^63 - 1. Values are nested at most 64 deep.
@@ -29,6 +28,7 @@
 #![tactic(auto)]
 
 mod additions;
+mod alphabet;
 mod bound;
 mod chosen;
 mod components;

@@ -1,54 +1,57 @@
 //! Rules.
 ghost use Rattle.std.specs.Prelude.{◌≡◌};
-ghost use Rattle.asn1_tree.specs.Rule.{verdict_of_rule, verdict_of_contents};
+ghost use Rattle.asn1_tree.specs.Rule.{verdict_of_rule, verdict_of_contents, section_of_rule};
 
 use crate::verdict::Verdict;
 use asn1_contents::ContentsRule;
+use std::fmt;
 
-/// A rule that octets break.
+/// A rule that octets break. [`Rule::section`] says where it stands.
 #[derive(Debug, Clone, Copy, PartialEq, Eq)]
 pub enum Rule {
-    /// A length has more octets than needed (X.690 10.1).
+    /// A length has more octets than needed.
     LongLength,
-    /// A length is indefinite (10.1).
+    /// A length is indefinite.
     IndefiniteLength,
-    /// The encodings in a SET OF are not in ascending order (11.6).
+    /// The encodings in a SET OF are not in ascending order.
     SetOrder,
-    /// The components of a SET are not in the order of their tags (10.3).
+    /// The components of a SET are not in the order of their tags.
     ComponentOrder,
-    /// The value of a DEFAULT is encoded (11.5).
+    /// The value of a DEFAULT is encoded.
     DefaultEncoded,
-    /// A string is constructed (10.2).
+    /// A string is constructed.
     ConstructedString,
-    /// A segment of a BIT STRING follows one with unused bits (8.6.4.1).
+    /// A segment of a BIT STRING follows one with unused bits.
     UnusedBits,
-    /// There is no header (8.1.2, 8.1.3).
+    /// There is no header.
     Header,
-    /// The contents of an element are cut off (8.1.4).
+    /// The contents of an element are cut off.
     Truncated,
-    /// End-of-contents octets where an element should be (8.1.5).
+    /// End-of-contents octets where an element should be.
     EndOfContents,
-    /// The end-of-contents octets of an indefinite length are missing (8.1.5).
+    /// The end-of-contents octets of an indefinite length are missing.
     Unended,
-    /// The encoding is primitive where the type is constructed, or the other way round (8.2 to 8.26).
+    /// The encoding is primitive where the type is constructed, or the other way round.
     Form,
     /// Contents of a primitive encoding break a rule of their type.
     Contents(ContentsRule),
-    /// The tag is none of the type (X.680 31).
+    /// The tag is none of the type.
     Tag,
-    /// A component of a SET is there twice (X.680 27).
+    /// A component of a SET is there twice.
     Duplicate,
-    /// A component is missing (X.680 25).
+    /// A component is missing.
     Missing,
     /// An element follows the last component, or the value.
     Unexpected,
-    /// A number is in none of the value ranges (X.680 51.4).
+    /// A number is in none of the value ranges.
     ValueRange,
-    /// A size is none of the sizes (51.5).
+    /// A size is none of the sizes.
     Size,
-    /// The number of an ENUMERATED is none of its items (20).
+    /// A character is none of the permitted alphabet.
+    Alphabet,
+    /// The number of an ENUMERATED is none of its items.
     Unlisted,
-    /// Elements are nested more than 64 deep.
+    /// Elements are nested more than 64 deep: a limit of the reader.
     Depth,
 }
 
@@ -67,6 +70,67 @@ impl Rule {
             Rule::Contents(rule) => contents_verdict(rule),
             _ => Verdict::Neither,
         }
+    }
+
+    /// The section that has the rule, with its standard.
+    pub const fn section(self) -> &'static str
+        ensures { result.now ≡ section_of_rule self }
+    {
+        match self {
+            Rule::LongLength => "X.690 10.1",
+            Rule::IndefiniteLength => "X.690 10.1",
+            Rule::SetOrder => "X.690 11.6",
+            Rule::ComponentOrder => "X.690 10.3",
+            Rule::DefaultEncoded => "X.690 11.5",
+            Rule::ConstructedString => "X.690 10.2",
+            Rule::UnusedBits => "X.690 8.6.4.1",
+            Rule::Header => "X.690 8.1.2, 8.1.3",
+            Rule::Truncated => "X.690 8.1.4",
+            Rule::EndOfContents => "X.690 8.1.5",
+            Rule::Unended => "X.690 8.1.5",
+            Rule::Form => "X.690 8.2 to 8.26",
+            Rule::Contents(rule) => rule.section(),
+            Rule::Tag => "X.680 31",
+            Rule::Duplicate => "X.680 27",
+            Rule::Missing => "X.680 25, 27",
+            Rule::Unexpected => "X.690 8.1.1, 8.9.2",
+            Rule::ValueRange => "X.680 51.4",
+            Rule::Size => "X.680 51.5",
+            Rule::Alphabet => "X.680 51.7",
+            Rule::Unlisted => "X.680 20",
+            Rule::Depth => "no section",
+        }
+    }
+}
+
+/// Prints how octets break the rule, in a few words.
+impl fmt::Display for Rule {
+    fn fmt<W: fmt::Write>(&self, f: &mut fmt::Formatter<W>) -> fmt::Result {
+        let words = match self {
+            Rule::LongLength => "length in more octets than needed",
+            Rule::IndefiniteLength => "indefinite length",
+            Rule::SetOrder => "values of a SET OF out of order",
+            Rule::ComponentOrder => "components of a SET out of order",
+            Rule::DefaultEncoded => "encoded value of a DEFAULT",
+            Rule::ConstructedString => "constructed string",
+            Rule::UnusedBits => "segment after one with unused bits",
+            Rule::Header => "malformed header",
+            Rule::Truncated => "contents cut off",
+            Rule::EndOfContents => "end-of-contents octets in place of an element",
+            Rule::Unended => "missing end-of-contents octets",
+            Rule::Form => "primitive where the type is constructed, or the other way round",
+            Rule::Contents(rule) => return write!(f, "contents break a rule: {rule}"),
+            Rule::Tag => "tag of another type",
+            Rule::Duplicate => "component that is there twice",
+            Rule::Missing => "missing component",
+            Rule::Unexpected => "unexpected element",
+            Rule::ValueRange => "number in none of the value ranges",
+            Rule::Size => "size that is none of the sizes",
+            Rule::Alphabet => "character outside the permitted alphabet",
+            Rule::Unlisted => "number that is no item of the ENUMERATED",
+            Rule::Depth => "more than 64 levels of elements",
+        };
+        f.write_str(words)
     }
 }
 

@@ -10,7 +10,7 @@ ghost use Rattle.asn1_schema.specs.Chosen.{ChoosesRow, ChoosesNoRow};
 ghost use Rattle.asn1_schema.specs.declared.node_kind.NodeKind.TheVariants.{Open};
 ghost use Rattle.asn1_schema.specs.declared.open_type.OpenType.{OpenType as Other};
 ghost use Rattle.asn1_schema.specs.Span.{IsWithin};
-ghost use Rattle.asn1_tree.specs.Constraints.{IsAllowedSize, counted};
+ghost use Rattle.asn1_tree.specs.Constraints.{IsAllowedSize, IsAllowedCode, counted};
 ghost use Rattle.asn1_tree.specs.Types.{types_in};
 
 use asn1_schema::{Field, Limit, LimitKind, Name, Node, OpenType, Schema, Selected, Span};
@@ -104,6 +104,21 @@ pub(crate) fn is_size_allowed(schema: &Schema<'_>, limits: Span, size: usize) ->
     ensures { IsTrue result ↔ IsAllowedSize (types_in schema.now.octets.now) limits size }
 {
     schema.is_within_limits(limits, LimitKind::Size, saturated(size))
+}
+
+/// Whether the code of a character is in the permitted alphabet of a node.
+#[tactic(auto, unfolding(crate::specs::Types::types_in))]
+pub(crate) fn is_code_allowed(schema: &Schema<'_>, limits: Span, code: u32) -> bool
+    requires { IsWithin limits schema.now.counts.limits }
+    ensures { IsTrue result ↔ IsAllowedCode (types_in schema.now.octets.now) limits code }
+{
+    schema.is_within_limits(limits, LimitKind::Alphabet, signed(code))
+}
+
+fn signed(code: u32) -> i64
+    ensures { result ≡ pos code }
+{
+    code as i64
 }
 
 fn saturated(size: usize) -> i64

@@ -32,6 +32,10 @@ pub returns-else-has_allowed_size : goal.returns-else-has_allowed_size
 returns-else-has_allowed_size c =
     broken (λ r p. refuted c.has_allowed_size.ensures c.if-has_allowed_size.false (subst (λ b. AreKept b r (types_in c.args.schema.now.octets.now) c.args.node c.args.universal c.args.contents.now) (sym c.of.ensures ∙ c.in-Bits.is) p).0)
 
+pub returns-in-Characters : goal.returns-in-Characters
+returns-in-Characters c =
+    subst (λ b. (r : EncodingRules) → (holds r (verdict_of_option c.text_rule.result) ≡ true) ↔ AreKept b r (types_in c.args.schema.now.octets.now) c.args.node c.args.universal c.args.contents.now) (sym c.in-Characters.is ∙ c.of.ensures) c.text_rule.ensures
+
 pub returns-in-Sizes : goal.returns-in-Sizes
 returns-in-Sizes c =
     subst (λ b. (r : EncodingRules) → (holds r (verdict_of_option c.size_rule.result) ≡ true) ↔ AreKept b r (types_in c.args.schema.now.octets.now) c.args.node c.args.universal c.args.contents.now) (sym c.in-Sizes.is ∙ c.of.ensures) c.size_rule.ensures

@@ -1,0 +1,24 @@
+//! The search for children.
+ghost use Rattle.std.specs.Prelude.{◌<◌, ℕ, length, IfSome, IfNone};
+ghost use Rattle.asn1_cursor.specs.Children.{IsChild, IsFirstChild};
+
+use asn1_tree::Entry;
+
+/// The first child of an element from an index on.
+pub(crate) fn next_child(entries: &[Entry], parent: usize, from: usize) -> Option<usize>
+    requires { parent < length entries.now }
+    ensures some { IfSome result (IsFirstChild entries.now parent from) }
+    ensures none { IfNone result ((k : ℕ) → IsChild entries.now parent from k → ⊥) }
+{
+    let depth = entries[parent].depth;
+    for k in from..entries.len() {
+        let entry = entries[k];
+        if entry.depth <= depth {
+            return None;
+        }
+        if entry.parent == parent {
+            return Some(k);
+        }
+    }
+    None
+}

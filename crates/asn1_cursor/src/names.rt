@@ -1,0 +1,65 @@
+//! The names and the types of elements.
+ghost use Rattle.std.specs.Prelude.{◌≡◌, ℕ, List, Some, None, IfSome, IfNone, slice_get};
+ghost use Rattle.asn1_schema.specs.Node.{IsNode};
+ghost use Rattle.asn1_tree.specs.Types.{types_in};
+ghost use Rattle.asn1_cursor.specs.Names.{field_name, type_name, IsNamed};
+
+use crate::cursor::Cursor;
+use crate::rows;
+use asn1_schema::{Node, NodeKind};
+
+impl<'a> Cursor<'a> {
+    /// The name of the field that it is the component of, or of the alternative that it is, if it is of
+    /// no field.
+    pub fn name(self) -> Option<&'a str>
+        ensures some { IfSome result (λ s. IsNamed (types_in self.entry.schema.now.octets.now)
+            self.entry.entries.now s.now self.entry.index) }
+        ensures none { IfNone result ((s : List ℕ) → IsNamed
+            (types_in self.entry.schema.now.octets.now) self.entry.entries.now s self.entry.index → ⊥) }
+    {
+        let entry = self.entry();
+        match rows::field_name(self.schema, entry.field) {
+            Some(name) => Some(name),
+            None => rows::field_name(self.schema, entry.alternative),
+        }
+    }
+
+    /// The name of the alternative of a CHOICE that it is.
+    pub fn alternative(self) -> Option<&'a str>
+        ensures some { IfSome result (λ s. IfSome (slice_get self.entry.entries.now self.entry.index)
+            (λ e. field_name (types_in self.entry.schema.now.octets.now) e.alternative ≡ Some s.now)) }
+        ensures none { IfNone result (IfSome (slice_get self.entry.entries.now self.entry.index)
+            (λ e. field_name (types_in self.entry.schema.now.octets.now) e.alternative ≡ None)) }
+    {
+        rows::field_name(self.schema, self.entry().alternative)
+    }
+
+    /// Its type, if it has one in the table. An element that only a value of any type may have, or that
+    /// is unexpected, has none.
+    pub fn node(self) -> Option<Node>
+        ensures row { IfSome (slice_get self.entry.entries.now self.entry.index) (λ e.
+            slice_get (types_in self.entry.schema.now.octets.now).nodes e.kind ≡ result) }
+        ensures fits { IfSome result
+            (IsNode self.entry.schema.now.counts self.entry.schema.now.pool.now) }
+    {
+        rows::node_at(self.schema, self.entry().kind)
+    }
+
+    /// What kind of type it has.
+    pub fn kind(self) -> Option<NodeKind> {
+        match self.node() {
+            Some(node) => Some(node.kind),
+            None => None,
+        }
+    }
+
+    /// The name of its type; empty if the type has none.
+    pub fn type_name(self) -> Option<&'a str>
+        ensures some { IfSome result (λ s. IfSome (slice_get self.entry.entries.now self.entry.index)
+            (λ e. type_name (types_in self.entry.schema.now.octets.now) e.kind ≡ Some s.now)) }
+        ensures none { IfNone result (IfSome (slice_get self.entry.entries.now self.entry.index)
+            (λ e. type_name (types_in self.entry.schema.now.octets.now) e.kind ≡ None)) }
+    {
+        rows::type_name(self.schema, self.entry().kind)
+    }
+}

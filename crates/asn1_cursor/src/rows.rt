@@ -1,0 +1,78 @@
+//! Rows of a table of types, if they are there.
+ghost use Rattle.std.specs.Prelude.{◌≡◌, Some, None, IfSome, IfNone, slice_get};
+ghost use Rattle.asn1_schema.specs.Node.{IsNode};
+ghost use Rattle.asn1_tree.specs.Types.{types_in};
+ghost use Rattle.asn1_cursor.specs.Names.{field_name, type_name};
+
+use asn1_schema::{Node, NodeKind, Schema, Span};
+use ber::Universal;
+
+/// The node with an index.
+#[tactic(auto, unfolding(asn1_tree::specs::Types::types_in))]
+pub(crate) fn node_at(schema: &Schema<'_>, index: u32) -> Option<Node>
+    ensures row { slice_get (types_in schema.now.octets.now).nodes index ≡ result }
+    ensures fits { IfSome result (IsNode schema.now.counts schema.now.pool.now) }
+{
+    if index < schema.counts().nodes {
+        Some(schema.node(index))
+    } else {
+        None
+    }
+}
+
+/// The name of the field with an index.
+#[tactic(auto, unfolding(asn1_tree::specs::Types::types_in))]
+pub(crate) fn field_name<'a>(schema: &Schema<'a>, index: u32) -> Option<&'a str>
+    ensures some { IfSome result (λ s. field_name (types_in schema.now.octets.now) index ≡ Some s.now) }
+    ensures none { IfNone result (field_name (types_in schema.now.octets.now) index ≡ None) }
+{
+    if index < schema.counts().fields {
+        Some(schema.text_of(schema.field(index).name))
+    } else {
+        None
+    }
+}
+
+/// The name of the node with an index.
+#[tactic(auto, unfolding(asn1_tree::specs::Types::types_in))]
+pub(crate) fn type_name<'a>(schema: &Schema<'a>, index: u32) -> Option<&'a str>
+    ensures some { IfSome result (λ s. type_name (types_in schema.now.octets.now) index ≡ Some s.now) }
+    ensures none { IfNone result (type_name (types_in schema.now.octets.now) index ≡ None) }
+{
+    if index < schema.counts().nodes {
+        Some(schema.text_of(schema.node(index).name))
+    } else {
+        None
+    }
+}
+
+/// The name of a number of an INTEGER or an ENUMERATED.
+pub(crate) fn number_name<'a>(schema: &Schema<'a>, node: Node, number: i64) -> Option<&'a str>
+    requires { IsNode schema.now.counts schema.now.pool.now node }
+{
+    match node.kind {
+        NodeKind::Universal(Universal::Integer | Universal::Enumerated) => {
+            let name = schema.name_of_number(node.parts, number)?;
+            Some(schema.text_of(name.name))
+        }
+        _ => None,
+    }
+}
+
+/// The names of the bits of a BIT STRING.
+pub(crate) fn bit_names(node: Node) -> Span {
+    match node.kind {
+        NodeKind::Universal(Universal::BitString) => node.parts,
+        _ => Span { start: 0, count: 0 },
+    }
+}
+
+/// The number and the text of the name with an index.
+pub(crate) fn name_at<'a>(schema: &Schema<'a>, index: u32) -> Option<(i64, &'a str)> {
+    if index < schema.counts().names {
+        let name = schema.name(index);
+        Some((name.number, schema.text_of(name.name)))
+    } else {
+        None
+    }
+}
