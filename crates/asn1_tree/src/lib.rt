@@ -12,15 +12,16 @@
 //! the DER encoding of a certificate. Otherwise show each departure at its offset. If each has the
 //! verdict [`Verdict::Ber`], the octets are a BER encoding of a certificate. To print fields, go
 //! through `entries`: each has its type and its field, by index in the table, and the element
-//! around it.
+//! around it. [`is_der`] and [`is_ber`] give the same answers without a tree.
 //!
 //! # What it does not do
 //!
 //! It does not check CONTAINING in a BIT STRING or in a string in the constructed form. The contents
-//! of a SET with components, and those of EXTERNAL and its kin, are read as elements of any type. Among these a string in the constructed form is no encoding, though
-//! BER allows it; nor is a value with an extension addition that the table does not have. The OBJECT
-//! IDENTIFIER that chooses an open type has to be in the innermost SEQUENCE around it. Sizes are
-//! counted up to 2^63 - 1. Values are nested at most 64 deep.
+//! of EXTERNAL and its kin are read as elements of any type. Among these a string in the constructed
+//! form is no encoding, though BER allows it. An alternative of a CHOICE that the table does not have is a
+//! wrong tag, also after an extension marker. The OBJECT IDENTIFIER that chooses an open type has to be
+//! in the innermost SEQUENCE around it. Sizes are counted up to 2^63 - 1. Values are nested at most 64
+//! deep.
 //!
 //! Proved: there is no departure exactly if the octets are the DER encoding of a value of the node,
 //! and none but of rules that DER alone has exactly if they are a BER encoding of one. Not proved:
