@@ -1,8 +1,9 @@
 -- What lists of departures say of the octets.
-use Rattle.std.proofs.Common.{◌≡◌, ◌↔◌, ◌⊎◌, inl, inr, if◌then◌else◌, Bool, true, false, List, [], ◌∷◌, refl, sym, ◌∙◌, subst}
+use Rattle.std.proofs.Common.{◌≡◌, ◌↔◌, ◌⊎◌, inl, inr, if◌then◌else◌, Bool, true, false, List, [], ◌∷◌, refl, sym, ◌∙◌, subst, ℕ, ◌≤◌, ◌&&◌, not, nat_lt, ◌++◌}
 use Rattle.der_base.specs.declared.encoding_rules.EncodingRules.TheVariants as rules
 use Rattle.asn1_contents.specs.Rules.{is_of_der}
-use Rattle.asn1_tree.specs.Departures.{AreOfDer}
+use Rattle.std.proofs.lemmas.Bool.{le-ltb}
+use Rattle.asn1_tree.specs.Departures.{AreOfDer, are_inside}
 use Rattle.asn1_tree.specs.Reading.{verdict_of}
 use Rattle.asn1_tree.specs.Rule.{verdict_of_rule}
 use Rattle.asn1_tree.specs.Verdict.{holds, worst}
@@ -77,3 +78,17 @@ one_departs v w (inr e) rest = (
 pub some_depart : (ds : List Departure) → (holds rules.Ber (verdict_of ds) ≡ true) ↔ AreOfDer ds
 some_depart [] = ((λ on. tt), (λ are. refl))
 some_depart (d ∷ ds) = one_departs (verdict_of_rule d.rule) (verdict_of ds) (rule_departs d.rule) (some_depart ds)
+
+-- one more departure at such an offset
+pub inside_more : (n : ℕ) (ds : List Departure) (d : Departure) → are_inside n ds ≡ true → d.offset ≤ n → are_inside n (ds ++ d ∷ []) ≡ true
+inside_more n [] d all here = rw (le-ltb n d.offset here) refl
+inside_more n (e ∷ es) d all here = both (not (nat_lt n e.offset)) all (λ rest. inside_more n es d rest here)
+  where
+    both : (b : Bool) → b && are_inside n es ≡ true → (are_inside n es ≡ true → are_inside n (es ++ d ∷ []) ≡ true) → b && are_inside n (es ++ d ∷ []) ≡ true
+    both true rest more = more rest
+    both false rest more = absurd (cc)
+
+-- a departure that was added, or for which there was no memory
+pub inside_pushed : (n : ℕ) (ds new : List Departure) (d : Departure) (b : Bool) → new ≡ (if◌then◌else◌ b (ds ++ d ∷ []) ds) → are_inside n ds ≡ true → d.offset ≤ n → are_inside n new ≡ true
+inside_pushed n ds new d true e all here = rw e (inside_more n ds d all here)
+inside_pushed n ds new d false e all here = rw e all

@@ -1,8 +1,13 @@
 -- Lists of departures.
-use Rattle.std.specs.Prelude.{◌≡◌, List, [], ◌∷◌}
+use Rattle.std.specs.Prelude.{◌≡◌, ◌&&◌, not, nat_lt, ℕ, Bool, true, List, [], ◌∷◌}
 use Rattle.asn1_tree.specs.Rule.{verdict_of_rule}
 use Rattle.asn1_tree.specs.declared.departure.Departure.{Departure}
 use Rattle.asn1_tree.specs.declared.verdict.Verdict.TheVariants.{Ber}
+
+-- each is at one of so many octets, or at their end
+abbrev pub are_inside : ℕ → List Departure → Bool
+are_inside n [] = true
+are_inside n (d ∷ ds) = not (nat_lt n d.offset) && are_inside n ds
 
 -- each is from a rule that DER has and BER has not
 abbrev pub AreOfDer : List Departure → Type 0

@@ -1,5 +1,5 @@
 //! The reader of extension additions that a type does not have.
-ghost use Rattle.std.specs.Prelude.{◌≡◌, ◌↔◌, ◌+◌, ◌<◌, ◌≤◌, ℕ, true, false, IsTrue, length, IfOk};
+ghost use Rattle.std.specs.Prelude.{◌≡◌, ◌↔◌, ◌+◌, ◌<◌, ◌≤◌, ℕ, true, false, IsTrue, length, IfOk, OnOk};
 ghost use Rattle.asn1_schema.specs.Span.{IsWithin as IsRange};
 ghost use Rattle.asn1_schema.specs.Tags.{IsFieldOf};
 ghost use Rattle.asn1_schema.specs.declared.field.Field.{Field as AField};
@@ -36,6 +36,7 @@ pub(crate) fn additions<'a>(
 ) -> Result<Outcome<'a>, AllocError>
     requires there { IsRange node.parts schema.now.counts.fields }
     requires part { (node.parts.start ≤ index) × (index ≤ node.parts.start + node.parts.count) }
+    requires inside { opened.inside.end ≤ notes.old.end }
     ensures status { IfOk result (λ o. (left : ℕ) (known : Known)
         → index + left ≡ node.parts.start + node.parts.count → Status o.verdict
         (λ rules. Body opened.entry.marked opened.entry.beyond.now
@@ -46,6 +47,7 @@ pub(crate) fn additions<'a>(
         (types_in schema.now.octets.now) node left index known) opened.entry.inside.octets.now)) }
     ensures log { IfOk result (λ o. Logs o.verdict notes.old notes.new) }
     ensures shorter { IfOk result (λ o. length o.rest.now ≤ length opened.entry.inside.octets.now) }
+    ensures end { OnOk result (notes.new.end ≡ notes.old.end) }
 {
     let role = Role::inside(at);
     let mut verdict = Verdict::Der;

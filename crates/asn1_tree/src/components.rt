@@ -1,5 +1,5 @@
 //! The reader of components and items.
-ghost use Rattle.std.specs.Prelude.{◌≡◌, ◌+◌, ◌<◌, ◌≤◌, ℕ, [], Option, Some, None, slice_get, length, IsSome, IfOk};
+ghost use Rattle.std.specs.Prelude.{◌≡◌, ◌+◌, ◌<◌, ◌≤◌, ℕ, [], Option, Some, None, slice_get, length, IsSome, IfOk, OnOk};
 ghost use Rattle.asn1_tree.specs.Types.{types_in};
 ghost use Rattle.asn1_schema.specs.Node.{IsNode as IsRow};
 ghost use Rattle.asn1_schema.specs.Span.{IsWithin as IsRange};
@@ -49,6 +49,7 @@ pub(crate) fn components<'a>(
     requires there { IsRange node.parts schema.now.counts.fields }
     requires distinct { AreDistinct (types_in schema.now.octets.now) }
     requires row { (i : ℕ) × (slice_get (types_in schema.now.octets.now).nodes i ≡ Some node) }
+    requires inside { opened.inside.end ≤ notes.old.end }
     ensures finds { IfOk result (λ o. Finds (λ rules. Body opened.entry.marked opened.entry.beyond.now
         (AreFrom (IsValue (types_in schema.now.octets.now) depth) (IsAny depth) rules
         (types_in schema.now.octets.now) node node.parts.count node.parts.start None)
@@ -56,6 +57,7 @@ pub(crate) fn components<'a>(
     ensures shorter { IfOk result (λ o. length o.rest.now
         ≤ length opened.entry.inside.octets.now + length opened.entry.beyond.now) }
     ensures log { IfOk result (λ o. Logs o.verdict notes.old notes.new) }
+    ensures end { OnOk result (notes.new.end ≡ notes.old.end) }
 {
     let mut index = node.parts.start;
     let end = end_of(node.parts, schema.counts().fields);
@@ -106,6 +108,7 @@ fn component<'a>(
     requires part { (node.parts.start ≤ index) × (index < node.parts.start + node.parts.count) }
     requires distinct { AreDistinct (types_in schema.now.octets.now) }
     requires row { (i : ℕ) × (slice_get (types_in schema.now.octets.now).nodes i ≡ Some node) }
+    requires inside { opened.inside.end ≤ notes.old.end }
     ensures status { IfOk result (λ s. (left : ℕ) → index + (left + 1) ≡ node.parts.start + node.parts.count
         → Status s.verdict (λ rules. Body opened.entry.marked opened.entry.beyond.now
         (AreFrom (IsValue (types_in schema.now.octets.now) depth) (IsAny depth) rules
@@ -116,6 +119,7 @@ fn component<'a>(
         opened.entry.inside.octets.now)) }
     ensures log { IfOk result (λ s. Logs s.verdict notes.old notes.new) }
     ensures shorter { IfOk result (λ s. length s.rest.now ≤ length opened.entry.inside.octets.now) }
+    ensures end { OnOk result (notes.new.end ≡ notes.old.end) }
 {
     let field = field_of(schema, index);
     let place = opened.inside;
@@ -166,6 +170,7 @@ pub(crate) fn field_value<'a>(
 ) -> Result<Outcome<'a>, AllocError>
     requires there { index < schema.now.counts.fields }
     requires distinct { AreDistinct (types_in schema.now.octets.now) }
+    requires inside { place.end ≤ notes.old.end }
     ensures finds { IfOk result (λ o. (f : AField)
         → slice_get (types_in schema.now.octets.now).fields index ≡ Some f → Finds (λ rules. Front
         (IsComponent (IsValue (types_in schema.now.octets.now) depth) rules
@@ -175,6 +180,7 @@ pub(crate) fn field_value<'a>(
     ensures shorter { IfOk result (λ o. length o.rest.now ≤ length place.entry.octets.now) }
     ensures moves { IfOk result
         (λ o. 0 < length place.entry.octets.now → length o.rest.now < length place.entry.octets.now) }
+    ensures end { OnOk result (notes.new.end ≡ notes.old.end) }
 {
     let field = field_of(schema, index);
     let role = Role {
@@ -206,6 +212,7 @@ pub(crate) fn items<'a>(
     requires inner { IsSome node.inner }
     requires fits { IsRow schema.now.counts schema.now.pool.now node }
     requires distinct { AreDistinct (types_in schema.now.octets.now) }
+    requires inside { opened.inside.end ≤ notes.old.end }
     ensures finds { IfOk result (λ o. Finds (λ rules. Body opened.entry.marked opened.entry.beyond.now
         (λ inner. (i : ℕ) × (node.inner ≡ Some i) × SomeItems sorted rules
         (IsValue (types_in schema.now.octets.now) depth rules (known_in known.entry) i)
@@ -213,6 +220,7 @@ pub(crate) fn items<'a>(
     ensures shorter { IfOk result (λ o. length o.rest.now
         ≤ length opened.entry.inside.octets.now + length opened.entry.beyond.now) }
     ensures log { IfOk result (λ o. Logs o.verdict notes.old notes.new) }
+    ensures end { OnOk result (notes.new.end ≡ notes.old.end) }
 {
     let role = Role::inside(at);
     let item = inner_of(node);
@@ -252,12 +260,14 @@ pub(crate) fn explicit<'a>(
 ) -> Result<Outcome<'a>, AllocError>
     requires there { inner < schema.now.counts.nodes }
     requires distinct { AreDistinct (types_in schema.now.octets.now) }
+    requires inside { opened.inside.end ≤ notes.old.end }
     ensures finds { IfOk result (λ o. Finds (λ rules. Body opened.entry.marked opened.entry.beyond.now
         (IsValue (types_in schema.now.octets.now) depth rules (known_in known.entry) inner)
         opened.entry.inside.octets.now) o.verdict o.rest.now) }
     ensures shorter { IfOk result (λ o. length o.rest.now
         ≤ length opened.entry.inside.octets.now + length opened.entry.beyond.now) }
     ensures log { IfOk result (λ o. Logs o.verdict notes.old notes.new) }
+    ensures end { OnOk result (notes.new.end ≡ notes.old.end) }
 {
     let role = Role::inside(at);
     let outcome = value(

@@ -24,8 +24,9 @@
 //! deep.
 //!
 //! Proved: there is no departure exactly if the octets are the DER encoding of a value of the node,
-//! and none but of rules that DER alone has exactly if they are a BER encoding of one. Not proved:
-//! which rule a departure names, its offset, and the rows of the tree.
+//! and none but of rules that DER alone has exactly if they are a BER encoding of one. Each is at one
+//! of the octets, or at their end. Not proved: which rule it names, at which octet it is, and the rows
+//! of the tree.
 #![tactic(auto)]
 
 mod additions;
@@ -39,7 +40,9 @@ mod entry;
 mod known;
 mod members;
 mod notes;
+mod noting;
 mod opened;
+mod opening;
 mod order;
 mod outcome;
 mod place;

@@ -48,12 +48,14 @@ pub(crate) fn members<'a>(
     requires there { IsRange node.parts schema.now.counts.fields }
     requires distinct { AreDistinct (types_in schema.now.octets.now) }
     requires row { (i : ℕ) × (slice_get (types_in schema.now.octets.now).nodes i ≡ Some node) }
+    requires inside { opened.inside.end ≤ notes.old.end }
     ensures finds { IfOk result (λ o. Finds (λ rules. Body opened.entry.marked opened.entry.beyond.now
         (SomeMembers (IsValue (types_in schema.now.octets.now) depth) (IsAny depth) rules
         (types_in schema.now.octets.now) node [] []) opened.entry.inside.octets.now) o.verdict o.rest.now) }
     ensures shorter { IfOk result (λ o. length o.rest.now
         ≤ length opened.entry.inside.octets.now + length opened.entry.beyond.now) }
     ensures log { IfOk result (λ o. Logs o.verdict notes.old notes.new) }
+    ensures end { OnOk result (notes.new.end ≡ notes.old.end) }
 {
     let mut seen = Vec::new(alloc);
     let mut verdict = Verdict::Der;
@@ -99,6 +101,7 @@ fn member<'a>(
     requires there { IsRange node.parts schema.now.counts.fields }
     requires distinct { AreDistinct (types_in schema.now.octets.now) }
     requires row { (i : ℕ) × (slice_get (types_in schema.now.octets.now).nodes i ≡ Some node) }
+    requires inside { place.end ≤ notes.old.end }
     ensures finds { IfOk result (λ o. Finds (λ rules. Front (λ x. (after : List ℕ)
         × IsMember (IsValue (types_in schema.now.octets.now) depth) (IsAny depth) rules
         (types_in schema.now.octets.now) node seen.old.items x after) place.entry.octets.now)
@@ -110,6 +113,7 @@ fn member<'a>(
     ensures shorter { IfOk result (λ o. length o.rest.now ≤ length place.entry.octets.now) }
     ensures moves { IfOk result
         (λ o. 0 < length place.entry.octets.now → length o.rest.now < length place.entry.octets.now) }
+    ensures end { OnOk result (notes.new.end ≡ notes.old.end) }
 {
     match find_member(schema, node, place.octets) {
         Some(index) => {
@@ -177,10 +181,12 @@ fn judge_present(
     at: usize,
     offset: usize,
 ) -> Result<Verdict, AllocError>
-    requires { IsRange node.parts schema.now.counts.fields }
+    requires there { IsRange node.parts schema.now.counts.fields }
+    requires inside { offset ≤ notes.old.end }
     ensures exact { IfOk result (λ v. (rules : EncodingRules) → (holds rules v ≡ true)
         ↔ ArePresent (types_in schema.now.octets.now) node seen.now) }
     ensures log { IfOk result (λ v. Logs v notes.old notes.new) }
+    ensures end { OnOk result (notes.new.end ≡ notes.old.end) }
 {
     let mut verdict = Verdict::Der;
     for k in node.parts.start..end_of(node.parts, schema.counts().fields) {

@@ -1,8 +1,8 @@
 //! Reading of values.
-ghost use Rattle.std.specs.Prelude.{◌≡◌, ◌↔◌, ◌<◌, true, None, [], IfOk};
+ghost use Rattle.std.specs.Prelude.{◌≡◌, ◌↔◌, ◌<◌, true, None, [], length, IfOk, ◌≤◌, OnOk};
 ghost use Rattle.der_base.specs.declared.encoding_rules.EncodingRules.{EncodingRules};
 ghost use Rattle.asn1_schema.specs.Table.{table_in};
-ghost use Rattle.asn1_tree.specs.Departures.{AreOfDer};
+ghost use Rattle.asn1_tree.specs.Departures.{AreOfDer, are_inside};
 ghost use Rattle.asn1_tree.specs.Encoding.{IsDer, IsBer};
 ghost use Rattle.asn1_tree.specs.Reading.{Logs};
 ghost use Rattle.asn1_tree.specs.Types.{types_in};
@@ -22,7 +22,8 @@ use std::alloc::{AllocError, Global};
 
 /// Reads octets as a value of a node of a table, and goes on after each departure. There is none exactly
 /// if the octets are the DER encoding of such a value, and none but of rules that DER alone has exactly
-/// if they are a BER encoding of one. The caller must ensure that there is such a node.
+/// if they are a BER encoding of one. Each is at one of the octets, or at their end. The caller must
+/// ensure that there is such a node.
 ///
 /// # Errors
 ///
@@ -38,8 +39,9 @@ pub fn read(
         ↔ IsDer (table_in schema.now.octets.now) node octets.now) }
     ensures ber { IfOk result (λ tree. AreOfDer tree.departures.items
         ↔ IsBer (table_in schema.now.octets.now) node octets.now) }
+    ensures inside { IfOk result (λ tree. are_inside (length octets.now) tree.departures.items ≡ true) }
 {
-    let mut notes = Notes::new(alloc, true);
+    let mut notes = Notes::new(alloc, true, octets.len());
     walk(&mut notes, alloc, schema, node, octets)?;
     Ok(Tree {
         entries: notes.entries,
@@ -63,7 +65,13 @@ pub fn is_der(
     requires { node < schema.now.counts.nodes }
     ensures { IfOk result (λ is. (is ≡ true) ↔ IsDer (table_in schema.now.octets.now) node octets.now) }
 {
-    let verdict = walk(&mut Notes::new(alloc, false), alloc, schema, node, octets)?;
+    let verdict = walk(
+        &mut Notes::new(alloc, false, octets.len()),
+        alloc,
+        schema,
+        node,
+        octets,
+    )?;
     Ok(verdict.is_der())
 }
 
@@ -82,7 +90,13 @@ pub fn is_ber(
     requires { node < schema.now.counts.nodes }
     ensures { IfOk result (λ is. (is ≡ true) ↔ IsBer (table_in schema.now.octets.now) node octets.now) }
 {
-    let verdict = walk(&mut Notes::new(alloc, false), alloc, schema, node, octets)?;
+    let verdict = walk(
+        &mut Notes::new(alloc, false, octets.len()),
+        alloc,
+        schema,
+        node,
+        octets,
+    )?;
     Ok(verdict.is_ber())
 }
 
@@ -94,10 +108,12 @@ fn walk(
     node: u32,
     octets: &[u8],
 ) -> Result<Verdict, AllocError>
-    requires { node < schema.now.counts.nodes }
+    requires there { node < schema.now.counts.nodes }
+    requires inside { length octets.now ≤ notes.old.end }
     ensures exact { IfOk result (λ v. (rules : EncodingRules) → (holds rules v ≡ true)
         ↔ IsValue (types_in schema.now.octets.now) 64 rules None node octets.now) }
     ensures log { IfOk result (λ v. Logs v notes.old notes.new) }
+    ensures end { OnOk result (notes.new.end ≡ notes.old.end) }
 {
     let place = Place {
         octets,

@@ -11,7 +11,8 @@ ghost use Rattle.asn1_tree.specs.StringReading.{IsText, IsWhole, BeginsAfter, Bo
 
 use crate::entry::Entry;
 use crate::notes::Notes;
-use crate::opened::{Opened, after_header};
+use crate::opened::Opened;
+use crate::opening::after_header;
 use crate::outcome::Outcome;
 use crate::place::Place;
 use crate::role::{NO_INDEX, Role};
@@ -40,6 +41,7 @@ pub(crate) fn joined<'a>(
     at: usize,
     opened: Opened<'a>,
 ) -> Result<JoinedText<'a>, AllocError>
+    requires inside { opened.inside.end ≤ notes.old.end }
     ensures finds { IfOk result (λ j. Finds
         (λ rules. Body opened.entry.marked opened.entry.beyond.now
         (λ inner. (rules ≡ Ber) × ((text : List ℕ) × AreSegments depth universal inner text))
@@ -51,6 +53,7 @@ pub(crate) fn joined<'a>(
         ≤ length opened.entry.inside.octets.now + length opened.entry.beyond.now) }
     ensures log { IfOk result
         (λ j. Logs j.verdict notes.old notes.new) }
+    ensures end { OnOk result (notes.new.end ≡ notes.old.end) }
 {
     let whole = notes.depart(Rule::ConstructedString, opened.start, at)?;
     let bits = is_bit_string(universal);
@@ -100,7 +103,8 @@ fn segments<'a>(
     opened: Opened<'a>,
     text: &mut Vec<u8>,
 ) -> Result<Outcome<'a>, AllocError>
-    requires { IsWhole bits text.old.items }
+    requires whole { IsWhole bits text.old.items }
+    requires inside { opened.inside.end ≤ notes.old.end }
     ensures reads { IfOk result (λ o. Reads
         (BodyAfter opened.entry.marked opened.entry.beyond.now bits text.old.items
         (AreJoined bits (IsSegment depth bits)) opened.entry.inside.octets.now)
@@ -110,6 +114,7 @@ fn segments<'a>(
         ≤ length opened.entry.inside.octets.now + length opened.entry.beyond.now) }
     ensures log { IfOk result
         (λ o. Logs o.verdict notes.old notes.new) }
+    ensures end { OnOk result (notes.new.end ≡ notes.old.end) }
 {
     let role = Role::inside(at);
     let mut verdict = Verdict::Der;
@@ -136,11 +141,13 @@ fn make_whole(
     at: usize,
     text: &mut Vec<u8>,
 ) -> Result<Verdict, AllocError>
-    requires { IsText bits text.old.items }
+    requires text { IsText bits text.old.items }
+    requires inside { offset ≤ notes.old.end }
     ensures verdict { IfOk result (λ v. (holds Ber v ≡ true) ↔ IsWhole bits text.old.items) }
     ensures same { OnOk result (IsWhole bits text.old.items → text.new.items ≡ text.old.items) }
     ensures whole { OnOk result (IsWhole bits text.new.items) }
     ensures log { IfOk result (λ v. Logs v notes.old notes.new) }
+    ensures end { OnOk result (notes.new.end ≡ notes.old.end) }
 {
     if bits && text[0] != 0 {
         let verdict = notes.depart(Rule::UnusedBits, offset, at)?;
@@ -160,7 +167,8 @@ fn segment<'a>(
     place: Place<'a>,
     text: &mut Vec<u8>,
 ) -> Result<Outcome<'a>, AllocError>
-    requires { IsWhole bits text.old.items }
+    requires whole { IsWhole bits text.old.items }
+    requires inside { place.end ≤ notes.old.end }
     ensures reads { IfOk result (λ o. Reads (BeginsAfter bits (IsSegment depth bits) text.old.items
         place.entry.octets.now) o.verdict o.rest.now text.new.items) }
     ensures text { OnOk result (IsText bits text.new.items) }
@@ -169,6 +177,7 @@ fn segment<'a>(
     ensures shorter { IfOk result (λ o. length o.rest.now ≤ length place.entry.octets.now) }
     ensures moves { IfOk result (λ o. 0 < length place.entry.octets.now
         → length o.rest.now < length place.entry.octets.now) }
+    ensures end { OnOk result (notes.new.end ≡ notes.old.end) }
 {
     let header = match segment_header(place.octets, depth, bits) {
         Ok(header) => header,
@@ -243,13 +252,15 @@ fn no_segment<'a>(
     role: Role,
     place: Place<'a>,
 ) -> Result<Outcome<'a>, AllocError>
-    requires { verdict_of_rule rule ≡ Neither }
+    requires neither { verdict_of_rule rule ≡ Neither }
+    requires inside { place.end ≤ notes.old.end }
     ensures verdict { IfOk result (λ o. o.verdict ≡ Neither) }
     ensures log { IfOk result
         (λ o. Logs o.verdict notes.old notes.new) }
     ensures shorter { IfOk result (λ o. length o.rest.now ≤ length place.entry.octets.now) }
     ensures moves { IfOk result (λ o. 0 < length place.entry.octets.now
         → length o.rest.now < length place.entry.octets.now) }
+    ensures end { OnOk result (notes.new.end ≡ notes.old.end) }
 {
     let verdict = notes.depart(rule, place.offset(), role.parent)?;
     if is_end_of_contents(place.octets) {
@@ -281,6 +292,7 @@ fn segment_contents<'a>(
 ) -> Result<Outcome<'a>, AllocError>
     requires form { constructed ≡ false → opened.marked ≡ false }
     requires whole { IsWhole bits text.old.items }
+    requires inside { opened.inside.end ≤ notes.old.end }
     ensures reads { IfOk result (λ o. Reads
         (BodyAfter opened.entry.marked opened.entry.beyond.now bits text.old.items
         (HasText bits (IsSegment depth bits) constructed) opened.entry.inside.octets.now)
@@ -290,6 +302,7 @@ fn segment_contents<'a>(
         ≤ length opened.entry.inside.octets.now + length opened.entry.beyond.now) }
     ensures log { IfOk result
         (λ o. Logs o.verdict notes.old notes.new) }
+    ensures end { OnOk result (notes.new.end ≡ notes.old.end) }
 {
     if constructed {
         return segments(notes, depth, bits, at, opened, text);

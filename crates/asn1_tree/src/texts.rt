@@ -1,5 +1,5 @@
 //! Constructed strings of a node.
-ghost use Rattle.std.specs.Prelude.{◌≡◌, ◌+◌, ◌≤◌, length, IfOk};
+ghost use Rattle.std.specs.Prelude.{◌≡◌, ◌+◌, ◌≤◌, length, IfOk, OnOk};
 ghost use Rattle.asn1_schema.specs.Node.{IsNode as IsRow};
 ghost use Rattle.asn1_schema.specs.Span.{IsWithin as IsRange};
 ghost use Rattle.asn1_tree.specs.Constraints.{bound_of};
@@ -48,12 +48,14 @@ pub(crate) fn joined_text<'a>(
 ) -> Result<Outcome<'a>, AllocError>
     requires fits { IsRow schema.now.counts schema.now.pool.now node }
     requires names { bound_of universal ≡ Items → IsRange node.parts schema.now.counts.names }
+    requires inside { opened.inside.end ≤ notes.old.end }
     ensures finds { IfOk result (λ o. Finds (λ rules. Body opened.entry.marked opened.entry.beyond.now
         (IsJoinedText rules (types_in schema.now.octets.now) node universal)
         opened.entry.inside.octets.now) o.verdict o.rest.now) }
     ensures shorter { IfOk result (λ o. length o.rest.now
         ≤ length opened.entry.inside.octets.now + length opened.entry.beyond.now) }
     ensures log { IfOk result (λ o. Logs o.verdict notes.old notes.new) }
+    ensures end { OnOk result (notes.new.end ≡ notes.old.end) }
 {
     let read = joined(notes, alloc, LEVELS, universal, at, opened)?;
     let text = read.text.as_slice();

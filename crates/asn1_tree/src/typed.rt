@@ -1,5 +1,5 @@
 //! The reader of values.
-ghost use Rattle.std.specs.Prelude.{◌≡◌, ◌≢◌, ◌↔◌, ◌+◌, ◌<◌, ◌≤◌, ℕ, true, false, [], Option, Some, None, slice_get, length, IsSome, IfOk};
+ghost use Rattle.std.specs.Prelude.{◌≡◌, ◌≢◌, ◌↔◌, ◌+◌, ◌<◌, ◌≤◌, ℕ, true, false, [], Option, Some, None, slice_get, length, IsSome, IfOk, OnOk};
 ghost use Rattle.der_base.specs.declared.encoding_rules.EncodingRules.{EncodingRules};
 ghost use Rattle.ber.specs.Der.{HasReservedTag};
 ghost use Rattle.ber.specs.Header.{IsNext, end_header, label_of_header};
@@ -24,7 +24,8 @@ use crate::entry::Entry;
 use crate::known::Known;
 use crate::members::members;
 use crate::notes::Notes;
-use crate::opened::{Opened, after_header, skipped};
+use crate::opened::Opened;
+use crate::opening::{after_header, skipped};
 use crate::outcome::Outcome;
 use crate::place::Place;
 use crate::role::Role;
@@ -52,6 +53,7 @@ pub(crate) fn value<'a>(
 ) -> Result<Outcome<'a>, AllocError>
     requires there { node < schema.now.counts.nodes }
     requires distinct { AreDistinct (types_in schema.now.octets.now) }
+    requires inside { place.end ≤ notes.old.end }
     ensures finds { IfOk result (λ o. Finds (λ rules. Front
         (IsValue (types_in schema.now.octets.now) depth rules (known_in known.entry) node) place.entry.octets.now)
         o.verdict o.rest.now) }
@@ -59,6 +61,7 @@ pub(crate) fn value<'a>(
     ensures shorter { IfOk result (λ o. length o.rest.now ≤ length place.entry.octets.now) }
     ensures moves { IfOk result
         (λ o. 0 < length place.entry.octets.now → length o.rest.now < length place.entry.octets.now) }
+    ensures end { OnOk result (notes.new.end ≡ notes.old.end) }
 {
     let header = match read_header(place.octets) {
         Ok(header) => header,
@@ -130,12 +133,14 @@ fn selected_value<'a>(
     requires known { HasReservedTag (label_of_header header) → ⊥ }
     requires tagged { (n : ANode) → slice_get (types_in schema.now.octets.now).nodes index ≡ Some n
         → HasTag n header.class header.number }
+    requires inside { place.end ≤ notes.old.end }
     ensures finds { IfOk result (λ o. (n : ANode)
         → slice_get (types_in schema.now.octets.now).nodes index ≡ Some n → Finds (λ rules. Front
         (IsNode rules (types_in schema.now.octets.now) (IsValue (types_in schema.now.octets.now) depth)
         (IsAny depth) (known_in known.entry) n) place.entry.octets.now) o.verdict o.rest.now) }
     ensures log { IfOk result (λ o. Logs o.verdict notes.old notes.new) }
     ensures moves { IfOk result (λ o. length o.rest.now < length place.entry.octets.now) }
+    ensures end { OnOk result (notes.new.end ≡ notes.old.end) }
 {
     let node = node_of(schema, index);
     match chosen(schema, &node, known) {
@@ -183,6 +188,7 @@ fn contents<'a>(
     requires distinct { AreDistinct (types_in schema.now.octets.now) }
     requires row { (i : ℕ) × (slice_get (types_in schema.now.octets.now).nodes i ≡ Some node) }
     requires form { header.constructed ≡ false → opened.marked ≡ false }
+    requires inside { opened.inside.end ≤ notes.old.end }
     ensures finds { IfOk result (λ o. Finds (λ rules. Body opened.entry.marked opened.entry.beyond.now
         (AreContents (shape_of node.kind) rules (types_in schema.now.octets.now)
         (IsValue (types_in schema.now.octets.now) depth) (IsAny depth) (known_in known.entry) node header)
@@ -190,6 +196,7 @@ fn contents<'a>(
     ensures shorter { IfOk result (λ o. length o.rest.now
         ≤ length opened.entry.inside.octets.now + length opened.entry.beyond.now) }
     ensures log { IfOk result (λ o. Logs o.verdict notes.old notes.new) }
+    ensures end { OnOk result (notes.new.end ≡ notes.old.end) }
 {
     let shape = Shape::of(node.kind);
     if shape.has_wrong_form(header.constructed) {
@@ -255,6 +262,7 @@ fn of_type<'a>(
     requires names { bound_of universal ≡ Items → IsRange node.parts schema.now.counts.names }
     requires distinct { AreDistinct (types_in schema.now.octets.now) }
     requires form { header.constructed ≡ false → opened.marked ≡ false }
+    requires inside { opened.inside.end ≤ notes.old.end }
     ensures finds { IfOk result (λ o. Finds (λ rules. Body opened.entry.marked opened.entry.beyond.now
         (IsOfType (is_joined header.constructed universal) header.constructed rules
         (types_in schema.now.octets.now) (IsValue (types_in schema.now.octets.now) depth)
@@ -263,6 +271,7 @@ fn of_type<'a>(
     ensures shorter { IfOk result (λ o. length o.rest.now
         ≤ length opened.entry.inside.octets.now + length opened.entry.beyond.now) }
     ensures log { IfOk result (λ o. Logs o.verdict notes.old notes.new) }
+    ensures end { OnOk result (notes.new.end ≡ notes.old.end) }
 {
     if is_joined(header.constructed, universal) {
         return joined_text(notes, alloc, schema, node, universal, at, opened);
@@ -312,10 +321,12 @@ fn contained<'a>(
 ) -> Result<Verdict, AllocError>
     requires there { (i : ℕ) → inner ≡ Some i → i < schema.now.counts.nodes }
     requires distinct { AreDistinct (types_in schema.now.octets.now) }
+    requires inside { place.end ≤ notes.old.end }
     ensures exact { IfOk result (λ v. (rules : EncodingRules) → (holds rules v ≡ true)
         ↔ IsContained rules (types_in schema.now.octets.now)
         (IsValue (types_in schema.now.octets.now) depth) (known_in known.entry) inner place.entry.octets.now) }
     ensures log { IfOk result (λ v. Logs v notes.old notes.new) }
+    ensures end { OnOk result (notes.new.end ≡ notes.old.end) }
 {
     match inner {
         Some(index) => contained_value(notes, alloc, schema, depth, known, index, at, place),
@@ -337,10 +348,12 @@ fn contained_value<'a>(
 ) -> Result<Verdict, AllocError>
     requires there { index < schema.now.counts.nodes }
     requires distinct { AreDistinct (types_in schema.now.octets.now) }
+    requires inside { place.end ≤ notes.old.end }
     ensures exact { IfOk result (λ v. (rules : EncodingRules) → (holds rules v ≡ true)
         ↔ Contains rules (types_in schema.now.octets.now)
         (IsValue (types_in schema.now.octets.now) depth) (known_in known.entry) index place.entry.octets.now) }
     ensures log { IfOk result (λ v. Logs v notes.old notes.new) }
+    ensures end { OnOk result (notes.new.end ≡ notes.old.end) }
 {
     if is_unknown(schema, index, known) {
         return Ok(Verdict::Der);

@@ -1,12 +1,13 @@
 //! The reader of values of any type.
-ghost use Rattle.std.specs.Prelude.{◌≡◌, ◌*◌, ◌+◌, ◌<◌, ◌≤◌, false, [], length, IfOk};
+ghost use Rattle.std.specs.Prelude.{◌≡◌, ◌*◌, ◌+◌, ◌<◌, ◌≤◌, false, [], length, IfOk, OnOk};
 ghost use Rattle.asn1_tree.specs.Items.{IsAnyCount, SomeItems};
 ghost use Rattle.asn1_tree.specs.Value.{IsAny, IsUnknownType};
 ghost use Rattle.asn1_tree.specs.Reading.{Front, Body, Finds, Logs};
 
 use crate::entry::Entry;
 use crate::notes::Notes;
-use crate::opened::{Opened, after_header, skipped};
+use crate::opened::Opened;
+use crate::opening::{after_header, skipped};
 use crate::outcome::Outcome;
 use crate::place::Place;
 use crate::role::{NO_INDEX, Role};
@@ -24,12 +25,14 @@ pub(crate) fn any<'a>(
     role: Role,
     place: Place<'a>,
 ) -> Result<Outcome<'a>, AllocError>
+    requires inside { place.end ≤ notes.old.end }
     ensures finds { IfOk result (λ o. Finds (λ rules. Front (IsAny depth rules) place.entry.octets.now)
         o.verdict o.rest.now) }
     ensures log { IfOk result (λ o. Logs o.verdict notes.old notes.new) }
     ensures shorter { IfOk result (λ o. length o.rest.now ≤ length place.entry.octets.now) }
     ensures moves { IfOk result
         (λ o. 0 < length place.entry.octets.now → length o.rest.now < length place.entry.octets.now) }
+    ensures end { OnOk result (notes.new.end ≡ notes.old.end) }
 {
     let header = match read_header(place.octets) {
         Ok(header) => header,
@@ -95,12 +98,14 @@ pub(crate) fn unknown_contents<'a>(
     opened: Opened<'a>,
 ) -> Result<Outcome<'a>, AllocError>
     requires form { constructed ≡ false → opened.marked ≡ false }
+    requires inside { opened.inside.end ≤ notes.old.end }
     ensures finds { IfOk result (λ o. Finds (λ rules. Body opened.entry.marked opened.entry.beyond.now
         (IsUnknownType rules (IsAny depth) universal constructed) opened.entry.inside.octets.now)
         o.verdict o.rest.now) }
     ensures shorter { IfOk result (λ o. length o.rest.now
         ≤ length opened.entry.inside.octets.now + length opened.entry.beyond.now) }
     ensures log { IfOk result (λ o. Logs o.verdict notes.old notes.new) }
+    ensures end { OnOk result (notes.new.end ≡ notes.old.end) }
 {
     if constructed {
         let verdict = notes.judge(form_rule(universal), opened.start, at)?;
@@ -126,11 +131,13 @@ pub(crate) fn elements<'a>(
     at: usize,
     opened: Opened<'a>,
 ) -> Result<Outcome<'a>, AllocError>
+    requires inside { opened.inside.end ≤ notes.old.end }
     ensures finds { IfOk result (λ o. Finds (λ rules. Body opened.entry.marked opened.entry.beyond.now
         (SomeItems false rules (IsAny depth rules) IsAnyCount) opened.entry.inside.octets.now) o.verdict o.rest.now) }
     ensures shorter { IfOk result (λ o. length o.rest.now
         ≤ length opened.entry.inside.octets.now + length opened.entry.beyond.now) }
     ensures log { IfOk result (λ o. Logs o.verdict notes.old notes.new) }
+    ensures end { OnOk result (notes.new.end ≡ notes.old.end) }
 {
     let role = Role::inside(at);
     let mut verdict = Verdict::Der;
@@ -149,11 +156,13 @@ pub(crate) fn elements<'a>(
 
 // Passes the end of contents, which have no more elements.
 fn ended<'a>(notes: &mut Notes, at: usize, opened: Opened<'a>) -> Result<Outcome<'a>, AllocError>
+    requires inside { opened.inside.end ≤ notes.old.end }
     ensures finds { IfOk result (λ o. Finds (λ rules. Body opened.entry.marked opened.entry.beyond.now
         (λ inner. inner ≡ []) opened.entry.inside.octets.now) o.verdict o.rest.now) }
     ensures shorter { IfOk result (λ o. length o.rest.now
         ≤ length opened.entry.inside.octets.now + length opened.entry.beyond.now) }
     ensures log { IfOk result (λ o. Logs o.verdict notes.old notes.new) }
+    ensures end { OnOk result (notes.new.end ≡ notes.old.end) }
 {
     let octets = opened.inside.octets;
     if opened.marked {
@@ -186,11 +195,13 @@ pub(crate) fn finish<'a>(
     at: usize,
     opened: Opened<'a>,
 ) -> Result<Outcome<'a>, AllocError>
+    requires inside { opened.inside.end ≤ notes.old.end }
     ensures finds { IfOk result (λ o. Finds (λ rules. Body opened.entry.marked opened.entry.beyond.now
         (λ inner. inner ≡ []) opened.entry.inside.octets.now) o.verdict o.rest.now) }
     ensures shorter { IfOk result (λ o. length o.rest.now
         ≤ length opened.entry.inside.octets.now + length opened.entry.beyond.now) }
     ensures log { IfOk result (λ o. Logs o.verdict notes.old notes.new) }
+    ensures end { OnOk result (notes.new.end ≡ notes.old.end) }
 {
     if opened.is_ended() {
         return ended(notes, at, opened);

@@ -199,6 +199,7 @@ components::components-fields-init t c = record {
   low = omega arith;
   high = omega arith;
   log = c.in_ok-before.ensures.log;
+  end = c.in_ok-before.ensures.end;
   shorter = c.in_ok-before.ensures.shorter;
 }
 
@@ -215,6 +216,7 @@ components::components-fields-preserved t c =
       low = omega (arith, c.fields.invariant.low);
       high = omega (arith, c.fields-test.true, c.end_of-end.ensures);
       log = logs_is (c.and-verdict.ensures ∙ ap (λ v. worst v c.in_ok-after.after.verdict) c.and.ensures) (logs_then (logs_then c.fields.invariant.log c.in_ok-step.ensures.log) c.in_ok-after.ensures.log);
+      end = c.in_ok-after.ensures.end ∙ c.in_ok-step.ensures.end ∙ c.fields.invariant.end;
       shorter = omega (arith, c.fields.invariant.shorter, c.in_ok-step.ensures.shorter, ap length c.at-here.ensures.octets, c.in_ok-after.ensures.shorter, ap length c.at.ensures.octets);
     }
 
@@ -241,6 +243,7 @@ components::items-items-preserved t c =
           (status_then c.items.invariant.status (item_counted c.args.sorted Item Count c.items.count c.args.opened.marked c.args.opened.beyond.now c.items.before.now now after here
           (item_found c.args.sorted (λ n. Count (c.items.count + n)) c.in_ok-order.order c.args.opened.marked c.args.opened.beyond.now c.items.before.now now after here on finds (λ x e. taken now x after e) (test_is c.in_ok-order.ensures.verdict c.order_rule.ensures))));
       log = logs_is (c.and-verdict.ensures ∙ ap (λ v. worst v c.in_ok-order.order) c.and.ensures) (logs_then (logs_then c.items.invariant.log c.in_ok-outcome.ensures.log) c.in_ok-order.ensures.log);
+      end = c.in_ok-order.ensures.end ∙ c.in_ok-outcome.ensures.end ∙ c.items.invariant.end;
       few = omega (arith, c.items.invariant.few, c.in_ok-outcome.ensures.moves (omega (arith, some_left c.args.opened.marked now on, ap length c.at-place.ensures.octets)), ap length c.at-place.ensures.octets);
     }
 
@@ -285,6 +288,7 @@ components::items-items-init t c =
     record {
       status = items_begin c.args.sorted (λ rules. IsValue (types_in c.args.schema.now.octets.now) c.args.depth rules (known_in c.args.known) c.inner_of-item.result) Count c.args.opened.marked c.args.opened.beyond.now c.args.opened.inside.octets.now;
       log = logs_none c.args.notes.now;
+      end = refl;
       few = omega arith;
     }
 
@@ -332,6 +336,7 @@ pub members::members-members-init : goal.members::members-members-init
 members::members-members-init t c = record {
   status = none_seen c.new-seen.result.items search;
   log = logs_none c.args.notes.now;
+  end = refl;
   shorter = omega arith;
 }
   where
@@ -356,6 +361,7 @@ members::members-members-preserved t c =
           (λ rules x r s e is. c.in_ok-outcome.ensures.only rules x r s (c.at-place.ensures.octets ∙ e) is)
           (λ x e. taken now x after e) (test_is c.in_ok-order.ensures.verdict c.tag_order_rule.ensures)));
       log = logs_is (c.and-verdict.ensures ∙ ap (λ v. worst v c.in_ok-order.order) c.and.ensures) (logs_then (logs_then c.members.invariant.log c.in_ok-outcome.ensures.log) c.in_ok-order.ensures.log);
+      end = c.in_ok-order.ensures.end ∙ c.in_ok-outcome.ensures.end ∙ c.members.invariant.end;
       shorter = omega (arith, c.members.invariant.shorter, c.in_ok-outcome.ensures.shorter, ap length c.at-place.ensures.octets);
     }
 

@@ -57,6 +57,7 @@ invariant-components::components-fields l = record {
   low : l.node.parts.start ≤ l.index;
   high : l.index ≤ l.node.parts.start + l.node.parts.count;
   log : Logs l.verdict l.fn.notes l.notes;
+  end : l.notes.end ≡ l.fn.notes.end;
   shorter : length l.rest ≤ length l.opened.inside.octets.now;
 }
 
@@ -69,6 +70,7 @@ invariant-components::items-items l = record {
       (λ rules. Body l.opened.marked l.opened.beyond.now (Items l.sorted rules (IsValue (types_in l.schema.octets.now) l.depth rules (known_in l.known) l.item) (λ n. IsAllowedSize (types_in l.schema.octets.now) l.node.limits (l.count + n)) l.before) l.rest)
       (λ rules. Body l.opened.marked l.opened.beyond.now (SomeItems l.sorted rules (IsValue (types_in l.schema.octets.now) l.depth rules (known_in l.known) l.item) (IsAllowedSize (types_in l.schema.octets.now) l.node.limits)) l.opened.inside.octets.now);
   log : Logs l.verdict l.fn.notes l.notes;
+  end : l.notes.end ≡ l.fn.notes.end;
   few : l.count + length l.rest ≤ length l.opened.inside.octets.now;
 }
 
@@ -81,6 +83,7 @@ invariant-members::members-members l = record {
       (λ rules. Body l.opened.marked l.opened.beyond.now (SomeMembers (IsValue (types_in l.schema.octets.now) l.depth) (IsAny l.depth) rules (types_in l.schema.octets.now) l.node l.seen.items l.before) l.rest)
       (λ rules. Body l.opened.marked l.opened.beyond.now (SomeMembers (IsValue (types_in l.schema.octets.now) l.depth) (IsAny l.depth) rules (types_in l.schema.octets.now) l.node [] []) l.opened.inside.octets.now);
   log : Logs l.verdict l.fn.notes l.notes;
+  end : l.notes.end ≡ l.fn.notes.end;
   shorter : length l.rest ≤ length l.opened.inside.octets.now;
 }
 

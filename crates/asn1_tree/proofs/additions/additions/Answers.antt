@@ -1,4 +1,4 @@
-use Rattle.std.proofs.Common.{rules, ◌≡◌, ◌≢◌, ℕ, true, List, ◌++◌, sym, length, ap, arith}
+use Rattle.std.proofs.Common.{rules, ◌≡◌, ◌≢◌, ◌∙◌, ℕ, true, List, ◌++◌, sym, length, ap, arith}
 use Rattle.der_base.specs.declared.encoding_rules.EncodingRules.{EncodingRules}
 use Rattle.ber.specs.Header.{IsNext, end_header}
 use Rattle.ber.specs.declared.header.Header.{Header}
@@ -31,6 +31,7 @@ additions-preserved c =
           (untaken_element (any_elements c.args.depth) c.args.node c.args.index point now untaken)
           (finds_at (IsAny c.args.depth) c.at-in-additions.ensures.octets c.in_ok-outcome.ensures.finds)));
       log = logs_is c.and-verdict.ensures (logs_then c.additions.invariant.log c.in_ok-outcome.ensures.log);
+      end = c.in_ok-outcome.ensures.end ∙ c.additions.invariant.end;
       shorter = omega (arith, c.additions.invariant.shorter, c.in_ok-outcome.ensures.shorter, ap length c.at-in-additions.ensures.octets);
     }
   where

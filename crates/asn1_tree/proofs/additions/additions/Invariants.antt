@@ -12,6 +12,7 @@ invariant-additions l = record {
       (λ rules. Body l.opened.marked l.opened.beyond.now (AreFrom (IsValue (types_in l.schema.octets.now) l.depth) (IsAny l.depth) rules (types_in l.schema.octets.now) l.node left l.index known) l.rest)
       (λ rules. Body l.opened.marked l.opened.beyond.now (AreFrom (IsValue (types_in l.schema.octets.now) l.depth) (IsAny l.depth) rules (types_in l.schema.octets.now) l.node left l.index known) l.opened.inside.octets.now);
   log : Logs l.verdict l.fn.notes l.notes;
+  end : l.notes.end ≡ l.fn.notes.end;
   shorter : length l.rest ≤ length l.opened.inside.octets.now;
 }
 

@@ -1,4 +1,4 @@
-use Rattle.std.proofs.Common.{◌≡◌, ℕ, List, [], ◌∷◌, refl, sym, subst}
+use Rattle.std.proofs.Common.{ℕ, List, [], ◌∷◌, refl, sym, subst}
 use Rattle.asn1_contents.specs.Characters.{characters_of}
 use Rattle.asn1_schema.proofs.TestLemmas.{refuted}
 use Rattle.asn1_schema.specs.Allowed.{IsLimitOf, unlimited}

@@ -17,6 +17,7 @@ loop-k-preserved c = record {
   low = omega (arith, c.loop-k.invariant.low);
   exact = λ rules. (forward rules, backward rules);
   log = logs_is c.and-verdict.ensures (logs_then c.loop-k.invariant.log c.in_ok-present.ensures.log);
+  end = c.in_ok-present.ensures.end ∙ c.loop-k.invariant.end;
 }
   where
     IsThere : ℕ → Field → Type 0

@@ -16,4 +16,5 @@ invariant-loop-k l = record {
       ↔ ((k : ℕ) (f : Field) → k < l.k → IsFieldOf (types_in l.schema.octets.now) l.fn.node k f
       → MayBeAbsent f ⊎ (is_seen l.seen k ≡ true));
   log : Logs l.verdict l.fn.notes l.notes;
+  end : l.notes.end ≡ l.fn.notes.end;
 }

@@ -60,6 +60,7 @@ segments-segments-preserved t c =
       stage = stage_is verdict (stage_then c.segments.invariant.stage (segment_found c.args.bits m b c.segments.text.items now c.in_ok-whole.whole on c.in_ok-whole.ensures.verdict c.in_ok-whole.ensures.same reads));
       text = c.in_ok-outcome.ensures.text;
       log = logs_is verdict (logs_then c.segments.invariant.log (logs_then c.in_ok-whole.ensures.log c.in_ok-outcome.ensures.log));
+      end = c.in_ok-outcome.ensures.end ∙ c.in_ok-whole.ensures.end ∙ c.segments.invariant.end;
       shorter = omega (arith, c.segments.invariant.shorter, c.in_ok-outcome.ensures.shorter, ap length c.at-place.ensures.octets);
     }
 
@@ -71,7 +72,7 @@ segments-returns-clause-reads t c =
     let at = has_ended c.is_ended.result c.is_ended.ensures c.at.ensures.marked c.at.ensures.octets (search rules) in
     let end = body_at (λ rules inner. inner ≡ []) c.at-2.ensures.marked c.at-2.ensures.beyond c.at-2.ensures.octets c.in_ok-end.ensures.finds in
     reads_is c.and-2.ensures
-    (reads_as (more_own c.args.bits m (IsSegment c.args.depth c.args.bits) b c.args.text.now.items c.args.opened.inside.octets.now c.requires)
+    (reads_as (more_own c.args.bits m (IsSegment c.args.depth c.args.bits) b c.args.text.now.items c.args.opened.inside.octets.now c.requires.whole)
     (stage_ends c.segments.invariant.stage
     (segments_end c.args.depth c.args.bits m b c.segments.text.items now c.segments.invariant.text at end)))
 

@@ -1,4 +1,4 @@
-use Rattle.std.proofs.Common.{◌*◌, ◌+◌, ◌≤◌, length}
+use Rattle.std.proofs.Common.{◌≡◌, ◌*◌, ◌+◌, ◌≤◌, length}
 use Rattle.asn1_tree.specs.Reading.{Logs}
 use Rattle.asn1_tree.specs.Strings.{IsSegment}
 use Rattle.asn1_tree.specs.StringReading.{IsText, MoreAfter, Stage}
@@ -20,6 +20,7 @@ invariant-segments-segments l = record {
       (MoreAfter l.opened.marked l.opened.beyond.now l.bits (IsSegment l.depth l.bits) l.fn.text.items l.opened.inside.octets.now);
   text : IsText l.bits l.text.items;
   log : Logs l.verdict l.fn.notes l.notes;
+  end : l.notes.end ≡ l.fn.notes.end;
   shorter : length l.rest ≤ length l.opened.inside.octets.now;
 }
 

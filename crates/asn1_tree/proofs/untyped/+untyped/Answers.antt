@@ -61,6 +61,7 @@ elements-elements-preserved t c =
     record {
       status = (here, status_is c.and-verdict.ensures (status_then c.elements.invariant.status.1 (item_plain c.args.opened.marked c.args.opened.beyond.now c.elements.invariant.status.0 now after here on finds (λ x e. taken now x after e))));
       log = logs_is c.and-verdict.ensures (logs_then c.elements.invariant.log c.in_ok-outcome.ensures.log);
+      end = c.in_ok-outcome.ensures.end ∙ c.elements.invariant.end;
       shorter = omega (arith, c.elements.invariant.shorter, c.in_ok-outcome.ensures.shorter, ap length c.at-in-elements.ensures.octets);
     }
 

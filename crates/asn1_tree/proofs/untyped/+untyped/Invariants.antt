@@ -1,4 +1,4 @@
-use Rattle.std.proofs.Common.{◌*◌, ◌+◌, ◌≤◌, ℕ, List, false, length}
+use Rattle.std.proofs.Common.{◌≡◌, ◌*◌, ◌+◌, ◌≤◌, ℕ, List, false, length}
 use Rattle.asn1_tree.specs.Items.{IsAnyCount, SomeItems}
 use Rattle.asn1_tree.specs.Value.{IsAny}
 use Rattle.asn1_tree.specs.Reading.{Body, Status, Logs}
@@ -20,6 +20,7 @@ invariant-elements-elements l = record {
       (λ rules. Body l.opened.marked l.opened.beyond.now (Items false rules (IsAny l.depth rules) IsAnyCount before) l.rest)
       (λ rules. Body l.opened.marked l.opened.beyond.now (SomeItems false rules (IsAny l.depth rules) IsAnyCount) l.opened.inside.octets.now);
   log : Logs l.verdict l.fn.notes l.notes;
+  end : l.notes.end ≡ l.fn.notes.end;
   shorter : length l.rest ≤ length l.opened.inside.octets.now;
 }
 

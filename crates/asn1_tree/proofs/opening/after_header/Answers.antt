@@ -1,7 +1,7 @@
 use Rattle.std.proofs.Common.{◌-◌, length, take, drop, ap, length-take-le, length-drop, length-append, arith}
 use Rattle.ber.proofs.ListLemmas.{rest_of}
 use Rattle.ber.proofs.GrammarLemmas.{header_two}
-use Rattle.asn1_tree.proofs.opened.after_header.Goals as goal
+use Rattle.asn1_tree.proofs.opening.after_header.Goals as goal
 
 pub returns-else-after-length-clause-shorter : goal.returns-else-after-length-clause-shorter
 returns-else-after-length-clause-shorter c =
