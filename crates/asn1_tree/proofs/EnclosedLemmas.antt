@@ -11,7 +11,7 @@ use Rattle.ber.specs.declared.length.Length.TheVariants.{Definite, Indefinite}
 use Rattle.ber.proofs.GrammarLemmas.{one_header}
 use Rattle.ber.proofs.HeaderLemmas.{end_header_next}
 use Rattle.asn1_tree.specs.Verdict.{holds, worst}
-use Rattle.asn1_tree.specs.Enclosed.{ending, IsCounted, IsAllowed, IsEnclosed}
+use Rattle.asn1_tree.specs.Enclosed.{ending, IsCounted, IsAllowed, IsEnclosed, BeginWithNone}
 use Rattle.asn1_tree.specs.Opened.{AreAfter, IsOpened}
 use Rattle.asn1_tree.specs.Reading.{Front, IsWithin, Body, Finds}
 use Rattle.asn1_tree.specs.declared.opened.Opened.{Opened}
@@ -83,17 +83,21 @@ finds_element {P} {h} {octets} {o} a {v} {rest} is real known test f = finds_and
         (subst (IsAllowed rules) g_is en.allowed, (inner, (within_iff h.length is.after inner r o is.are).0 (counted, tail), subst (λ k. P rules k inner) g_is p))
 
 -- octets without a header begin with no element
-pub no_element : (P : EncodingRules → Header → List ℕ → Type 0) {octets : List ℕ} → ((h : Header) → IsNext h octets → ⊥) → (rules : EncodingRules) (r : List ℕ) → Front (Elem P rules) octets r → ⊥
-no_element P none rules r (x, e, (g, inner, en, p)) = none g (front_next r en e)
+pub none_without_header : {octets : List ℕ} (d : ℕ) → ((h : Header) → IsNext h octets → ⊥) → BeginWithNone d octets
+none_without_header d none rules h inner x r some e is = none h (front_next r is e)
 
 -- nor do end-of-contents octets
-pub no_element_at_end : (P : EncodingRules → Header → List ℕ → Type 0) {octets : List ℕ} → IsNext end_header octets → (rules : EncodingRules) (r : List ℕ) → Front (Elem P rules) octets r → ⊥
-no_element_at_end P next rules r (x, e, (g, inner, en, p)) = en.real (sym (same_next r next en e))
+pub none_at_marker : {octets : List ℕ} (d : ℕ) → IsNext end_header octets → BeginWithNone d octets
+none_at_marker d next rules h inner x r some e is = is.real (sym (same_next r next is e))
 
 -- nor does a header with a tag that no type has
-pub no_element_reserved : (P : EncodingRules → Header → List ℕ → Type 0) {h : Header} {octets : List ℕ} → IsNext h octets → HasReservedTag (label_of_header h) → (rules : EncodingRules) (r : List ℕ) → Front (Elem P rules) octets r → ⊥
-no_element_reserved P {h} next reserved rules r (x, e, (g, inner, en, p)) =
-    en.known (subst (λ (k : Header). HasReservedTag (label_of_header k)) (same_next r next en e) reserved)
+pub none_reserved : {g : Header} {octets : List ℕ} (d : ℕ) → IsNext g octets → HasReservedTag (label_of_header g) → BeginWithNone d octets
+none_reserved d next reserved rules h inner x r some e is =
+    is.known (subst (λ (k : Header). HasReservedTag (label_of_header k)) (same_next r next is e) reserved)
+
+-- nor does any where no level is left
+pub none_at_depth : {octets : List ℕ} (d : ℕ) → d ≡ 0 → BeginWithNone d octets
+none_at_depth d last rules h inner x r some e is = omega (arith, last, some)
 
 -- a tag is not one of these, if a test says so
 pub is_known : (h : Header) (b : Bool) → (IsTrue b ↔ HasReservedTag (label_of_header h)) → b ≡ false → HasReservedTag (label_of_header h) → ⊥

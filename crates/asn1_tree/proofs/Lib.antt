@@ -1,4 +1,5 @@
 pub mod AdditionLemmas
+pub mod ResultLemmas
 pub mod VerdictLemmas
 pub mod FindsLemmas
 pub mod EnclosedLemmas

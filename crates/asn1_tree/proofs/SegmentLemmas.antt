@@ -12,7 +12,7 @@ use Rattle.ber.specs.declared.length.Length.TheVariants.{Definite}
 use Rattle.ber.proofs.GrammarLemmas.{one_header}
 use Rattle.asn1_contents.specs.Contents.{IsContents}
 use Rattle.asn1_tree.specs.Verdict.{holds, worst}
-use Rattle.asn1_tree.specs.Enclosed.{ending, IsCounted, IsAllowed, IsEnclosed}
+use Rattle.asn1_tree.specs.Enclosed.{ending, IsCounted, IsAllowed, IsEnclosed, BeginWithNone}
 use Rattle.asn1_tree.specs.Opened.{IsOpened, IsEnded}
 use Rattle.asn1_tree.specs.Reading.{IsWithin, Body, Finds}
 use Rattle.asn1_tree.specs.Value.{IsPrimitive}
@@ -23,7 +23,7 @@ use Rattle.asn1_tree.specs.declared.verdict.Verdict.{Verdict}
 use Rattle.asn1_tree.specs.declared.verdict.Verdict.TheVariants.{Der, Ber, Neither}
 use Rattle.asn1_tree.proofs.VerdictLemmas.{holds_neither}
 use Rattle.asn1_tree.proofs.FindsLemmas.{Cases, both, first, second, cases, through, back, worst_true, worst_both, finds_and}
-use Rattle.asn1_tree.proofs.EnclosedLemmas.{spread, front_next, same_next, within_iff, no_element_cut, within_step, within_front}
+use Rattle.asn1_tree.proofs.EnclosedLemmas.{spread, same_next, within_iff, no_element_cut, within_step, within_front}
 use Rattle.asn1_tree.proofs.ItemLemmas.{OfElements, none_at_end, ends_here}
 use Rattle.asn1_tree.proofs.StringLemmas.{joined_once, joined_split, joined_merge, joined_whole, joined_own, joined_after, joined_alone, joined_last, text_of_contents}
 
@@ -111,14 +111,12 @@ tag_real false h tag e =
     let n : h.number ≡ 4 = tag.1 in let z : h.number ≡ 0 = ap (λ (k : Header). k.number) e in absurd (cc)
 
 -- octets that begin with no segment
-pub no_header : {octets : List ℕ} (d : ℕ) (bits : Bool) → ((h : Header) → IsNext h octets → ⊥)
+pub no_segment : {octets : List ℕ} (d : ℕ) (bits : Bool) → BeginWithNone d octets
     → (x rest text : List ℕ) → octets ≡ x ++ rest → IsSegment d bits x text → ⊥
-no_header d bits none x rest text e is = let s = segment_element d bits x text is in none s.0 (front_next rest s.2 e)
-
-pub no_segment_at_end : {octets : List ℕ} (d : ℕ) (bits : Bool) → IsNext end_header octets
-    → (x rest text : List ℕ) → octets ≡ x ++ rest → IsSegment d bits x text → ⊥
-no_segment_at_end d bits next x rest text e is =
-    let s = segment_element d bits x text is in s.2.real (sym (same_next rest next s.2 e))
+no_segment zero bits none x rest text e is = segment_none bits x text is
+no_segment (suc d) bits none x rest text e is =
+    let s = segment_element (suc d) bits x text is in
+    none kind.Ber s.0 s.1 x rest (omega arith) e s.2
 
 pub no_segment_of_tag : {octets : List ℕ} {h : Header} (d : ℕ) (bits : Bool) → IsNext h octets → (HasSegmentTag bits h → ⊥)
     → (x rest text : List ℕ) → octets ≡ x ++ rest → IsSegment d bits x text → ⊥

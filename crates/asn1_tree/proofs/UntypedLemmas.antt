@@ -2,16 +2,17 @@
 use Rattle.std.proofs.Common.{◌≡◌, ◌↔◌, ℕ, zero, suc, ◌-◌, ◌<◌, Bool, true, false, List, Option, sym, subst, arith}
 use Rattle.der_base.specs.declared.encoding_rules.EncodingRules.{EncodingRules}
 use Rattle.ber.specs.Der.{type_of}
-use Rattle.ber.specs.Header.{IsNext, end_header, label_of_header}
+use Rattle.ber.specs.Header.{label_of_header}
 use Rattle.ber.specs.declared.header.Header.{Header}
 use Rattle.ber.specs.declared.universal.Universal.{Universal}
 use Rattle.asn1_tree.specs.Items.{IsAnyCount, SomeItems}
 use Rattle.asn1_tree.specs.Value.{MayBeConstructed, IsPrimitive, IsUnknownType, IsElementOfAny, IsAny}
+use Rattle.asn1_tree.specs.Enclosed.{BeginWithNone}
 use Rattle.asn1_tree.specs.Verdict.{holds, worst}
 use Rattle.asn1_tree.specs.Reading.{Front, Body, Finds}
 use Rattle.asn1_tree.specs.declared.verdict.Verdict.{Verdict}
 use Rattle.asn1_tree.proofs.FindsLemmas.{finds_as, finds_and, finds_whole, front_as}
-use Rattle.asn1_tree.proofs.EnclosedLemmas.{Elem, no_element, no_element_at_end}
+use Rattle.asn1_tree.proofs.EnclosedLemmas.{Elem}
 use Rattle.asn1_tree.proofs.ItemLemmas.{OfElements}
 
 -- what the contents of an element of any type are
@@ -41,11 +42,11 @@ any_elements d rules x h = let e = any_element d rules x h in (rules, e.0, e.1, 
 pub any_finds : {octets rest : List ℕ} {v : Verdict} (d : ℕ) → 0 < d → Finds (λ rules. Front (Elem (AnyContents (d - 1)) rules) octets) v rest → Finds (λ rules. Front (IsAny d rules) octets) v rest
 any_finds d some f = finds_as (λ rules r. front_as (λ x. any_step d rules x some)) f
 
-pub no_any : {octets : List ℕ} (d : ℕ) → ((h : Header) → IsNext h octets → ⊥) → (rules : EncodingRules) (r : List ℕ) → Front (IsAny d rules) octets r → ⊥
-no_any d none rules r f = no_element (AnyContents (d - 1)) none rules r (f.0, f.1, any_element d rules f.0 f.2)
-
-pub no_any_at_end : {octets : List ℕ} (d : ℕ) → IsNext end_header octets → (rules : EncodingRules) (r : List ℕ) → Front (IsAny d rules) octets r → ⊥
-no_any_at_end d next rules r f = no_element_at_end (AnyContents (d - 1)) next rules r (f.0, f.1, any_element d rules f.0 f.2)
+pub no_any : {octets : List ℕ} (d : ℕ) → BeginWithNone d octets → (rules : EncodingRules) (r : List ℕ) → Front (IsAny d rules) octets r → ⊥
+no_any zero none rules r (x, e, is) = any_none rules x is
+no_any (suc d) none rules r (x, e, is) =
+    let el = any_element (suc d) rules x is in
+    none rules el.0 el.1 x r (omega arith) e el.2
 
 pub no_any_cut : {octets : List ℕ} (d : ℕ) → ((rules : EncodingRules) (r : List ℕ) → Front (Elem (AnyContents (d - 1)) rules) octets r → ⊥) → (rules : EncodingRules) (r : List ℕ) → Front (IsAny d rules) octets r → ⊥
 no_any_cut d cut rules r f = cut rules r (f.0, f.1, any_element d rules f.0 f.2)

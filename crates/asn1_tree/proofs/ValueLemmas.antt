@@ -1,9 +1,7 @@
 -- Values of nodes: each is an element that begins as the table says, and what its contents are.
-use Rattle.std.specs.Prelude.{Result, Ok, Err, IfOk}
 use Rattle.std.proofs.Common.{◌≡◌, ◌≢◌, ◌↔◌, ℕ, zero, suc, ◌+◌, ◌-◌, ◌<◌, Bool, true, false, length, List, ◌++◌, Option, Some, None, slice_get, refl, sym, ap, ◌∙◌, subst, append-nil, arith}
 use Rattle.der_base.specs.declared.encoding_rules.EncodingRules.{EncodingRules}
-use Rattle.ber.specs.Der.{HasReservedTag}
-use Rattle.ber.specs.Header.{IsNext, end_header, label_of_header}
+use Rattle.ber.specs.Header.{IsNext}
 use Rattle.ber.specs.declared.header.Header.{Header}
 use Rattle.asn1_schema.specs.Table.{Table}
 use Rattle.asn1_schema.specs.declared.node.Node.{Node}
@@ -11,7 +9,7 @@ use Rattle.asn1_schema.specs.declared.node_kind.NodeKind.TheVariants.{Open}
 use Rattle.asn1_schema.specs.Tags.{Selects, itself, alternative, SelectsOne, HasTag, each, is_untagged, IsSelected, Begins}
 use Rattle.asn1_schema.specs.Distinct.{AreDistinct}
 use Rattle.asn1_tree.specs.Verdict.{holds, worst}
-use Rattle.asn1_tree.specs.Enclosed.{IsEnclosed}
+use Rattle.asn1_tree.specs.Enclosed.{IsEnclosed, BeginWithNone}
 use Rattle.asn1_tree.specs.Known.{Known, IsChosen, IsUnknown}
 use Rattle.asn1_tree.specs.Components.{Values, Elements}
 use Rattle.asn1_tree.specs.Value.{IsAny, AreContents, shape_of, IsNode, element, chosen, IsValue}
@@ -34,7 +32,7 @@ use Rattle.asn1_tree.specs.declared.shape.Shape.{Shape}
 use Rattle.asn1_tree.specs.declared.shape.Shape.TheVariants.{Components, Members, Of, Items, SortedItems, Inner, Untyped, Nothing}
 use Rattle.asn1_tree.proofs.ItemLemmas.{OfElements}
 use Rattle.asn1_tree.proofs.FindsLemmas.{finds_as, body_as, Cases, both, first, second, cases, worst_true, worst_both}
-use Rattle.asn1_tree.proofs.EnclosedLemmas.{Elem, front_next, same_next, no_element_cut, no_element_reserved}
+use Rattle.asn1_tree.proofs.EnclosedLemmas.{Elem, same_next, no_element_cut}
 use Rattle.asn1_tree.proofs.AdditionLemmas.{BeginWell}
 use Rattle.asn1_schema.proofs.TagLemmas.{one_selected}
 
@@ -139,29 +137,19 @@ finds_chosen {t} {Child} {Item} {v} {rest} {octets} known n m kind is single f =
         backward (x, e, element g inner en has un are) = absurd (un kind m is)
         backward (x, e, chosen o also there child) = (x, e, subst (λ q. Child rules known q x) (single o there) child)
 
--- no value is where there is no header, or the wrong one
+-- no value is where there is no element, or one with the wrong tag
 
-pub no_value : (t : Table) {octets : List ℕ} (d : ℕ) (known : Known) (i : ℕ) → ((h : Header) → IsNext h octets → ⊥) → (rules : EncodingRules) (r : List ℕ) → Front (IsValue t d rules known i) octets r → ⊥
-no_value t d known i none rules r (x, e, is) = let b = value_begins t d rules known i x is in none b.0 (front_next r b.2 e)
-
-pub no_value_at_end : (t : Table) {octets : List ℕ} (d : ℕ) (known : Known) (i : ℕ) → IsNext end_header octets → (rules : EncodingRules) (r : List ℕ) → Front (IsValue t d rules known i) octets r → ⊥
-no_value_at_end t d known i next rules r (x, e, is) =
-    let b = value_begins t d rules known i x is in
-    b.2.real (sym (same_next r next b.2 e))
-
-pub no_value_reserved : (t : Table) {h : Header} {octets : List ℕ} (d : ℕ) (known : Known) (i : ℕ) → IsNext h octets → HasReservedTag (label_of_header h) → (rules : EncodingRules) (r : List ℕ) → Front (IsValue t d rules known i) octets r → ⊥
-no_value_reserved t d known i next reserved rules r (x, e, is) =
-    let b = value_begins t d rules known i x is in
-    no_element_reserved (λ rules g inner. Unit {0}) next reserved rules r (x, e, (b.0, b.1, b.2, tt))
+pub no_value : (t : Table) {octets : List ℕ} (d : ℕ) (known : Known) (i : ℕ) → BeginWithNone d octets → (rules : EncodingRules) (r : List ℕ) → Front (IsValue t d rules known i) octets r → ⊥
+no_value t zero known i none rules r (x, e, is) = value_none t rules known i x is
+no_value t (suc d) known i none rules r (x, e, is) =
+    let b = value_begins t (suc d) rules known i x is in
+    none rules b.0 b.1 x r (omega arith) e b.2
 
 pub no_value_of_tag : (t : Table) {h : Header} {octets : List ℕ} (d : ℕ) (known : Known) (i : ℕ) → IsNext h octets → (Begins t i h.class h.number → ⊥) → (rules : EncodingRules) (r : List ℕ) → Front (IsValue t d rules known i) octets r → ⊥
 no_value_of_tag t {h = h} d known i next none rules r (x, e, is) =
     let b = value_begins t d rules known i x is in
     let one : h ≡ b.0 = same_next r next b.2 e in
     none (subst (λ (k : Header). Begins t i k.class k.number) (sym one) b.3)
-
-pub no_value_at_depth : (t : Table) {octets : List ℕ} (d : ℕ) (known : Known) (i : ℕ) → d ≡ 0 → (rules : EncodingRules) (r : List ℕ) → Front (IsValue t d rules known i) octets r → ⊥
-no_value_at_depth t d known i e rules r (x, split, is) = value_none t rules known i x (subst (λ k. IsValue t k rules known i x) e is)
 
 pub value_elements : (t : Table) (d : ℕ) (known : Known) (i : ℕ) (rules : EncodingRules) → OfElements (IsValue t d rules known i)
 value_elements t d known i rules x is = let b = value_begins t d rules known i x is in (rules, b.0, b.1, b.2)
@@ -287,10 +275,6 @@ pub finds_shape : (t : Table) (Child : Values) (Item : Elements) (known : Known)
     → Finds (λ rules. Body m b (AreContents k rules t Child Item known n h) octets) v rest
 finds_shape t Child Item known n h m b octets {s} {k} {v} {rest} e f =
     subst (λ q. Finds (λ rules. Body m b (AreContents q rules t Child Item known n h) octets) v rest) (sym e) f
-
-pub if_ok : {A E : Type 0} {P Q : A → Type 0} (r : Result A E) → ((a : A) → P a → Q a) → IfOk r P → IfOk r Q
-if_ok (Ok a) f p = f a p
-if_ok (Err e) f p = tt
 
 -- an element whose contents are cut off is no value of a node
 pub no_node_cut : (t : Table) {h : Header} {octets : List ℕ} (d : ℕ) (known : Known) (n : Node) (l : ℕ) → IsNext h octets → h.length ≡ Definite l → length octets < h.header_len + l

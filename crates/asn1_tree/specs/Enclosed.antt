@@ -1,6 +1,6 @@
 -- Elements (X.690 8.1) of definite and of indefinite length: a header, contents, and the
 -- end-of-contents octets if the length is indefinite.
-use Rattle.std.specs.Prelude.{◌≡◌, ◌≢◌, ℕ, true, List, [], ◌++◌, length}
+use Rattle.std.specs.Prelude.{◌≡◌, ◌≢◌, ◌<◌, ℕ, true, List, [], ◌++◌, length}
 use Rattle.der_base.specs.FixedOctets.{end_of_contents}
 use Rattle.der_base.specs.declared.encoding_rules.EncodingRules.{EncodingRules}
 use Rattle.der_base.specs.declared.encoding_rules.EncodingRules.TheVariants.{Der, Ber}
@@ -35,3 +35,9 @@ pub record IsEnclosed (rules : EncodingRules) (h : Header) (inner octets : List 
   pub real : h ≢ end_header
   pub known : HasReservedTag (label_of_header h) → ⊥
   pub allowed : IsAllowed rules h
+
+-- octets begin with no element for which a level is left
+abbrev pub BeginWithNone : ℕ → List ℕ → Type 0
+BeginWithNone depth octets =
+    (rules : EncodingRules) (h : Header) (inner x r : List ℕ) → 0 < depth → octets ≡ x ++ r
+    → IsEnclosed rules h inner x → ⊥

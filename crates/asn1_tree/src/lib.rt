@@ -37,6 +37,7 @@ mod components;
 mod constraints;
 mod departure;
 mod entry;
+mod front;
 mod known;
 mod members;
 mod notes;

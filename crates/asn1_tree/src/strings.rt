@@ -10,6 +10,7 @@ ghost use Rattle.asn1_tree.specs.Strings.{is_bits, segment_type, IsJoined, AreJo
 ghost use Rattle.asn1_tree.specs.StringReading.{IsText, IsWhole, BeginsAfter, BodyAfter, Reads};
 
 use crate::entry::Entry;
+use crate::front::{front_header, pass};
 use crate::notes::Notes;
 use crate::opened::Opened;
 use crate::opening::after_header;
@@ -20,7 +21,7 @@ use crate::rule::Rule;
 use crate::tests::primitive_rule;
 use crate::untyped::{any, finish};
 use crate::verdict::Verdict;
-use ber::{Header, Universal, is_end_of_contents, read_header};
+use ber::{Header, Universal};
 use der_base::Class;
 use std::alloc::{AllocError, Global};
 
@@ -221,18 +222,9 @@ fn segment_header(octets: &[u8], depth: usize, bits: bool) -> Result<Header, Rul
     ensures none { IfErr result (λ _. (x rest text : List ℕ)
         → octets.now ≡ x ++ rest → IsSegment depth bits x text → ⊥) }
 {
-    let header = match read_header(octets) {
-        Ok(header) => header,
-        Err(_) => return Err(Rule::Header),
-    };
-    if is_end_of_contents(octets) {
-        return Err(Rule::EndOfContents);
-    }
+    let header = front_header(octets, depth)?;
     if !has_segment_tag(header, bits) {
         return Err(Rule::Tag);
-    }
-    if depth == 0 {
-        return Err(Rule::Depth);
     }
     Ok(header)
 }
@@ -262,21 +254,15 @@ fn no_segment<'a>(
         → length o.rest.now < length place.entry.octets.now) }
     ensures end { OnOk result (notes.new.end ≡ notes.old.end) }
 {
+    if !matches!(rule, Rule::Tag) {
+        return pass(notes, rule, role, place);
+    }
     let verdict = notes.depart(rule, place.offset(), role.parent)?;
-    if is_end_of_contents(place.octets) {
-        return Ok(Outcome {
-            verdict,
-            rest: &place.octets[2..],
-        });
-    }
-    if matches!(rule, Rule::Tag) {
-        let outcome = any(notes, depth, role, place)?;
-        return Ok(Outcome {
-            verdict: verdict.and(outcome.verdict),
-            rest: outcome.rest,
-        });
-    }
-    Ok(Outcome { verdict, rest: &[] })
+    let outcome = any(notes, depth, role, place)?;
+    Ok(Outcome {
+        verdict: verdict.and(outcome.verdict),
+        rest: outcome.rest,
+    })
 }
 
 // Reads the contents of a segment, and appends their text to the text before it.

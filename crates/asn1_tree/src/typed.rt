@@ -21,11 +21,12 @@ use crate::chosen::chosen;
 use crate::components::{components, explicit, items};
 use crate::constraints::constraint_rule;
 use crate::entry::Entry;
+use crate::front::{front_header, pass};
 use crate::known::Known;
 use crate::members::members;
 use crate::notes::Notes;
 use crate::opened::Opened;
-use crate::opening::{after_header, skipped};
+use crate::opening::after_header;
 use crate::outcome::Outcome;
 use crate::place::Place;
 use crate::role::Role;
@@ -36,7 +37,7 @@ use crate::types::{node_of, select};
 use crate::untyped::{any, finish, unknown_contents};
 use crate::verdict::Verdict;
 use asn1_schema::{Node, NodeKind, Schema};
-use ber::{Header, Universal, is_end_of_contents, read_header};
+use ber::{Header, Universal};
 use std::alloc::{AllocError, Global};
 
 // Reads the value of a node at the front.
@@ -63,31 +64,10 @@ pub(crate) fn value<'a>(
         (λ o. 0 < length place.entry.octets.now → length o.rest.now < length place.entry.octets.now) }
     ensures end { OnOk result (notes.new.end ≡ notes.old.end) }
 {
-    let header = match read_header(place.octets) {
+    let header = match front_header(place.octets, depth) {
         Ok(header) => header,
-        Err(_) => {
-            let verdict = notes.depart(Rule::Header, place.offset(), role.parent)?;
-            return Ok(Outcome { verdict, rest: &[] });
-        }
+        Err(rule) => return pass(notes, rule, role, place),
     };
-    if is_end_of_contents(place.octets) {
-        let verdict = notes.depart(Rule::EndOfContents, place.offset(), role.parent)?;
-        return Ok(Outcome {
-            verdict,
-            rest: &place.octets[2..],
-        });
-    }
-    if header.has_reserved_tag() {
-        let verdict = notes.depart(Rule::Tag, place.offset(), role.parent)?;
-        return Ok(Outcome {
-            verdict,
-            rest: skipped(header, place),
-        });
-    }
-    if depth == 0 {
-        let verdict = notes.depart(Rule::Depth, place.offset(), role.parent)?;
-        return Ok(Outcome { verdict, rest: &[] });
-    }
     match select(schema, node, header.class, header.number) {
         Some(selected) => {
             selected_value(

@@ -5,16 +5,17 @@ ghost use Rattle.asn1_tree.specs.Value.{IsAny, IsUnknownType};
 ghost use Rattle.asn1_tree.specs.Reading.{Front, Body, Finds, Logs};
 
 use crate::entry::Entry;
+use crate::front::{front_header, pass};
 use crate::notes::Notes;
 use crate::opened::Opened;
-use crate::opening::{after_header, skipped};
+use crate::opening::after_header;
 use crate::outcome::Outcome;
 use crate::place::Place;
 use crate::role::{NO_INDEX, Role};
 use crate::rule::Rule;
 use crate::tests::{form_rule, primitive_rule};
 use crate::verdict::Verdict;
-use ber::{Universal, is_end_of_contents, read_header};
+use ber::{Universal, is_end_of_contents};
 use std::alloc::AllocError;
 
 // Reads an element of any type at the front.
@@ -34,31 +35,10 @@ pub(crate) fn any<'a>(
         (λ o. 0 < length place.entry.octets.now → length o.rest.now < length place.entry.octets.now) }
     ensures end { OnOk result (notes.new.end ≡ notes.old.end) }
 {
-    let header = match read_header(place.octets) {
+    let header = match front_header(place.octets, depth) {
         Ok(header) => header,
-        Err(_) => {
-            let verdict = notes.depart(Rule::Header, place.offset(), role.parent)?;
-            return Ok(Outcome { verdict, rest: &[] });
-        }
+        Err(rule) => return pass(notes, rule, role, place),
     };
-    if is_end_of_contents(place.octets) {
-        let verdict = notes.depart(Rule::EndOfContents, place.offset(), role.parent)?;
-        return Ok(Outcome {
-            verdict,
-            rest: &place.octets[2..],
-        });
-    }
-    if header.has_reserved_tag() {
-        let verdict = notes.depart(Rule::Tag, place.offset(), role.parent)?;
-        return Ok(Outcome {
-            verdict,
-            rest: skipped(header, place),
-        });
-    }
-    if depth == 0 {
-        let verdict = notes.depart(Rule::Depth, place.offset(), role.parent)?;
-        return Ok(Outcome { verdict, rest: &[] });
-    }
     let at = notes.enter(Entry::new(header, place, role, NO_INDEX))?;
     let allowed = notes.judge_lengths(header, place.offset(), at)?;
     match after_header(header, place) {

@@ -1,6 +1,5 @@
 use Rattle.std.proofs.Common.{rules, ◌≡◌, ◌↔◌, ◌+◌, ◌-◌, ◌∙◌, false, true, [], length, take, refl, sym, ap, subst, ℕ, suc, List, None, Some, slice_get, arith}
 use Rattle.ber.specs.Element.{IsElement}
-use Rattle.ber.proofs.HeaderLemmas.{end_header_next}
 use Rattle.asn1_schema.specs.declared.field.Field.{Field}
 use Rattle.asn1_tree.specs.Constraints.{IsAllowedSize}
 use Rattle.asn1_tree.specs.Types.{types_in}
@@ -23,33 +22,23 @@ use Rattle.asn1_tree.proofs.WholeLemmas.{both_tests, finds_also, whole_found, ex
 use Rattle.asn1_tree.specs.declared.verdict.Verdict.{Verdict}
 use Rattle.der_base.specs.declared.encoding_rules.EncodingRules.{EncodingRules}
 use Rattle.asn1_tree.proofs.ComponentLemmas.{component_found, component_absent, component_missing, none_later, status_next, status_at}
-use Rattle.asn1_tree.proofs.ValueLemmas.{value_begins, finds_selected, finds_node, finds_chosen, no_value, no_value_at_end, no_value_reserved, no_value_of_tag, no_value_at_depth, no_node_cut, value_elements, identifier_element, component_finds, finds_given, finds_inner, finds_shape, finds_unbounded, finds_items, if_ok}
+use Rattle.asn1_tree.proofs.ResultLemmas.{if_ok}
+use Rattle.asn1_tree.proofs.ValueLemmas.{value_begins, finds_selected, finds_node, finds_chosen, no_value, no_value_of_tag, no_node_cut, value_elements, identifier_element, component_finds, finds_given, finds_inner, finds_shape, finds_unbounded, finds_items}
 use Rattle.asn1_tree.proofs.+typed.Goals as goal
 
 pub typed::value-returns-in-Err-clause-finds : goal.typed::value-returns-in-Err-clause-finds
 typed::value-returns-in-Err-clause-finds t c =
-    finds_never c.in_ok-verdict-in-Err.ensures.verdict (no_value (types_in c.args.schema.now.octets.now) c.args.depth (known_in c.args.known) c.args.node c.in-Err.ensures.none)
-
-pub typed::value-returns-then-is_end_of_contents-clause-finds :
-    goal.typed::value-returns-then-is_end_of_contents-clause-finds
-typed::value-returns-then-is_end_of_contents-clause-finds t c =
-    finds_never c.in_ok-verdict.ensures.verdict
-    (no_value_at_end (types_in c.args.schema.now.octets.now) c.args.depth (known_in c.args.known) c.args.node ((end_header_next c.args.place.octets.now).0 (c.is_end_of_contents.ensures.0 c.if-is_end_of_contents.true)))
-
-pub typed::value-returns-then-depth-eq0-clause-finds : goal.typed::value-returns-then-depth-eq0-clause-finds
-typed::value-returns-then-depth-eq0-clause-finds t c =
-    finds_never c.in_ok-verdict-3.ensures.verdict
-    (no_value_at_depth (types_in c.args.schema.now.octets.now) c.args.depth (known_in c.args.known) c.args.node c.if-depth-eq0.true)
+    if_ok c.pass.result (λ o e. finds_never e (no_value (types_in c.args.schema.now.octets.now) c.args.depth (known_in c.args.known) c.args.node c.in-Err.ensures.none)) c.pass.ensures.verdict
 
 pub typed::value-returns-in-Some-clause-finds : goal.typed::value-returns-in-Some-clause-finds
 typed::value-returns-in-Some-clause-finds t c =
-    if_ok c.selected_value.result (λ o f. finds_selected c.args.depth (known_in c.args.known) c.args.node c.in-Some.selected.node (omega (arith, c.if-depth-eq0.false)) c.requires.distinct c.in-Ok.ensures.found c.in-Some.ensures.found f) c.selected_value.ensures.finds
+    if_ok c.selected_value.result (λ o f. finds_selected c.args.depth (known_in c.args.known) c.args.node c.in-Some.selected.node c.in-Ok.ensures.some c.requires.distinct c.in-Ok.ensures.next c.in-Some.ensures.found f) c.selected_value.ensures.finds
 
 pub typed::value-returns-in_ok-outcome-in-None-clause-finds :
     goal.typed::value-returns-in_ok-outcome-in-None-clause-finds
 typed::value-returns-in_ok-outcome-in-None-clause-finds t c =
     finds_never (c.and.ensures ∙ ap (λ v. worst v c.in_ok-outcome-in-None.outcome.verdict) c.in_ok-verdict-in-None.ensures.verdict)
-    (no_value_of_tag (types_in c.args.schema.now.octets.now) c.args.depth (known_in c.args.known) c.args.node c.in-Ok.ensures.found c.in-None.ensures.none)
+    (no_value_of_tag (types_in c.args.schema.now.octets.now) c.args.depth (known_in c.args.known) c.args.node c.in-Ok.ensures.next c.in-None.ensures.none)
 
 pub typed::value-returns-in_ok-outcome-in-None-clause-log :
     goal.typed::value-returns-in_ok-outcome-in-None-clause-log
@@ -318,12 +307,6 @@ typed::contained_value-returns-clause-log t c =
 pub typed::of_type-returns-then-is_joined-clause-finds : goal.typed::of_type-returns-then-is_joined-clause-finds
 typed::of_type-returns-then-is_joined-clause-finds t c =
     if_ok c.joined_text.result (λ o f. subst (λ k. Finds (λ rules. Body c.args.opened.marked c.args.opened.beyond.now (IsOfType k c.args.header.constructed rules (types_in c.args.schema.now.octets.now) (IsValue (types_in c.args.schema.now.octets.now) c.args.depth) (IsAny c.args.depth) (known_in c.args.known) c.args.node c.args.universal) c.args.opened.inside.octets.now) o.verdict o.rest.now) (sym c.if-is_joined.true ∙ c.is_joined.ensures) f) c.joined_text.ensures.finds
-
-pub typed::value-returns-then-has_reserved_tag-clause-finds :
-    goal.typed::value-returns-then-has_reserved_tag-clause-finds
-typed::value-returns-then-has_reserved_tag-clause-finds t c =
-    finds_never c.in_ok-verdict-2.ensures.verdict
-    (no_value_reserved (types_in c.args.schema.now.octets.now) c.args.depth (known_in c.args.known) c.args.node c.in-Ok.ensures.found (c.has_reserved_tag.ensures.0 c.if-has_reserved_tag.true))
 
 pub typed::contents-returns-in-Members-clause-finds : goal.typed::contents-returns-in-Members-clause-finds
 typed::contents-returns-in-Members-clause-finds t c =

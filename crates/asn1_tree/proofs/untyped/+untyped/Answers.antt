@@ -3,37 +3,24 @@ use Rattle.asn1_tree.specs.Items.{IsAnyCount}
 use Rattle.asn1_tree.specs.Value.{IsAny, IsUnknownType}
 use Rattle.asn1_tree.specs.Verdict.{worst}
 use Rattle.asn1_tree.specs.Reading.{Body, Finds}
-use Rattle.ber.proofs.HeaderLemmas.{end_header_next}
 use Rattle.asn1_tree.proofs.VerdictLemmas.{kept, worst_neither, logs_is, logs_then, logs_after, logs_left}
 use Rattle.asn1_tree.proofs.FindsLemmas.{finds_is, finds_never, finds_at, body_at, status_is, status_then, status_ends}
-use Rattle.asn1_tree.proofs.EnclosedLemmas.{finds_element, no_element_cut, no_element_reserved, is_known, real_header, taken}
+use Rattle.asn1_tree.proofs.EnclosedLemmas.{finds_element, no_element_cut, taken}
 use Rattle.asn1_tree.proofs.ItemLemmas.{items_end, item_plain, goes_on, has_ended}
-use Rattle.asn1_tree.proofs.UntypedLemmas.{AnyContents, any_none, any_finds, any_elements, no_any, no_any_at_end, no_any_cut, test_is, finds_constructed, finds_primitive}
+use Rattle.asn1_tree.proofs.UntypedLemmas.{AnyContents, any_finds, any_elements, no_any, no_any_cut, test_is, finds_constructed, finds_primitive}
+use Rattle.asn1_tree.proofs.ResultLemmas.{if_ok}
 use Rattle.asn1_tree.proofs.untyped.+untyped.Goals as goal
 
 pub any-returns-in-Err-clause-finds : goal.any-returns-in-Err-clause-finds
 any-returns-in-Err-clause-finds t c =
-    finds_never c.in_ok-verdict-in-Err.ensures.verdict (no_any c.args.depth c.in-Err.ensures.none)
-
-pub any-returns-then-is_end_of_contents-clause-finds :
-    goal.any-returns-then-is_end_of_contents-clause-finds
-any-returns-then-is_end_of_contents-clause-finds t c =
-    finds_never c.in_ok-verdict.ensures.verdict
-    (no_any_at_end c.args.depth ((end_header_next c.args.place.octets.now).0 (c.is_end_of_contents.ensures.0 c.if-is_end_of_contents.true)))
-
-pub any-returns-then-depth-eq0-clause-finds : goal.any-returns-then-depth-eq0-clause-finds
-any-returns-then-depth-eq0-clause-finds t c =
-    finds_never c.in_ok-verdict-3.ensures.verdict
-    (λ rules r f. any_none rules f.0 (subst (λ d. IsAny d rules f.0) c.if-depth-eq0.true f.2))
+    if_ok c.pass.result (λ o e. finds_never e (no_any c.args.depth c.in-Err.ensures.none)) c.pass.ensures.verdict
 
 pub any-returns-in_ok-outcome-in-Some-clause-finds :
     goal.any-returns-in_ok-outcome-in-Some-clause-finds
 any-returns-in_ok-outcome-in-Some-clause-finds t c =
     finds_is c.and.ensures
-    (any_finds c.args.depth (omega (arith, c.if-depth-eq0.false))
-    (finds_element c.in_ok-allowed.allowed c.in-Some.ensures.some
-    (real_header c.args.place.octets.now c.is_end_of_contents.result c.in-Ok.ensures.found c.is_end_of_contents.ensures c.if-is_end_of_contents.false)
-    (is_known c.in-Ok.header c.has_reserved_tag.result c.has_reserved_tag.ensures c.if-has_reserved_tag.false)
+    (any_finds c.args.depth c.in-Ok.ensures.some
+    (finds_element c.in_ok-allowed.allowed c.in-Some.ensures.some c.in-Ok.ensures.real c.in-Ok.ensures.known
     c.in_ok-allowed.ensures.verdict
     (subst (λ u. Finds (λ rules. Body c.in-Some.opened.marked c.in-Some.opened.beyond.now (IsUnknownType rules (IsAny (c.args.depth - 1)) u c.in-Ok.header.constructed) c.in-Some.opened.inside.octets.now) c.in_ok-outcome-in-Some.outcome.verdict c.in_ok-outcome-in-Some.outcome.rest.now) c.universal.ensures c.in_ok-outcome-in-Some.ensures.finds)))
 
@@ -45,7 +32,7 @@ any-returns-in_ok-outcome-in-Some-clause-log t c =
 pub any-returns-in_ok-cut-in-None-clause-finds : goal.any-returns-in_ok-cut-in-None-clause-finds
 any-returns-in_ok-cut-in-None-clause-finds t c =
     finds_never (c.and-in-None.ensures ∙ ap (λ v. worst c.in_ok-allowed.allowed v) c.in_ok-cut-in-None.ensures.verdict ∙ worst_neither c.in_ok-allowed.allowed)
-    (no_any_cut c.args.depth (no_element_cut (AnyContents (c.args.depth - 1)) c.in-None.ensures.none.0 c.in-Ok.ensures.found c.in-None.ensures.none.1 c.in-None.ensures.none.2))
+    (no_any_cut c.args.depth (no_element_cut (AnyContents (c.args.depth - 1)) c.in-None.ensures.none.0 c.in-Ok.ensures.next c.in-None.ensures.none.1 c.in-None.ensures.none.2))
 
 pub any-returns-in_ok-cut-in-None-clause-log : goal.any-returns-in_ok-cut-in-None-clause-log
 any-returns-in_ok-cut-in-None-clause-log t c =
@@ -97,9 +84,3 @@ unknown_contents-returns-clause-finds t c =
     finds_primitive c.args.depth c.args.universal c.args.constructed c.args.opened.marked c.args.opened.beyond.now c.args.opened.inside.octets.now
     c.if-constructed.false (c.requires.form c.if-constructed.false)
     (test_is c.in_ok-verdict-2.ensures.verdict c.primitive_rule-rule.ensures)
-
-pub any-returns-then-has_reserved_tag-clause-finds :
-    goal.any-returns-then-has_reserved_tag-clause-finds
-any-returns-then-has_reserved_tag-clause-finds t c =
-    finds_never c.in_ok-verdict-2.ensures.verdict
-    (no_any_cut c.args.depth (no_element_reserved (AnyContents (c.args.depth - 1)) c.in-Ok.ensures.found (c.has_reserved_tag.ensures.0 c.if-has_reserved_tag.true)))

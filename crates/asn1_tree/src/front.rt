@@ -1,0 +1,81 @@
+//! Elements at the front.
+ghost use Rattle.std.specs.Prelude.{◌≡◌, ◌≢◌, ◌<◌, ◌≤◌, length, IfOk, IfErr, OnOk};
+ghost use Rattle.ber.specs.Der.{HasReservedTag};
+ghost use Rattle.ber.specs.Header.{IsNext, end_header, label_of_header};
+ghost use Rattle.asn1_tree.specs.Enclosed.{BeginWithNone};
+ghost use Rattle.asn1_tree.specs.Reading.{Logs};
+ghost use Rattle.asn1_tree.specs.Rule.{verdict_of_rule};
+ghost use Rattle.asn1_tree.specs.declared.verdict.Verdict.TheVariants.{Neither};
+
+use crate::notes::Notes;
+use crate::opening::skipped;
+use crate::outcome::Outcome;
+use crate::place::Place;
+use crate::role::Role;
+use crate::rule::Rule;
+use ber::{Header, is_end_of_contents, read_header};
+use std::alloc::AllocError;
+
+/// The header of an element at the front, if so many levels are left for it; otherwise the rule that is
+/// broken.
+#[inline(always)]
+pub(crate) fn front_header(octets: &[u8], depth: usize) -> Result<Header, Rule>
+    ensures next { IfOk result (λ h. IsNext h octets.now) }
+    ensures real { IfOk result (λ h. h ≢ end_header) }
+    ensures known { IfOk result (λ h. HasReservedTag (label_of_header h) → ⊥) }
+    ensures some { OnOk result (0 < depth) }
+    ensures rule { IfErr result (λ rule. verdict_of_rule rule ≡ Neither) }
+    ensures none { IfErr result (λ _. BeginWithNone depth octets.now) }
+{
+    let header = match read_header(octets) {
+        Ok(header) => header,
+        Err(_) => return Err(Rule::Header),
+    };
+    if is_end_of_contents(octets) {
+        return Err(Rule::EndOfContents);
+    }
+    if header.has_reserved_tag() {
+        return Err(Rule::Tag);
+    }
+    if depth == 0 {
+        return Err(Rule::Depth);
+    }
+    Ok(header)
+}
+
+/// Notes that there is no element at the front, by this rule, and passes what is there.
+pub(crate) fn pass<'a>(
+    notes: &mut Notes,
+    rule: Rule,
+    role: Role,
+    place: Place<'a>,
+) -> Result<Outcome<'a>, AllocError>
+    requires neither { verdict_of_rule rule ≡ Neither }
+    requires inside { place.end ≤ notes.old.end }
+    ensures verdict { IfOk result (λ o. o.verdict ≡ Neither) }
+    ensures log { IfOk result (λ o. Logs o.verdict notes.old notes.new) }
+    ensures shorter { IfOk result (λ o. length o.rest.now ≤ length place.entry.octets.now) }
+    ensures moves { IfOk result
+        (λ o. 0 < length place.entry.octets.now → length o.rest.now < length place.entry.octets.now) }
+    ensures end { OnOk result (notes.new.end ≡ notes.old.end) }
+{
+    let verdict = notes.depart(rule, place.offset(), role.parent)?;
+    Ok(Outcome {
+        verdict,
+        rest: after_front(rule, place),
+    })
+}
+
+// The octets after what is at the front: none, if it has no header, or no level is left for it.
+fn after_front<'a>(rule: Rule, place: Place<'a>) -> &'a [u8]
+    ensures shorter { length result.now ≤ length place.entry.octets.now }
+    ensures moves { 0 < length place.entry.octets.now → length result.now < length place.entry.octets.now }
+{
+    if matches!(rule, Rule::Depth) {
+        return &[];
+    }
+    match read_header(place.octets) {
+        Ok(header) => skipped(header, place),
+        Err(_) => &[],
+    }
+}
