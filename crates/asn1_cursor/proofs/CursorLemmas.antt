@@ -1,9 +1,12 @@
 -- Elements of one tree.
-use Rattle.std.proofs.Common.{◌∙◌, ℕ, List, subst, sym}
+use Rattle.std.proofs.Common.{◌∙◌, ℕ, List, refl, subst, sym}
 use Rattle.asn1_tree.specs.Types.{types_in}
 use Rattle.asn1_cursor.specs.Cursor.{IsAt}
 use Rattle.asn1_cursor.specs.Names.{IsNamed}
 use Rattle.asn1_cursor.specs.declared.cursor.Cursor.{Cursor}
+
+pub at_itself : (c : Cursor) → IsAt c c.index c
+at_itself c = record { of = record { octets_are = refl; schema_is = refl; entries_are = refl }; index_is = refl }
 
 pub at_again : {a b c : Cursor} {i j : ℕ} → IsAt a i b → IsAt b j c → IsAt a j c
 at_again x y = record {

@@ -1,2 +1,3 @@
 pub mod ChildLemmas
 pub mod CursorLemmas
+pub mod ValueLemmas

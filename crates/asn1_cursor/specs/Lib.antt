@@ -1,3 +1,4 @@
 pub mod Cursor
 pub mod Children
 pub mod Names
+pub mod Values

@@ -1,14 +1,13 @@
 //! Paths from an element to one inside it.
 ghost use Rattle.std.specs.Prelude.{◌≡◌, ◌↔◌, ◌+◌, ◌<◌, ◌≤◌, ℕ, true, length, IfSome, IfNone};
 ghost use Rattle.asn1_tree.specs.Types.{types_in};
-ghost use Rattle.asn1_cursor.specs.Children.{IsNthChild};
+ghost use Rattle.asn1_cursor.specs.Children.{IsFirstChild, IsNthChild};
 ghost use Rattle.asn1_cursor.specs.Cursor.{IsAt};
 ghost use Rattle.asn1_cursor.specs.Names.{IsNamed, IsNamedChild, IsField};
 
 use crate::child::next_child;
 use crate::cursor::Cursor;
 use asn1_schema::NodeKind;
-use ber::Universal;
 
 // How many levels of elements there are.
 pub(crate) const LEVELS: usize = 64;
@@ -82,14 +81,16 @@ impl<'a> Cursor<'a> {
         None
     }
 
-    /// The value inside an EXPLICIT tag, or the value that an OCTET STRING contains, if it is one of
-    /// these.
+    /// The value inside an EXPLICIT tag, or the value that a string contains. Only a primitive string
+    /// contains one: the children of a constructed one are its segments.
     pub fn inner(self) -> Option<Self>
-        ensures { IfSome result (λ c. IsAt self.entry c.index c) }
+        ensures { IfSome result (λ c. IsAt self.entry c.index c
+            × IsFirstChild self.entry.entries.now self.entry.index (self.entry.index + 1) c.index) }
     {
         match self.kind() {
-            Some(NodeKind::Explicit | NodeKind::Universal(Universal::OctetString)) => self.item(0),
-            _ => None,
+            Some(NodeKind::Explicit) => self.item(0),
+            _ if self.is_constructed() => None,
+            _ => self.item(0),
         }
     }
 

@@ -1,6 +1,8 @@
 //! Values of elements.
-ghost use Rattle.std.specs.Prelude.{◌≡◌, IfSome};
+ghost use Rattle.std.specs.Prelude.{◌≡◌, ◌+◌, IfSome};
+ghost use Rattle.asn1_cursor.specs.Children.{IsFirstChild};
 ghost use Rattle.asn1_cursor.specs.Cursor.{IsAt};
+ghost use Rattle.asn1_cursor.specs.Values.{IsTagged, IsInside, AreInside};
 
 use crate::bits::BitNames;
 use crate::cursor::Cursor;
@@ -18,19 +20,29 @@ use der_asn1::{
 impl<'a> Cursor<'a> {
     /// The value inside EXPLICIT tags, or the element itself if it has none.
     pub fn untagged(self) -> Self
-        ensures { IsAt self.entry result.index result }
+        ensures inside { IsInside self.entry result }
+        ensures same { IsAt self.entry result.index result }
     {
         let mut found = self;
         for _ in 0..LEVELS {
-            if found.kind() != Some(NodeKind::Explicit) {
-                return found;
-            }
-            match found.inner() {
+            match found.tagged() {
                 Some(inner) => found = inner,
                 None => return found,
             }
         }
         found
+    }
+
+    // The value inside an EXPLICIT tag.
+    fn tagged(self) -> Option<Self>
+        ensures { IfSome result (λ c. IsTagged self.entry × IsAt self.entry c.index c
+            × IsFirstChild self.entry.entries.now self.entry.index (self.entry.index + 1) c.index) }
+    {
+        let node = self.node()?;
+        match node.kind {
+            NodeKind::Explicit => self.item(0),
+            _ => None,
+        }
     }
 
     /// The universal type of its contents: that of its type in the table, or that of its tag if it has
@@ -57,7 +69,9 @@ impl<'a> Cursor<'a> {
     }
 
     // The contents of a value of a type, in the primitive form.
-    fn primitive(self, universal: Universal) -> Option<&'a [u8]> {
+    fn primitive(self, universal: Universal) -> Option<&'a [u8]>
+        ensures { IfSome result (λ o. AreInside self.entry o.now) }
+    {
         let value = self.untagged();
         if value.universal() == Some(universal) && !value.is_constructed() {
             Some(value.contents())
@@ -75,12 +89,16 @@ impl<'a> Cursor<'a> {
     }
 
     /// An INTEGER of any size.
-    pub fn integer(self) -> Option<IntRef<'a>> {
+    pub fn integer(self) -> Option<IntRef<'a>>
+        ensures { IfSome result (λ v. AreInside self.entry v.octets.now) }
+    {
         IntRef::new(self.primitive(Universal::Integer)?)
     }
 
     /// An ENUMERATED.
-    pub fn enumerated(self) -> Option<EnumeratedRef<'a>> {
+    pub fn enumerated(self) -> Option<EnumeratedRef<'a>>
+        ensures { IfSome result (λ v. AreInside self.entry v.octets.now) }
+    {
         EnumeratedRef::new(self.primitive(Universal::Enumerated)?)
     }
 
@@ -99,12 +117,16 @@ impl<'a> Cursor<'a> {
     }
 
     /// An OBJECT IDENTIFIER, which prints its arcs.
-    pub fn object_identifier(self) -> Option<ObjectIdentifierRef<'a>> {
+    pub fn object_identifier(self) -> Option<ObjectIdentifierRef<'a>>
+        ensures { IfSome result (λ v. AreInside self.entry v.octets.now) }
+    {
         ObjectIdentifierRef::new(self.primitive(Universal::ObjectIdentifier)?)
     }
 
     /// A BIT STRING.
-    pub fn bits(self) -> Option<BitStringRef<'a>> {
+    pub fn bits(self) -> Option<BitStringRef<'a>>
+        ensures { IfSome result (λ v. AreInside self.entry v.octets.now) }
+    {
         BitStringRef::new(self.primitive(Universal::BitString)?)
     }
 
@@ -116,20 +138,23 @@ impl<'a> Cursor<'a> {
     }
 
     /// The octets of an OCTET STRING.
-    pub fn octet_string(self) -> Option<&'a [u8]> {
+    pub fn octet_string(self) -> Option<&'a [u8]>
+        ensures { IfSome result (λ o. AreInside self.entry o.now) }
+    {
         self.primitive(Universal::OctetString)
     }
 
     /// The text of a UTF8String, NumericString, PrintableString, IA5String or VisibleString.
-    pub fn text(self) -> Option<&'a str> {
-        let value = self.untagged();
-        let universal = value.universal()?;
+    pub fn text(self) -> Option<&'a str>
+        ensures { IfSome result (λ s. AreInside self.entry s.now) }
+    {
+        let universal = self.untagged().universal()?;
         match universal {
             Universal::Utf8String
             | Universal::NumericString
             | Universal::PrintableString
             | Universal::Ia5String
-            | Universal::VisibleString => { std::str::from_utf8(value.primitive(universal)?).ok() }
+            | Universal::VisibleString => as_text(self.primitive(universal)?),
             _ => None,
         }
     }
@@ -142,5 +167,15 @@ impl<'a> Cursor<'a> {
                 GeneralizedTimeFormat::from_contents(self.primitive(Universal::GeneralizedTime)?)
             }
         }
+    }
+}
+
+// Octets as a text, if they are UTF-8.
+fn as_text(octets: &[u8]) -> Option<&str>
+    ensures { IfSome result (λ s. s.now ≡ octets.now) }
+{
+    match std::str::from_utf8(octets) {
+        Ok(text) => Some(text),
+        Err(_) => None,
     }
 }
