@@ -17,3 +17,4 @@ pub mod WholeLemmas
 pub mod SizeLemmas
 pub mod KindLemmas
 pub mod DepartureLemmas
+pub mod EntryLemmas

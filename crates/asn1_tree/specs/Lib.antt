@@ -14,4 +14,5 @@ pub mod Reading
 pub mod Strings
 pub mod StringReading
 pub mod Departures
+pub mod Entries
 pub mod Encoding

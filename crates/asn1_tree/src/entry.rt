@@ -1,5 +1,6 @@
 //! Nodes of a tree.
 
+ghost use Rattle.std.specs.Prelude.{◌≡◌, ◌-◌, length};
 ghost use Rattle.ber.specs.Header.{IsNext};
 
 use crate::place::Place;
@@ -32,6 +33,9 @@ impl Entry {
     // its depth when it is in a tree.
     pub(crate) fn new(header: Header, place: Place<'_>, role: Role, kind: u32) -> Self
         requires { IsNext header place.octets.now }
+        ensures offset { result.offset ≡ place.entry.end - length place.entry.octets.now }
+        ensures header { result.header_len ≡ header.header_len }
+        ensures empty { result.contents_len ≡ 0 }
     {
         Entry {
             offset: place.offset(),

@@ -25,8 +25,8 @@
 //!
 //! Proved: there is no departure exactly if the octets are the DER encoding of a value of the node,
 //! and none but of rules that DER alone has exactly if they are a BER encoding of one. Each is at one
-//! of the octets, or at their end. Not proved: which rule it names, at which octet it is, and the rows
-//! of the tree.
+//! of the octets, or at their end, and each element is inside them. Not proved: which rule a departure
+//! names, at which octet it is, and the rows of the tree beyond that.
 #![tactic(auto)]
 
 mod additions;

@@ -1,6 +1,7 @@
 //! Notes of a walk.
 ghost use Rattle.std.specs.Prelude.{◌≡◌, true};
 ghost use Rattle.asn1_tree.specs.Departures.{are_inside};
+ghost use Rattle.asn1_tree.specs.Entries.{are_placed};
 
 use crate::departure::Departure;
 use crate::entry::Entry;
@@ -15,4 +16,5 @@ pub(crate) struct Notes {
     /// The number of octets of the input.
     pub end: usize,
     ghost inside: { are_inside end departures.items ≡ true },
+    ghost placed: { are_placed end entries.items ≡ true },
 }

@@ -1,5 +1,5 @@
 //! What a walk notes.
-ghost use Rattle.std.specs.Prelude.{◌≡◌, ◌↔◌, ◌≤◌, true, [], IfOk, OnOk};
+ghost use Rattle.std.specs.Prelude.{◌≡◌, ◌↔◌, ◌+◌, ◌≤◌, true, [], length, IfOk, OnOk};
 ghost use Rattle.der_base.specs.declared.encoding_rules.EncodingRules.{EncodingRules};
 ghost use Rattle.asn1_tree.specs.Verdict.{holds};
 ghost use Rattle.asn1_tree.specs.declared.verdict.Verdict.TheVariants.{Der};
@@ -86,6 +86,7 @@ impl Notes {
 
     /// Notes an element, and returns its index; 0 if none is kept.
     pub fn enter(&mut self, entry: Entry) -> Result<usize, AllocError>
+        requires { entry.offset + entry.header_len + entry.contents_len ≤ self.old.end }
         ensures log { OnOk result (Logs Der self.old self.new) }
         ensures end { OnOk result (self.new.end ≡ self.old.end) }
     {
@@ -101,17 +102,30 @@ impl Notes {
     }
 
     /// Notes how many contents octets an element has, after which this is the rest.
-    pub fn leave(&mut self, index: usize, opened: Opened<'_>, rest: &[u8])
+    pub fn leave(&mut self, index: usize, entry: Entry, opened: Opened<'_>, rest: &[u8])
+        requires { entry.offset + entry.header_len + length opened.inside.octets.now ≤ self.old.end }
         ensures log { Logs Der self.old self.new }
         ensures end { self.new.end ≡ self.old.end }
     {
-        let contents = opened.inside.octets.len();
-        if let Some(entry) = self.entries.get_mut(index) {
-            entry.contents_len = if opened.marked {
-                contents.saturating_sub(rest.len()).saturating_sub(2)
-            } else {
-                contents
+        let contents_len = contents_len(opened, rest);
+        if index < self.entries.len() {
+            self.entries[index] = Entry {
+                contents_len,
+                depth: self.entries[index].depth,
+                ..entry
             };
         }
+    }
+}
+
+// The number of contents octets of an element, after which this is the rest.
+fn contents_len(opened: Opened<'_>, rest: &[u8]) -> usize
+    ensures { result ≤ length opened.entry.inside.octets.now }
+{
+    let contents = opened.inside.octets.len();
+    if opened.marked {
+        contents.saturating_sub(rest.len()).saturating_sub(2)
+    } else {
+        contents
     }
 }

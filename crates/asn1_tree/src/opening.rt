@@ -1,5 +1,5 @@
 //! Where contents of elements begin and end.
-ghost use Rattle.std.specs.Prelude.{◌≡◌, false, ◌+◌, ◌↔◌, ◌<◌, ◌≤◌, ℕ, IsTrue, length, IfSome, IfNone};
+ghost use Rattle.std.specs.Prelude.{◌≡◌, ◌-◌, false, ◌+◌, ◌↔◌, ◌<◌, ◌≤◌, ℕ, IsTrue, length, IfSome, IfNone};
 ghost use Rattle.ber.specs.Header.{IsNext};
 ghost use Rattle.ber.specs.declared.length.Length.TheVariants.{Definite};
 ghost use Rattle.asn1_tree.specs.Opened.{IsOpened, IsEnded};
@@ -43,6 +43,8 @@ pub(crate) fn after_header<'a>(header: Header, place: Place<'a>) -> Option<Opene
         (λ o. length o.inside.octets.now + length o.beyond.now + 2 ≤ length place.entry.octets.now) }
     ensures form { IfSome result (λ o. header.constructed ≡ false → o.marked ≡ false) }
     ensures end { IfSome result (λ o. o.inside.end ≤ place.entry.end) }
+    ensures place { IfSome result (λ o. (place.entry.end - length place.entry.octets.now) + header.header_len
+        + length o.inside.octets.now ≤ o.inside.end) }
     ensures none { IfNone result ((n : ℕ) × (header.length ≡ Definite n)
         × (length place.entry.octets.now < header.header_len + n)) }
 {

@@ -4,6 +4,7 @@ ghost use Rattle.der_base.specs.declared.encoding_rules.EncodingRules.{EncodingR
 ghost use Rattle.asn1_schema.specs.Table.{table_in};
 ghost use Rattle.asn1_tree.specs.Departures.{AreOfDer, are_inside};
 ghost use Rattle.asn1_tree.specs.Encoding.{IsDer, IsBer};
+ghost use Rattle.asn1_tree.specs.Entries.{are_placed};
 ghost use Rattle.asn1_tree.specs.Reading.{Logs};
 ghost use Rattle.asn1_tree.specs.Types.{types_in};
 ghost use Rattle.asn1_tree.specs.Value.{IsValue};
@@ -22,8 +23,8 @@ use std::alloc::{AllocError, Global};
 
 /// Reads octets as a value of a node of a table, and goes on after each departure. There is none exactly
 /// if the octets are the DER encoding of such a value, and none but of rules that DER alone has exactly
-/// if they are a BER encoding of one. Each is at one of the octets, or at their end. The caller must
-/// ensure that there is such a node.
+/// if they are a BER encoding of one. Each is at one of the octets, or at their end, and each element of
+/// the tree is inside them. The caller must ensure that there is such a node.
 ///
 /// # Errors
 ///
@@ -40,6 +41,7 @@ pub fn read(
     ensures ber { IfOk result (λ tree. AreOfDer tree.departures.items
         ↔ IsBer (table_in schema.now.octets.now) node octets.now) }
     ensures inside { IfOk result (λ tree. are_inside (length octets.now) tree.departures.items ≡ true) }
+    ensures placed { IfOk result (λ tree. are_placed (length octets.now) tree.entries.items ≡ true) }
 {
     let mut notes = Notes::new(alloc, true, octets.len());
     walk(&mut notes, alloc, schema, node, octets)?;

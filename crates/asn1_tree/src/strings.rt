@@ -184,7 +184,8 @@ fn segment<'a>(
         Ok(header) => header,
         Err(rule) => return no_segment(notes, depth, rule, role, place),
     };
-    let at = notes.enter(Entry::new(header, place, role, NO_INDEX))?;
+    let entry = Entry::new(header, place, role, NO_INDEX);
+    let at = notes.enter(entry)?;
     let allowed = notes.judge_lengths(header, place.offset(), at)?;
     match after_header(header, place) {
         Some(opened) => {
@@ -197,7 +198,7 @@ fn segment<'a>(
                 opened,
                 text,
             )?;
-            notes.leave(at, opened, outcome.rest);
+            notes.leave(at, entry, opened, outcome.rest);
             Ok(Outcome {
                 verdict: allowed.and(outcome.verdict),
                 rest: outcome.rest,

@@ -126,14 +126,15 @@ fn selected_value<'a>(
     match chosen(schema, &node, known) {
         Some(inner) => value(notes, alloc, schema, depth, known, inner, role, place),
         None => {
-            let at = notes.enter(Entry::new(header, place, role, index))?;
+            let entry = Entry::new(header, place, role, index);
+            let at = notes.enter(entry)?;
             let allowed = notes.judge_lengths(header, place.offset(), at)?;
             match after_header(header, place) {
                 Some(opened) => {
                     let outcome = contents(
                         notes, alloc, schema, depth, known, node, at, header, opened,
                     )?;
-                    notes.leave(at, opened, outcome.rest);
+                    notes.leave(at, entry, opened, outcome.rest);
                     Ok(Outcome {
                         verdict: allowed.and(outcome.verdict),
                         rest: outcome.rest,

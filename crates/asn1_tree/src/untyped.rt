@@ -39,7 +39,8 @@ pub(crate) fn any<'a>(
         Ok(header) => header,
         Err(rule) => return pass(notes, rule, role, place),
     };
-    let at = notes.enter(Entry::new(header, place, role, NO_INDEX))?;
+    let entry = Entry::new(header, place, role, NO_INDEX);
+    let at = notes.enter(entry)?;
     let allowed = notes.judge_lengths(header, place.offset(), at)?;
     match after_header(header, place) {
         Some(opened) => {
@@ -51,7 +52,7 @@ pub(crate) fn any<'a>(
                 at,
                 opened,
             )?;
-            notes.leave(at, opened, outcome.rest);
+            notes.leave(at, entry, opened, outcome.rest);
             Ok(Outcome {
                 verdict: allowed.and(outcome.verdict),
                 rest: outcome.rest,
