@@ -1,5 +1,5 @@
 """Compares what asn1_cursor finds in a certificate with what openssl says of it. tests/programs/cursors has the program, the
-output of openssl, and the values that it names."""
+output of `openssl asn1parse`, and in `values` what `openssl x509 -text` says of fields, with their paths."""
 import re
 import subprocess
 import tempfile

@@ -24,7 +24,13 @@ fn names_and_places(rt: HostRuntime) -> Result<(), AllocError> {
     }
     let tree = read(rt.alloc(), &schema, 2, &RECORD)?;
     match Cursor::root(&RECORD, &schema, &tree) {
-        Some(root) => see_record(&rt, root),
+        Some(root) => {
+            see_record(&rt, root);
+            if let Some(flag) = root.at("outer.flag") {
+                let path = format!(in rt.alloc(); "{}", flag.place())?;
+                same_octets(&rt, path.as_bytes(), b"outer");
+            }
+        }
         None => holds(&rt, false),
     }
     Ok(())
