@@ -1,5 +1,7 @@
 """Compares the types that the compiler of the checkout writes with what another compiler says of the
-same modules: the files tests/vectors/NAME.tsv, which `tools/asn1_oracle` wrote."""
+same modules: the files tests/vectors/NAME.tsv, which `tools/asn1_oracle` wrote. Also calls the compiler with
+words of each kind, and compares what it says."""
+import errno
 import os
 import re
 import subprocess
@@ -125,13 +127,41 @@ def compare(compiler, name):
     return held
 
 
-def says_why(compiler):
-    """Whether the compiler prints to standard error what is stored beside its module with a fault, and nothing
-    else."""
-    of = "asn1_compile"
-    words, stored = checker.args_of(of), text_of(f"{checker.folder_of(of)}/stderr")
-    ran = subprocess.run([compiler, *words], cwd=f"{checker.folder_of(of)}/data", stdin=subprocess.DEVNULL,
-                         check=False, text=True, capture_output=True)
-    held = (ran.returncode, ran.stdout, ran.stderr) == (1, "", stored)
-    print(f"test: {of} says {'what' if held else 'something else than what'} is stored", flush=True)
+def calls():
+    """Calls of the compiler: the words, the status, and the texts that it prints to standard output or, if the
+    status is another than 0, to standard error."""
+    why = {it: os.strerror(it) for it in (errno.ENOENT, errno.EISDIR, errno.ENOTDIR)}
+    module = f"{checker.folder_of('asn1_compile')}/data/wrong.asn1"
+    return [
+        (["--version"], 0, [f"asn1_compile {text_of(f'{TOP}/VERSION')}"]),
+        (["--help"], 0, ["--out <FOLDER>", "--with <CRATE=FILE>", "<FILE>", "--help", "--version"]),
+        ([], 2, ["error: ", "--out <FOLDER>", "<FILE>", "Usage: asn1_compile "]),
+        (["--out", "made"], 2, ["error: ", "<FILE>"]),
+        (["--out", "made", "none.asn1", "--loud"], 2, ["error: unexpected argument '--loud'"]),
+        (["--out", "made", "none.asn1", "--with", "base"], 2, ["error: ", "'--with'"]),
+        (["--out", "made", "none.asn1"], 1, [f"error: none.asn1: {why[errno.ENOENT]}"]),
+        (["--out=made", "none.asn1"], 1, [f"error: none.asn1: {why[errno.ENOENT]}"]),
+        (["none.asn1", "--with", "base=.", "--out", "made"], 1, [f"error: .: {why[errno.EISDIR]}"]),
+        (["--out", f"{module}/made", f"{VECTORS}/explicit.asn1"], 1, [f"error: {module}/made: {why[errno.ENOTDIR]}"]),
+        (checker.args_of("asn1_compile"), 1, [text_of(f"{checker.folder_of('asn1_compile')}/stderr")]),
+    ]
+
+
+def says(compiler, words, status, texts):
+    """Whether the compiler ends a call with the status, and prints the texts where they belong, and nothing
+    elsewhere."""
+    folder = f"{checker.folder_of('asn1_compile')}/data"
+    ran = subprocess.run([compiler, *words], cwd=folder, stdin=subprocess.DEVNULL, check=False, text=True,
+                         capture_output=True)
+    printed, other = (ran.stderr, ran.stdout) if status else (ran.stdout, ran.stderr)
+    held = ran.returncode == status and not other and all(it in printed for it in texts)
+    if not held:
+        print(f"test: asn1_compile {' '.join(words)} says something else:\n{ran.stdout}{ran.stderr}")
+    return held
+
+
+def run_calls(compiler):
+    """Makes each call, and returns whether it says what it should."""
+    held = [says(compiler, *it) for it in calls()]
+    print(f"test: asn1_compile: {sum(held)} of {len(held)} calls say what they should", flush=True)
     return held

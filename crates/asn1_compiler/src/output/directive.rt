@@ -50,12 +50,7 @@ pub fn directive<'a>(comments: &'a str, key: &str) -> Option<&'a str> {
 /// The type of Rust that the module gives for the type with this index, which the root of the crate
 /// has.
 pub fn own_type<'a>(module: &Module<'a>, index: usize) -> Option<&'a str> {
-    for assigned in module.types.iter() {
-        if assigned.of == index {
-            return own_type_in(assigned.name.comments);
-        }
-    }
-    None
+    own_type_in(module.assignment(index)?.name.comments)
 }
 
 fn own_type_in<'a>(comments: &'a str) -> Option<&'a str> {

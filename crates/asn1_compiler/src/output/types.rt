@@ -12,7 +12,6 @@ use crate::base_form::base_form;
 use crate::bounds::contained;
 use crate::checks::{are_numbered, automatic_number, find_type};
 use crate::component::{Component, Presence};
-use crate::external_type::find_external;
 use crate::failure::Failure;
 use crate::module::Module;
 use crate::named_number::NamedNumber;
@@ -231,7 +230,7 @@ fn reference<'a>(
             Some(text) => Ok(RustType::element(alloc, text)),
             None => Ok(named_type(alloc, module, table, names, of)?),
         },
-        None => match find_external(module, node.item.text) {
+        None => match module.imported.find(node.item.text) {
             Some(external) => Ok(external.of.copy(alloc)?),
             None => Err(not_written(node)),
         },

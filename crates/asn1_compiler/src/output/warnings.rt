@@ -45,6 +45,7 @@ pub fn warnings_of<'a>(
     }
     add_values(alloc, written.module, &mut found)?;
     add_renamed(alloc, written, &mut found)?;
+    found.sort_by_key(|warning| warning.offset)?;
     Ok(found)
 }
 
@@ -68,7 +69,7 @@ pub fn add_item<'a>(
     add(alloc, found, item.offset, item.text, text)
 }
 
-// Adds a warning in the order of places.
+// Adds a warning.
 fn add<'a>(
     alloc: Global,
     found: &mut Vec<Warning<'a>>,
@@ -76,13 +77,11 @@ fn add<'a>(
     item: &'a str,
     text: &str,
 ) -> Result<(), AllocError> {
-    let warning = Warning {
+    Ok(found.push(Warning {
         offset,
         found: item,
         text: String::from_str(alloc, text)?,
-    };
-    let place = found.iter().filter(|other| other.offset <= offset).count();
-    Ok(found.insert(place.min(found.len()), warning)?)
+    })?)
 }
 
 // Adds the warnings of a type.
