@@ -4,6 +4,7 @@ words of each kind, and compares what it says."""
 import errno
 import os
 import re
+import resource
 import subprocess
 import tempfile
 
@@ -21,7 +22,7 @@ MAIN = """//! Reads the octets of vectors, and prints whether they are accepted.
 mod asn1;
 
 use der::{{Decode, DecodeBytes, Encode, Error, SliceReader}};
-use der_asn1::{{Enumerated, NamedInteger}};
+use der_asn1::{{Enumerated, EnumeratedOf, NamedInteger}};
 use std::alloc::Global;
 use std::io;
 
@@ -71,7 +72,7 @@ def rust_names(module, said):
 
 def rust_types(folder, module, said):
     """How Rust writes each type of the crate: with a lifetime if it has one; the items of an enumeration
-    stand in an ENUMERATED or an INTEGER, as the module says."""
+    stand in an ENUMERATED or an INTEGER, as the module says; one with an extension mark is a number."""
     texts = "".join(text_of(f"{folder}/src/asn1/{it}") for it in sorted(os.listdir(f"{folder}/src/asn1")))
     found = {}
     for name, rust in rust_names(module, said).items():
@@ -80,6 +81,8 @@ def rust_types(folder, module, said):
         if f"impl Enumeration for {rust} " in texts:
             is_integer = re.search(rf"^{name} ::= INTEGER", module, re.M)
             found[name] = f"{'NamedInteger' if is_integer else 'Enumerated'}<asn1::{rust}>"
+            if re.search(rf"^{name} ::= ENUMERATED {{[^}}]*\.\.\.", module, re.M):
+                found[name] = "EnumeratedOf<i64>"
     return found
 
 
@@ -160,8 +163,27 @@ def says(compiler, words, status, texts):
     return held
 
 
+def seconds(compiler, folder, count):
+    """The processor time that a module with so many types takes."""
+    types = "".join(f"T{it} ::= INTEGER\n" for it in range(count))
+    with open(f"{folder}/many.asn1", "w", encoding="utf-8") as file:
+        file.write(f"Many DEFINITIONS ::= BEGIN\n{types}END\n")
+    before = resource.getrusage(resource.RUSAGE_CHILDREN).ru_utime
+    subprocess.run([compiler, "--out", f"{folder}/many{count}", f"{folder}/many.asn1"], check=True)
+    return resource.getrusage(resource.RUSAGE_CHILDREN).ru_utime - before
+
+
+def is_linear(compiler):
+    """Whether eight times as many types take less than sixteen times as long."""
+    with tempfile.TemporaryDirectory() as folder:
+        few, many = seconds(compiler, folder, 50), seconds(compiler, folder, 400)
+    if many >= 16 * few:
+        print(f"test: asn1_compile: 400 types take {many:.2f} seconds, and 50 types {few:.2f}")
+    return many < 16 * few
+
+
 def run_calls(compiler):
-    """Makes each call, and returns whether it says what it should."""
-    held = [says(compiler, *it) for it in calls()]
+    """Makes each call, and returns whether it says what it should, and takes no more time than it should."""
+    held = [*(says(compiler, *it) for it in calls()), is_linear(compiler)]
     print(f"test: asn1_compile: {sum(held)} of {len(held)} calls say what they should", flush=True)
     return held

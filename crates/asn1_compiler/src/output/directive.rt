@@ -25,13 +25,18 @@ pub const DEFAULT: &str = "Rust default:";
 /// which is `u64`.
 pub const INTEGER: &str = "Rust integer:";
 
-/// Whether the line of a comment, without its marks, gives a name.
+/// What begins the line of a comment that says what becomes of numbers behind an extension mark:
+/// they are read, unless it says `refused`.
+pub const EXTENSIONS: &str = "Rust extensions:";
+
+/// Whether the line of a comment, without its marks, says something of Rust.
 pub fn is_directive(line: &str) -> bool {
     line.starts_with(NAME)
         || line.starts_with(FIELD)
         || line.starts_with(TYPE)
         || line.starts_with(DEFAULT)
         || line.starts_with(INTEGER)
+        || line.starts_with(EXTENSIONS)
 }
 
 /// The name that a comment gives behind `key`, if it is a name of Rust.

@@ -5,7 +5,7 @@ use super::directive::{is_word, own_type};
 use super::lists::list_field;
 use super::naming::text_at;
 use super::nest;
-use super::numbers::{are_small, bounds, is_closed, is_enumeration};
+use super::numbers::{OPEN, are_small, bounds, is_closed, is_enumeration, is_open};
 use super::rust_type::{RustKind, RustType};
 use super::tagged::{behind_tags, numbered, tagged};
 use crate::base_form::base_form;
@@ -74,6 +74,9 @@ fn type_of<'a>(
         }
         TypeForm::Integer(numbers) => {
             Ok(RustType::element(alloc, integer_text(alloc, module, index, numbers, name)?))
+        }
+        TypeForm::Enumerated(_) if is_open(module, index) => {
+            Ok(RustType::new(alloc, OPEN, RustKind::Element)?)
         }
         _ => Ok(RustType::element(alloc, element_text(alloc, module, table, name, node)?)),
     }

@@ -1,7 +1,7 @@
 //! What a module says that its types of Rust do not check or do not have.
 
 use super::directive::own_type;
-use super::numbers::is_enumeration;
+use super::numbers::{is_enumeration, is_open};
 use super::pieces::Written;
 use super::renamed::add_renamed;
 use super::rust_type::RustKind;
@@ -27,6 +27,8 @@ const VALUE: &str = "this value is not checked";
 const CONTENTS: &str = "the contents are octets, since their type has no tag of its own";
 
 const NUMBERS: &str = "an enum has no items below 0 or above 4294967295: any number is accepted";
+
+const CLOSED: &str = "numbers that no item has are refused";
 
 const NOT_WRITTEN: &str =
     "this value is left out, since it is no INTEGER, BOOLEAN or OBJECT IDENTIFIER";
@@ -96,6 +98,10 @@ fn add_node<'a>(
         && !is_enumeration(written.module, index)
     {
         add_item(alloc, found, node.item, NUMBERS)?;
+    } else if let Some(mark) = node.mark
+        && !is_open(written.module, index)
+    {
+        add_item(alloc, found, mark, CLOSED)?;
     }
     for constraint in node.constraints.iter() {
         match constraint {
