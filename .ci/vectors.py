@@ -22,7 +22,7 @@ MAIN = """//! Reads the octets of vectors, and prints whether they are accepted.
 mod asn1;
 
 use der::{{Decode, DecodeBytes, Encode, Error, SliceReader}};
-use der_asn1::{{Enumerated, EnumeratedOf, NamedInteger}};
+use der_asn1::{{Enumerated, NamedInteger}};
 use std::alloc::Global;
 use std::io;
 
@@ -72,7 +72,7 @@ def rust_names(module, said):
 
 def rust_types(folder, module, said):
     """How Rust writes each type of the crate: with a lifetime if it has one; the items of an enumeration
-    stand in an ENUMERATED or an INTEGER, as the module says; one with an extension mark is a number."""
+    stand in an ENUMERATED or an INTEGER, as the module says."""
     texts = "".join(text_of(f"{folder}/src/asn1/{it}") for it in sorted(os.listdir(f"{folder}/src/asn1")))
     found = {}
     for name, rust in rust_names(module, said).items():
@@ -81,8 +81,6 @@ def rust_types(folder, module, said):
         if f"impl Enumeration for {rust} " in texts:
             is_integer = re.search(rf"^{name} ::= INTEGER", module, re.M)
             found[name] = f"{'NamedInteger' if is_integer else 'Enumerated'}<asn1::{rust}>"
-            if re.search(rf"^{name} ::= ENUMERATED {{[^}}]*\.\.\.", module, re.M):
-                found[name] = "EnumeratedOf<i64>"
     return found
 
 
