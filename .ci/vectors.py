@@ -1,7 +1,10 @@
 """Compares the types that the compiler of the checkout writes with what another compiler says of the
-same modules: the files tests/vectors/NAME.tsv, which `tools/asn1_oracle` wrote."""
+same modules: the files tests/vectors/NAME.tsv, which `tools/asn1_oracle` wrote. Also calls the compiler with
+words of each kind, and compares what it says."""
+import errno
 import os
 import re
+import resource
 import subprocess
 import tempfile
 
@@ -125,13 +128,60 @@ def compare(compiler, name):
     return held
 
 
-def says_why(compiler):
-    """Whether the compiler prints to standard error what is stored beside its module with a fault, and nothing
-    else."""
-    of = "asn1_compile"
-    words, stored = checker.args_of(of), text_of(f"{checker.folder_of(of)}/stderr")
-    ran = subprocess.run([compiler, *words], cwd=f"{checker.folder_of(of)}/data", stdin=subprocess.DEVNULL,
-                         check=False, text=True, capture_output=True)
-    held = (ran.returncode, ran.stdout, ran.stderr) == (1, "", stored)
-    print(f"test: {of} says {'what' if held else 'something else than what'} is stored", flush=True)
+def calls():
+    """Calls of the compiler: the words, the status, and the texts that it prints to standard output or, if the
+    status is another than 0, to standard error."""
+    why = {it: os.strerror(it) for it in (errno.ENOENT, errno.EISDIR, errno.ENOTDIR)}
+    module = f"{checker.folder_of('asn1_compile')}/data/wrong.asn1"
+    return [
+        (["--version"], 0, [f"asn1_compile {text_of(f'{TOP}/VERSION')}"]),
+        (["--help"], 0, ["--out <FOLDER>", "--with <CRATE=FILE>", "<FILE>", "--help", "--version"]),
+        ([], 2, ["error: ", "--out <FOLDER>", "<FILE>", "Usage: asn1_compile "]),
+        (["--out", "made"], 2, ["error: ", "<FILE>"]),
+        (["--out", "made", "none.asn1", "--loud"], 2, ["error: unexpected argument '--loud'"]),
+        (["--out", "made", "none.asn1", "--with", "base"], 2, ["error: ", "'--with'"]),
+        (["--out", "made", "none.asn1"], 1, [f"error: none.asn1: {why[errno.ENOENT]}"]),
+        (["--out=made", "none.asn1"], 1, [f"error: none.asn1: {why[errno.ENOENT]}"]),
+        (["none.asn1", "--with", "base=.", "--out", "made"], 1, [f"error: .: {why[errno.EISDIR]}"]),
+        (["--out", f"{module}/made", f"{VECTORS}/explicit.asn1"], 1, [f"error: {module}/made: {why[errno.ENOTDIR]}"]),
+        (checker.args_of("asn1_compile"), 1, [text_of(f"{checker.folder_of('asn1_compile')}/stderr")]),
+    ]
+
+
+def says(compiler, words, status, texts):
+    """Whether the compiler ends a call with the status, and prints the texts where they belong, and nothing
+    elsewhere."""
+    folder = f"{checker.folder_of('asn1_compile')}/data"
+    ran = subprocess.run([compiler, *words], cwd=folder, stdin=subprocess.DEVNULL, check=False, text=True,
+                         capture_output=True)
+    printed, other = (ran.stderr, ran.stdout) if status else (ran.stdout, ran.stderr)
+    held = ran.returncode == status and not other and all(it in printed for it in texts)
+    if not held:
+        print(f"test: asn1_compile {' '.join(words)} says something else:\n{ran.stdout}{ran.stderr}")
+    return held
+
+
+def seconds(compiler, folder, count):
+    """The processor time that a module with so many types takes."""
+    types = "".join(f"T{it} ::= INTEGER\n" for it in range(count))
+    with open(f"{folder}/many.asn1", "w", encoding="utf-8") as file:
+        file.write(f"Many DEFINITIONS ::= BEGIN\n{types}END\n")
+    before = resource.getrusage(resource.RUSAGE_CHILDREN).ru_utime
+    subprocess.run([compiler, "--out", f"{folder}/many{count}", f"{folder}/many.asn1"], check=True)
+    return resource.getrusage(resource.RUSAGE_CHILDREN).ru_utime - before
+
+
+def is_linear(compiler):
+    """Whether eight times as many types take less than sixteen times as long."""
+    with tempfile.TemporaryDirectory() as folder:
+        few, many = seconds(compiler, folder, 50), seconds(compiler, folder, 400)
+    if many >= 16 * few:
+        print(f"test: asn1_compile: 400 types take {many:.2f} seconds, and 50 types {few:.2f}")
+    return many < 16 * few
+
+
+def run_calls(compiler):
+    """Makes each call, and returns whether it says what it should, and takes no more time than it should."""
+    held = [*(says(compiler, *it) for it in calls()), is_linear(compiler)]
+    print(f"test: asn1_compile: {sum(held)} of {len(held)} calls say what they should", flush=True)
     return held

@@ -23,6 +23,12 @@ fn ranges_and_defaults_reach_the_types(rt: HostRuntime) -> Result<(), Fail> {
         ("A ::= SEQUENCE { a INTEGER { b(0), c(1) } (0..1) DEFAULT 1 }", "AA::C"),
         ("A ::= SEQUENCE { a NULL, ..., b BOOLEAN }", "pub b: Optional<BooleanRef<'a>>,"),
         ("A ::= ENUMERATED { a(-1), b }", "pub type A<'a> = EnumeratedRef<'a>;"),
+        ("A ::= SEQUENCE { a C }\nC ::= ENUMERATED { b, ..., d }", "pub a: EnumeratedOf<i64>,"),
+        ("A ::= SEQUENCE { a ENUMERATED { b, ... } }", "pub a: EnumeratedOf<i64>,"),
+        ("A ::= SEQUENCE { a [0] C }\nC ::= ENUMERATED { b, ... }", "pub a: Explicit<EnumeratedOf<i64>, 0>,"),
+        ("A ::= SEQUENCE { a C DEFAULT d }\nC ::= ENUMERATED { b, ..., d(7) }", "EnumeratedOf { number: 7 }"),
+        ("A ::= ENUMERATED { b, ..., d }", "impl Enumeration for A {"),
+        ("A ::= SEQUENCE { a C }\n-- Rust extensions: refused\nC ::= ENUMERATED { b, ... }", "pub a: Enumerated<C>,"),
     ] {
         let text = module(alloc, "EXPLICIT", body)?;
         match compiled(alloc, &Vec::new(alloc), &text) {

@@ -11,6 +11,8 @@ fn commas_and_extension_marks(rt: HostRuntime) -> Result<(), Fail> {
         ("A ::= CHOICE { a NULL, ..., }", (2, 29, "}")),
         ("A ::= SEQUENCE { a NULL, ..., b NULL, ..., c NULL, ... }", (2, 52, "...")),
         ("A ::= CHOICE { a NULL, ..., b INTEGER, ..., c BOOLEAN }", (2, 45, "c")),
+        ("A ::= CHOICE { ..., a NULL }", (2, 16, "...")),
+        ("A ::= CHOICE { ... }", (2, 16, "...")),
         ("A ::= CHOICE { a NULL OPTIONAL }", (2, 23, "OPTIONAL")),
         ("A ::= ENUMERATED { a, ..., b, ... }", (2, 31, "...")),
         ("A ::= ENUMERATED { ..., a }", (2, 20, "...")),

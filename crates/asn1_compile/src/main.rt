@@ -8,6 +8,7 @@ use std::process::ExitCode;
 
 // No clause can name the arguments that the system passes; the recorded run checks that they reach
 // the program.
-fn main(rt: HostRuntime) -> ExitCode {
-    ExitCode::from(run_compile(&rt, env::args(&rt), &mut rt.stdout(), &mut rt.stderr()))
+fn main(rt: HostRuntime) -> anyhow::Result<ExitCode> {
+    let status = run_compile(&rt, env::args(&rt), &mut rt.stdout(), &mut rt.stderr())?;
+    Ok(ExitCode::from(status))
 }

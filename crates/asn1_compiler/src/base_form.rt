@@ -1,7 +1,6 @@
 //! How types are made behind their names and tags.
 
 use crate::checks::find_type;
-use crate::external_type::find_external;
 use crate::module::Module;
 use crate::type_node::TypeForm;
 
@@ -45,7 +44,7 @@ pub fn base_of(module: &Module<'_>, index: usize) -> usize {
 }
 
 fn external_form<'m, 'a>(module: &'m Module<'a>, name: &str) -> Option<&'m TypeForm<'a>> {
-    match find_external(module, name) {
+    match module.imported.find(name) {
         Some(of) => Some(&of.form),
         None => None,
     }

@@ -2,7 +2,6 @@
 
 use crate::checks::find_type;
 use crate::constraint::Constraint;
-use crate::external_type::find_external;
 use crate::module::Module;
 use crate::range::Range;
 use crate::type_node::{TypeForm, TypeNode};
@@ -50,7 +49,7 @@ fn narrowed_by<'a>(found: Option<Range<'a>>, range: Range<'a>) -> Range<'a> {
 }
 
 fn with_imported<'a>(module: &Module<'a>, name: &str, found: Option<Range<'a>>) -> Range<'a> {
-    match (find_external(module, name), found) {
+    match (module.imported.find(name), found) {
         (Some(external), Some(behind)) => behind.and(external.range),
         (Some(external), None) => external.range,
         (None, behind) => behind.unwrap_or(Range::ALL),

@@ -5,6 +5,8 @@ mod constraints;
 mod exports;
 mod names;
 mod order;
+mod parts;
+mod seen_numbers;
 mod tags;
 mod unknown;
 
@@ -34,7 +36,7 @@ pub struct Checks {
 /// Checks that names are defined once, that no type contains itself, that constraints are those of
 /// their types, and that tags are distinct.
 pub fn check_module<'a>(alloc: Global, module: &Module<'a>) -> Result<Checks, Failure<'a>> {
-    check_names(module)?;
+    check_names(alloc, module)?;
     check_exports(module)?;
     let order = order_of(alloc, module)?;
     check_constraints(module)?;

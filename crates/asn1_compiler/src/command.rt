@@ -1,5 +1,7 @@
 //! The command line.
 
+use clap::error::ErrorKind;
+use clap::{Arg, ArgAction, Command, Error};
 use std::alloc::{AllocError, Global};
 
 /// A parsed command line.
@@ -22,45 +24,29 @@ pub struct With<'a> {
     pub file: &'a str,
 }
 
-// The option that the word before was.
-#[derive(Clone, Copy)]
-enum Before {
-    Nothing,
-    Out,
-    With,
-}
+const ABOUT: &str = "Compiles an ASN.1 module, and writes its types to the folder of a crate";
+
+const NO_WITH: &str = "a value of '--with' is not the name of a crate, =, and a file";
 
 impl<'a> CompileCommand<'a> {
-    /// Parses the words of the command line, without the program's name, in any order: `--out` and
-    /// a folder, a file, and any number of times `--with` and the name of a crate with a file
-    /// behind `=`. Returns `None` for any other words.
-    pub fn parse(alloc: Global, words: &'a [String]) -> Result<Option<Self>, AllocError> {
-        let mut before = Before::Nothing;
-        let mut out = None;
-        let mut file = None;
+    /// Parses the words of the command line, of which the first one is the name of the program. The
+    /// error is what is printed instead of running the program, which may be its help or this
+    /// version of it.
+    pub fn parse(alloc: Global, version: &'a str, words: &'a [String]) -> Result<Self, Error> {
+        let mut command = command(alloc, version)?;
+        let matches = command.try_get_matches_from_mut(words)?;
         let mut with = Vec::new(alloc);
-        for word in words {
-            let word = word.as_str();
-            match (before, word) {
-                (Before::Out, _) if out.is_none() => out = Some(word),
-                (Before::With, _) => match With::parse(word) {
-                    Some(one) => with.push(one)?,
-                    None => return Ok(None),
-                },
-                (Before::Nothing, "--out" | "--with") => {}
-                (Before::Nothing, _) if file.is_none() && !word.starts_with("--") => {
-                    file = Some(word);
-                }
-                _ => return Ok(None),
+        for word in matches.get_strs("with").unwrap_or(&[]) {
+            match With::parse(word) {
+                Some(one) => with.push(one)?,
+                None => return Err(command.error(ErrorKind::ValueValidation, NO_WITH)?),
             }
-            before = before.followed_by(word);
         }
-        match (before, out, file) {
-            (Before::Nothing, Some(out), Some(file)) => {
-                Ok(Some(CompileCommand { out, file, with }))
-            }
-            _ => Ok(None),
-        }
+        Ok(CompileCommand {
+            out: matches.get_str("out").unwrap_or(""),
+            file: matches.get_str("file").unwrap_or(""),
+            with,
+        })
     }
 
     /// The name of the crate: what is behind the last slash of the folder's path.
@@ -73,6 +59,30 @@ impl<'a> CompileCommand<'a> {
     }
 }
 
+// What the program takes.
+fn command<'a>(alloc: Global, version: &'a str) -> Result<Command<'a>, AllocError> {
+    let out = Arg::new(alloc, "out")
+        .long("out")
+        .value_name("FOLDER")
+        .required(true)
+        .help("The folder of the crate");
+    let file = Arg::new(alloc, "file")
+        .value_name("FILE")
+        .required(true)
+        .help("The file that holds the module");
+    let with = Arg::new(alloc, "with")
+        .long("with")
+        .value_name("CRATE=FILE")
+        .action(ArgAction::Append)
+        .help("A module that another crate holds, from which FILE imports");
+    Command::new(alloc, "asn1_compile")
+        .version(version)
+        .about(ABOUT)
+        .arg(out)?
+        .arg(file)?
+        .arg(with)
+}
+
 impl<'a> With<'a> {
     // Parses the name of a crate with a file behind `=`.
     fn parse(word: &'a str) -> Option<Self> {
@@ -81,17 +91,6 @@ impl<'a> With<'a> {
                 Some(With { krate, file })
             }
             _ => None,
-        }
-    }
-}
-
-impl Before {
-    // What is before the word behind this one.
-    fn followed_by(self, word: &str) -> Self {
-        match (self, word) {
-            (Before::Nothing, "--out") => Before::Out,
-            (Before::Nothing, "--with") => Before::With,
-            _ => Before::Nothing,
         }
     }
 }

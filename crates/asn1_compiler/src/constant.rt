@@ -69,13 +69,3 @@ impl<'a> NamedConstant<'a> {
         })
     }
 }
-
-/// The index of the value with this name, if there is one.
-pub fn find_constant(constants: &Vec<NamedConstant<'_>>, name: &str) -> Option<usize> {
-    for (index, named) in constants.iter().enumerate() {
-        if named.name == name {
-            return Some(index);
-        }
-    }
-    None
-}

@@ -1,6 +1,5 @@
 //! Types that other crates hold.
 
-use crate::module::Module;
 use crate::named_number::NamedNumber;
 use crate::output::RustType;
 use crate::range::Range;
@@ -75,14 +74,4 @@ fn copies<'a>(
         copy.push(*number)?;
     }
     Ok(copy)
-}
-
-/// The type with this name, if the module imports it.
-pub fn find_external<'m, 'a>(module: &'m Module<'a>, name: &str) -> Option<&'m ExternalType<'a>> {
-    for of in module.imported.iter() {
-        if of.name == name {
-            return Some(of);
-        }
-    }
-    None
 }

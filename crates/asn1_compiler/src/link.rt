@@ -3,6 +3,7 @@
 mod arcs;
 mod enumerations;
 mod imports;
+mod list_items;
 mod numbers;
 mod ranges;
 mod scope;
@@ -12,6 +13,7 @@ use crate::external::External;
 use crate::failure::Failure;
 use crate::module::Module;
 use imports::add_imports;
+use list_items::list_items_of;
 use numbers::resolve_numbers;
 use ranges::check_ranges;
 use std::alloc::Global;
@@ -27,6 +29,7 @@ pub fn link_module<'a>(
     add_imports(alloc, module, externals)?;
     let constants = constants_of(alloc, module)?;
     module.constants = constants;
+    module.list_items = list_items_of(alloc, module)?;
     resolve_numbers(alloc, module)?;
     Ok(check_ranges(module)?)
 }

@@ -1,8 +1,9 @@
 //! Modules.
 
-use crate::constant::NamedConstant;
-use crate::external_type::ExternalType;
+use crate::constants::Constants;
+use crate::external_types::ExternalTypes;
 use crate::item::Item;
+use crate::module_index::ModuleIndex;
 use crate::tagging::TagDefault;
 use crate::type_node::TypeNode;
 use crate::value::Value;
@@ -20,17 +21,29 @@ pub struct Module<'a> {
     /// The names that it exports.
     pub exports: Vec<Item<'a>>,
     /// The types that it imports, once they are looked up.
-    pub imported: Vec<ExternalType<'a>>,
+    pub imported: ExternalTypes<'a>,
     /// The types that it names, in their order.
     pub types: Vec<TypeAssignment<'a>>,
     /// The values that it names, in their order.
     pub values: Vec<ValueAssignment<'a>>,
     /// What its values are, and those that it imports, once they are looked up.
-    pub constants: Vec<NamedConstant<'a>>,
+    pub constants: Constants<'a>,
     /// All types of the module, also those without a name.
     pub nodes: Vec<TypeNode<'a>>,
+    /// Where it has what it names.
+    pub index: ModuleIndex<'a>,
+    /// Whether each type, by its index, is an item of a list, maybe by name.
+    pub list_items: Vec<bool>,
     /// What the parser warns of.
     pub warnings: Vec<Warning<'a>>,
+}
+
+impl<'a> Module<'a> {
+    /// The assignment of the type with this index, if the type has a name in the module.
+    pub fn assignment(&self, index: usize) -> Option<&TypeAssignment<'a>> {
+        let number = (*self.index.assignments.get(index)?)?;
+        self.types.get(number)
+    }
 }
 
 /// A name that is imported.

@@ -5,6 +5,7 @@ mod alternatives;
 mod choice;
 mod choice_line;
 mod choice_part;
+mod counts;
 mod default_place;
 mod defaults;
 mod directive;
@@ -23,12 +24,14 @@ mod numbers;
 mod oid_octets;
 mod part;
 mod piece;
+mod piece_list;
 mod pieces;
 mod renamed;
 mod root;
 mod rust_names;
 mod rust_type;
 mod sequence;
+mod sources;
 mod summary;
 mod tagged;
 mod taken;
@@ -47,11 +50,13 @@ use crate::link::link_module;
 use crate::module::Module;
 use crate::output::abilities::check_imported;
 use crate::output::alternatives::left_out;
+use crate::output::counts::check_counts;
 use crate::output::file::file_of;
 use crate::output::naming::names_of;
 use crate::output::piece::Piece;
 use crate::output::pieces::Written;
 use crate::output::root::{library_of, proof_file, root_of};
+use crate::output::sources::Sources;
 use crate::output::summary::external_of;
 use crate::output::types::types_in_order;
 use crate::output::values::{values_file, values_name};
@@ -69,10 +74,20 @@ pub fn checked_module<'a>(
     externals: &Vec<External<'a>>,
     text: &'a str,
 ) -> Result<(Module<'a>, Checks), Failure<'a>> {
-    let mut module = parse_module(alloc, text)?;
-    link_module(alloc, &mut module, externals)?;
+    let module = linked_module(alloc, externals, text)?;
     let checks = check_module(alloc, &module)?;
     Ok((module, checks))
+}
+
+// Parses a module, and looks up its names.
+fn linked_module<'a>(
+    alloc: Global,
+    externals: &Vec<External<'a>>,
+    text: &'a str,
+) -> Result<Module<'a>, Failure<'a>> {
+    let mut module = parse_module(alloc, text)?;
+    link_module(alloc, &mut module, externals)?;
+    Ok(module)
 }
 
 /// What other modules may import from a module that the crate `krate` holds. It imports from
@@ -124,7 +139,9 @@ pub fn compile<'a>(
     text: &'a str,
     krate: &str,
 ) -> Result<Compiled<'a>, Failure<'a>> {
-    let (module, checks) = checked_module(alloc, externals, text)?;
+    let module = linked_module(alloc, externals, text)?;
+    check_counts(&module)?;
+    let checks = check_module(alloc, &module)?;
     let names = names_of(alloc, &module)?;
     let types = types_in_order(alloc, &module, &checks.order, &names)?;
     check_imported(&module)?;
@@ -148,10 +165,11 @@ fn files_of<'a>(
     let module = written.module;
     let pieces = written.pieces(alloc)?;
     check_pieces(module, &pieces)?;
+    let sources = Sources::of(alloc, module, &pieces)?;
     let mut files = vec![in alloc; library_of(alloc, &pieces)?]?;
     add_root(alloc, &mut files, module, &pieces)?;
     for piece in pieces.iter() {
-        files.push(file_of(alloc, module, krate, piece, &pieces)?)?;
+        files.push(file_of(alloc, module, krate, piece, &sources)?)?;
         add_proofs(alloc, &mut files, krate, piece)?;
     }
     Ok(files)

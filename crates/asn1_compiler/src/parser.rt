@@ -12,13 +12,14 @@ use crate::item::Item;
 use crate::item_kind::ItemKind;
 use crate::items::items_of;
 use crate::module::{Module, TypeAssignment, ValueAssignment};
+use crate::module_index::ModuleIndex;
 use crate::refusal::Refusal;
 use crate::reserved::is_reserved;
 use crate::simple_type::SimpleType;
 use crate::type_node::TypeNode;
 use crate::warning::Warning;
 use digits::check_digits;
-use std::alloc::Global;
+use std::alloc::{AllocError, Global};
 
 /// The greatest number of types around a type.
 const MAX_DEPTH: u32 = 64;
@@ -56,7 +57,17 @@ pub fn parse_module<'a>(alloc: Global, text: &'a str) -> Result<Module<'a>, Fail
     } = parser;
     module.nodes = nodes;
     module.warnings = warnings;
+    module.index = index_of(alloc, &module)?;
     Ok(module)
+}
+
+// Where a module has what it names.
+fn index_of<'a>(alloc: Global, module: &Module<'a>) -> Result<ModuleIndex<'a>, AllocError> {
+    let mut index = ModuleIndex::new(alloc);
+    index.add_types(&module.types, module.nodes.len())?;
+    index.add_values(&module.values)?;
+    index.add_imports(&module.imports)?;
+    Ok(index)
 }
 
 /// The failure of an item that stands where something else is expected.

@@ -38,6 +38,20 @@ impl Position {
             column: octets_behind(before) + 1,
         }
     }
+
+    /// The position behind these octets, of which this one is at the front.
+    pub fn behind(self, octets: &[u8]) -> Self {
+        let after = Position::after(octets);
+        let column = if after.line == 1 {
+            self.column.saturating_add(after.column - 1)
+        } else {
+            after.column
+        };
+        Position {
+            line: self.line.saturating_add(after.line - 1),
+            column,
+        }
+    }
 }
 
 // The number of octets behind the last line end.

@@ -5,65 +5,52 @@ use crate::compiled::Compiled;
 use crate::external::External;
 use crate::failure::Failure;
 use crate::output::{OutputFile, compile, read_external};
+use crate::position::Position;
 use crate::refusal::Refusal;
+use anyhow::{Error, Result};
+use clap::error::ErrorKind;
 use std::alloc::{AllocError, Global};
 use std::env::Args;
 use std::io::Write;
 use std::rt::Files;
 use std::{fs, io, str};
 
-const HELP: &str = "usage: asn1_compile --out FOLDER FILE [--with CRATE=FILE]..
-
-Compiles the ASN.1 module in FILE, and writes its types to the folder of a crate.
-
-  --out FOLDER       the folder of the crate
-  --with CRATE=FILE  a module that another crate holds, from which FILE imports
-  --help             prints this text
-  --version          prints the version
-";
-
-const VERSION: &str = "asn1_compile 0.2.0\n";
-
-const OUT_OF_MEMORY: &str = "error: out of memory\n";
+const VERSION: &str = "0.2.0";
 
 /// Runs the program with the arguments `given`, of which the first one is the name of the program.
 /// Compiles the module in a file, and writes its types to the folder of a crate. What it imports is
 /// in modules of other crates, each of which may import from those before it. Prints to `errors`
 /// what is wrong, if anything is, and returns the exit status:
 ///
-/// - 0 on success, or if `--help` or `--version` is printed to `out`;
-/// - 1 if a file cannot be read, if a module is refused, if a file cannot be written, if an
-///   allocation fails, or in any case if writing to `out` or `errors` fails. Nothing is written for
-///   a module that is refused;
-/// - 2 if `given` is an error, or if the arguments after the program's name are not a command. In
-///   both cases the help is printed.
+/// - 0 on success, or if the help or the version is printed to `out`;
+/// - 1 if a file cannot be read, if a module is refused, or if a file cannot be written. Nothing is
+///   written for a module that is refused;
+/// - 2 if the arguments after the program's name are not a command.
+///
+/// Fails if `given` is an error, if an allocation fails, or if writing to `out` or `errors` fails.
 pub fn run_compile<R: Files + AllocGlobal, W: Write, E: Write>(
     rt: &R,
     given: io::Result<Args>,
     out: &mut W,
     errors: &mut E,
-) -> u8 {
-    let Ok(mut arguments) = given else {
-        return say(HELP, 2, errors);
+) -> Result<u8> {
+    let words: Vec<String> = given?.collect(rt.alloc())?;
+    let error = match CompileCommand::parse(rt.alloc(), VERSION, &words) {
+        Ok(command) => return run_command(rt, &command, errors),
+        Err(error) => error,
     };
-    let _name = arguments.next();
-    let words: Result<Vec<String>, AllocError> = arguments.collect(rt.alloc());
-    let Ok(words) = words else {
-        return say(OUT_OF_MEMORY, 1, errors);
-    };
-    match words.as_slice() {
-        [word] if word.as_str() == "--help" => say(HELP, 0, out),
-        [word] if word.as_str() == "--version" => say(VERSION, 0, out),
-        words => run(rt, words, errors),
+    match error.kind() {
+        ErrorKind::OutOfMemory => Err(Error::from(error)),
+        ErrorKind::DisplayHelp | ErrorKind::DisplayVersion => say_error(&error, 0, out),
+        _ => say_error(&error, 2, errors),
     }
 }
 
-fn run<R: Files + AllocGlobal, W: Write>(rt: &R, words: &[String], out: &mut W) -> u8 {
-    match CompileCommand::parse(rt.alloc(), words) {
-        Ok(Some(command)) => run_command(rt, &command, out),
-        Ok(None) => say(HELP, 2, out),
-        Err(_) => say(OUT_OF_MEMORY, 1, out),
-    }
+// Prints why there is no command to run, and returns `status`.
+fn say_error<W: Write>(error: &clap::Error, status: u8, out: &mut W) -> Result<u8> {
+    write!(out, "{error}")?;
+    out.flush()?;
+    Ok(status)
 }
 
 // Reads the modules of other crates, and that in the file.
@@ -71,30 +58,25 @@ fn run_command<R: Files + AllocGlobal, W: Write>(
     rt: &R,
     command: &CompileCommand<'_>,
     out: &mut W,
-) -> u8 {
+) -> Result<u8> {
     let mut texts = Vec::new(rt.alloc());
     for with in command.with.iter() {
         match read_text(rt, with.file) {
-            Ok(text) => {
-                if texts.push(text).is_err() {
-                    return say(OUT_OF_MEMORY, 1, out);
-                }
-            }
-            Err(error) => return say_file(rt, with.file, &error, out),
+            Ok(text) => texts.push(text)?,
+            Err(error) => return say_file(with.file, &error, out),
         }
     }
     match read_text(rt, command.file) {
         Ok(text) => run_with(rt, command, &texts, text.as_str(), out),
-        Err(error) => say_file(rt, command.file, &error, out),
+        Err(error) => say_file(command.file, &error, out),
     }
 }
 
 // Prints that a file or a folder cannot be read or written, and why.
-fn say_file<R: AllocGlobal, W: Write>(rt: &R, path: &str, error: &io::Error, out: &mut W) -> u8 {
-    match format!(in rt.alloc(); "error: {path}: {error}\n") {
-        Ok(line) => say(line.as_str(), 1, out),
-        Err(_) => say(OUT_OF_MEMORY, 1, out),
-    }
+fn say_file<W: Write>(path: &str, error: &io::Error, out: &mut W) -> Result<u8> {
+    write!(out, "error: {path}: {error}\n")?;
+    out.flush()?;
+    Ok(1)
 }
 
 // The text in a file.
@@ -121,7 +103,7 @@ fn run_with<'t, R: Files + AllocGlobal, W: Write>(
     others: &'t Vec<String>,
     text: &'t str,
     out: &mut W,
-) -> u8 {
+) -> Result<u8> {
     let mut externals: Vec<External<'t>> = Vec::new(rt.alloc());
     for (with, other) in command.with.iter().zip(others.iter()) {
         let other = other.as_str();
@@ -151,7 +133,7 @@ fn run_compiler<'t, R: Files + AllocGlobal, W: Write>(
     externals: &Vec<External<'t>>,
     text: &'t str,
     out: &mut W,
-) -> u8 {
+) -> Result<u8> {
     match compile(rt.alloc(), externals, text, command.crate_name()) {
         Ok(compiled) => write_compiled(rt, command, &compiled, text, out),
         Err(failure) => say_failure(rt, &failure, command.file, text, out),
@@ -164,27 +146,17 @@ fn write_compiled<R: Files + AllocGlobal, W: Write>(
     compiled: &Compiled<'_>,
     text: &str,
     out: &mut W,
-) -> u8 {
+) -> Result<u8> {
     match write_files(rt, command.out, &compiled.files) {
-        Ok(()) => say_left_out(rt, compiled, command.file, text, out),
-        Err(error) => say_file(rt, command.out, &error, out),
+        Ok(()) => {
+            let warnings = warnings_of(rt.alloc(), compiled, command.file, text)?;
+            say(warnings.as_str(), 0, out)
+        }
+        Err(error) => say_file(command.out, &error, out),
     }
 }
 
-/// Prints a line for each warning.
-fn say_left_out<R: AllocGlobal, W: Write>(
-    rt: &R,
-    compiled: &Compiled<'_>,
-    name: &str,
-    text: &str,
-    out: &mut W,
-) -> u8 {
-    match warnings_of(rt.alloc(), compiled, name, text) {
-        Ok(lines) => say(lines.as_str(), 0, out),
-        Err(_) => say(OUT_OF_MEMORY, 1, out),
-    }
-}
-
+/// The lines of all warnings.
 fn warnings_of(
     alloc: Global,
     compiled: &Compiled<'_>,
@@ -192,8 +164,13 @@ fn warnings_of(
     text: &str,
 ) -> Result<String, AllocError> {
     let mut lines = left_out_of(alloc, compiled, name, text)?;
+    let mut offset = 0usize;
+    let mut position = Position::of(text.as_bytes(), offset);
     for warning in compiled.warnings.iter() {
-        lines.push_str(warning.line(alloc, name, text)?.as_str())?;
+        let between = text.as_bytes().get(offset..warning.offset).unwrap_or(&[]);
+        position = position.behind(between);
+        offset = warning.offset;
+        lines.push_str(warning.line(alloc, name, position)?.as_str())?;
     }
     Ok(lines)
 }
@@ -222,13 +199,13 @@ fn say_failure<R: AllocGlobal, W: Write>(
     name: &str,
     text: &str,
     out: &mut W,
-) -> u8 {
+) -> Result<u8> {
     match failure {
-        Failure::Refused(refusal) => match refusal.line(rt.alloc(), name, text) {
-            Ok(line) => say(line.as_str(), 1, out),
-            Err(_) => say(OUT_OF_MEMORY, 1, out),
-        },
-        Failure::OutOfMemory => say(OUT_OF_MEMORY, 1, out),
+        Failure::Refused(refusal) => {
+            let line = refusal.line(rt.alloc(), name, text)?;
+            say(line.as_str(), 1, out)
+        }
+        Failure::OutOfMemory => Err(Error::from(AllocError)),
     }
 }
 
@@ -274,15 +251,9 @@ fn write_file<R: Files + AllocGlobal>(rt: &R, folder: &str, file: &OutputFile) -
     fs::write(rt, path.as_str(), file.text.as_str())
 }
 
-/// Prints `text` to `out`, and returns `status`, or 1 if the output fails.
-fn say<W: Write>(text: &str, status: u8, out: &mut W) -> u8 {
-    match put(text, out) {
-        Ok(()) => status,
-        Err(_) => 1,
-    }
-}
-
-fn put<W: Write>(text: &str, out: &mut W) -> io::Result<()> {
+// Prints `text` to `out`, and returns `status`.
+fn say<W: Write>(text: &str, status: u8, out: &mut W) -> Result<u8> {
     out.write_all(text.as_bytes())?;
-    out.flush()
+    out.flush()?;
+    Ok(status)
 }

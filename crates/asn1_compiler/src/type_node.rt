@@ -16,6 +16,8 @@ pub struct TypeNode<'a> {
     pub form: TypeForm<'a>,
     /// The constraints behind it, and the size in front of the items of a list.
     pub constraints: Vec<Constraint<'a>>,
+    /// The extension mark of an ENUMERATED, if it has one.
+    pub mark: Option<Item<'a>>,
 }
 
 /// How a type is made.

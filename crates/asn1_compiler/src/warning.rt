@@ -25,9 +25,13 @@ impl<'a> Warning<'a> {
         })
     }
 
-    /// The line that is printed for this warning of the file `name` with the contents `text`.
-    pub fn line(&self, alloc: Global, name: &str, text: &str) -> Result<String, AllocError> {
-        let position = Position::of(text.as_bytes(), self.offset);
+    /// The line that is printed for this warning, which is at this position of the file `name`.
+    pub fn line(
+        &self,
+        alloc: Global,
+        name: &str,
+        position: Position,
+    ) -> Result<String, AllocError> {
         let (found, why) = (self.found, self.text.as_str());
         format!(in alloc; "warning: {name}:{position}: {found}: {why}\n")
     }

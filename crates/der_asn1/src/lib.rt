@@ -57,6 +57,7 @@ mod numeric_string;
 mod object_identifier;
 mod octet_string;
 mod octet_string_of;
+mod open_enumerated;
 mod optional;
 mod printable_string;
 mod printed;

@@ -1,24 +1,30 @@
 //! The order of types, and types that contain themselves.
 
 use super::names::find_type;
+use super::parts::Parts;
 use crate::bounds::contained;
 use crate::component::Component;
 use crate::failure::Failure;
 use crate::item::Item;
 use crate::module::Module;
 use crate::refusal::Refusal;
-use crate::type_node::{TypeForm, TypeNode};
+use crate::type_node::TypeForm;
 use std::alloc::{AllocError, Global};
 
 /// The indices of all types, each behind those that it is made of. Refuses types that contain
 /// themselves.
 pub fn order_of<'a>(alloc: Global, module: &Module<'a>) -> Result<Vec<usize>, Failure<'a>> {
-    let mut ready = vec![in alloc; false; module.nodes.len()]?;
-    let mut order = Vec::new(alloc);
-    for _ in 0..module.nodes.len() {
-        if !add_ready(module, &mut ready, &mut order)? {
+    let mut parts = Parts::of(alloc, module)?;
+    let mut order = parts.without_parts(alloc)?;
+    for at in 0..module.nodes.len() {
+        let Some(index) = order.get(at) else {
             break;
-        }
+        };
+        parts.add_complete(*index, &mut order)?;
+    }
+    let mut ready = vec![in alloc; false; module.nodes.len()]?;
+    for index in order.iter() {
+        mark(&mut ready, *index);
     }
     check_ready(alloc, module, &ready)?;
     Ok(order)
@@ -108,23 +114,6 @@ fn component_of(ready: &Vec<bool>, components: &Vec<Component<'_>>) -> Option<us
     None
 }
 
-// Adds the types whose parts are in the order; whether there are any.
-fn add_ready(
-    module: &Module<'_>,
-    ready: &mut Vec<bool>,
-    order: &mut Vec<usize>,
-) -> Result<bool, AllocError> {
-    let mut has_more = false;
-    for (index, node) in module.nodes.iter().enumerate() {
-        if !is_marked(ready, index) && is_ready(module, node, ready) {
-            order.push(index)?;
-            mark(ready, index);
-            has_more = true;
-        }
-    }
-    Ok(has_more)
-}
-
 /// Whether this index is marked.
 pub fn is_marked(marks: &Vec<bool>, index: usize) -> bool {
     match marks.get(index) {
@@ -133,41 +122,9 @@ pub fn is_marked(marks: &Vec<bool>, index: usize) -> bool {
     }
 }
 
-// Whether the types of these components are marked.
-fn are_marked(marks: &Vec<bool>, components: &Vec<Component<'_>>) -> bool {
-    for component in components.iter() {
-        if !is_marked(marks, component.of) {
-            return false;
-        }
-    }
-    true
-}
-
 /// Marks this index.
 pub fn mark(marks: &mut Vec<bool>, index: usize) {
     if let Some(place) = marks.get_mut(index) {
         *place = true;
-    }
-}
-
-// Whether all parts of a type are ready.
-fn is_ready(module: &Module<'_>, node: &TypeNode<'_>, ready: &Vec<bool>) -> bool {
-    if let Some(of) = contained(node)
-        && !is_marked(ready, of)
-    {
-        return false;
-    }
-    match &node.form {
-        TypeForm::Reference => match find_type(module, node.item.text) {
-            Some(of) => is_marked(ready, of),
-            None => true,
-        },
-        TypeForm::Sequence(components) | TypeForm::Choice(components) => {
-            are_marked(ready, components)
-        }
-        TypeForm::SequenceOf(of) | TypeForm::SetOf(of) | TypeForm::Tagged(_, of) => {
-            is_marked(ready, *of)
-        }
-        _ => true,
     }
 }

@@ -3,7 +3,6 @@
 use super::components::{check_alternatives, check_sequence};
 use super::names::find_type;
 use crate::base_form::base_of;
-use crate::external_type::find_external;
 use crate::failure::Failure;
 use crate::module::Module;
 use crate::refusal::Refusal;
@@ -96,7 +95,7 @@ fn tags_of_name(
 // The tags of the imported type with this name.
 fn external_tags(alloc: Global, module: &Module<'_>, name: &str) -> Result<TagSet, AllocError> {
     let mut copy = TagSet::empty(alloc);
-    if let Some(external) = find_external(module, name) {
+    if let Some(external) = module.imported.find(name) {
         copy.add(&external.tags)?;
     }
     Ok(copy)
@@ -140,7 +139,7 @@ pub fn has_no_tag(module: &Module<'_>, index: usize) -> bool {
 }
 
 fn is_external_without_tag(module: &Module<'_>, name: &str) -> bool {
-    match find_external(module, name) {
+    match module.imported.find(name) {
         Some(external) => external.has_no_tag,
         None => false,
     }

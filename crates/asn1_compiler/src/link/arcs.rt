@@ -112,16 +112,16 @@ fn add_named<'a>(
     name: Item<'a>,
     arcs: &mut Vec<u64>,
 ) -> Result<bool, Failure<'a>> {
-    let Some(index) = scope.find(name)? else {
+    let Some(constant) = scope.find(name)? else {
         return Ok(false);
     };
-    match scope.constant(index) {
-        Some(Constant::ObjectIdentifier(first)) if arcs.is_empty() => {
+    match constant {
+        Constant::ObjectIdentifier(first) if arcs.is_empty() => {
             for arc in first.iter() {
                 arcs.push(*arc)?;
             }
         }
-        Some(Constant::Number(arc)) => add_arc(arcs, name, *arc)?,
+        Constant::Number(arc) => add_arc(arcs, name, *arc)?,
         _ => return Err(Failure::Refused(Refusal::of(name, NO_ARC))),
     }
     Ok(true)

@@ -4,7 +4,8 @@ use crate::endpoint::Endpoint;
 use crate::failure::Failure;
 use crate::named_number::NamedNumber;
 use crate::refusal::Refusal;
-use std::alloc::Global;
+use std::alloc::{AllocError, Global};
+use std::collections::HashSet;
 
 /// The items of an ENUMERATED, each with a number. The items in front of an extension mark that
 /// have none get the least numbers, from 0 up, that none of these items has (X.680, 20.3). An
@@ -15,15 +16,17 @@ pub fn numbered_items<'a>(
     alloc: Global,
     items: &Vec<NamedNumber<'a>>,
 ) -> Result<Vec<NamedNumber<'a>>, Failure<'a>> {
+    let mut roots = root_numbers(alloc, items)?;
     let mut found = Vec::new(alloc);
     let mut next = 0u64;
     for item in items.iter() {
         let number = match item.number {
-            _ if item.is_addition => addition_number(&found, item)?,
+            _ if item.is_addition => addition_number(&found, &roots, item)?,
             Some(number) => number,
             None => {
-                let free = free_number(items, next);
+                let free = free_number(&roots, next);
                 next = free.saturating_add(1);
+                roots.insert(free)?;
                 Endpoint::Number(free)
             }
         };
@@ -35,14 +38,33 @@ pub fn numbered_items<'a>(
     Ok(found)
 }
 
-// The number of an addition behind these items.
+// The numbers, if they are 0 or more, that items in front of an extension mark are written with.
+fn root_numbers(alloc: Global, items: &Vec<NamedNumber<'_>>) -> Result<HashSet<u64>, AllocError> {
+    let mut numbers = HashSet::new(alloc);
+    for item in items.iter() {
+        match item.number {
+            Some(Endpoint::Number(number)) if !item.is_addition => {
+                numbers.insert(number)?;
+            }
+            Some(Endpoint::Negative(0)) if !item.is_addition => {
+                numbers.insert(0)?;
+            }
+            _ => {}
+        }
+    }
+    Ok(numbers)
+}
+
+// The number of an addition behind these items, of which those in front of the mark have these
+// numbers.
 fn addition_number<'a>(
     before: &Vec<NamedNumber<'a>>,
+    roots: &HashSet<u64>,
     item: &NamedNumber<'a>,
 ) -> Result<Endpoint<'a>, Refusal<'a>> {
     let last = last_addition(before);
     let Some(number) = item.number else {
-        return Ok(Endpoint::Number(free_number(before, number_behind(last))));
+        return Ok(Endpoint::Number(free_number(roots, number_behind(last))));
     };
     match last {
         Some(last) if number.is_at_most(last) => {
@@ -67,26 +89,14 @@ fn number_behind(number: Option<Endpoint<'_>>) -> u64 {
     }
 }
 
-// The least number from `from` on that none of these items in front of an extension mark has.
-fn free_number(items: &Vec<NamedNumber<'_>>, from: u64) -> u64 {
+// The least number from `from` on that is none of these.
+fn free_number(numbers: &HashSet<u64>, from: u64) -> u64 {
     let mut number = from;
-    for _ in items.iter() {
-        if !has_number(items, number) {
+    for _ in 0..numbers.len() {
+        if !numbers.contains(&number) {
             break;
         }
         number = number.saturating_add(1);
     }
     number
-}
-
-fn has_number(items: &Vec<NamedNumber<'_>>, number: u64) -> bool {
-    for item in items.iter() {
-        if let Some(of) = item.number
-            && !item.is_addition
-            && of.is_same(Endpoint::Number(number))
-        {
-            return true;
-        }
-    }
-    false
 }

@@ -1,8 +1,10 @@
 //! Names that are imported.
 
 use crate::constant::NamedConstant;
+use crate::constants::Constants;
 use crate::external::External;
 use crate::external_type::ExternalType;
+use crate::external_types::ExternalTypes;
 use crate::failure::Failure;
 use crate::item_kind::ItemKind;
 use crate::module::{Import, Module};
@@ -26,8 +28,8 @@ pub fn add_imports<'a>(
 // What a module imports.
 #[derive(Drop)]
 struct Imported<'a> {
-    types: Vec<ExternalType<'a>>,
-    values: Vec<NamedConstant<'a>>,
+    types: ExternalTypes<'a>,
+    values: Constants<'a>,
 }
 
 fn find_imports<'a>(
@@ -36,8 +38,8 @@ fn find_imports<'a>(
     externals: &Vec<External<'a>>,
 ) -> Result<Imported<'a>, Failure<'a>> {
     let mut found = Imported {
-        types: Vec::new(alloc),
-        values: Vec::new(alloc),
+        types: ExternalTypes::new(alloc),
+        values: Constants::new(alloc),
     };
     for import in module.imports.iter() {
         let external = external_of(externals, import)?;
@@ -50,23 +52,12 @@ fn find_imports<'a>(
 }
 
 fn check_once<'a>(module: &Module<'a>) -> Result<(), Refusal<'a>> {
-    for (count, import) in module.imports.iter().enumerate() {
-        let name = import.name;
-        if is_imported_before(module, count, name.text) {
-            return Err(Refusal::of(name, "a name that is imported once"));
+    for (number, import) in module.imports.iter().enumerate() {
+        if module.index.imports.find(import.name.text) != Some(number) {
+            return Err(Refusal::of(import.name, "a name that is imported once"));
         }
     }
     Ok(())
-}
-
-// Whether one of so many first imports has this name.
-fn is_imported_before(module: &Module<'_>, count: usize, name: &str) -> bool {
-    for other in module.imports.iter().take(count) {
-        if other.name.text == name {
-            return true;
-        }
-    }
-    false
 }
 
 fn external_of<'e, 'a>(
@@ -86,7 +77,7 @@ fn type_of<'a>(
     external: &External<'a>,
     import: &Import<'a>,
 ) -> Result<ExternalType<'a>, Failure<'a>> {
-    match external.find_type(import.name.text) {
+    match external.types.find(import.name.text) {
         Some(of) => Ok(of.copy(alloc)?),
         None => Err(not_assigned(import)),
     }
@@ -97,7 +88,7 @@ fn value_of<'a>(
     external: &External<'a>,
     import: &Import<'a>,
 ) -> Result<NamedConstant<'a>, Failure<'a>> {
-    match external.find_value(import.name.text) {
+    match external.values.find(import.name.text) {
         Some(constant) => Ok(NamedConstant {
             name: import.name.text,
             constant: constant.copy(alloc)?,

@@ -153,10 +153,7 @@ fn named_value<'a>(
     scope: &Scope<'_, 'a>,
     name: Item<'a>,
 ) -> Result<Option<Endpoint<'a>>, Refusal<'a>> {
-    let Some(index) = scope.find(name)? else {
-        return Ok(None);
-    };
-    match scope.constant(index) {
+    match scope.find(name)? {
         Some(constant) => Ok(constant.number()),
         None => Ok(None),
     }

@@ -1,7 +1,8 @@
 //! The values that are known while others are computed.
 
 use crate::checks::has_value;
-use crate::constant::{Constant, NamedConstant, find_constant};
+use crate::constant::Constant;
+use crate::constants::Constants;
 use crate::endpoint::Endpoint;
 use crate::item::Item;
 use crate::module::Module;
@@ -16,25 +17,16 @@ pub struct Scope<'s, 'a> {
     /// The module.
     pub module: &'s Module<'a>,
     /// The values.
-    pub known: &'s Vec<NamedConstant<'a>>,
+    pub known: &'s Constants<'a>,
 }
 
 impl<'s, 'a> Scope<'s, 'a> {
-    /// The index of the value with this name; `None` if it is not known yet. Refuses a name that is
-    /// not defined.
-    pub fn find(&self, name: Item<'a>) -> Result<Option<usize>, Refusal<'a>> {
-        match find_constant(self.known, name.text) {
-            Some(index) => Ok(Some(index)),
+    /// The value with this name; `None` if it is not known yet. Refuses a name that is not defined.
+    pub fn find(&self, name: Item<'a>) -> Result<Option<&'s Constant>, Refusal<'a>> {
+        match self.known.find(name.text) {
+            Some(constant) => Ok(Some(constant)),
             None if has_value(self.module, name.text) => Ok(None),
             None => Err(Refusal::of(name, UNDEFINED)),
-        }
-    }
-
-    /// The value with this index.
-    pub fn constant(&self, index: usize) -> Option<&'s Constant> {
-        match self.known.get(index) {
-            Some(named) => Some(&named.constant),
-            None => None,
         }
     }
 
@@ -68,14 +60,10 @@ impl<'s, 'a> Scope<'s, 'a> {
 
     /// The number that the value with this name is; `None` if it is not known yet.
     pub fn value_number(&self, name: Item<'a>) -> Result<Option<Endpoint<'a>>, Refusal<'a>> {
-        let Some(index) = self.find(name)? else {
+        let Some(constant) = self.find(name)? else {
             return Ok(None);
         };
-        let found = match self.constant(index) {
-            Some(constant) => constant.number(),
-            None => None,
-        };
-        match found {
+        match constant.number() {
             Some(number) => Ok(Some(number)),
             None => Err(Refusal::of(name, "the name of a number")),
         }

@@ -4,7 +4,8 @@ use super::arcs::arcs_of;
 use super::numbers::is_named;
 use super::scope::Scope;
 use crate::base_form::base_form;
-use crate::constant::{Constant, NamedConstant, copy_of, find_constant};
+use crate::constant::{Constant, NamedConstant, copy_of};
+use crate::constants::Constants;
 use crate::endpoint::Endpoint;
 use crate::failure::Failure;
 use crate::item_kind::ItemKind;
@@ -20,10 +21,7 @@ const NOT_INTEGER: &str = "a number from -9223372036854775808 to 184467440737095
 
 /// The values that a module imports, and those that it assigns. Refuses a value that is not one of
 /// its type, and a value that is defined by itself.
-pub fn constants_of<'a>(
-    alloc: Global,
-    module: &Module<'a>,
-) -> Result<Vec<NamedConstant<'a>>, Failure<'a>> {
+pub fn constants_of<'a>(alloc: Global, module: &Module<'a>) -> Result<Constants<'a>, Failure<'a>> {
     let mut known = imported_constants(alloc, module)?;
     for _ in 0..module.values.len() {
         if !add_known(alloc, module, &mut known)? {
@@ -34,20 +32,17 @@ pub fn constants_of<'a>(
     Ok(known)
 }
 
-fn imported_constants<'a>(
-    alloc: Global,
-    module: &Module<'a>,
-) -> Result<Vec<NamedConstant<'a>>, AllocError> {
-    let mut known = Vec::new(alloc);
-    for imported in module.constants.iter() {
+fn imported_constants<'a>(alloc: Global, module: &Module<'a>) -> Result<Constants<'a>, AllocError> {
+    let mut known = Constants::new(alloc);
+    for imported in module.constants.list.iter() {
         known.push(imported.copy(alloc)?)?;
     }
     Ok(known)
 }
 
-fn check_known<'a>(module: &Module<'a>, known: &Vec<NamedConstant<'a>>) -> Result<(), Refusal<'a>> {
+fn check_known<'a>(module: &Module<'a>, known: &Constants<'a>) -> Result<(), Refusal<'a>> {
     for assigned in module.values.iter() {
-        if find_constant(known, assigned.name.text).is_none() {
+        if known.find(assigned.name.text).is_none() {
             let expected = "a value that is not defined by itself";
             return Err(Refusal::of(assigned.name, expected));
         }
@@ -59,11 +54,11 @@ fn check_known<'a>(module: &Module<'a>, known: &Vec<NamedConstant<'a>>) -> Resul
 fn add_known<'a>(
     alloc: Global,
     module: &Module<'a>,
-    known: &mut Vec<NamedConstant<'a>>,
+    known: &mut Constants<'a>,
 ) -> Result<bool, Failure<'a>> {
     let mut has_more = false;
     for assigned in module.values.iter() {
-        if find_constant(known, assigned.name.text).is_some() {
+        if known.find(assigned.name.text).is_some() {
             continue;
         }
         if let Some(constant) = constant_of(alloc, module, known, assigned)? {
@@ -80,7 +75,7 @@ fn add_known<'a>(
 fn constant_of<'a>(
     alloc: Global,
     module: &Module<'a>,
-    known: &Vec<NamedConstant<'a>>,
+    known: &Constants<'a>,
     assigned: &ValueAssignment<'a>,
 ) -> Result<Option<Constant>, Failure<'a>> {
     let scope = Scope { module, known };
@@ -130,11 +125,11 @@ fn boolean<'a>(scope: &Scope<'_, 'a>, value: &Value<'a>) -> Result<Option<Consta
     if value.item.kind != ItemKind::LowerName {
         return Err(Refusal::of(value.item, "TRUE or FALSE"));
     }
-    let Some(index) = scope.find(value.item)? else {
+    let Some(constant) = scope.find(value.item)? else {
         return Ok(None);
     };
-    match scope.constant(index) {
-        Some(Constant::Boolean(is_true)) => Ok(Some(Constant::Boolean(*is_true))),
+    match constant {
+        Constant::Boolean(is_true) => Ok(Some(Constant::Boolean(*is_true))),
         _ => Err(Refusal::of(value.item, "TRUE or FALSE")),
     }
 }
@@ -157,11 +152,11 @@ fn object_identifier<'a>(
     if value.item.kind != ItemKind::LowerName {
         return Err(Failure::Refused(refusal));
     }
-    let Some(index) = scope.find(value.item)? else {
+    let Some(constant) = scope.find(value.item)? else {
         return Ok(None);
     };
-    match scope.constant(index) {
-        Some(Constant::ObjectIdentifier(arcs)) => {
+    match constant {
+        Constant::ObjectIdentifier(arcs) => {
             Ok(Some(Constant::ObjectIdentifier(copy_of(alloc, arcs)?)))
         }
         _ => Err(Failure::Refused(refusal)),
@@ -175,11 +170,11 @@ fn other<'a>(
     value: &Value<'a>,
 ) -> Result<Option<Constant>, Refusal<'a>> {
     if value.item.kind == ItemKind::LowerName && !is_item_of(form, value.item.text) {
-        let Some(index) = scope.find(value.item)? else {
+        let Some(constant) = scope.find(value.item)? else {
             return Ok(None);
         };
-        return match scope.constant(index) {
-            Some(Constant::Other) => Ok(Some(Constant::Other)),
+        return match constant {
+            Constant::Other => Ok(Some(Constant::Other)),
             _ => Err(Refusal::of(value.item, "a value of this type")),
         };
     }

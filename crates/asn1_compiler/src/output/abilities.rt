@@ -3,7 +3,7 @@
 use super::lists::list_field;
 use crate::base_form::base_of;
 use crate::checks::find_type;
-use crate::external_type::{ExternalType, find_external};
+use crate::external_type::ExternalType;
 use crate::item::Item;
 use crate::module::Module;
 use crate::refusal::Refusal;
@@ -61,6 +61,6 @@ fn end_of_names<'a>(module: &Module<'a>, index: usize) -> (usize, Item<'a>) {
 fn external_at<'m, 'a>(module: &'m Module<'a>, name: Item<'a>) -> Option<&'m ExternalType<'a>> {
     match find_type(module, name.text) {
         Some(_) => None,
-        None => find_external(module, name.text),
+        None => module.imported.find(name.text),
     }
 }

@@ -5,6 +5,7 @@ use super::directive::own_type;
 use super::enumeration::{number_of_item, variant_names};
 use super::lists::list_field;
 use super::number_default::{check_range, integer, named, number_of};
+use super::numbers::OPEN;
 use super::rust_type::{RustKind, RustType};
 use super::tagged::{behind_tag, behind_tags, end_of, leaf_of};
 use super::template::{Places, filled};
@@ -56,6 +57,19 @@ impl DefaultOf<@T> for @N {
 
     fn default_value() -> @T {
         <@T>::new(@E::@V)
+    }
+}
+";
+
+const OPEN_ITEM: &str = "
+/// The default of a field: the number of `@V`.
+pub struct @N;
+
+impl DefaultOf<@T> for @N {
+    ghost default_contents = { integer_octets false @I };
+
+    fn default_value() -> @T {
+        EnumeratedOf { number: @I }
     }
 }
 ";
@@ -183,7 +197,7 @@ fn with_item<'a>(alloc: Global, text: &ItemDefault<'_>) -> Result<DefaultType, F
         of: RustType::element(alloc, filled(alloc, "WithDefault<@T, @N>", text)?),
         own: Some(OwnDefault {
             name: String::from_str(alloc, text.name)?,
-            text: filled(alloc, ITEM, text)?,
+            text: filled(alloc, if text.of == OPEN { OPEN_ITEM } else { ITEM }, text)?,
         }),
     })
 }

@@ -25,13 +25,18 @@ pub const DEFAULT: &str = "Rust default:";
 /// which is `u64`.
 pub const INTEGER: &str = "Rust integer:";
 
-/// Whether the line of a comment, without its marks, gives a name.
+/// What begins the line of a comment that says what becomes of numbers behind an extension mark:
+/// they are read, unless it says `refused`.
+pub const EXTENSIONS: &str = "Rust extensions:";
+
+/// Whether the line of a comment, without its marks, says something of Rust.
 pub fn is_directive(line: &str) -> bool {
     line.starts_with(NAME)
         || line.starts_with(FIELD)
         || line.starts_with(TYPE)
         || line.starts_with(DEFAULT)
         || line.starts_with(INTEGER)
+        || line.starts_with(EXTENSIONS)
 }
 
 /// The name that a comment gives behind `key`, if it is a name of Rust.
@@ -50,12 +55,7 @@ pub fn directive<'a>(comments: &'a str, key: &str) -> Option<&'a str> {
 /// The type of Rust that the module gives for the type with this index, which the root of the crate
 /// has.
 pub fn own_type<'a>(module: &Module<'a>, index: usize) -> Option<&'a str> {
-    for assigned in module.types.iter() {
-        if assigned.of == index {
-            return own_type_in(assigned.name.comments);
-        }
-    }
-    None
+    own_type_in(module.assignment(index)?.name.comments)
 }
 
 fn own_type_in<'a>(comments: &'a str) -> Option<&'a str> {

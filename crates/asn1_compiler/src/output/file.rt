@@ -1,15 +1,12 @@
 //! Files of Rust.
 
-use super::directive::{name_of_type, own_default, own_type};
 use super::imports::{push_ghost_use, push_use, words_of};
 use super::piece::{Piece, PieceKind};
+use super::sources::Sources;
 use super::words::{DER, DER_ASN1};
 use super::wrap::push_wrapped;
-use crate::component::Component;
-use crate::external_type::ExternalType;
-use crate::lines::{is_line_of, push_line};
 use crate::module::Module;
-use crate::type_node::TypeForm;
+use crate::name_index::NameIndex;
 use std::alloc::{AllocError, Global};
 use std::fmt::Write;
 
@@ -53,14 +50,14 @@ pub fn file_of(
     module: &Module<'_>,
     krate: &str,
     piece: &Piece,
-    all: &Vec<Piece>,
+    sources: &Sources<'_>,
 ) -> Result<OutputFile, AllocError> {
     let file = piece.file.as_str();
     let mut file = OutputFile {
         path: format!(in alloc; "src/asn1/{file}.rt")?,
         text: String::new(alloc),
     };
-    push_file(alloc, &mut file.text, module, krate, piece, all)?;
+    push_file(alloc, &mut file.text, module, krate, piece, sources)?;
     Ok(file)
 }
 
@@ -70,7 +67,7 @@ fn push_file(
     module: &Module<'_>,
     krate: &str,
     piece: &Piece,
-    all: &Vec<Piece>,
+    sources: &Sources<'_>,
 ) -> Result<(), AllocError> {
     let (of, name) = (module.name.text, piece.name.as_str());
     write!(
@@ -79,27 +76,15 @@ fn push_file(
     )?;
     let code = code_of(alloc, piece.body.as_str())?;
     let words = words_of(alloc, code.as_str())?;
-    let words = words.as_str();
-    push_ghost_lines(alloc, out, krate, piece, code.as_str(), words)?;
+    push_ghost_lines(alloc, out, krate, piece, code.as_str(), &words)?;
     out.push('\n')?;
-    push_own_types(alloc, out, module, words)?;
-    push_own(alloc, out, piece, words, all)?;
-    push_uses(alloc, out, module, words)?;
+    sources.push_own(alloc, out, piece, &words)?;
+    push_use(alloc, out, &words, "der", DER)?;
+    push_use(alloc, out, &words, "der_asn1", DER_ASN1)?;
+    sources.push_imported(alloc, out, &words)?;
+    push_use(alloc, out, &words, "std::alloc", "Global")?;
     out.push('\n')?;
     push_wrapped(alloc, out, piece.body.as_str())
-}
-
-// Adds the imports from other crates.
-fn push_uses(
-    alloc: Global,
-    out: &mut String,
-    module: &Module<'_>,
-    words: &str,
-) -> Result<(), AllocError> {
-    push_use(alloc, out, words, "der", DER)?;
-    push_use(alloc, out, words, "der_asn1", DER_ASN1)?;
-    push_imported(alloc, out, words, &module.imported)?;
-    push_use(alloc, out, words, "std::alloc", "Global")
 }
 
 // The lines of a text that are no comments.
@@ -120,7 +105,7 @@ fn push_ghost_lines(
     krate: &str,
     piece: &Piece,
     code: &str,
-    words: &str,
+    words: &NameIndex<'_>,
 ) -> Result<(), AllocError> {
     match piece.kind {
         PieceKind::Sequence => text.push_str(sequence_words(code, words))?,
@@ -143,8 +128,8 @@ fn push_ghost_lines(
 }
 
 // What the clauses of a SEQUENCE import from std.
-fn sequence_words(code: &str, words: &str) -> &'static str {
-    match (code.contains("∷"), is_line_of(words, "false")) {
+fn sequence_words(code: &str, words: &NameIndex<'_>) -> &'static str {
+    match (code.contains("∷"), words.has("false")) {
         (true, true) => GHOST_BOTH,
         (true, false) => GHOST_LIST,
         (false, true) => GHOST_FALSE,
@@ -153,7 +138,11 @@ fn sequence_words(code: &str, words: &str) -> &'static str {
 }
 
 // Adds the imports for clauses of any piece.
-fn push_ghost_uses(alloc: Global, text: &mut String, words: &str) -> Result<(), AllocError> {
+fn push_ghost_uses(
+    alloc: Global,
+    text: &mut String,
+    words: &NameIndex<'_>,
+) -> Result<(), AllocError> {
     push_ghost_use(
         alloc,
         text,
@@ -189,99 +178,4 @@ fn push_variants(text: &mut String, krate: &str, piece: &Piece) -> Result<(), Al
         text,
         "ghost use Rattle.{krate}.specs.declared.asn1.{file}.{name}.TheVariants as variant;\n"
     )
-}
-
-// Adds the imports of types that are written by hand.
-fn push_own_types(
-    alloc: Global,
-    text: &mut String,
-    module: &Module<'_>,
-    words: &str,
-) -> Result<(), AllocError> {
-    let mut names = own_types(alloc, module)?;
-    for node in module.nodes.iter() {
-        if let TypeForm::Sequence(components) = &node.form {
-            push_own_defaults(&mut names, components)?;
-        }
-    }
-    push_use(alloc, text, words, "crate", names.as_str())
-}
-
-// The types that are written by hand, each on its line.
-fn own_types(alloc: Global, module: &Module<'_>) -> Result<String, AllocError> {
-    let mut names = String::new(alloc);
-    for assigned in module.types.iter() {
-        if let Some(own) = own_type(module, assigned.of) {
-            push_line(&mut names, name_of_type(own))?;
-        }
-    }
-    Ok(names)
-}
-
-// Adds the types that are written by hand and stand for the defaults of these components.
-fn push_own_defaults(
-    names: &mut String,
-    components: &Vec<Component<'_>>,
-) -> Result<(), AllocError> {
-    for component in components.iter() {
-        if let Some(default) = own_default(component.name)
-            && !is_line_of(names.as_str(), default)
-        {
-            push_line(names, default)?;
-        }
-    }
-    Ok(())
-}
-
-// Adds the imports of types of other pieces.
-fn push_own(
-    alloc: Global,
-    text: &mut String,
-    piece: &Piece,
-    words: &str,
-    all: &Vec<Piece>,
-) -> Result<(), AllocError> {
-    for other in all.iter() {
-        if other.file.as_str() != piece.file.as_str() {
-            let file = other.file.as_str();
-            let path = format!(in alloc; "crate::asn1::{file}")?;
-            push_use(alloc, text, words, path.as_str(), other.names.as_str())?;
-        }
-    }
-    Ok(())
-}
-
-// Adds the imports of types of other crates.
-fn push_imported(
-    alloc: Global,
-    text: &mut String,
-    words: &str,
-    imported: &Vec<ExternalType<'_>>,
-) -> Result<(), AllocError> {
-    let mut crates = String::new(alloc);
-    for of in imported.iter() {
-        let krate = of.krate.as_str();
-        if !is_line_of(crates.as_str(), krate) {
-            push_line(&mut crates, krate)?;
-            push_crate(alloc, text, words, imported, krate)?;
-        }
-    }
-    Ok(())
-}
-
-// Adds the imports of types of one crate.
-fn push_crate(
-    alloc: Global,
-    text: &mut String,
-    words: &str,
-    imported: &Vec<ExternalType<'_>>,
-    krate: &str,
-) -> Result<(), AllocError> {
-    let mut names = String::new(alloc);
-    for of in imported.iter() {
-        if of.krate.as_str() == krate {
-            push_line(&mut names, of.rust_name.as_str())?;
-        }
-    }
-    push_use(alloc, text, words, krate, names.as_str())
 }

@@ -1,6 +1,7 @@
 //! The `use` lines of a file, from the names in its text.
 
-use crate::lines::{is_line_of, push_line};
+use crate::lines::push_line;
+use crate::name_index::NameIndex;
 use crate::octet_class::is_word_octet;
 use std::alloc::{AllocError, Global};
 use std::fmt::Write;
@@ -12,7 +13,7 @@ const WIDTH: usize = 100;
 pub fn push_use(
     alloc: Global,
     out: &mut String,
-    words: &str,
+    words: &NameIndex<'_>,
     path: &str,
     names: &str,
 ) -> Result<(), AllocError> {
@@ -21,10 +22,10 @@ pub fn push_use(
 }
 
 // Those of the names, each on its line, that are among the words.
-fn words_in(alloc: Global, words: &str, names: &str) -> Result<String, AllocError> {
+fn words_in(alloc: Global, words: &NameIndex<'_>, names: &str) -> Result<String, AllocError> {
     let mut found = String::new(alloc);
     for name in names.lines() {
-        if is_line_of(words, name) {
+        if words.has(name) {
             push_line(&mut found, name)?;
         }
     }
@@ -80,30 +81,34 @@ fn push_lines(alloc: Global, out: &mut String, names: &str) -> Result<(), AllocE
     out.push_str(line.as_str())
 }
 
-/// The words of a text, each once, on a line of its own. A word behind `::` needs no import, and is
-/// left out.
-pub fn words_of(alloc: Global, text: &str) -> Result<String, AllocError> {
+/// The words of a text. A word behind `::` needs no import, and is left out.
+pub fn words_of<'t>(alloc: Global, text: &'t str) -> Result<NameIndex<'t>, AllocError> {
     let octets = text.as_bytes();
-    let mut words = String::new(alloc);
+    let mut words = NameIndex::new(alloc);
     let mut start = 0usize;
     for at in 0..octets.len() {
         if !is_word_octet(octets[at]) {
-            push_word(&mut words, text, start, at)?;
+            add_word(&mut words, text, start, at)?;
             start = at + 1;
         }
     }
-    push_word(&mut words, text, start, octets.len())?;
+    add_word(&mut words, text, start, octets.len())?;
     Ok(words)
 }
 
-// Adds the word between these indices, unless it is there.
-fn push_word(words: &mut String, text: &str, start: usize, end: usize) -> Result<(), AllocError> {
+// Adds the word between these indices.
+fn add_word<'t>(
+    words: &mut NameIndex<'t>,
+    text: &'t str,
+    start: usize,
+    end: usize,
+) -> Result<(), AllocError> {
     let word = text.get(start..end).unwrap_or("");
     let is_behind_path = text.as_bytes().get(start.saturating_sub(1)) == Some(&b':');
-    if word.is_empty() || is_behind_path || is_line_of(words.as_str(), word) {
-        return Ok(());
+    if !word.is_empty() && !is_behind_path {
+        words.add(word, start)?;
     }
-    push_line(words, word)
+    Ok(())
 }
 
 /// Adds a line that imports those of the names for clauses, each on its line, that are among the
@@ -111,7 +116,7 @@ fn push_word(words: &mut String, text: &str, start: usize, end: usize) -> Result
 pub fn push_ghost_use(
     alloc: Global,
     out: &mut String,
-    words: &str,
+    words: &NameIndex<'_>,
     path: &str,
     names: &str,
 ) -> Result<(), AllocError> {

@@ -3,9 +3,7 @@
 use super::directive::{FIELD, directive};
 use super::sequence::ITEM;
 use super::template::{Places, fill};
-use crate::base_form::base_of;
 use crate::module::Module;
-use crate::type_node::TypeForm;
 use std::alloc::AllocError;
 
 const LIST: &str = "@D#[derive(Clone, Copy, Drop)]
@@ -163,27 +161,13 @@ impl<'t> Places for ListText<'t> {
 /// The name of the field of the list with this index, if the list is a struct: the one that the
 /// module gives, or `items` for a list that is an item of a list.
 pub fn list_field<'a>(module: &Module<'a>, index: usize) -> Option<&'a str> {
-    for assigned in module.types.iter() {
-        if assigned.of == index
-            && let Some(field) = directive(assigned.name.comments, FIELD)
-        {
-            return Some(field);
-        }
+    if let Some(assigned) = module.assignment(index)
+        && let Some(field) = directive(assigned.name.comments, FIELD)
+    {
+        return Some(field);
     }
-    if is_list_item(module, index) {
-        return Some("items");
+    match module.list_items.get(index) {
+        Some(true) => Some("items"),
+        _ => None,
     }
-    None
-}
-
-// Whether the type with this index is an item of a list, maybe by name.
-fn is_list_item(module: &Module<'_>, index: usize) -> bool {
-    for node in module.nodes.iter() {
-        if let TypeForm::SequenceOf(of) | TypeForm::SetOf(of) = &node.form
-            && base_of(module, *of) == index
-        {
-            return true;
-        }
-    }
-    false
 }

@@ -35,7 +35,7 @@ pub fn names_of(alloc: Global, module: &Module<'_>) -> Result<Vec<String>, Alloc
 // The names of types of other crates, which are taken.
 fn imported_names(alloc: Global, module: &Module<'_>) -> Result<Taken, AllocError> {
     let mut taken = Taken::new(alloc);
-    for imported in module.imported.iter() {
+    for imported in module.imported.list.iter() {
         taken.take(alloc, imported.rust_name.as_str(), ALONE)?;
     }
     Ok(taken)
@@ -159,12 +159,7 @@ pub fn text_at(texts: &Vec<String>, index: usize) -> &str {
 
 /// Whether the type with this index has a name in the module.
 pub fn is_assigned(module: &Module<'_>, index: usize) -> bool {
-    for assigned in module.types.iter() {
-        if assigned.of == index {
-            return true;
-        }
-    }
-    false
+    module.assignment(index).is_some()
 }
 
 fn set_name(names: &mut Vec<String>, index: usize, name: String) {

@@ -8,7 +8,6 @@ use super::rust_type::RustType;
 use super::template::{Places, filled};
 use super::values::{push_list, push_octets};
 use crate::bounds::range_at;
-use crate::constant::find_constant;
 use crate::endpoint::Endpoint;
 use crate::failure::Failure;
 use crate::item_kind::ItemKind;
@@ -171,6 +170,5 @@ pub fn named<'a>(numbers: &Vec<NamedNumber<'a>>, name: &str) -> Option<Endpoint<
 
 // The number that a value of the module is, or one that it imports.
 fn assigned<'a>(module: &Module<'a>, name: &str) -> Option<Endpoint<'a>> {
-    let index = find_constant(&module.constants, name)?;
-    module.constants.get(index)?.constant.number()
+    module.constants.find(name)?.number()
 }

@@ -1,10 +1,14 @@
 //! INTEGERs with bounds.
 
+use super::directive::{EXTENSIONS, directive};
 use crate::bounds::range_at;
 use crate::endpoint::Endpoint;
 use crate::module::Module;
 use crate::named_number::NamedNumber;
 use crate::type_node::TypeForm;
+
+/// The type of an ENUMERATED that may have numbers which no item has.
+pub const OPEN: &str = "EnumeratedOf<i64>";
 
 /// The bounds of the type with this index, if it has two that are 0 or more.
 pub fn bounds(module: &Module<'_>, index: usize) -> Option<(u64, u64)> {
@@ -33,6 +37,24 @@ pub fn is_closed(module: &Module<'_>, index: usize, numbers: &Vec<NamedNumber<'_
         return false;
     }
     high - low == numbers.len() as u64 - 1 && are_within(numbers, low, high)
+}
+
+/// Whether the ENUMERATED with this index is read as a number of 64 bits, since it has an extension
+/// mark, and the module does not ask to refuse numbers that no item has.
+pub fn is_open(module: &Module<'_>, index: usize) -> bool {
+    match module.nodes.get(index) {
+        Some(node) => {
+            node.mark.is_some() && is_enumeration(module, index) && !is_refused(module, index)
+        }
+        None => false,
+    }
+}
+
+fn is_refused(module: &Module<'_>, index: usize) -> bool {
+    match module.assignment(index) {
+        Some(assigned) => directive(assigned.name.comments, EXTENSIONS) == Some("refused"),
+        None => false,
+    }
 }
 
 /// Whether an enum can have these items: whether their numbers are from 0 to 2^32 - 1.

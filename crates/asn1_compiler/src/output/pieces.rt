@@ -12,6 +12,7 @@ use super::naming::{is_assigned, text_at};
 use super::numbers::{are_small, is_closed};
 use super::part::PartText;
 use super::piece::{Piece, PieceKind};
+use super::piece_list::Pieces;
 use super::rust_type::{RustKind, RustType};
 use super::sequence::SequenceText;
 use super::tagged::tagged_name;
@@ -22,7 +23,6 @@ use crate::failure::Failure;
 use crate::lines::push_line;
 use crate::module::Module;
 use crate::named_number::NamedNumber;
-use crate::refusal::Refusal;
 use crate::type_node::{TypeForm, TypeNode};
 use std::alloc::{AllocError, Global};
 use std::fmt::Write;
@@ -46,30 +46,24 @@ struct Named<'m, 'a> {
     name: &'m str,
 }
 
-/// The most fields of a SEQUENCE: the checker proves no more.
-const MOST_FIELDS: usize = 10;
-
-/// The most alternatives of a CHOICE.
-const MOST_ALTERNATIVES: usize = 25;
-
 impl<'m, 'a> Written<'m, 'a> {
-    /// The pieces of all types.
+    /// The pieces of all types, in the order of the names of their files.
     pub fn pieces(&self, alloc: Global) -> Result<Vec<Piece>, Failure<'a>> {
-        let mut pieces = Vec::new(alloc);
+        let mut pieces = Pieces::new(alloc);
         for (index, node) in self.module.nodes.iter().enumerate() {
             let name = text_at(self.names, index);
             if !name.is_empty() && own_type(self.module, index).is_none() {
                 self.add_pieces(alloc, &mut pieces, Named { index, node, name })?;
             }
         }
-        Ok(pieces)
+        Ok(pieces.in_order(alloc)?)
     }
 
     // Adds the pieces of one type.
     fn add_pieces(
         &self,
         alloc: Global,
-        pieces: &mut Vec<Piece>,
+        pieces: &mut Pieces,
         of: Named<'_, 'a>,
     ) -> Result<(), Failure<'a>> {
         match &of.node.form {
@@ -99,12 +93,10 @@ impl<'m, 'a> Written<'m, 'a> {
     fn add_sequence(
         &self,
         alloc: Global,
-        pieces: &mut Vec<Piece>,
+        pieces: &mut Pieces,
         of: Named<'_, 'a>,
         components: &Vec<Component<'a>>,
     ) -> Result<(), Failure<'a>> {
-        let expected = "a SEQUENCE of 1 to 10 components: the checker proves no more";
-        check_count(of.node, components, MOST_FIELDS, expected)?;
         let fields = self.fields(alloc, of.name, components)?;
         let doc = self.doc(alloc, of)?;
         add_fields(
@@ -118,12 +110,10 @@ impl<'m, 'a> Written<'m, 'a> {
     fn add_choice(
         &self,
         alloc: Global,
-        pieces: &mut Vec<Piece>,
+        pieces: &mut Pieces,
         of: Named<'_, 'a>,
         components: &Vec<Component<'a>>,
     ) -> Result<(), Failure<'a>> {
-        let expected = "a CHOICE of 1 to 25 alternatives";
-        check_count(of.node, components, MOST_ALTERNATIVES, expected)?;
         let text = ChoiceText {
             name: String::from_str(alloc, of.name)?,
             doc: self.doc(alloc, of)?,
@@ -136,21 +126,21 @@ impl<'m, 'a> Written<'m, 'a> {
     fn add_enumeration(
         &self,
         alloc: Global,
-        pieces: &mut Vec<Piece>,
+        pieces: &mut Pieces,
         of: Named<'_, 'a>,
         items: &Vec<NamedNumber<'a>>,
     ) -> Result<(), Failure<'a>> {
         let mut piece = Piece::new(alloc, of.name, "", PieceKind::Enumeration)?;
         let doc = self.doc(alloc, of)?;
         push_enumeration(alloc, &mut piece.body, doc.as_str(), of.name, items, true)?;
-        Ok(add_piece(pieces, piece)?)
+        Ok(pieces.add(piece)?)
     }
 
     // Adds the piece of a list that is a struct with this field.
     fn add_list(
         &self,
         alloc: Global,
-        pieces: &mut Vec<Piece>,
+        pieces: &mut Pieces,
         of: Named<'_, 'a>,
         field: &str,
     ) -> Result<(), AllocError> {
@@ -164,14 +154,14 @@ impl<'m, 'a> Written<'m, 'a> {
             list: list.as_str(),
         };
         text.push_body(&mut piece.body)?;
-        add_piece(pieces, piece)
+        pieces.add(piece)
     }
 
     // Adds the pieces of tags in front of a CHOICE, for components that the module numbers.
     fn add_numbered_choices(
         &self,
         alloc: Global,
-        pieces: &mut Vec<Piece>,
+        pieces: &mut Pieces,
         components: &Vec<Component<'a>>,
     ) -> Result<(), Failure<'a>> {
         if are_numbered(self.module, components) {
@@ -186,7 +176,7 @@ impl<'m, 'a> Written<'m, 'a> {
     fn add_tagged_choice(
         &self,
         alloc: Global,
-        pieces: &mut Vec<Piece>,
+        pieces: &mut Pieces,
         index: usize,
     ) -> Result<(), AllocError> {
         match self.types.get(index) {
@@ -197,19 +187,17 @@ impl<'m, 'a> Written<'m, 'a> {
 
     // What the module says of a type.
     fn doc(&self, alloc: Global, of: Named<'_, 'a>) -> Result<String, AllocError> {
-        for assigned in self.module.types.iter() {
-            if assigned.of == of.index {
-                return doc_of(alloc, assigned.name.comments, "", assigned.name.text);
-            }
+        match self.module.assignment(of.index) {
+            Some(assigned) => doc_of(alloc, assigned.name.comments, "", assigned.name.text),
+            None => doc_of(alloc, "", "", of.name),
         }
-        doc_of(alloc, "", "", of.name)
     }
 
     // Adds the piece of a type that has a name in the module, as another name of a type of Rust.
     fn add_alias(
         &self,
         alloc: Global,
-        pieces: &mut Vec<Piece>,
+        pieces: &mut Pieces,
         of: Named<'_, 'a>,
     ) -> Result<(), Failure<'a>> {
         if !is_assigned(self.module, of.index) {
@@ -225,7 +213,7 @@ impl<'m, 'a> Written<'m, 'a> {
         if let Some(bits) = named_bits(of.node) {
             push_bits(alloc, &mut piece.body, of.name, bits)?;
         }
-        Ok(add_piece(pieces, piece)?)
+        Ok(pieces.add(piece)?)
     }
 
     fn push_alias(
@@ -264,58 +252,24 @@ fn push_bits<'a>(
     push_enumeration(alloc, out, doc.as_str(), bit.as_str(), bits, false)
 }
 
-// Adds a piece in the order of the names of files.
-fn add_piece(pieces: &mut Vec<Piece>, piece: Piece) -> Result<(), AllocError> {
-    let place = place_of(pieces, piece.file.as_str());
-    Ok(pieces.insert(place.min(pieces.len()), piece)?)
-}
-
-// The index of the first piece whose file comes behind this one.
-fn place_of(pieces: &Vec<Piece>, file: &str) -> usize {
-    for (index, other) in pieces.iter().enumerate() {
-        if file < other.file.as_str() {
-            return index;
-        }
-    }
-    pieces.len()
-}
-
-fn check_count<'a>(
-    node: &TypeNode<'a>,
-    components: &Vec<Component<'a>>,
-    most: usize,
-    expected: &'static str,
-) -> Result<(), Refusal<'a>> {
-    if components.is_empty() || components.len() > most {
-        return Err(Refusal::of(node.item, expected));
-    }
-    Ok(())
-}
-
 // Adds the piece of a tag in front of this CHOICE, unless it is there.
-fn add_tagged(alloc: Global, pieces: &mut Vec<Piece>, of: &RustType) -> Result<(), AllocError> {
+fn add_tagged(alloc: Global, pieces: &mut Pieces, of: &RustType) -> Result<(), AllocError> {
     let name = tagged_name(alloc, of)?;
-    for piece in pieces.iter() {
-        if piece.name.as_str() == name.as_str() {
-            return Ok(());
-        }
+    if !pieces.begins(alloc, name.as_str())? {
+        return Ok(());
     }
     let text = tagged_text(alloc, name, of)?;
     add_fields(alloc, pieces, &text)
 }
 
 // Adds the pieces of a SEQUENCE.
-fn add_fields(
-    alloc: Global,
-    pieces: &mut Vec<Piece>,
-    text: &SequenceText,
-) -> Result<(), AllocError> {
-    add_piece(pieces, sequence_piece(alloc, text)?)?;
+fn add_fields(alloc: Global, pieces: &mut Pieces, text: &SequenceText) -> Result<(), AllocError> {
+    pieces.add(sequence_piece(alloc, text)?)?;
     if !text.has_parts() {
         return Ok(());
     }
     for index in 0..text.part_count() {
-        add_piece(pieces, part_piece(alloc, &text.part(index))?)?;
+        pieces.add(part_piece(alloc, &text.part(index))?)?;
     }
     Ok(())
 }
@@ -341,15 +295,15 @@ fn part_piece(alloc: Global, part: &PartText<'_>) -> Result<Piece, AllocError> {
 // Adds the pieces of a CHOICE.
 fn add_alternatives(
     alloc: Global,
-    pieces: &mut Vec<Piece>,
+    pieces: &mut Pieces,
     text: &ChoiceText,
 ) -> Result<(), AllocError> {
-    add_piece(pieces, choice_piece(alloc, text)?)?;
+    pieces.add(choice_piece(alloc, text)?)?;
     if !text.has_parts() {
         return Ok(());
     }
     for index in 0..text.part_count() {
-        add_piece(pieces, choice_part_piece(alloc, &text.part(index))?)?;
+        pieces.add(choice_part_piece(alloc, &text.part(index))?)?;
     }
     Ok(())
 }

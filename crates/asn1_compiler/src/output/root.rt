@@ -62,7 +62,7 @@ fn push_export(alloc: Global, out: &mut String, piece: &Piece) -> Result<(), All
     out.push_str("pub ")?;
     let (body, file) = (piece.body.as_str(), piece.file.as_str());
     let words = words_of(alloc, body)?;
-    push_use(alloc, out, words.as_str(), file, piece.names.as_str())
+    push_use(alloc, out, &words, file, piece.names.as_str())
 }
 
 /// The file of a proof of a function that a piece implements for `Encode`.

@@ -8,10 +8,12 @@ use super::types::named_type;
 use crate::base_form::base_form;
 use crate::bounds::range_at;
 use crate::checks::{Checks, copy_at, has_no_tag, has_value};
-use crate::constant::NamedConstant;
+use crate::constants::Constants;
 use crate::external::External;
 use crate::external_type::{ExternalType, bare_form};
+use crate::external_types::ExternalTypes;
 use crate::module::{Module, TypeAssignment};
+use crate::name_index::NameIndex;
 use crate::octet_class::is_word_octet;
 use crate::type_node::TypeForm;
 use std::alloc::{AllocError, Global};
@@ -36,17 +38,27 @@ fn types_of<'a>(
     written: &Written<'_, 'a>,
     checks: &Checks,
     krate: &str,
-) -> Result<Vec<ExternalType<'a>>, AllocError> {
-    let mut types = Vec::new(alloc);
+) -> Result<ExternalTypes<'a>, AllocError> {
+    let mut types = ExternalTypes::new(alloc);
+    let own = index_of(alloc, written.names)?;
     for assigned in written.module.types.iter() {
-        types.push(external_type(alloc, written, checks, krate, assigned)?)?;
+        types.push(external_type(alloc, written, checks, krate, &own, assigned)?)?;
     }
     Ok(types)
 }
 
-fn values_of<'a>(alloc: Global, module: &Module<'a>) -> Result<Vec<NamedConstant<'a>>, AllocError> {
-    let mut values = Vec::new(alloc);
-    for named in module.constants.iter() {
+// An index of the names of types.
+fn index_of<'n>(alloc: Global, names: &'n Vec<String>) -> Result<NameIndex<'n>, AllocError> {
+    let mut index = NameIndex::new(alloc);
+    for (number, name) in names.iter().enumerate() {
+        index.add(name.as_str(), number)?;
+    }
+    Ok(index)
+}
+
+fn values_of<'a>(alloc: Global, module: &Module<'a>) -> Result<Constants<'a>, AllocError> {
+    let mut values = Constants::new(alloc);
+    for named in module.constants.list.iter() {
         if has_value(module, named.name) {
             values.push(named.copy(alloc)?)?;
         }
@@ -59,6 +71,7 @@ fn external_type<'a>(
     written: &Written<'_, 'a>,
     checks: &Checks,
     krate: &str,
+    own: &NameIndex<'_>,
     assigned: &TypeAssignment<'a>,
 ) -> Result<ExternalType<'a>, AllocError> {
     let module = written.module;
@@ -67,7 +80,7 @@ fn external_type<'a>(
         krate: String::from_str(alloc, krate)?,
         name: assigned.name.text,
         rust_name: String::from_str(alloc, text_at(written.names, index))?,
-        of: qualified_type(alloc, written, krate, index)?,
+        of: qualified_type(alloc, written, krate, own, index)?,
         tags: copy_at(alloc, &checks.tags, index)?,
         has_no_tag: has_no_tag(module, index),
         is_item: has_item(module, index),
@@ -93,6 +106,7 @@ fn qualified_type(
     alloc: Global,
     written: &Written<'_, '_>,
     krate: &str,
+    own: &NameIndex<'_>,
     index: usize,
 ) -> Result<RustType, AllocError> {
     let Written {
@@ -101,7 +115,7 @@ fn qualified_type(
         types,
     } = *written;
     let mut of = named_type(alloc, module, types, names, index)?;
-    let arms = qualified(alloc, names, krate, of.arms.as_str())?;
+    let arms = qualified(alloc, own, krate, of.arms.as_str())?;
     of.arms = arms;
     Ok(of)
 }
@@ -109,7 +123,7 @@ fn qualified_type(
 // The text with the name of the crate in front of each name of that crate.
 fn qualified(
     alloc: Global,
-    names: &Vec<String>,
+    own: &NameIndex<'_>,
     krate: &str,
     text: &str,
 ) -> Result<String, AllocError> {
@@ -120,33 +134,24 @@ fn qualified(
         if is_word_octet(octets[at]) {
             continue;
         }
-        push_word(&mut whole, names, krate, text.get(start..at).unwrap_or(""))?;
+        push_word(&mut whole, own, krate, text.get(start..at).unwrap_or(""))?;
         whole.push(char::from(octets[at]))?;
         start = at + 1;
     }
-    push_word(&mut whole, names, krate, text.get(start..).unwrap_or(""))?;
+    push_word(&mut whole, own, krate, text.get(start..).unwrap_or(""))?;
     Ok(whole)
-}
-
-fn is_name(names: &Vec<String>, word: &str) -> bool {
-    for name in names.iter() {
-        if name.as_str() == word {
-            return true;
-        }
-    }
-    false
 }
 
 // Adds a word, with the name of the crate in front of a name of that crate.
 fn push_word(
     text: &mut String,
-    names: &Vec<String>,
+    own: &NameIndex<'_>,
     krate: &str,
     word: &str,
 ) -> Result<(), AllocError> {
     let is_qualified = text.as_str().ends_with("::");
     let name_of = word.strip_suffix("Tagged").unwrap_or(word);
-    if !name_of.is_empty() && is_name(names, name_of) && !is_qualified {
+    if !name_of.is_empty() && own.has(name_of) && !is_qualified {
         text.push_str(krate)?;
         text.push_str("::")?;
     }

@@ -5,7 +5,6 @@ use super::numbers::bounds;
 use super::rust_type::{RustKind, RustType};
 use crate::base_form::base_of;
 use crate::checks::find_type;
-use crate::external_type::find_external;
 use crate::module::Module;
 use crate::tag::{Tag, TagPrefix};
 use crate::tag_class::TagClass;
@@ -169,7 +168,7 @@ pub fn is_checked(module: &Module<'_>, index: usize) -> bool {
 
 // Whether an imported type has a universal tag alone.
 fn is_imported_plain(module: &Module<'_>, name: &str) -> bool {
-    match find_external(module, name) {
+    match module.imported.find(name) {
         Some(external) => {
             !external.tags.is_any
                 && external

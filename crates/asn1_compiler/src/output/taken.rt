@@ -1,8 +1,8 @@
 //! Names of Rust that are taken.
 
 use super::rust_names::snake_name;
-use crate::lines::{is_line_of, push_line};
 use std::alloc::{AllocError, Global};
+use std::collections::HashSet;
 use std::fmt::Write;
 
 /// The ends of a name that stands alone.
@@ -12,15 +12,15 @@ pub const ALONE: &str = "\n";
 /// types in lower case.
 #[derive(Drop)]
 pub struct Taken {
-    // The words of each name, on a line of its own.
-    lines: String,
+    // The words of each name.
+    names: HashSet<String>,
 }
 
 impl Taken {
     /// No names.
     pub fn new(alloc: Global) -> Self {
         Taken {
-            lines: String::new(alloc),
+            names: HashSet::new(alloc),
         }
     }
 
@@ -28,7 +28,7 @@ impl Taken {
     pub fn take(&mut self, alloc: Global, name: &str, ends: &str) -> Result<(), AllocError> {
         for end in ends.lines() {
             let whole = format!(in alloc; "{name}{end}")?;
-            push_line(&mut self.lines, snake_name(alloc, whole.as_str())?.as_str())?;
+            self.names.insert(snake_name(alloc, whole.as_str())?)?;
         }
         Ok(())
     }
@@ -59,7 +59,7 @@ impl Taken {
         for end in ends.lines() {
             let whole = format!(in alloc; "{name}{end}")?;
             let words = snake_name(alloc, whole.as_str())?;
-            if is_line_of(self.lines.as_str(), words.as_str()) {
+            if self.names.contains(words.as_str()) {
                 return Ok(false);
             }
         }

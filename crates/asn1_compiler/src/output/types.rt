@@ -5,14 +5,13 @@ use super::directive::{is_word, own_type};
 use super::lists::list_field;
 use super::naming::text_at;
 use super::nest;
-use super::numbers::{are_small, bounds, is_closed, is_enumeration};
+use super::numbers::{OPEN, are_small, bounds, is_closed, is_enumeration, is_open};
 use super::rust_type::{RustKind, RustType};
 use super::tagged::{behind_tags, numbered, tagged};
 use crate::base_form::base_form;
 use crate::bounds::contained;
 use crate::checks::{are_numbered, automatic_number, find_type};
 use crate::component::{Component, Presence};
-use crate::external_type::find_external;
 use crate::failure::Failure;
 use crate::module::Module;
 use crate::named_number::NamedNumber;
@@ -75,6 +74,9 @@ fn type_of<'a>(
         }
         TypeForm::Integer(numbers) => {
             Ok(RustType::element(alloc, integer_text(alloc, module, index, numbers, name)?))
+        }
+        TypeForm::Enumerated(_) if is_open(module, index) => {
+            Ok(RustType::new(alloc, OPEN, RustKind::Element)?)
         }
         _ => Ok(RustType::element(alloc, element_text(alloc, module, table, name, node)?)),
     }
@@ -231,7 +233,7 @@ fn reference<'a>(
             Some(text) => Ok(RustType::element(alloc, text)),
             None => Ok(named_type(alloc, module, table, names, of)?),
         },
-        None => match find_external(module, node.item.text) {
+        None => match module.imported.find(node.item.text) {
             Some(external) => Ok(external.of.copy(alloc)?),
             None => Err(not_written(node)),
         },

@@ -8,9 +8,10 @@ use super::piece::Piece;
 use super::rust_names::snake_name;
 use super::taken::{ALONE, Taken};
 use super::template::{Places, fill};
-use crate::constant::{Constant, find_constant};
+use crate::constant::Constant;
 use crate::module::{Module, ValueAssignment};
 use std::alloc::{AllocError, Global};
+use std::collections::HashSet;
 use std::fmt::Write;
 
 const GHOST_USES: &str = "ghost use Rattle.std.specs.Prelude.{◌≡◌, ◌∷◌, []};
@@ -124,7 +125,7 @@ fn push_texts(
     out.push_str(GHOST_USES)?;
     let arcs = "Rattle.der_asn1.specs.Arcs";
     let words = words_of(alloc, texts.functions.as_str())?;
-    push_ghost_use(alloc, out, words.as_str(), arcs, "oid_octets")?;
+    push_ghost_use(alloc, out, &words, arcs, "oid_octets")?;
     out.push_str(USES)?;
     out.push_str(texts.constants.as_str())?;
     out.push_str(texts.functions.as_str())?;
@@ -133,11 +134,7 @@ fn push_texts(
 
 // What an assigned value is.
 fn constant_of<'m>(module: &'m Module<'_>, assigned: &ValueAssignment<'_>) -> Option<&'m Constant> {
-    let index = find_constant(&module.constants, assigned.name.text)?;
-    match module.constants.get(index) {
-        Some(named) => Some(&named.constant),
-        None => None,
-    }
+    module.constants.find(assigned.name.text)
 }
 
 /// Whether a value is written as a constant or a function.
@@ -273,25 +270,15 @@ pub fn push_octets(out: &mut String, octets: &Vec<u8>) -> Result<(), AllocError>
 // Adds the function that returns the names of all OBJECT IDENTIFIERs.
 fn push_name_of(alloc: Global, out: &mut String, module: &Module<'_>) -> Result<(), AllocError> {
     out.push_str(NAME_OF)?;
-    let mut before: Vec<&Vec<u64>> = Vec::new(alloc);
+    let mut before: HashSet<&[u64]> = HashSet::new(alloc);
     for assigned in module.values.iter() {
         if let Some(Constant::ObjectIdentifier(arcs)) = constant_of(module, assigned)
-            && !has_arcs(&before, arcs)
+            && before.insert(arcs.as_slice())?
         {
             push_name(alloc, out, arcs, assigned.name.text)?;
-            before.push(arcs)?;
         }
     }
     out.push_str("        _ => None,\n    }\n}\n")
-}
-
-fn has_arcs(before: &Vec<&Vec<u64>>, arcs: &Vec<u64>) -> bool {
-    for other in before.iter() {
-        if *other == arcs {
-            return true;
-        }
-    }
-    false
 }
 
 // Adds the arm for one OBJECT IDENTIFIER.

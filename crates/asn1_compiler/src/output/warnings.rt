@@ -1,7 +1,7 @@
 //! What a module says that its types of Rust do not check or do not have.
 
 use super::directive::own_type;
-use super::numbers::is_enumeration;
+use super::numbers::{is_enumeration, is_open};
 use super::pieces::Written;
 use super::renamed::add_renamed;
 use super::rust_type::RustKind;
@@ -28,6 +28,8 @@ const CONTENTS: &str = "the contents are octets, since their type has no tag of 
 
 const NUMBERS: &str = "an enum has no items below 0 or above 4294967295: any number is accepted";
 
+const CLOSED: &str = "numbers that no item has are refused";
+
 const NOT_WRITTEN: &str =
     "this value is left out, since it is no INTEGER, BOOLEAN or OBJECT IDENTIFIER";
 
@@ -45,6 +47,7 @@ pub fn warnings_of<'a>(
     }
     add_values(alloc, written.module, &mut found)?;
     add_renamed(alloc, written, &mut found)?;
+    found.sort_by_key(|warning| warning.offset)?;
     Ok(found)
 }
 
@@ -68,7 +71,7 @@ pub fn add_item<'a>(
     add(alloc, found, item.offset, item.text, text)
 }
 
-// Adds a warning in the order of places.
+// Adds a warning.
 fn add<'a>(
     alloc: Global,
     found: &mut Vec<Warning<'a>>,
@@ -76,13 +79,11 @@ fn add<'a>(
     item: &'a str,
     text: &str,
 ) -> Result<(), AllocError> {
-    let warning = Warning {
+    Ok(found.push(Warning {
         offset,
         found: item,
         text: String::from_str(alloc, text)?,
-    };
-    let place = found.iter().filter(|other| other.offset <= offset).count();
-    Ok(found.insert(place.min(found.len()), warning)?)
+    })?)
 }
 
 // Adds the warnings of a type.
@@ -97,6 +98,10 @@ fn add_node<'a>(
         && !is_enumeration(written.module, index)
     {
         add_item(alloc, found, node.item, NUMBERS)?;
+    } else if let Some(mark) = node.mark
+        && !is_open(written.module, index)
+    {
+        add_item(alloc, found, mark, CLOSED)?;
     }
     for constraint in node.constraints.iter() {
         match constraint {

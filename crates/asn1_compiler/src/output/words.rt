@@ -47,6 +47,7 @@ Described
 DescribedChoice
 Either
 Enumerated
+EnumeratedOf
 EnumeratedRef
 Enumeration
 Explicit

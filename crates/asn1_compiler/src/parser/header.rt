@@ -1,10 +1,13 @@
 //! The header of a module, and what it exports and imports.
 
 use super::{Parser, refused};
+use crate::constants::Constants;
+use crate::external_types::ExternalTypes;
 use crate::failure::Failure;
 use crate::item::Item;
 use crate::item_kind::ItemKind;
 use crate::module::{Import, Module};
+use crate::module_index::ModuleIndex;
 use crate::tagging::TagDefault;
 
 impl<'a> Parser<'a> {
@@ -18,11 +21,13 @@ impl<'a> Parser<'a> {
             tags,
             imports,
             exports,
-            imported: Vec::new(self.alloc),
+            imported: ExternalTypes::new(self.alloc),
             types: Vec::new(self.alloc),
             values: Vec::new(self.alloc),
-            constants: Vec::new(self.alloc),
+            constants: Constants::new(self.alloc),
             nodes: Vec::new(self.alloc),
+            index: ModuleIndex::new(self.alloc),
+            list_items: Vec::new(self.alloc),
             warnings: Vec::new(self.alloc),
         })
     }

@@ -3,12 +3,11 @@
 use super::{Parser, refused};
 use crate::endpoint::Endpoint;
 use crate::failure::Failure;
+use crate::item::Item;
 use crate::item_kind::ItemKind;
 use crate::named_number::NamedNumber;
 
 const TOO_LARGE: &str = "a number below 18446744073709551616";
-
-const CLOSED_ENUMERATION: &str = "numbers that no item has are refused";
 
 impl<'a> Parser<'a> {
     /// Parses a number without a sign.
@@ -56,17 +55,18 @@ impl<'a> Parser<'a> {
         Ok(numbers)
     }
 
-    /// Parses the items of an ENUMERATED in braces.
-    pub(super) fn enumeration_items(&mut self) -> Result<Vec<NamedNumber<'a>>, Failure<'a>> {
+    /// Parses the items of an ENUMERATED in braces, with its extension mark if it has one.
+    pub(super) fn enumeration_items(
+        &mut self,
+        mark: &mut Option<Item<'a>>,
+    ) -> Result<Vec<NamedNumber<'a>>, Failure<'a>> {
         self.expect("{")?;
         let mut items = Vec::new(self.alloc);
-        let mut has_mark = false;
         for _ in 0..self.items.len() {
-            if self.peek().is("...") && !has_mark && !items.is_empty() {
-                self.mark(CLOSED_ENUMERATION)?;
-                has_mark = true;
+            if self.peek().is("...") && mark.is_none() && !items.is_empty() {
+                *mark = Some(self.next());
             } else {
-                items.push(self.named_number(has_mark)?)?;
+                items.push(self.named_number(mark.is_some())?)?;
             }
             if !self.takes(",") {
                 break;

@@ -26,22 +26,25 @@ impl<'a> Parser<'a> {
             return Err(refused(item, "at most 64 types around a type"));
         }
         let mut constraints = Vec::new(self.alloc);
-        let form = self.form(item, &mut constraints, depth - 1)?;
+        let mut mark = None;
+        let form = self.form(item, &mut constraints, &mut mark, depth - 1)?;
         self.constraint_behind(&mut constraints, depth - 1)?;
         self.add(TypeNode {
             item,
             form,
             constraints,
+            mark,
         })
     }
 
     // Parses how a type is made. The size of a list, which stands in front of its items, goes to
-    // `constraints`.
+    // `constraints`, and the extension mark of an ENUMERATED to `mark`.
     #[cycle(types)]
     fn form(
         &mut self,
         item: Item<'a>,
         constraints: &mut Vec<Constraint<'a>>,
+        mark: &mut Option<Item<'a>>,
         depth: u32,
     ) -> Result<TypeForm<'a>, Failure<'a>> {
         if item.is("[") {
@@ -55,7 +58,7 @@ impl<'a> Parser<'a> {
             return Ok(TypeForm::SetOf(self.list_of(constraints, depth)?));
         }
         if !item.is("SEQUENCE") {
-            return self.leaf(item);
+            return self.leaf(item, mark);
         }
         if self.takes_unread() {
             return Ok(TypeForm::Simple(SimpleType::Unread));
@@ -126,7 +129,7 @@ impl<'a> Parser<'a> {
                 break;
             }
             if self.peek().is("...") {
-                self.component_mark(marks, is_choice)?;
+                self.component_mark(marks, is_choice, components.is_empty())?;
                 marks = marks.saturating_add(1);
             } else if is_choice && marks == 2 {
                 return Err(refused(self.peek(), "}"));
@@ -141,9 +144,19 @@ impl<'a> Parser<'a> {
         Ok(components)
     }
 
-    // Moves past an extension mark behind so many others.
-    fn component_mark(&mut self, marks: u32, is_choice: bool) -> Result<(), Failure<'a>> {
+    // Moves past an extension mark behind so many others. A CHOICE has an alternative in front of its
+    // first one.
+    fn component_mark(
+        &mut self,
+        marks: u32,
+        is_choice: bool,
+        is_first: bool,
+    ) -> Result<(), Failure<'a>> {
         match (marks, is_choice) {
+            (0, true) if is_first => Err(refused(
+                self.peek(),
+                "an alternative in front of the extension mark",
+            )),
             (0, true) => self.mark(CLOSED_CHOICE),
             (0, false) => self.mark(CLOSED_SEQUENCE),
             (1, _) => {
@@ -282,14 +295,18 @@ impl<'a> Parser<'a> {
     }
 
     // Parses a type whose parts are no types.
-    fn leaf(&mut self, item: Item<'a>) -> Result<TypeForm<'a>, Failure<'a>> {
+    fn leaf(
+        &mut self,
+        item: Item<'a>,
+        mark: &mut Option<Item<'a>>,
+    ) -> Result<TypeForm<'a>, Failure<'a>> {
         if item.kind != ItemKind::UpperName {
             return Err(refused(item, "a type"));
         }
         match item.text {
             "INTEGER" if self.peek().is("{") => Ok(TypeForm::Integer(self.named_numbers()?)),
             "INTEGER" => Ok(TypeForm::Integer(Vec::new(self.alloc))),
-            "ENUMERATED" => Ok(TypeForm::Enumerated(self.enumeration_items()?)),
+            "ENUMERATED" => Ok(TypeForm::Enumerated(self.enumeration_items(mark)?)),
             "BIT" => {
                 self.expect("STRING")?;
                 self.bit_string()
