@@ -5,17 +5,15 @@ ghost use Rattle.asn1_schema.specs.Tags.{IsFieldOf};
 ghost use Rattle.asn1_schema.specs.declared.field.Field.{Field as AField};
 ghost use Rattle.asn1_tree.specs.Known.{Known};
 ghost use Rattle.asn1_tree.specs.Reading.{Body, Status, Logs};
-ghost use Rattle.asn1_tree.specs.Tags.{IsBegun, NoneBegins};
 ghost use Rattle.asn1_tree.specs.Types.{types_in};
 ghost use Rattle.asn1_tree.specs.Components.{IsInsertion, MayBeAbsent, AreComponents, AreFrom};
 ghost use Rattle.asn1_tree.specs.Value.{IsValue, IsAny};
 
-use crate::constraints::end_of;
 use crate::notes::Notes;
 use crate::opened::Opened;
 use crate::outcome::Outcome;
 use crate::role::Role;
-use crate::select::begins;
+use crate::select::find_field;
 use crate::tests::may_be_absent;
 use crate::types::field_of;
 use crate::untyped::any;
@@ -56,7 +54,9 @@ pub(crate) fn additions<'a>(
         return Ok(Outcome { verdict, rest });
     }
     let first = first_taker(schema, node, index);
-    'additions: while !opened.at(rest).is_ended() && !is_taken(schema, node, first, rest) {
+    'additions: while !opened.at(rest).is_ended()
+        && find_field(schema, node, first, rest).is_none()
+    {
         let outcome = any(notes, depth, role, opened.inside.at(rest))?;
         verdict = verdict.and(outcome.verdict);
         rest = outcome.rest;
@@ -91,23 +91,4 @@ fn first_taker(schema: &Schema<'_>, node: Node, index: u32) -> u32
         first -= 1;
     }
     first
-}
-
-/// Whether octets begin with a tag of a field of a node, from a field on.
-pub(crate) fn is_taken(schema: &Schema<'_>, node: Node, first: u32, octets: &[u8]) -> bool
-    requires there { IsRange node.parts schema.now.counts.fields }
-    requires part { node.parts.start ≤ first }
-    ensures found { IsTrue result → (k : ℕ) × (f : AField) × (first ≤ k)
-        × IsFieldOf (types_in schema.now.octets.now) node k f
-        × IsBegun (types_in schema.now.octets.now) f.node octets.now }
-    ensures none { (result ≡ false) → (k : ℕ) (f : AField) → first ≤ k
-        → IsFieldOf (types_in schema.now.octets.now) node k f
-        → NoneBegins (types_in schema.now.octets.now) f.node octets.now }
-{
-    for k in first..end_of(node.parts, schema.counts().fields) {
-        if begins(schema, field_of(schema, k).node, octets) {
-            return true;
-        }
-    }
-    false
 }

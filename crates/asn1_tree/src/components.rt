@@ -14,7 +14,7 @@ ghost use Rattle.asn1_tree.specs.Items.{SomeItems};
 ghost use Rattle.asn1_tree.specs.Value.{IsValue, IsAny};
 ghost use Rattle.asn1_tree.specs.Reading.{Front, Body, Finds, Status, Logs};
 
-use crate::additions::{additions, is_taken};
+use crate::additions::additions;
 use crate::constraints::{count_rule, end_of};
 use crate::known::{Known, known_after};
 use crate::notes::Notes;
@@ -24,7 +24,7 @@ use crate::outcome::{Outcome, Step};
 use crate::place::Place;
 use crate::role::Role;
 use crate::rule::Rule;
-use crate::select::begins;
+use crate::select::{begins, find_field};
 use crate::tests::{default_rule, may_be_absent};
 use crate::typed::{inner_of, value};
 use crate::types::field_of;
@@ -87,7 +87,9 @@ fn begins_later(schema: &Schema<'_>, node: Node, index: u32, octets: &[u8]) -> b
     requires there { IsRange node.parts schema.now.counts.fields }
     requires part { (node.parts.start ≤ index) × (index < node.parts.start + node.parts.count) }
 {
-    octets.is_empty() || is_end_of_contents(octets) || is_taken(schema, node, index, octets)
+    octets.is_empty()
+        || is_end_of_contents(octets)
+        || find_field(schema, node, index, octets).is_some()
 }
 
 // Reads the component of a field, if it is there.

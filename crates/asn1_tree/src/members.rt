@@ -11,7 +11,6 @@ ghost use Rattle.asn1_tree.specs.Members.{is_seen, IsMember, ArePresent, SomeMem
 ghost use Rattle.asn1_tree.specs.Components.{MayBeAbsent};
 ghost use Rattle.asn1_tree.specs.Reading.{Front, Body, Finds, Logs};
 ghost use Rattle.asn1_tree.specs.Rule.{verdict_of_option};
-ghost use Rattle.asn1_tree.specs.Tags.{IsBegun, NoneBegins};
 ghost use Rattle.asn1_tree.specs.Types.{types_in};
 ghost use Rattle.asn1_tree.specs.Value.{IsValue, IsAny};
 ghost use Rattle.asn1_tree.specs.Verdict.{holds};
@@ -24,7 +23,7 @@ use crate::outcome::Outcome;
 use crate::place::Place;
 use crate::role::Role;
 use crate::rule::Rule;
-use crate::select::begins;
+use crate::select::find_field;
 use crate::tag_order::tag_order_rule;
 use crate::tests::may_be_absent;
 use crate::types::field_of;
@@ -115,7 +114,7 @@ fn member<'a>(
         (λ o. 0 < length place.entry.octets.now → length o.rest.now < length place.entry.octets.now) }
     ensures end { OnOk result (notes.new.end ≡ notes.old.end) }
 {
-    match find_member(schema, node, place.octets) {
+    match find_field(schema, node, node.parts.start, place.octets) {
         Some(index) => {
             if is_seen(seen.as_slice(), index) {
                 let again = notes.depart(Rule::Duplicate, place.offset(), at)?;
@@ -140,24 +139,6 @@ fn member<'a>(
             })
         }
     }
-}
-
-// Whether octets begin with a tag of a field of a node, and of which.
-fn find_member(schema: &Schema<'_>, node: Node, octets: &[u8]) -> Option<u32>
-    requires { IsRange node.parts schema.now.counts.fields }
-    ensures found { IfSome result (λ k. (f : AField)
-        × IsFieldOf (types_in schema.now.octets.now) node k f
-        × IsBegun (types_in schema.now.octets.now) f.node octets.now) }
-    ensures none { IfNone result ((k : ℕ) (f : AField)
-        → IsFieldOf (types_in schema.now.octets.now) node k f
-        → NoneBegins (types_in schema.now.octets.now) f.node octets.now) }
-{
-    for k in node.parts.start..end_of(node.parts, schema.counts().fields) {
-        if begins(schema, field_of(schema, k).node, octets) {
-            return Some(k);
-        }
-    }
-    None
 }
 
 // Whether the field of an index is one of those that were there.

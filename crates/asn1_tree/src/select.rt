@@ -1,10 +1,14 @@
 //! Tags at the front.
-ghost use Rattle.std.specs.Prelude.{◌≡◌, ◌<◌, IsTrue, false};
+ghost use Rattle.std.specs.Prelude.{◌≡◌, ◌<◌, ◌≤◌, ℕ, IsTrue, IfSome, IfNone, false};
+ghost use Rattle.asn1_schema.specs.Span.{IsWithin as IsRange};
+ghost use Rattle.asn1_schema.specs.Tags.{IsFieldOf};
+ghost use Rattle.asn1_schema.specs.declared.field.Field.{Field as AField};
 ghost use Rattle.asn1_tree.specs.Types.{types_in};
 ghost use Rattle.asn1_tree.specs.Tags.{IsBegun, NoneBegins};
 
-use crate::types::select;
-use asn1_schema::Schema;
+use crate::constraints::end_of;
+use crate::types::{field_of, select};
+use asn1_schema::{Node, Schema};
 use ber::{is_end_of_contents, read_header};
 
 /// Whether octets begin with a header that a value of a node may have.
@@ -25,4 +29,23 @@ pub(crate) fn begins(schema: &Schema<'_>, node: u32, octets: &[u8]) -> bool
         }
         Err(_) => false,
     }
+}
+
+/// The first field of a node, from a field on, with a tag that octets begin with.
+pub(crate) fn find_field(schema: &Schema<'_>, node: Node, first: u32, octets: &[u8]) -> Option<u32>
+    requires there { IsRange node.parts schema.now.counts.fields }
+    requires part { node.parts.start ≤ first }
+    ensures found { IfSome result (λ k. (f : AField) × (first ≤ k)
+        × IsFieldOf (types_in schema.now.octets.now) node k f
+        × IsBegun (types_in schema.now.octets.now) f.node octets.now) }
+    ensures none { IfNone result ((k : ℕ) (f : AField) → first ≤ k
+        → IsFieldOf (types_in schema.now.octets.now) node k f
+        → NoneBegins (types_in schema.now.octets.now) f.node octets.now) }
+{
+    for k in first..end_of(node.parts, schema.counts().fields) {
+        if begins(schema, field_of(schema, k).node, octets) {
+            return Some(k);
+        }
+    }
+    None
 }

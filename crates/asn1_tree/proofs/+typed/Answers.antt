@@ -366,14 +366,14 @@ members::member-returns-then-is_seen-clause-finds t c =
     finds_never (c.and.ensures ∙ ap (λ v. worst v c.in_ok-outcome-in-Some.outcome.verdict) c.in_ok-again-in-Some.ensures.verdict)
     (λ rules r f.
     let found = c.in-Some.ensures.found in
-    let new = (member_of_field (value_begins (types_in c.args.schema.now.octets.now) c.args.depth) (any_elements c.args.depth) c.args.node c.requires.kind (c.requires.distinct c.requires.row.0 c.args.node c.requires.row.1) found.2.0 c.args.place.octets.now found.2.1 c.in-Some.index found.0 found.1 found.2.3 c.args.seen.now.items rules f.0 r f.2.0 f.1 f.2.1).0 in
+    let new = (member_of_field (value_begins (types_in c.args.schema.now.octets.now) c.args.depth) (any_elements c.args.depth) c.args.node c.requires.kind (c.requires.distinct c.requires.row.0 c.args.node c.requires.row.1) found.3.0 c.args.place.octets.now found.3.1 c.in-Some.index found.0 found.2 found.3.3 c.args.seen.now.items rules f.0 r f.2.0 f.1 f.2.1).0 in
     let seen : is_seen c.args.seen.now.items c.in-Some.index ≡ true = subst (λ q. is_seen q c.in-Some.index ≡ true) c.as_slice.ensures.value (sym c.is_seen.ensures ∙ c.if-is_seen.true) in
     absurd (cc))
 
 pub members::member-returns-then-is_seen-clause-only : goal.members::member-returns-then-is_seen-clause-only
 members::member-returns-then-is_seen-clause-only t c rules x r after e is =
     let found = c.in-Some.ensures.found in
-    let new = (member_of_field (value_begins (types_in c.args.schema.now.octets.now) c.args.depth) (any_elements c.args.depth) c.args.node c.requires.kind (c.requires.distinct c.requires.row.0 c.args.node c.requires.row.1) found.2.0 c.args.place.octets.now found.2.1 c.in-Some.index found.0 found.1 found.2.3 c.args.seen.now.items rules x r after e is).0 in
+    let new = (member_of_field (value_begins (types_in c.args.schema.now.octets.now) c.args.depth) (any_elements c.args.depth) c.args.node c.requires.kind (c.requires.distinct c.requires.row.0 c.args.node c.requires.row.1) found.3.0 c.args.place.octets.now found.3.1 c.in-Some.index found.0 found.2 found.3.3 c.args.seen.now.items rules x r after e is).0 in
     let seen : is_seen c.args.seen.now.items c.in-Some.index ≡ true = subst (λ q. is_seen q c.in-Some.index ≡ true) c.as_slice.ensures.value (sym c.is_seen.ensures ∙ c.if-is_seen.true) in
     absurd (cc)
 
@@ -385,32 +385,32 @@ pub members::member-returns-in_ok-push-in-Some-clause-finds : goal.members::memb
 members::member-returns-in_ok-push-in-Some-clause-finds t c =
     let found = c.in-Some.ensures.found in
     let new : is_seen c.args.seen.now.items c.in-Some.index ≡ false = subst (λ q. is_seen q c.in-Some.index ≡ false) c.as_slice.ensures.value (sym c.is_seen.ensures ∙ c.if-is_seen.false) in
-    if_ok c.field_value-in-Some.result (λ o f. finds_component (value_begins (types_in c.args.schema.now.octets.now) c.args.depth) (any_elements c.args.depth) c.args.node c.requires.kind (c.requires.distinct c.requires.row.0 c.args.node c.requires.row.1) found.2.0 c.args.place.octets.now found.2.1 c.in-Some.index found.0 found.1 found.2.3 c.args.seen.now.items new (f found.0 found.1.row)) c.field_value-in-Some.ensures.finds
+    if_ok c.field_value-in-Some.result (λ o f. finds_component (value_begins (types_in c.args.schema.now.octets.now) c.args.depth) (any_elements c.args.depth) c.args.node c.requires.kind (c.requires.distinct c.requires.row.0 c.args.node c.requires.row.1) found.3.0 c.args.place.octets.now found.3.1 c.in-Some.index found.0 found.2 found.3.3 c.args.seen.now.items new (f found.0 found.2.row)) c.field_value-in-Some.ensures.finds
 
 pub members::member-returns-in_ok-push-in-Some-clause-only : goal.members::member-returns-in_ok-push-in-Some-clause-only
 members::member-returns-in_ok-push-in-Some-clause-only t c =
     let found = c.in-Some.ensures.found in
-    if_ok c.field_value-in-Some.result (λ o log rules x r after e is. (member_of_field (value_begins (types_in c.args.schema.now.octets.now) c.args.depth) (any_elements c.args.depth) c.args.node c.requires.kind (c.requires.distinct c.requires.row.0 c.args.node c.requires.row.1) found.2.0 c.args.place.octets.now found.2.1 c.in-Some.index found.0 found.1 found.2.3 c.args.seen.now.items rules x r after e is).1 ∙ sym c.in_ok-push-in-Some.ensures.items) c.field_value-in-Some.ensures.log
+    if_ok c.field_value-in-Some.result (λ o log rules x r after e is. (member_of_field (value_begins (types_in c.args.schema.now.octets.now) c.args.depth) (any_elements c.args.depth) c.args.node c.requires.kind (c.requires.distinct c.requires.row.0 c.args.node c.requires.row.1) found.3.0 c.args.place.octets.now found.3.1 c.in-Some.index found.0 found.2 found.3.3 c.args.seen.now.items rules x r after e is).1 ∙ sym c.in_ok-push-in-Some.ensures.items) c.field_value-in-Some.ensures.log
 
 pub members::member-returns-then-node-clause-finds : goal.members::member-returns-then-node-clause-finds
 members::member-returns-then-node-clause-finds t c =
-    if_ok c.any.result (λ o f. finds_addition (value_begins (types_in c.args.schema.now.octets.now) c.args.depth) (any_elements c.args.depth) c.args.node c.if-node.true c.args.place.octets.now c.in-None.ensures.none c.args.seen.now.items f) c.any.ensures.finds
+    if_ok c.any.result (λ o f. finds_addition (value_begins (types_in c.args.schema.now.octets.now) c.args.depth) (any_elements c.args.depth) c.args.node c.if-node.true c.args.place.octets.now (λ k f is. c.in-None.ensures.none k f is.part.0 is) c.args.seen.now.items f) c.any.ensures.finds
 
 pub members::member-returns-then-node-clause-only : goal.members::member-returns-then-node-clause-only
 members::member-returns-then-node-clause-only t c =
-    if_ok c.any.result (λ o log rules x r after e is. (member_of_none (value_begins (types_in c.args.schema.now.octets.now) c.args.depth) c.args.node c.args.place.octets.now c.in-None.ensures.none c.args.seen.now.items rules x r after e is).1) c.any.ensures.log
+    if_ok c.any.result (λ o log rules x r after e is. (member_of_none (value_begins (types_in c.args.schema.now.octets.now) c.args.depth) c.args.node c.args.place.octets.now (λ k f is. c.in-None.ensures.none k f is.part.0 is) c.args.seen.now.items rules x r after e is).1) c.any.ensures.log
 
 pub members::member-returns-in_ok-outcome-in-None-clause-finds : goal.members::member-returns-in_ok-outcome-in-None-clause-finds
 members::member-returns-in_ok-outcome-in-None-clause-finds t c =
     finds_never (c.and-in-None.ensures ∙ ap (λ v. worst v c.in_ok-outcome-in-None.outcome.verdict) c.in_ok-other-in-None.ensures.verdict)
     (λ rules r f.
-    let on = (member_of_none (value_begins (types_in c.args.schema.now.octets.now) c.args.depth) c.args.node c.args.place.octets.now c.in-None.ensures.none c.args.seen.now.items rules f.0 r f.2.0 f.1 f.2.1).0 in
+    let on = (member_of_none (value_begins (types_in c.args.schema.now.octets.now) c.args.depth) c.args.node c.args.place.octets.now (λ k f is. c.in-None.ensures.none k f is.part.0 is) c.args.seen.now.items rules f.0 r f.2.0 f.1 f.2.1).0 in
     let off = c.if-node.false in
     absurd (cc))
 
 pub members::member-returns-in_ok-outcome-in-None-clause-only : goal.members::member-returns-in_ok-outcome-in-None-clause-only
 members::member-returns-in_ok-outcome-in-None-clause-only t c rules x r after e is =
-    (member_of_none (value_begins (types_in c.args.schema.now.octets.now) c.args.depth) c.args.node c.args.place.octets.now c.in-None.ensures.none c.args.seen.now.items rules x r after e is).1
+    (member_of_none (value_begins (types_in c.args.schema.now.octets.now) c.args.depth) c.args.node c.args.place.octets.now (λ k f is. c.in-None.ensures.none k f is.part.0 is) c.args.seen.now.items rules x r after e is).1
 
 pub members::member-returns-in_ok-outcome-in-None-clause-log : goal.members::member-returns-in_ok-outcome-in-None-clause-log
 members::member-returns-in_ok-outcome-in-None-clause-log t c =

@@ -1,4 +1,4 @@
-use Rattle.std.proofs.Common.{rules, ◌≡◌, ◌≢◌, ◌∙◌, ℕ, true, List, ◌++◌, sym, length, ap, arith}
+use Rattle.std.proofs.Common.{rules, ◌≡◌, ◌≢◌, ◌∙◌, ℕ, true, not, List, ◌++◌, sym, length, ap, arith}
 use Rattle.der_base.specs.declared.encoding_rules.EncodingRules.{EncodingRules}
 use Rattle.ber.specs.Header.{IsNext, end_header}
 use Rattle.ber.specs.declared.header.Header.{Header}
@@ -8,10 +8,11 @@ use Rattle.asn1_tree.specs.Value.{IsValue, IsAny}
 use Rattle.asn1_tree.proofs.AdditionLemmas.{addition_found, additions_end, none_taken, taken_element, untaken_element}
 use Rattle.asn1_tree.proofs.FindsLemmas.{finds_at, status_is, status_then}
 use Rattle.asn1_tree.proofs.ItemLemmas.{none_at_end, goes_on, has_ended}
+use Rattle.asn1_tree.proofs.ResultLemmas.{if_none, if_some}
 use Rattle.asn1_tree.proofs.UntypedLemmas.{any_elements}
 use Rattle.asn1_tree.proofs.ValueLemmas.{value_begins}
 use Rattle.asn1_tree.proofs.VerdictLemmas.{worst_der, logs_is, logs_then}
-use Rattle.asn1_tree.proofs.additions.additions.Goals.{then-additions-test+else-not-is_taken, else-additions-test}
+use Rattle.asn1_tree.proofs.additions.additions.Goals.{then-additions-test+else-is_none, else-additions-test}
 use Rattle.asn1_tree.proofs.additions.additions.Goals as goal
 
 pub returns-then-not-is_insertion-clause-status : goal.returns-then-not-is_insertion-clause-status
@@ -37,7 +38,7 @@ additions-preserved c =
   where
     untaken : (h : Header) → IsNext h c.additions.rest.now → h ≢ end_header → IsTaken (types_in c.args.schema.now.octets.now) c.args.node c.args.index h → ⊥
     untaken h next real taken =
-        c.is_taken.ensures.none (search rules) taken.index taken.by
+        if_none c.find_field.result c.find_field.ensures.none (search rules) taken.index taken.by
         (c.first_taker-first.ensures.others taken.index taken.may.absent taken.may.field.part.0) taken.may.field h next real taken.begins
 
 pub returns-clause-status : goal.returns-clause-status
@@ -51,10 +52,10 @@ returns-clause-status c left known size =
     none : (rules : EncodingRules) (x r : List ℕ) → now ≡ x ++ r → IsAddition (IsAny c.args.depth) rules (types_in c.args.schema.now.octets.now) c.args.node c.args.index x → ⊥
     none rules x r e addition =
         elim c.additions-test.branch [
-          | then-additions-test+else-not-is_taken w ↦
-              let found = w.is_taken.ensures.found (search) in
-              taken_element (any_elements c.args.depth) c.args.node c.args.index now found.4.1
-              (record { index = found.0; by = found.1; may = record { field = found.3; absent = λ l g low high is. c.first_taker-first.ensures.absent l g (omega (arith, found.2, low)) high is }; begins = found.4.3 }) rules x r e addition
+          | then-additions-test+else-is_none w ↦
+              let found = if_some w.find_field.result w.find_field.ensures.found (w.is_none.ensures ∙ ap not w.if-is_none.false) in
+              taken_element (any_elements c.args.depth) c.args.node c.args.index now found.1.3.1
+              (record { index = found.0; by = found.1.0; may = record { field = found.1.2; absent = λ l g low high is. c.first_taker-first.ensures.absent l g (omega (arith, found.1.1, low)) high is }; begins = found.1.3.3 }) rules x r e addition
           | else-additions-test w ↦
               none_at_end (IsAny c.args.depth rules) (any_elements c.args.depth rules) c.args.opened.marked now x r
               (has_ended c.is_ended.result c.is_ended.ensures c.at.ensures.marked c.at.ensures.octets (search)) e addition.item

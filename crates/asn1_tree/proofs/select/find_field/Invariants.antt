@@ -1,11 +1,11 @@
-use Rattle.std.proofs.Common.{ℕ, ◌<◌}
+use Rattle.std.proofs.Common.{ℕ, ◌<◌, ◌≤◌}
 use Rattle.asn1_schema.specs.Tags.{IsFieldOf}
 use Rattle.asn1_schema.specs.declared.field.Field.{Field}
 use Rattle.asn1_tree.specs.Tags.{NoneBegins}
 use Rattle.asn1_tree.specs.Types.{types_in}
-use Rattle.asn1_tree.proofs.members.find_member.Given as goal
+use Rattle.asn1_tree.proofs.select.find_field.Given as goal
 
 abbrev pub invariant-loop-k : goal.invariant-loop-k
 invariant-loop-k l =
-    (k : ℕ) (f : Field) → k < l.k → IsFieldOf (types_in l.schema.octets.now) l.fn.node k f
+    (k : ℕ) (f : Field) → l.first ≤ k → k < l.k → IsFieldOf (types_in l.schema.octets.now) l.fn.node k f
     → NoneBegins (types_in l.schema.octets.now) f.node l.octets

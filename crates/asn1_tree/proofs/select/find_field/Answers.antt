@@ -3,7 +3,7 @@ use Rattle.std.proofs.lemmas.Bool.{cases_lt}
 use Rattle.asn1_schema.specs.declared.field.Field.{Field}
 use Rattle.asn1_tree.specs.Tags.{NoneBegins}
 use Rattle.asn1_tree.specs.Types.{types_in}
-use Rattle.asn1_tree.proofs.additions.is_taken.Goals as goal
+use Rattle.asn1_tree.proofs.select.find_field.Goals as goal
 
 pub loop-k-preserved : goal.loop-k-preserved
 loop-k-preserved c k f low high is =
@@ -17,5 +17,5 @@ loop-k-preserved c k f low high is =
         subst (λ (g : Field). NoneBegins (types_in c.args.schema.now.octets.now) g.node c.args.octets.now) it (c.begins.ensures.none c.if-begins.false)
 
 pub returns-clause-none : goal.returns-clause-none
-returns-clause-none c off k f low is =
+returns-clause-none c k f low is =
     c.loop-k.invariant k f low (omega (arith, is.part.1, c.loop-k-test.false, c.end_of-k-end.ensures)) is
