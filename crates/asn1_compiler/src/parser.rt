@@ -57,7 +57,8 @@ pub fn parse_module<'a>(alloc: Global, text: &'a str) -> Result<Module<'a>, Fail
     } = parser;
     module.nodes = nodes;
     module.warnings = warnings;
-    module.index = index_of(alloc, &module)?;
+    let index = index_of(alloc, &module)?;
+    module.index = index;
     Ok(module)
 }
 
