@@ -57,17 +57,18 @@ pub fn parse_module<'a>(alloc: Global, text: &'a str) -> Result<Module<'a>, Fail
     } = parser;
     module.nodes = nodes;
     module.warnings = warnings;
-    module.index = index_of(alloc, &module)?;
+    add_index(alloc, &mut module)?;
     Ok(module)
 }
 
-// Where a module has what it names.
-fn index_of<'a>(alloc: Global, module: &Module<'a>) -> Result<ModuleIndex<'a>, AllocError> {
+// Adds where the module has what it names.
+fn add_index<'a>(alloc: Global, module: &mut Module<'a>) -> Result<(), AllocError> {
     let mut index = ModuleIndex::new(alloc);
     index.add_types(&module.types, module.nodes.len())?;
     index.add_values(&module.values)?;
     index.add_imports(&module.imports)?;
-    Ok(index)
+    module.index = index;
+    Ok(())
 }
 
 /// The failure of an item that stands where something else is expected.
