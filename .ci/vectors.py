@@ -128,14 +128,14 @@ def compare(compiler, name):
     return held
 
 
-def calls():
-    """Calls of the compiler: the words, the status, and the texts that it prints to standard output or, if the
-    status is another than 0, to standard error."""
+def calls(folder):
+    """Calls of the compiler, which may write to a folder: the words, the status, and the texts that it prints, to
+    standard output for the help and the version, and else to standard error."""
     why = {it: os.strerror(it) for it in (errno.ENOENT, errno.EISDIR, errno.ENOTDIR)}
-    module = f"{checker.folder_of('asn1_compile')}/data/wrong.asn1"
+    module, partly = f"{checker.folder_of('asn1_compile')}/data/wrong.asn1", f"{VECTORS}/partly.asn1"
     return [
         (["--version"], 0, [f"asn1_compile {text_of(f'{TOP}/VERSION')}"]),
-        (["--help"], 0, ["--out <FOLDER>", "--with <CRATE=FILE>", "<FILE>", "--help", "--version"]),
+        (["--help"], 0, ["--out <FOLDER>", "--with <CRATE=FILE>", "--only <TYPE>", "<FILE>", "--help", "--version"]),
         ([], 2, ["error: ", "--out <FOLDER>", "<FILE>", "Usage: asn1_compile "]),
         (["--out", "made"], 2, ["error: ", "<FILE>"]),
         (["--out", "made", "none.asn1", "--loud"], 2, ["error: unexpected argument '--loud'"]),
@@ -144,6 +144,15 @@ def calls():
         (["--out=made", "none.asn1"], 1, [f"error: none.asn1: {why[errno.ENOENT]}"]),
         (["none.asn1", "--with", "base=.", "--out", "made"], 1, [f"error: .: {why[errno.EISDIR]}"]),
         (["--out", f"{module}/made", f"{VECTORS}/explicit.asn1"], 1, [f"error: {module}/made: {why[errno.ENOTDIR]}"]),
+        (["--out", f"{folder}/all", partly], 0, [
+            f"warning: {partly}:4:24: Missing: Away is left out: expected a module that a --with option gives\n",
+            f"warning: {partly}:6:10: CLASS: KIND is left out: expected no class, which is not supported\n",
+            f"warning: {partly}:10:28: .: Lost is left out: expected no field of a class, which is not supported\n",
+            f"warning: {partly}:14:1: Loop: Loop is left out: expected a type that does not contain itself\n"]),
+        (["--out", f"{folder}/one", "--only", "Kept", partly], 0, []),
+        (["--out", f"{folder}/no", "--only", "Kept", "--only=Lost", partly], 1, [f"{partly}:10:28: found ., expected no field"]),
+        (["--out", f"{folder}/no", "--only", "Away", partly], 1, [f"{partly}:4:24: found Missing, expected a module"]),
+        (["--out", f"{folder}/no", "--only", "Other", partly], 1, [f"{partly}:2:1: found Partly, expected a module that has"]),
         (checker.args_of("asn1_compile"), 1, [text_of(f"{checker.folder_of('asn1_compile')}/stderr")]),
     ]
 
@@ -154,7 +163,8 @@ def says(compiler, words, status, texts):
     folder = f"{checker.folder_of('asn1_compile')}/data"
     ran = subprocess.run([compiler, *words], cwd=folder, stdin=subprocess.DEVNULL, check=False, text=True,
                          capture_output=True)
-    printed, other = (ran.stderr, ran.stdout) if status else (ran.stdout, ran.stderr)
+    is_asked = {"--help", "--version"} & set(words)
+    printed, other = (ran.stdout, ran.stderr) if is_asked else (ran.stderr, ran.stdout)
     held = ran.returncode == status and not other and all(it in printed for it in texts)
     if not held:
         print(f"test: asn1_compile {' '.join(words)} says something else:\n{ran.stdout}{ran.stderr}")
@@ -182,6 +192,8 @@ def is_linear(compiler):
 
 def run_calls(compiler):
     """Makes each call, and returns whether it says what it should, and takes no more time than it should."""
-    held = [*(says(compiler, *it) for it in calls()), is_linear(compiler)]
+    with tempfile.TemporaryDirectory() as folder:
+        held = [*(says(compiler, *it) for it in calls(folder)), is_linear(compiler)]
+        held.append(not os.path.exists(f"{folder}/no") and os.path.exists(f"{folder}/one/src/asn1/kept.rt"))
     print(f"test: asn1_compile: {sum(held)} of {len(held)} calls say what they should", flush=True)
     return held

@@ -1,4 +1,4 @@
-//! Tests of `asn1_compiler`: modules that are refused, and where; and the text of others.
+//! Tests of the compiler of ASN.1: modules that are refused, and where; and the text of others.
 
 mod accepted;
 mod identifiers;
@@ -10,4 +10,5 @@ mod refused_notation;
 mod refused_tags;
 mod refused_texts;
 mod refusals;
+mod selections;
 mod warnings;

@@ -1,6 +1,9 @@
-//! Tests of the program `der_show` over files that `openssl` made, and over the rules of RFC 4514 and RFC 8259.
+//! Tests of the program `der_show` over files that `openssl` made, over messages of other protocols, and over the rules of RFC 4514 and RFC 8259.
 
-mod errors;
+mod departures;
 mod files;
 mod json;
 mod names;
+mod octets;
+mod printed;
+mod unknown;

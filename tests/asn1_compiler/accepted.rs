@@ -1,7 +1,7 @@
 //! Modules that are right.
 use super::refusals::{accepts, compiled, has_text, module, refusal};
 use crate::checks::{same, same_at};
-use asn1_compiler::compile;
+use asn1_output::compile;
 use std::test::Fail;
 
 #[test]
@@ -56,7 +56,7 @@ fn alternatives_that_the_library_lacks_are_left_out(rt: HostRuntime) -> Result<(
     let alloc = rt.alloc();
     let body = "A ::= CHOICE { a UTF8String, b UniversalString, c REAL, d BMPString }";
     let text = module(alloc, "EXPLICIT", body)?;
-    match compile(alloc, &Vec::new(alloc), text.as_str(), "own") {
+    match compile(alloc, &Vec::new(alloc), text.as_str(), "own", &[]) {
         Ok(compiled) => {
             same_at(&rt, "count", compiled.left_out.len(), 2);
             let expected = ["b", "c"];

@@ -64,7 +64,7 @@ fn imports_that_are_wrong(rt: HostRuntime) -> Result<(), Fail> {
         return Ok(());
     };
     for (body, place) in [
-        ("IMPORTS Algorithm FROM Three;", (2, 24, "Three")),
+        ("IMPORTS Algorithm FROM Three;\nA ::= Algorithm", (2, 24, "Three")),
         ("IMPORTS Algorithms FROM One;", (2, 9, "Algorithms")),
         ("IMPORTS Version, id-two FROM One;", (2, 18, "id-two")),
         ("IMPORTS Text FROM Two;", (2, 9, "Text")),
@@ -90,15 +90,23 @@ fn imports_that_are_wrong(rt: HostRuntime) -> Result<(), Fail> {
 #[test]
 fn modules_that_are_given_twice_or_too_late(rt: HostRuntime) -> Result<(), Fail> {
     let alloc = rt.alloc();
-    for (texts, wrong, place) in [
-        ([ONE, ONE], ONE, (1, 1, "One")),
-        ([TWO, ONE], TWO, (2, 19, "One")),
-    ] {
-        let answer = match externals(alloc, &texts) {
+    let answer = match externals(alloc, &[ONE, ONE]) {
+        Ok(_) => None,
+        Err(failure) => Some(place_of(ONE, failure)),
+    };
+    same_at(&rt, ONE, answer, Some((1, 1, "One")));
+    let Ok(found) = externals(alloc, &[TWO, ONE]) else {
+        holds(&rt, false);
+        return Ok(());
+    };
+    // what Two has of One is left out, and the rest is there
+    for (name, place) in [("Alias", Some((1, 33, "Alias"))), ("Plain", None)] {
+        let text = format!(in alloc; "M DEFINITIONS ::= BEGIN IMPORTS {name} FROM Two; A ::= {name} END")?;
+        let answer = match compiled(alloc, &found, &text) {
             Ok(_) => None,
-            Err(failure) => Some(place_of(wrong, failure)),
+            Err(place) => Some(place),
         };
-        same_at(&rt, wrong, answer, Some(place));
+        same_at(&rt, name, answer, place);
     }
     Ok(())
 }

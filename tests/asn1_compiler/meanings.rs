@@ -4,6 +4,18 @@ use crate::checks::same_at;
 use std::test::Fail;
 
 #[test]
+fn the_tags_that_are_known_at_a_mark_are_listed(rt: HostRuntime) -> Result<(), Fail> {
+    let alloc = rt.alloc();
+    let body = "A ::= SEQUENCE { a NULL, ..., b BOOLEAN, ..., c INTEGER }";
+    let text = module(alloc, "EXPLICIT", body)?;
+    match compiled(alloc, &Vec::new(alloc), &text) {
+        Ok(files) => has_text(&rt, &files, "src/asn1/a_known.rt", "is_among(&[(0, 1), (0, 2)], tag)"),
+        Err(place) => same_at(&rt, body, Some(place), None),
+    }
+    Ok(())
+}
+
+#[test]
 fn ranges_and_defaults_reach_the_types(rt: HostRuntime) -> Result<(), Fail> {
     let alloc = rt.alloc();
     for (body, line) in [
@@ -22,6 +34,8 @@ fn ranges_and_defaults_reach_the_types(rt: HostRuntime) -> Result<(), Fail> {
         ("A ::= SEQUENCE { a SET OF NULL DEFAULT {} }", "pub a: Defaulted<WithDefault<SetOf<'a, Null<'a>>, DefaultEmpty>>,"),
         ("A ::= SEQUENCE { a INTEGER { b(0), c(1) } (0..1) DEFAULT 1 }", "AA::C"),
         ("A ::= SEQUENCE { a NULL, ..., b BOOLEAN }", "pub b: Optional<BooleanRef<'a>>,"),
+        ("A ::= SEQUENCE { a NULL, ..., b BOOLEAN }", "pub additions: Additions<'a, AKnown>,"),
+        ("A ::= CHOICE { a NULL, ..., b BOOLEAN }", "Unknown(UnknownElement<'a, AKnown>),"),
         ("A ::= ENUMERATED { a(-1), b }", "pub type A<'a> = EnumeratedRef<'a>;"),
         ("A ::= SEQUENCE { a C }\nC ::= ENUMERATED { b, ..., d }", "pub a: EnumeratedOf<i64>,"),
         ("A ::= SEQUENCE { a ENUMERATED { b, ... } }", "pub a: EnumeratedOf<i64>,"),

@@ -1,7 +1,8 @@
 //! What the compiler answers for a module.
 use crate::checks::same_at;
-use asn1_compiler::{Compiled, External, Failure, OutputFile, Position};
-use asn1_compiler::{checked_module, compile, read_external};
+use asn1_check::{External, checked_module};
+use asn1_output::{Compiled, OutputFile, compile, read_external};
+use asn1_syntax::{Failure, Position};
 use std::alloc::{AllocError, Global};
 use std::process::Abort;
 
@@ -16,7 +17,7 @@ pub fn refusal(alloc: Global, text: &str) -> Option<(usize, usize, &str)> {
 /// Line, column and text of what is refused in a module.
 pub fn place_of<'a>(text: &'a str, failure: Failure<'a>) -> (usize, usize, &'a str) {
     match failure {
-        Failure::Refused(refusal) => {
+        Failure::Refused(refusal) | Failure::Unsupported(refusal) => {
             let position = Position::of(text.as_bytes(), refusal.offset);
             (position.line, position.column, refusal.found)
         }
@@ -44,7 +45,7 @@ pub fn compiled<'a>(
     externals: &Vec<External<'a>>,
     text: &'a str,
 ) -> Result<Vec<OutputFile>, (usize, usize, &'a str)> {
-    match compile(alloc, externals, text, "own") {
+    match compile(alloc, externals, text, "own", &[]) {
         Ok(Compiled { files, .. }) => Ok(files),
         Err(failure) => Err(place_of(text, failure)),
     }

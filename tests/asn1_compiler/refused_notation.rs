@@ -72,8 +72,10 @@ fn exports_and_imports(rt: HostRuntime) -> Result<(), Fail> {
         ("M DEFINITIONS ::= BEGIN EXPORTS B; A ::= NULL END", Some((1, 33, "B"))),
         ("M DEFINITIONS ::= BEGIN EXPORTS A, a; A ::= NULL END", Some((1, 36, "a"))),
         ("M DEFINITIONS ::= BEGIN EXPORTS ALL; A ::= NULL END", None),
-        ("M DEFINITIONS ::= BEGIN IMPORTS A FROM N value; B ::= A END", Some((1, 42, "value"))),
-        ("M DEFINITIONS ::= BEGIN IMPORTS A{} FROM N; B ::= A END", Some((1, 34, "{"))),
+        ("M DEFINITIONS ::= BEGIN IMPORTS A FROM N value; B ::= A END", Some((1, 40, "N"))),
+        ("M DEFINITIONS ::= BEGIN IMPORTS A{}, a FROM N; B ::= A END", Some((1, 45, "N"))),
+        ("M DEFINITIONS ::= BEGIN IMPORTS A{1} FROM N; B ::= A END", Some((1, 35, "1"))),
+        ("M DEFINITIONS ::= BEGIN IMPORTS A FROM N { 1 2 } WITH SUCCESSORS; B ::= A END", Some((1, 40, "N"))),
     ] {
         same_at(&rt, text, refusal(alloc, text), place);
     }

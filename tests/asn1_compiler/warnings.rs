@@ -1,7 +1,8 @@
 //! What types of Rust do not check or do not have, and names that are others.
 use super::refusals::{compiled, has_text, module};
 use crate::checks::same_at;
-use asn1_compiler::{Position, compile};
+use asn1_output::compile;
+use asn1_syntax::Position;
 use std::test::Fail;
 
 #[test]
@@ -21,8 +22,13 @@ fn nothing_is_left_out_without_a_warning(rt: HostRuntime) -> Result<(), Fail> {
         ("A ::= ENUMERATED { a, ... }", None),
         ("-- Rust extensions: refused\nA ::= ENUMERATED { a, ... }", Some((3, 23, "..."))),
         ("A ::= ENUMERATED { a(-1), b, ... }", Some((2, 7, "ENUMERATED"))),
-        ("A ::= SEQUENCE { a NULL, ... }", Some((2, 26, "..."))),
-        ("A ::= CHOICE { a NULL, ..., b BOOLEAN, ... }", Some((2, 24, "..."))),
+        ("A ::= SEQUENCE { a NULL, ... }", None),
+        ("-- Rust extensions: refused\nA ::= SEQUENCE { a NULL, ... }", Some((3, 26, "..."))),
+        ("A ::= CHOICE { a NULL, ..., b BOOLEAN, ... }", None),
+        ("-- Rust extensions: refused\nA ::= CHOICE { a NULL, ..., b BOOLEAN, ... }", Some((3, 24, "..."))),
+        ("A ::= SEQUENCE { a ANY OPTIONAL, ... }", Some((2, 34, "..."))),
+        ("A ::= SEQUENCE { a CHOICE { b NULL, ... } OPTIONAL }", Some((2, 37, "..."))),
+        ("A ::= SEQUENCE { a CHOICE { b NULL, ... } }", None),
         ("A ::= OCTET STRING (CONTAINING B)\nB ::= CHOICE { a NULL }", Some((2, 7, "OCTET"))),
         ("a UTF8String ::= \"abc\"", Some((2, 1, "a"))),
         ("a SEQUENCE { x INTEGER } ::= { x 1 }", Some((2, 1, "a"))),
@@ -33,7 +39,7 @@ fn nothing_is_left_out_without_a_warning(rt: HostRuntime) -> Result<(), Fail> {
         ("id-one OBJECT IDENTIFIER ::= { 1 2 }\nidOne OBJECT IDENTIFIER ::= { 1 3 }", Some((3, 1, "idOne"))),
     ] {
         let text = module(alloc, "EXPLICIT", body)?;
-        match compile(alloc, &Vec::new(alloc), &text, "own") {
+        match compile(alloc, &Vec::new(alloc), &text, "own", &[]) {
             Ok(compiled) => {
                 let first = compiled.warnings.first().map(|warning| {
                     let position = Position::of(text.as_str().as_bytes(), warning.offset);

@@ -30,6 +30,7 @@ mod readers;
 mod rows;
 mod sets;
 mod tags;
+mod tuples;
 
 // Calls that several tests make.
 

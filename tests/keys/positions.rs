@@ -1,8 +1,9 @@
 //! The places of errors in a certificate, each octet of which is changed in turn.
 use crate::checks::holds_at;
 use crate::keys::certificates::SELF_SIGNED;
+use asn1_schema::Schema;
 use der::{DecodeBytes, Error, ErrorKind};
-use der_show_lib::{Kind, find_refused_field};
+use der_show_tree::{Kind, read_as, table_octets};
 use std::alloc::Global;
 use x509::Certificate;
 
@@ -33,17 +34,24 @@ fn may_lack_position(error: &Error) -> bool {
 }
 
 // Whether the error names a place from the element with the changed octet on: by its position, or
-// by the search for the field. The search finds no field if the outermost tag is wrong.
-fn has_place(alloc: Global, octets: &[u8], error: Error, place: u32) -> bool {
+// by a departure that is found by the table of types. None is found if the outermost tag is wrong.
+fn has_place(
+    alloc: Global,
+    schema: &Schema<'_>,
+    octets: &[u8],
+    error: Error,
+    place: u32,
+) -> bool {
     let start = start_of(place);
     let end = octets.len() as u32;
     if let Some(position) = error.position() {
         let at = u32::from(position);
         return start <= at && at <= end;
     }
-    match find_refused_field(alloc, octets, Kind::Certificate, error) {
-        Ok(field) => {
-            let found = !field.path.is_empty() && start <= field.start && field.start < end;
+    match read_as(alloc, schema, Kind::Certificate.node(), octets) {
+        Ok(tree) => {
+            let found = tree.departures.iter().any(|departure| start as usize <= departure.offset
+                && departure.offset < octets.len());
             may_lack_position(&error) && (found || place == 0)
         }
         Err(_) => false,
@@ -52,13 +60,16 @@ fn has_place(alloc: Global, octets: &[u8], error: Error, place: u32) -> bool {
 
 #[test]
 fn a_changed_octet_is_reported_at_a_place_in_the_file(rt: HostRuntime) {
-    let mut refused = 0;
+    let (mut refused, table) = (0, table_octets(rt.alloc()).unwrap_or(Vec::new(rt.alloc())));
+    let Ok(schema) = Schema::new(table.as_slice()) else {
+        return;
+    };
     for change in [1, 0x20, 0x80, 0xFF] {
         for place in 0..SELF_SIGNED.len() {
             let mut octets = SELF_SIGNED;
             octets[place] ^= change;
             if let Err(error) = Certificate::from_der(rt.alloc(), &octets) {
-                let is_placed = has_place(rt.alloc(), &octets, error, place as u32);
+                let is_placed = has_place(rt.alloc(), &schema, &octets, error, place as u32);
                 holds_at(&rt, format_args!("octet {place}, change {change}"), is_placed);
                 refused += 1;
             }

@@ -1,5 +1,5 @@
 //! Parcels that are read, and written as they were.
-use super::octets::{FULL, PLAN, SEAL, SMALL};
+use super::octets::{FULL, PLAN, SEAL, SMALL, WITH_MORE};
 use crate::checks::{holds, same, same_octets};
 use der::{DecodeBytes, Encode};
 use der_asn1::ObjectIdentifierRef;
@@ -22,6 +22,11 @@ fn is_same(alloc: Global, octets: &[u8]) -> bool {
 fn parcels_are_written_as_they_were(rt: HostRuntime) {
     holds(&rt, is_same(rt.alloc(), &SMALL));
     holds(&rt, is_same(rt.alloc(), &FULL));
+}
+
+#[test]
+fn an_element_behind_an_extension_mark_is_kept(rt: HostRuntime) {
+    holds(&rt, is_same(rt.alloc(), &WITH_MORE));
 }
 
 #[test]

@@ -1,5 +1,5 @@
 //! Octets that are no parcels.
-use super::octets::{FULL, SMALL, UNSORTED, WITH_MORE, WITH_TRAILING, WITH_UNIVERSAL};
+use super::octets::{FULL, SMALL, UNSORTED, WITH_TRAILING, WITH_UNIVERSAL};
 use crate::checks::{holds, same_at};
 use der::DecodeBytes;
 use parcels::Parcel;
@@ -81,7 +81,6 @@ fn defaults_that_are_written_are_refused(rt: HostRuntime) {
 #[test]
 fn what_the_module_does_not_allow_is_refused(rt: HostRuntime) {
     holds(&rt, is_refused(rt.alloc(), &UNSORTED));
-    holds(&rt, is_refused(rt.alloc(), &WITH_MORE));
     holds(&rt, is_refused(rt.alloc(), &WITH_UNIVERSAL));
     holds(&rt, is_refused(rt.alloc(), &WITH_TRAILING));
 }

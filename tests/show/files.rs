@@ -71,18 +71,21 @@ fn the_size_of_an_ed25519_key_is_that_of_its_octets(rt: HostRuntime) {
     same(&rt, finished.status, 0);
 }
 
-// Made by `openssl dhparam 512`: a prime and a generator, which have the tags of an RSA public key.
+// Made by `openssl dhparam 512`: a prime and a generator, as `openssl dhparam -text` prints them.
 const PARAMETERS: &str = "-----BEGIN DH PARAMETERS-----\n\
     MEYCQQCcl9t9vcYDH1MFED7+0g7qDmrIQ5eSWkGbg6ASz/bEzwk2QcaER1xNGVYl\n\
     p6Z4qzFOtPYyg3oUhdfwQkpCnHWvAgEC\n\
     -----END DH PARAMETERS-----\n";
 
 #[test]
-fn parameters_of_diffie_hellman_are_no_rsa_key(rt: HostRuntime) {
+fn parameters_of_diffie_hellman_are_shown(rt: HostRuntime) {
     let finished = show_in_memory(rt.alloc(), Options::new(), "f", PARAMETERS.as_bytes());
     let lines = b"DH PARAMETERS (line 1):\n\
-        Elements of no known kind:\n\
-        d=0  hl=2 l=  70 cons: SEQUENCE\n";
+        DH Parameters: (512 bit)\n\
+        P: 00:9c:97:db:7d:bd:c6:03:1f:53:05:10:3e:fe:d2:0e:ea:0e:6a:c8:43:97:92:5a:41:9b:83:a0:12:cf:\
+        f6:c4:cf:09:36:41:c6:84:47:5c:4d:19:56:25:a7:a6:78:ab:31:4e:b4:f6:32:83:7a:14:85:d7:f0:42:\
+        4a:42:9c:75:af\n\
+        G: 2 (0x2)\n";
     let printed = finished.out.buffer.as_slice();
     same_octets(&rt, printed.get(..lines.len()).unwrap_or(&[]), lines);
     same(&rt, finished.status, 0);

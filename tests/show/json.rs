@@ -1,6 +1,7 @@
 //! JSON, by RFC 8259.
+use super::octets::CERTIFICATE;
+use super::printed::has;
 use crate::checks::{same, same_octets};
-use crate::keys::certificates::SELF_SIGNED;
 use crate::keys::rsa_octets::PUBLIC;
 use der_show_lib::{Options, Shown, show_in_memory};
 
@@ -22,7 +23,8 @@ fn a_key_is_an_object_with_the_names_of_the_module(rt: HostRuntime) {
       "value": {
         "modulus": "00BDDBDE90084FC48BE365DB9533DC76F85D810DB8AD27898092D38216CEAC60041A023A03BE7C81AE693BE9352A9DB103AA1A04B05D0F641730417AF99E05AA0D",
         "publicExponent": 65537
-      }
+      },
+      "departures": []
     }
   ]
 }
@@ -32,8 +34,19 @@ fn a_key_is_an_object_with_the_names_of_the_module(rt: HostRuntime) {
 }
 
 #[test]
-fn a_refused_file_has_no_object(rt: HostRuntime) {
-    let finished = show_in_memory(rt.alloc(), json(), "f", &SELF_SIGNED[..321]);
-    same_octets(&rt, finished.out.buffer.as_slice(), &[]);
+fn departures_are_objects(rt: HostRuntime) {
+    let mut octets = CERTIFICATE;
+    octets[361] = 0x04;
+    let finished = show_in_memory(rt.alloc(), json(), "f", &octets);
+    let expected = r#"
+      "departures": [
+        {"path": "tbsCertificate.extensions[4].extnValue", "offset": 361, "section": "X.680 31", "rule": "tag of another type", "ber": false, "found": "04020204"}
+      ]
+    }
+  ]
+}
+"#;
+    has(&rt, &finished.out.buffer, expected);
+    has(&rt, &finished.out.buffer, r#""extnValue": {"tag": "OCTET STRING", "octets": "0204"}"#);
     same(&rt, finished.status, 1);
 }

@@ -1,17 +1,27 @@
 //! Distinguished names as text, by the rules and examples of RFC 4514.
-use crate::checks::same_octets;
-use der::EncodingRules;
-use der_show_certificates::{Page, put_name};
-use der_show_text::{Elements, Output, Sink};
+use crate::checks::{holds, same_octets};
+use asn1_cursor::Cursor;
+use asn1_schema::Schema;
+use der_show_print::{Page, put_name};
+use der_show_text::{Output, Sink};
+use der_show_tree::{read_as, table_octets};
 use std::alloc::Global;
 use std::process::Abort;
 
-// Aborts the test if the name with these contents is not printed as the text.
+// Aborts the test if the names with these contents are not printed as the text.
 fn is_printed(rt: &impl Abort, alloc: Global, octets: &[u8], text: &str) {
-    let mut page = Page::new(alloc, Output::new(alloc, Sink::Memory), false);
-    let names = Elements::new(octets, 0, EncodingRules::Der);
-    for name in names {
-        put_name(&mut page, &name);
+    let Ok(table) = table_octets(alloc) else {
+        return holds(rt, false);
+    };
+    let Ok(schema) = Schema::new(table.as_slice()) else {
+        return holds(rt, false);
+    };
+    let mut page = Page::new(alloc, &schema, Output::new(alloc, Sink::Memory), false);
+    let node = schema.find_node("Name").unwrap_or(0);
+    if let Ok(tree) = read_as(alloc, &schema, node, octets) {
+        if let Some(name) = Cursor::root(octets, &schema, &tree) {
+            put_name(&mut page, name);
+        }
     }
     same_octets(rt, page.out.buffer.as_slice(), text.as_bytes());
 }

@@ -2,7 +2,7 @@
 //! of a crate.
 #![tactic(auto)]
 
-use asn1_compiler::run_compile;
+use asn1_output::run_compile;
 use std::env;
 use std::process::ExitCode;
 

@@ -36,8 +36,6 @@ mod kek_identifier;
 mod kek_recipient_info;
 mod key_agree_recipient_identifier;
 mod key_agree_recipient_info;
-mod key_agree_recipient_info_part1;
-mod key_agree_recipient_info_part2;
 mod key_trans_recipient_info;
 mod message_digest;
 mod message_imprint;

@@ -55,6 +55,7 @@ pub use Rattle.der_core.specs.WrittenSequence
 pub use Rattle.der_core.specs.Lawful
 pub use Rattle.der_core.specs.ElementSpec
 pub use Rattle.der_core.specs.Fields
+pub use Rattle.der_core.specs.Tuples
 pub use Rattle.der_core.specs.DerOrd
 pub use Rattle.der_core.specs.Items
 pub use Rattle.der_core.proofs.LawfulLemmas

@@ -8,6 +8,9 @@ pub mod IntegerReadLemmas
 pub mod RangeLemmas
 pub mod EnumerationLemmas
 pub mod TimeLemmas
+pub mod UnknownLemmas
+pub mod UnknownWalkLemmas
+pub mod AdditionsLemmas
 pub mod UnixTimeLemmas
 pub mod SetOfLemmas
 pub mod ArcLemmas

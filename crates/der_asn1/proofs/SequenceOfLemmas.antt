@@ -69,29 +69,26 @@ module _ {A : Type 0} {Decoded : A → EncodingRules → List ℕ → ℕ → Ty
       let same = same_front (item.octets v) (item.octets first.first) (rest_of t) first.others (laws.element v is) (laws.element first.first first.is_valid) (sym r.split ∙ first.split) in
       subst (IsListOf item.valid item.octets) (sym same.1) first.list
 
-  module _ (l : IsListOf item.valid item.octets (rest_of s)) (some : rest_of s ≡ [] → ⊥) where
-    first : IsCons item.valid item.octets (rest_of s)
-    first = uncons l some
-
-    -- the first item of the list is next
-    item_next : Decoded first.first s.rules (rest_of s) (length (item.octets first.first))
+  -- the item with which the octets begin is next
+  module _ (w : A) (is : item.valid w) (others : List ℕ) (split : rest_of s ≡ item.octets w ++ others) where
+    item_next : Decoded w s.rules (rest_of s) (length (item.octets w))
     item_next =
-        subst (λ r. Decoded first.first r (rest_of s) (length (item.octets first.first))) (sym at.der)
-        (decodes.every first.first (rest_of s) (length (item.octets first.first))
-        (laws.reads.every (rest_of s) first.first (length (item.octets first.first)) (omega (arith, length-rest s sound, sound.in_input, sound.addressable)) (record { is_valid = first.is_valid; following = first.others; split = first.split; whole = refl })))
+        subst (λ r. Decoded w r (rest_of s) (length (item.octets w))) (sym at.der)
+        (decodes.every w (rest_of s) (length (item.octets w))
+        (laws.reads.every (rest_of s) w (length (item.octets w)) (omega (arith, length-rest s sound, sound.in_input, sound.addressable)) (record { is_valid = is; following = others; split = split; whole = refl })))
 
     deep_enough : s.depth + decoded_levels s.rules ≤ 64
     deep_enough = omega (arith, laws.shallow, decodes.same_levels, at.outside, ap decoded_levels at.der)
 
     module _ {E : Type 0} (oom : E → Bool) (t : ReaderState) where
       -- the only possible error is an allocation failure
-      pub item_lacks : (e : E) → ((v : A) (m : ℕ) → s.failed ≡ false → Decoded v s.rules (rest_of s) m → s.depth + decoded_levels s.rules ≤ 64 → ReadsOrLacks {A = A} oom decoded_allocates s m (Err e) t) → SucceedsOrLacks {A = A} oom item.allocates (Err e)
-      item_lacks e owed = subst (λ b. SucceedsOrLacks {A = A} oom b (Err e)) decodes.same_memory (inr (lacks_only A oom s t _ (owed first.first (length (item.octets first.first)) at.working item_next deep_enough)))
+      pub first_lacks : (e : E) → ((v : A) (m : ℕ) → s.failed ≡ false → Decoded v s.rules (rest_of s) m → s.depth + decoded_levels s.rules ≤ 64 → ReadsOrLacks {A = A} oom decoded_allocates s m (Err e) t) → SucceedsOrLacks {A = A} oom item.allocates (Err e)
+      first_lacks e owed = subst (λ b. SucceedsOrLacks {A = A} oom b (Err e)) decodes.same_memory (inr (lacks_only A oom s t _ (owed w (length (item.octets w)) at.working item_next deep_enough)))
 
       -- the reader has not failed
-      pub item_working : (a : A) → ((v : A) (m : ℕ) → s.failed ≡ false → Decoded v s.rules (rest_of s) m → s.depth + decoded_levels s.rules ≤ 64 → ReadsOrLacks oom decoded_allocates s m (Ok a) t) → t.failed ≡ false
-      item_working a owed =
-          ap (λ (x : ReaderState). x.failed) (read_on E oom s (length (item.octets first.first)) a (owed first.first (length (item.octets first.first)) at.working item_next deep_enough)) ∙ at.working
+      pub first_working : (a : A) → ((v : A) (m : ℕ) → s.failed ≡ false → Decoded v s.rules (rest_of s) m → s.depth + decoded_levels s.rules ≤ 64 → ReadsOrLacks oom decoded_allocates s m (Ok a) t) → t.failed ≡ false
+      first_working a owed =
+          ap (λ (x : ReaderState). x.failed) (read_on E oom s (length (item.octets w)) a (owed w (length (item.octets w)) at.working item_next deep_enough)) ∙ at.working
 
 pub slice_sound : (r : SliceReader) → IsSound (slice_state r)
 slice_sound r = record { ordered = r.ordered; in_input = r.in_input; addressable = r.addressable; shallow = r.shallow; failure_kept = λ failed. refl }

@@ -1,5 +1,5 @@
 -- The laws of an element of any tag.
-use Rattle.std.proofs.Common.{ℕ, ◌^◌, ◌<◌, List, [], ◌∷◌, None, arith, refl}
+use Rattle.std.proofs.Common.{ℕ, ◌^◌, ◌<◌, List, [], ◌∷◌, inl, arith, refl}
 use Rattle.der.specs.Prelude.{element_levels, element_octets, EncodingRules, Head, IsLawful, Tag, TakesWhole}
 use Rattle.der.specs.Tag.{label}
 use Rattle.der_asn1.specs.AnyElement.{AnyElementNext}
@@ -7,17 +7,18 @@ use Rattle.der_asn1.specs.AnyElementLemmas.{choices_are_encodings, choices_start
 use Rattle.der_asn1.specs.AnyRef.{IsAny, TakesAny, any_contents, any_lawful}
 use Rattle.der_asn1.specs.FieldLaws.{contents_hold, contents_laws}
 use Rattle.der_asn1.specs.Follow.{any_tag}
+use Rattle.der_asn1.specs.TagSets.{all_but}
 use Rattle.der_asn1.specs.SetLaws.{DecidedByTagLaws, decided_by_tag_set, laws_of}
 use Rattle.der_asn1.specs.declared.any.AnyRef.{AnyRef}
 
-pub any_element_decided_by_tag : DecidedByTagLaws any_tag (None ∷ []) (AnyElementNext TakesAny)
+pub any_element_decided_by_tag : DecidedByTagLaws any_tag (all_but [] ∷ []) (AnyElementNext TakesAny)
     IsAny
     (λ v. element_octets v.tag (any_contents v))
 any_element_decided_by_tag =
     record {
       reads = choices_are_encodings any_lawful;
       starts = choices_start any_lawful any_tag (λ v is. tt);
-      among = λ t h. tt;
+      among = λ t h. inl refl;
       element = λ v is. record { tag = v.tag; contents = any_contents v; whole = refl };
       holds = λ v rules octets m e. e.element.taken.numbered;
     }

@@ -4,6 +4,7 @@ use Rattle.der.specs.Prelude.{ElementNext, element_levels, element_octets}
 use Rattle.der_asn1.specs.Default.{DefaultNext, IsDefaulted, default_encoding, DefaultPrecedes}
 use Rattle.der_asn1.specs.Follow.{Anything, this_tag}
 use Rattle.der_asn1.specs.Meaning.{ElementSpec, FieldSpec}
+use Rattle.der_asn1.specs.TagSets.{one_tag}
 use Rattle.der_asn1.specs.SetLaws.{default_set, element_decided_by_tag}
 
 -- whether the contents of a value are these octets
@@ -21,8 +22,8 @@ defaulted_to octets one f =
           (λ v. element_octets one.tag (one.contents v)) (f b);
       levels = element_levels one.levels;
       always = false;
-      first = Some one.tag ∷ [];
-      stops = Some one.tag ∷ [];
+      first = one_tag one.tag ∷ [];
+      stops = one_tag one.tag ∷ [];
       precedes = λ b. DefaultPrecedes (this_tag one.tag) (has_contents one.contents octets) Anything
           (f b);
       is_compatible = one.is_compatible;

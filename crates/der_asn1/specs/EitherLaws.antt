@@ -7,12 +7,12 @@ use Rattle.der_asn1.specs.Follow.{TagIn, NoTagIn, StartsIn, either_tags}
 use Rattle.der_asn1.specs.FollowLemmas.{starts_apart, starts_wider}
 use Rattle.der_asn1.specs.Item.{IsElement}
 use Rattle.der_asn1.specs.SetLaws.{DecidedByTagLaws}
-use Rattle.der_asn1.specs.TagSets.{IsIn, are_apart}
+use Rattle.der_asn1.specs.TagSets.{TagGroup, IsIn, are_apart}
 use Rattle.der_asn1.specs.TagSetLemmas.{both_true, sets_apart, in_either}
 use Rattle.der_asn1.specs.declared.either.Either.{Either}
 use Rattle.der_asn1.specs.declared.either.Either.TheVariants.{First, Second}
 
-module _ {A B : Type 0} {one_tags two_tags : Tag → Type 0} {first second : List (Option Tag)}
+module _ {A B : Type 0} {one_tags two_tags : Tag → Type 0} {first second : List TagGroup}
     {One : A → EncodingRules → List ℕ → ℕ → Type 0} {Two : B → EncodingRules → List ℕ → ℕ → Type 0}
     {is_one : A → Type 0} {is_two : B → Type 0} {one_octets : A → List ℕ} {two_octets : B → List ℕ}
     (one : DecidedByTagLaws one_tags first One is_one one_octets)
@@ -97,7 +97,7 @@ module _ {A B : Type 0} {one_tags two_tags : Tag → Type 0} {first second : Lis
 
 -- a CHOICE of two alternatives has the laws if both have them and no tag belongs to both
 pub either_decided_by_tag : {A B : Type 0} {one_fits two_fits : Bool}
-    {one_tags two_tags : Tag → Type 0} {first second : List (Option Tag)}
+    {one_tags two_tags : Tag → Type 0} {first second : List TagGroup}
     {One : A → EncodingRules → List ℕ → ℕ → Type 0} {Two : B → EncodingRules → List ℕ → ℕ → Type 0}
     {is_one : A → Type 0} {is_two : B → Type 0} {one_octets : A → List ℕ} {two_octets : B → List ℕ}
     → (are_apart first second && (one_fits && two_fits)) ≡ true

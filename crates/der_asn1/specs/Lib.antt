@@ -37,6 +37,10 @@ pub mod Arcs
 pub mod Alphabets
 pub mod ListAnswers
 pub mod Meaning
+pub mod TupleFields
+pub mod UnknownElement
+pub mod Additions
+pub mod UnknownWalk
 pub mod TagClasses
 pub mod Printed
 pub mod DefaultedTo

@@ -25,7 +25,7 @@ use Rattle.der_asn1.specs.PairLaws.{pair_set}
 use Rattle.der_asn1.specs.OctetsWith.{AcceptsOctetsWith, HasOctetsWith, octets_with_lawful, octets_with_accepts_valid}
 use Rattle.der_asn1.specs.SetLaws.{SetLaws, DecidedByTagLaws, laws_of, element_decided_by_tag, decided_by_tag_set, pair_stops}
 use Rattle.der_asn1.specs.SetLaws.{optional_set, default_set, seen_decided_by_tag, seen_set}
-use Rattle.der_asn1.specs.TagSets.{are_apart}
+use Rattle.der_asn1.specs.TagSets.{TagGroup, one_tag, all_but, are_apart}
 use Rattle.der_asn1.specs.TagSetLemmas.{both_true}
 use Rattle.der_asn1.specs.declared.any.AnyRef.{AnyRef}
 use Rattle.der_asn1.specs.declared.defaulted.Defaulted.{Defaulted}
@@ -42,8 +42,8 @@ pub record FieldSpec (A : Type 0) : Type 1 where
   pub encoding : A → List ℕ
   pub levels : EncodingRules → ℕ
   pub always : Bool
-  pub first : List (Option Tag)
-  pub stops : List (Option Tag)
+  pub first : List TagGroup
+  pub stops : List TagGroup
   pub precedes : A → List ℕ → Type 0
   pub is_compatible : Bool
   pub laws : is_compatible ≡ true → SetLaws always first stops precedes is_next valid encoding
@@ -56,7 +56,7 @@ pub record AlternativeSpec (A : Type 0) : Type 1 where
   pub encoding : A → List ℕ
   pub levels : EncodingRules → ℕ
   pub tags : Tag → Type 0
-  pub first : List (Option Tag)
+  pub first : List TagGroup
   pub begins : (v : A) (rules : EncodingRules) (octets : List ℕ) (m : ℕ)
       → is_next v rules octets m → TagIn tags rules octets
   pub is_compatible : Bool
@@ -71,7 +71,7 @@ alternative one =
       encoding = λ v. element_octets one.tag (one.contents v);
       levels = element_levels one.levels;
       tags = this_tag one.tag;
-      first = Some one.tag ∷ [];
+      first = one_tag one.tag ∷ [];
       begins = λ v rules octets m e. element_begins e;
       is_compatible = one.is_compatible;
       laws = λ e. element_decided_by_tag (one.lawful e) (one.holds e);
@@ -102,7 +102,7 @@ any_element =
       encoding = λ v. element_octets v.tag (any_contents v);
       levels = element_levels (λ _. 0);
       tags = any_tag;
-      first = None ∷ [];
+      first = all_but [] ∷ [];
       begins = λ v rules octets m e. any_element_begins e;
       is_compatible = true;
       laws = λ e. any_element_decided_by_tag;
@@ -299,7 +299,7 @@ seen_lawful f one =
     }
 
 -- laws of a field that is exactly the contents of an element
-module _ {A : Type 0} {is_compatible always : Bool} {first stops : List (Option Tag)}
+module _ {A : Type 0} {is_compatible always : Bool} {first stops : List TagGroup}
     {P : A → List ℕ → Type 0} {Next : A → EncodingRules → List ℕ → ℕ → Type 0}
     {valid : A → Type 0} {encoding : A → List ℕ} (levels : EncodingRules → ℕ)
     (laws : is_compatible ≡ true → SetLaws always first stops P Next valid encoding) {B : Type 0}
@@ -390,7 +390,7 @@ abbrev pub explicit : {A B : Type 0} → ℕ → ElementSpec A → (B → A) →
 explicit n = containing (context_tag true n)
 
 -- laws of an alternative inside an element with a context-specific tag
-module _ {A : Type 0} {is_compatible : Bool} {tags : Tag → Type 0} {first : List (Option Tag)}
+module _ {A : Type 0} {is_compatible : Bool} {tags : Tag → Type 0} {first : List TagGroup}
     {Next : A → EncodingRules → List ℕ → ℕ → Type 0} {valid : A → Type 0} {encoding : A → List ℕ}
     (n : ℕ) (levels : EncodingRules → ℕ)
     (laws : is_compatible ≡ true → DecidedByTagLaws tags first Next valid encoding) {B : Type 0}

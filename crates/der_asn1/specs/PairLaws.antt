@@ -6,10 +6,10 @@ use Rattle.der_asn1.specs.Follow.{Starts, StartsIn, BothPrecede, either_tags}
 use Rattle.der_asn1.specs.FollowLemmas.{starts_append, starts_wider}
 use Rattle.der_asn1.specs.FieldLaws.{pair_laws, pair_laws_absent, seen_laws}
 use Rattle.der_asn1.specs.SetLaws.{SetLaws, set_of, laws_of, pair_stops}
-use Rattle.der_asn1.specs.TagSets.{IsIn, are_apart}
+use Rattle.der_asn1.specs.TagSets.{TagGroup, IsIn, are_apart}
 use Rattle.der_asn1.specs.TagSetLemmas.{both_true, sets_apart, in_either}
 
-module _ {A B : Type 0} {a b : Bool} {first second one_stops two_stops : List (Option Tag)}
+module _ {A B : Type 0} {a b : Bool} {first second one_stops two_stops : List TagGroup}
     {P : A → List ℕ → Type 0} {Q : B → List ℕ → Type 0}
     {First : A → EncodingRules → List ℕ → ℕ → Type 0}
     {Second : B → EncodingRules → List ℕ → ℕ → Type 0}
@@ -46,7 +46,7 @@ module _ {A B : Type 0} {a b : Bool} {first second one_stops two_stops : List (O
   pair_some true e f = first_some e
   pair_some false e f = second_some f
 
-  both_in : (ts us : List (Option Tag)) (t : Tag) → either_tags (IsIn ts) (IsIn us) t
+  both_in : (ts us : List TagGroup) (t : Tag) → either_tags (IsIn ts) (IsIn us) t
       → IsIn (ts ++ us) t
   both_in ts us t h = in_either ts us t h
 
@@ -70,7 +70,7 @@ module _ {A B : Type 0} {a b : Bool} {first second one_stops two_stops : List (O
 
 -- two fields have the laws if the checks of both succeed and the second may follow the first
 pub pair_set : {A B C : Type 0} {a b one_fits two_fits : Bool}
-    {first second one_stops two_stops : List (Option Tag)}
+    {first second one_stops two_stops : List TagGroup}
     {P : A → List ℕ → Type 0} {Q : B → List ℕ → Type 0}
     {First : A → EncodingRules → List ℕ → ℕ → Type 0}
     {Second : B → EncodingRules → List ℕ → ℕ → Type 0}

@@ -16,11 +16,11 @@ use Rattle.der_asn1.specs.FollowLemmas.{lawful_starts, starts_wider, fewer_tags}
 use Rattle.der_asn1.specs.FieldLaws.{encoding_laws, FieldLaws, SomeLaws, seen_laws, seen_reads}
 use Rattle.der_asn1.specs.FieldLaws.{optional_laws}
 use Rattle.der_asn1.specs.Optional.{OptionNext, IsOptional, option_encoding, OptionPrecedes}
-use Rattle.der_asn1.specs.TagSets.{IsIn}
+use Rattle.der_asn1.specs.TagSets.{TagGroup, one_tag, IsIn}
 
 -- a field is read as it is written, begins with a tag of the set `first`, may precede octets that
 -- begin with no tag of the set `stops`, and is never empty if `always` is true
-pub record SetLaws {A : Type 0} (always : Bool) (first stops : List (Option Tag))
+pub record SetLaws {A : Type 0} (always : Bool) (first stops : List TagGroup)
     (Precedes : A → List ℕ → Type 0) (Next : A → EncodingRules → List ℕ → ℕ → Type 0)
     (valid : A → Type 0) (encoding : A → List ℕ) : Type 0 where
   pub reads : ReadsFields Next valid encoding Precedes
@@ -31,7 +31,7 @@ pub record SetLaws {A : Type 0} (always : Bool) (first stops : List (Option Tag)
       → valid v
 
 -- a field that is always one element, and for which the next tag decides whether it is present
-pub record DecidedByTagLaws {A : Type 0} (tags : Tag → Type 0) (first : List (Option Tag))
+pub record DecidedByTagLaws {A : Type 0} (tags : Tag → Type 0) (first : List TagGroup)
     (Next : A → EncodingRules → List ℕ → ℕ → Type 0) (valid : A → Type 0) (encoding : A → List ℕ)
     : Type 0 where
   pub reads : ReadsEncodings Next valid encoding
@@ -65,7 +65,7 @@ precedes_fewer wider one =
 -- laws whose tags are in these sets
 module _ {A : Type 0} {Next : A → EncodingRules → List ℕ → ℕ → Type 0} {valid : A → Type 0}
     {encoding : A → List ℕ} where
-  pub set_of : (always : Bool) (first stops : List (Option Tag))
+  pub set_of : (always : Bool) (first stops : List TagGroup)
       (one : FieldLaws Next valid encoding)
       → ((t : Tag) → one.tags t → IsIn first t) → ((t : Tag) → one.stops t → IsIn stops t)
       → (always ≡ true → Starts valid encoding one.tags)
@@ -80,7 +80,7 @@ module _ {A : Type 0} {Next : A → EncodingRules → List ℕ → ℕ → Type 
         holds = one.holds;
       }
 
-  abbrev pub laws_of : {always : Bool} {first stops : List (Option Tag)} {P : A → List ℕ → Type 0}
+  abbrev pub laws_of : {always : Bool} {first stops : List TagGroup} {P : A → List ℕ → Type 0}
       → SetLaws always first stops P Next valid encoding → FieldLaws Next valid encoding
   laws_of {first = first} {stops} {P} one =
       record {
@@ -93,11 +93,11 @@ module _ {A : Type 0} {Next : A → EncodingRules → List ℕ → ℕ → Type 
         holds = one.holds;
       }
 
-  abbrev pub some_of : {tags : Tag → Type 0} {first : List (Option Tag)}
+  abbrev pub some_of : {tags : Tag → Type 0} {first : List TagGroup}
       → DecidedByTagLaws tags first Next valid encoding → SomeLaws Next valid encoding
   some_of one = encoding_laws one.reads one.starts one.holds
 
-  pub decided_by_tag_set : {tags : Tag → Type 0} {first : List (Option Tag)}
+  pub decided_by_tag_set : {tags : Tag → Type 0} {first : List TagGroup}
       → DecidedByTagLaws tags first Next valid encoding
       → SetLaws true first [] Anything Next valid encoding
   decided_by_tag_set {first = first} one =
@@ -110,7 +110,7 @@ pub element_decided_by_tag : {A : Type 0} {tag : Tag}
     → IsLawful tag takes valid contents levels
     → ((v : A) (rules : EncodingRules) (h : Head) (octets : List ℕ) → takes v rules h octets
     → valid v)
-    → DecidedByTagLaws (this_tag tag) (Some tag ∷ []) (ElementNext tag takes) valid
+    → DecidedByTagLaws (this_tag tag) (one_tag tag ∷ []) (ElementNext tag takes) valid
     (λ v. element_octets tag (contents v))
 element_decided_by_tag {tag = tag} {contents = contents} lawful takes_valid =
     record {
@@ -122,13 +122,13 @@ element_decided_by_tag {tag = tag} {contents = contents} lawful takes_valid =
     }
 
 -- the tags that must not follow a field which may be absent
-absent_stops : (first : List (Option Tag)) (tags : Tag → Type 0)
+absent_stops : (first : List TagGroup) (tags : Tag → Type 0)
     → ((t : Tag) → tags t → IsIn first t) → (t : Tag) → either_tags tags no_tags t → IsIn first t
 absent_stops first tags among t (inl h) = among t h
 absent_stops first tags among t (inr h) = absurd h
 
 -- an OPTIONAL field and a DEFAULT field, each converted to another type
-module _ {A B : Type 0} {tags : Tag → Type 0} {first : List (Option Tag)}
+module _ {A B : Type 0} {tags : Tag → Type 0} {first : List TagGroup}
     {Next : A → EncodingRules → List ℕ → ℕ → Type 0} {valid : A → Type 0} {encoding : A → List ℕ}
     (one : DecidedByTagLaws tags first Next valid encoding) where
   pub optional_set : (f : B → Option A)
@@ -150,7 +150,7 @@ module _ {A B : Type 0} {tags : Tag → Type 0} {first : List (Option Tag)}
       (λ e. absurd (let no : false ≡ true = e in cc))
 
 -- a field that the next tag decides, converted to another type
-pub seen_decided_by_tag : {A B : Type 0} {tags : Tag → Type 0} {first : List (Option Tag)}
+pub seen_decided_by_tag : {A B : Type 0} {tags : Tag → Type 0} {first : List TagGroup}
     {Next : A → EncodingRules → List ℕ → ℕ → Type 0} {valid : A → Type 0} {encoding : A → List ℕ}
     (f : B → A)
     → DecidedByTagLaws tags first Next valid encoding
@@ -182,7 +182,7 @@ seen_decided_by_tag f one =
     }
 
 -- a field converted to another type
-pub seen_set : {A B : Type 0} {always : Bool} {first stops : List (Option Tag)}
+pub seen_set : {A B : Type 0} {always : Bool} {first stops : List TagGroup}
     {P : A → List ℕ → Type 0}
     {Next : A → EncodingRules → List ℕ → ℕ → Type 0} {valid : A → Type 0} {encoding : A → List ℕ}
     (f : B → A)
@@ -204,5 +204,5 @@ seen_set f one =
 
 -- the tags that must not follow two fields: those of the second, and those of the first if the
 -- second may be absent
-abbrev pub pair_stops : Bool → List (Option Tag) → List (Option Tag) → List (Option Tag)
+abbrev pub pair_stops : Bool → List TagGroup → List TagGroup → List TagGroup
 pair_stops always first second = if always then second else first ++ second

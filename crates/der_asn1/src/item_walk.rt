@@ -1,5 +1,5 @@
 //! Decoding of items, one after the other.
-ghost use Rattle.std.specs.Prelude.{◌≡◌, ◌^◌, ◌<◌, ◌≤◌, false, true, [], length, IfOk, OnOk, IsErrAnd};
+ghost use Rattle.std.specs.Prelude.{◌≡◌, ◌++◌, ◌^◌, ◌<◌, ◌≤◌, ℕ, List, false, true, [], length, IfOk, OnOk, IsErrAnd};
 ghost use Rattle.der.specs.Outcome.{Meets};
 ghost use Rattle.der.specs.Prelude.{Reads, Same, error_of_kind, map_ok, number};
 ghost use Rattle.der.specs.Prelude.{read_slice_outcome, rest_of, slice_state};
@@ -28,6 +28,9 @@ pub(crate) fn next_item<R: Reader, T: DecodeItem<R>>(
     ensures complete { R.reliable ≡ true
         → IsListOf T.item.valid T.item.octets (rest_of (R.state reader.old))
         → (rest_of (R.state reader.old) ≡ [] → ⊥)
+        → SucceedsOrLacks T.Error.out_of_memory T.item.allocates result }
+    ensures first { (v : T) (others : List ℕ) → R.reliable ≡ true → T.item.valid v
+        → rest_of (R.state reader.old) ≡ T.item.octets v ++ others
         → SucceedsOrLacks T.Error.out_of_memory T.item.allocates result }
     ensures keeps { IsListOf T.item.valid T.item.octets (rest_of (R.state reader.old))
         → (rest_of (R.state reader.old) ≡ [] → ⊥)

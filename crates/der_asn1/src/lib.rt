@@ -5,6 +5,7 @@
 //! SEQUENCE of fields that are read as they are written is lawful.
 #![tactic(auto)]
 
+mod additions;
 mod any;
 mod arcs;
 mod bit_string;
@@ -50,6 +51,7 @@ mod item_impls;
 mod item_walk;
 mod items;
 mod iter;
+mod known_tags;
 mod named_bits;
 mod no_unused_bits;
 mod null;
@@ -71,6 +73,8 @@ mod time_format;
 mod time_octets;
 mod time_of;
 mod unix_time;
+mod unknown_element;
+mod unknown_walk;
 mod utc_time;
 mod utf8_string;
 mod visible_string;
@@ -79,6 +83,7 @@ mod with_default;
 mod wrapped_order;
 mod wrapped_printed;
 
+pub use additions::{Additions, DescribedField};
 pub use any::AnyRef;
 pub use arcs::Arcs;
 pub use bit_string::{BitStringGrammar, BitStringRef};
@@ -119,6 +124,7 @@ pub use integer_of::IntegerOf;
 pub use item::{DecodeItem, Item};
 pub use items::Items;
 pub use iter::{BorrowedItem, Iter};
+pub use known_tags::{KnownTags, is_among};
 pub use named_bits::{NamedBitsGrammar, NamedBitsRef};
 pub use null::{Null, NullGrammar};
 pub use numeric_string::{NumericStringGrammar, NumericStringRef};
@@ -134,6 +140,7 @@ pub use teletex_string::{TeletexStringGrammar, TeletexStringRef};
 pub use time_format::TimeFormat;
 pub use time_octets::TimeOctets;
 pub use time_of::TimeOf;
+pub use unknown_element::UnknownElement;
 pub use utc_time::{UtcTime, UtcTimeFormat};
 pub use utf8_string::{Utf8StringGrammar, Utf8StringRef};
 pub use visible_string::{VisibleStringGrammar, VisibleStringRef};

@@ -22,6 +22,7 @@ pub mod WrittenSequence
 pub mod Lawful
 pub mod ElementSpec
 pub mod Fields
+pub mod Tuples
 pub mod DerOrd
 pub mod Items
 pub use Rattle.der_base.specs.Order

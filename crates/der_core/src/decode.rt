@@ -13,7 +13,9 @@ mod boxed;
 mod fields;
 mod is_value;
 mod lawful;
+mod long_tuples;
 mod phantom;
+mod tuples;
 mod value;
 
 use crate::reader::{Reader, SliceReader};

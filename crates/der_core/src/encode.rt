@@ -11,7 +11,9 @@ ghost use Rattle.der_core.specs.Encode.{Counts, HasSize, FitsCounted, FitsInto, 
 mod before;
 mod boxed;
 mod fields;
+mod long_tuples;
 mod phantom;
+mod tuples;
 mod value;
 mod vec;
 

@@ -61,18 +61,15 @@ impl<'a, T: Encode> Encode for EncodeRef<'a, T> {
     }
 }
 
-/// References to fields of a value, as the nested pairs in which the fields are encoded: with the
-/// names of the fields in place of the fields, `field_refs!(value, (a, (b, c)))` is
+/// References to fields of a value, as the tuple in which the fields are encoded: with the names or
+/// the numbers of the fields in place of the fields, `field_refs!(value, (a, (b, c)))` is
 /// `(EncodeRef(&value.a), (EncodeRef(&value.b), EncodeRef(&value.c)))`.
 #[macro_export]
 macro_rules! field_refs {
-    ($value:ident, ($first:tt, $second:tt)) => {
-        (
-            $crate::field_refs!($value, $first),
-            $crate::field_refs!($value, $second),
-        )
+    ($value:ident, ($($field:tt),+)) => {
+        ($($crate::field_refs!($value, $field)),+)
     };
-    ($value:ident, $field:ident) => {
+    ($value:ident, $field:tt) => {
         $crate::EncodeRef(&$value.$field)
     };
 }

@@ -17,7 +17,7 @@ use Rattle.der_asn1.specs.Follow.{TagIn, either_tags, this_tag}
 use Rattle.der_asn1.specs.FollowLemmas.{lawful_starts, starts_wider}
 use Rattle.der_asn1.specs.Meaning.{AlternativeSpec, is_small, small}
 use Rattle.der_asn1.specs.SetLaws.{DecidedByTagLaws}
-use Rattle.der_asn1.specs.TagSets.{IsIn}
+use Rattle.der_asn1.specs.TagSets.{IsIn, one_tag}
 use Rattle.der_asn1.specs.declared.either.Either.{Either}
 use Rattle.der_asn1.specs.declared.either.Either.TheVariants.{First, Second}
 use Rattle.der_asn1.specs.declared.implicit.Implicit.{Implicit}
@@ -93,7 +93,7 @@ in_one_piece_lawful n few =
 -- it is read as it is written, and its tag decides whether it is present
 pub string_laws : (n : ℕ) → n < 2 ^ 32
     → DecidedByTagLaws (string_tags n)
-    (Some (context_tag false n) ∷ Some (context_tag true n) ∷ []) (ImplicitSegmentedNext n)
+    (one_tag (context_tag false n) ∷ one_tag (context_tag true n) ∷ []) (ImplicitSegmentedNext n)
     (λ v. IsCounted (segmented_octets v))
     (λ v. element_octets (context_tag false n) (segmented_octets v))
 string_laws n few =
@@ -129,7 +129,7 @@ string_laws n few =
         in_one_piece ((elements_are_encodings piece).every octets v m short e)
 
     among : (t : Tag) → string_tags n t
-        → IsIn (Some (context_tag false n) ∷ Some (context_tag true n) ∷ []) t
+        → IsIn (one_tag (context_tag false n) ∷ one_tag (context_tag true n) ∷ []) t
     among t (inl h) = inl h
     among t (inr h) = inr (inl h)
 
@@ -147,7 +147,7 @@ implicit_segmented n =
       encoding = λ v. element_octets (context_tag false n) (segmented_octets v);
       levels = element_levels segmented_levels;
       tags = string_tags n;
-      first = Some (context_tag false n) ∷ Some (context_tag true n) ∷ [];
+      first = one_tag (context_tag false n) ∷ one_tag (context_tag true n) ∷ [];
       begins = string_begins n;
       is_compatible = is_small n;
       laws = λ e. string_laws n (small n e);

@@ -1,17 +1,20 @@
 //! Values as JSON.
 
+use crate::departures::Departures;
 use crate::place::Place;
 use crate::print::take_output;
 use crate::show::Show;
+use crate::value::Target;
+use asn1_cursor::Cursor;
 use der::DecodeBytes;
-use der_show_fields::{Form, Printer, print_element, print_value};
-use der_show_kinds::Kind;
-use der_show_text::{Characters, Element, Elements, Output, Style, put_text};
+use der_show_print::{Form, Printer, print_fields};
+use der_show_text::{Characters, Output, Style, put_text};
+use der_show_tree::Kind;
 use std::fmt::Write;
 use x509::Certificate;
 
 /// Begins the object of a file.
-pub fn begin_file(show: &mut Show, file: &str) {
+pub fn begin_file(show: &mut Show<'_>, file: &str) {
     show.count = 0;
     show.page.put("{\n  \"file\": ");
     put_string(&mut show.page.out, file);
@@ -19,7 +22,7 @@ pub fn begin_file(show: &mut Show, file: &str) {
 }
 
 /// Ends the object of a file.
-pub fn end_file(show: &mut Show) {
+pub fn end_file(show: &mut Show<'_>) {
     if show.count > 0 {
         show.page.put("\n  ");
     }
@@ -33,7 +36,7 @@ fn put_string(out: &mut Output, text: &str) {
 }
 
 // Begins the object of a value, up to what the value is.
-fn begin_value(show: &mut Show, place: &Place<'_>, kind: &str, start: u32) {
+fn begin_value(show: &mut Show<'_>, place: &Place<'_>, kind: &str, start: usize) {
     show.page.put(if show.count > 0 {
         ",\n    {"
     } else {
@@ -50,40 +53,41 @@ fn begin_value(show: &mut Show, place: &Place<'_>, kind: &str, start: u32) {
     show.page.put("\n      \"kind\": \"");
     show.page.put(kind);
     show.page.put("\",\n      \"offset\": ");
-    show.page.number(u64::from(start));
+    show.page.number(start as u64);
 }
 
-fn end_value(show: &mut Show, printer: Printer, is_whole: bool) {
-    show.page.out = printer.out;
-    if !is_whole {
-        show.page.out.has_failed = true;
+fn word_of(target: Target) -> &'static str {
+    match target {
+        Target::Kind(kind) => kind.word(),
+        Target::Elements => "elements",
+        Target::Node(_) => "value",
     }
+}
+
+/// Prints a value as an object.
+pub fn put_json_value(
+    show: &mut Show<'_>,
+    place: &Place<'_>,
+    target: Target,
+    value: Cursor<'_>,
+    departures: Departures<'_>,
+) {
+    begin_value(show, place, word_of(target), departures.base);
+    if matches!(target, Target::Kind(Kind::Certificate)) && show.options.is_lint {
+        put_json_lint(show, value.octets());
+    }
+    show.page.put(",\n      \"value\": ");
+    let alloc = show.page.alloc;
+    let mut printer = Printer::new(take_output(&mut show.page), Form::Json);
+    printer.depth = 3;
+    let printer = print_fields(alloc, show.page.schema, printer, value, departures.base);
+    show.page.out = printer.out;
+    departures.put_json(show);
     show.page.put("\n    }");
 }
 
-// The printer of a value, which is inside three objects and lists.
-fn printer_of(show: &mut Show) -> Printer {
-    let mut printer = Printer::new(take_output(&mut show.page), Form::Json);
-    printer.depth = 3;
-    printer
-}
-
-/// Prints a value of a kind as an object.
-pub fn put_json_value(show: &mut Show, place: &Place<'_>, kind: Kind, value: &Element<'_>) {
-    begin_value(show, place, kind.word(), value.start);
-    if kind == Kind::Certificate && show.options.is_lint {
-        put_json_lint(show, value.octets);
-    }
-    show.page.put(",\n      \"value\": ");
-    let printer = printer_of(show);
-    let rules = show.options.rules;
-    let alloc = show.page.alloc;
-    let (printer, is_whole) = print_value(alloc, printer, kind.offset(), *value, rules);
-    end_value(show, printer, is_whole);
-}
-
 // The rules that a certificate breaks, as a list of texts.
-fn put_json_lint(show: &mut Show, octets: &[u8]) {
+fn put_json_lint(show: &mut Show<'_>, octets: &[u8]) {
     let alloc = show.page.alloc;
     let Ok(certificate) = Certificate::from_der(alloc, octets) else {
         return;
@@ -98,20 +102,8 @@ fn put_json_lint(show: &mut Show, octets: &[u8]) {
     show.page.put("]");
 }
 
-/// Prints elements of no known kind as objects.
-pub fn put_json_elements(show: &mut Show, place: &Place<'_>, elements: Elements<'_>) {
-    for element in elements {
-        begin_value(show, place, "elements", element.start);
-        show.page.put(",\n      \"value\": ");
-        let printer = printer_of(show);
-        let rules = show.options.rules;
-        let (printer, is_whole) = print_element(show.page.alloc, printer, element, rules);
-        end_value(show, printer, is_whole);
-    }
-}
-
 /// Prints a block whose contents are encrypted by PEM itself, as an object.
-pub fn put_json_encrypted(show: &mut Show, place: &Place<'_>, info: &[u8]) {
+pub fn put_json_encrypted(show: &mut Show<'_>, place: &Place<'_>, info: &[u8]) {
     begin_value(show, place, "encrypted-pem", 0);
     show.page.put(",\n      \"dekInfo\": \"");
     put_text(&mut show.page.out, info, Characters::Utf8, Style::Json);

@@ -1,23 +1,27 @@
 //! The program `der_show`: it prints the fields of files of known kinds, in DER, BER or PEM, and the elements
-//! of any other file. It says why a file is refused: the field, its offset, and what was found there.
+//! of any other file. A file is shown as far as it can be read; below it is each place that departs from the
+//! Distinguished Encoding Rules, with the rule.
 #![tactic(auto)]
 
-mod decode;
+mod blocks;
+mod departures;
+mod elements;
+mod files;
+mod held;
 mod help;
 mod json;
 mod lint;
 mod message;
+mod options;
 mod place;
 mod print;
 mod program;
-mod refused_field;
 mod show;
-mod source;
+mod value;
 mod values;
 
-pub use decode::decoding_error;
-pub use der_show_fields::Fault;
-pub use der_show_kinds::{Kind, Misuse, Options, ShowCommand, Shown, guess_kind};
 pub use der_show_text::{Output, Sink};
+pub use der_show_tree::Kind;
+pub use files::show_octets;
+pub use options::{Options, ShowCommand, Shown};
 pub use program::{Finished, run_show, show_in_memory};
-pub use refused_field::find_refused_field;

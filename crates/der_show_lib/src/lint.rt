@@ -1,12 +1,13 @@
 //! Rules that a certificate breaks.
 
+use asn1_cursor::Cursor;
 use der::DecodeBytes;
-use der_show_certificates::Page;
+use der_show_print::Page;
 use std::fmt::Write;
 use x509::Certificate;
 
 /// Prints a line for each rule of RFC 5280 that the certificate breaks, and that decoding does not check.
-pub fn put_lint(page: &mut Page, octets: &[u8]) {
+pub fn put_lint(page: &mut Page<'_>, octets: &[u8]) {
     let Ok(certificate) = Certificate::from_der(page.alloc, octets) else {
         return;
     };
@@ -18,26 +19,34 @@ pub fn put_lint(page: &mut Page, octets: &[u8]) {
         count = count.saturating_add(1);
     }
     if count == 0 {
-        page.beside();
-        page.put("Lint: no rule is broken");
-        page.end();
+        page.line_beside("Lint: no rule is broken");
     }
 }
 
 /// Prints a line for each of two rules that the certificate breaks: that only later versions have certain
 /// fields, and that the two algorithms of the signature are the same.
-pub fn put_warnings(page: &mut Page, octets: &[u8]) {
-    let Ok(certificate) = Certificate::from_der(page.alloc, octets) else {
+pub fn put_warnings(page: &mut Page<'_>, certificate: Cursor<'_>) {
+    let Some(signed) = certificate.at("tbsCertificate") else {
         return;
     };
-    if !certificate.tbs_certificate.has_fields_of_version() {
-        page.beside();
-        page.put("Warning: fields of a later version (RFC 5280, 4.1.2.8 and 4.1.2.9)");
-        page.end();
+    if !has_fields_of_version(signed) {
+        page.line_beside("Warning: fields of a later version (RFC 5280, 4.1.2.8 and 4.1.2.9)");
     }
-    if !certificate.has_same_algorithms() {
-        page.beside();
-        page.put("Warning: two signature algorithms (RFC 5280, 4.1.1.2)");
-        page.end();
+    let (inner, outer) = (signed.at("signature"), certificate.at("signatureAlgorithm"));
+    if let (Some(inner), Some(outer)) = (inner, outer) {
+        if inner.octets() != outer.octets() {
+            page.line_beside("Warning: two signature algorithms (RFC 5280, 4.1.1.2)");
+        }
     }
+}
+
+// Whether unique identifiers stand in version 2 or 3 alone, and extensions in version 3.
+fn has_fields_of_version(signed: Cursor<'_>) -> bool {
+    let version = match signed.at("version") {
+        Some(version) => version.number().unwrap_or(0),
+        None => 0,
+    };
+    let has_identifiers = signed.at("issuerUniqueID").is_some()
+        || signed.at("subjectUniqueID").is_some();
+    (version >= 1 || !has_identifiers) && (version >= 2 || signed.at("extensions").is_none())
 }

@@ -1,117 +1,121 @@
 //! Values of known kinds.
 
-use crate::json::{put_json_elements, put_json_value};
 use crate::lint::{put_lint, put_warnings};
 use crate::message::message_der;
+use crate::options::Shown;
 use crate::place::Place;
 use crate::show::Show;
-use der::EncodingRules;
-use der_show_certificates::{
-    Page, put_certificate, put_ec_parameters, put_ec_private_key, put_encrypted_key,
-    put_private_key, put_public_key, put_request, put_revocation_list, put_rsa_private_key,
-    put_rsa_public_key,
+use crate::value::{Target, is_only_ber};
+use asn1_cursor::Cursor;
+use asn1_tree::Departure;
+use der_show_print::{
+    Form, Page, Printer, print_fields, put_certificate, put_dh_parameters, put_dsa_parameters,
+    put_dsa_private_key, put_ec_parameters, put_ec_private_key, put_encrypted_key,
+    put_ocsp_request, put_ocsp_response, put_pfx, put_private_key, put_public_key, put_request,
+    put_revocation_list, put_rsa_private_key, put_rsa_public_key,
 };
-use der_show_fields::{Form, Printer, print_value};
-use der_show_kinds::{Kind, Shown, put_ocsp_request, put_ocsp_response, put_pfx};
-use der_show_text::{Element, Elements, Output, Sink};
+use der_show_text::{Output, Sink};
+use der_show_tree::Kind;
 use pem::BlockText;
 use std::fmt::Write;
 use std::mem;
 
-/// Prints a value that has been decoded.
-pub fn put_value(show: &mut Show, place: &Place<'_>, kind: Kind, value: &Element<'_>) {
-    match show.options.shown {
-        Shown::Text => put_text_value(show, kind, value),
-        Shown::Json => put_json_value(show, place, kind, value),
-        Shown::Der | Shown::Pem if is_rewritten(show, kind) => put_rewritten(show, place, value),
-        Shown::Der => show.page.out.put_bytes(value.octets),
-        Shown::Pem => put_block(show, place, kind.label(), value.octets),
-    }
-}
-
-// Whether a value is written in DER: a message under BER.
-fn is_rewritten(show: &Show, kind: Kind) -> bool {
-    kind == Kind::Message && show.options.rules == EncodingRules::Ber
-}
-
-// Prints the DER of a message that was read under BER.
-fn put_rewritten(show: &mut Show, place: &Place<'_>, value: &Element<'_>) {
-    match message_der(show.page.alloc, value.octets) {
-        Ok(octets) if show.options.shown == Shown::Der => show.page.out.put_bytes(&octets),
-        Ok(octets) => put_block(show, place, Kind::Message.label(), &octets),
-        Err(_) => show.error(place, "the message cannot be written in DER"),
-    }
-}
-
-fn put_text_value(show: &mut Show, kind: Kind, value: &Element<'_>) {
+/// Prints a value of a kind as text.
+pub fn put_text_value(show: &mut Show<'_>, kind: Kind, value: Cursor<'_>) {
     let page = &mut show.page;
     match kind {
         Kind::Certificate => {
             put_certificate(page, value);
-            put_warnings(page, value.octets);
+            put_warnings(page, value);
             if show.options.is_lint {
-                put_lint(page, value.octets);
+                put_lint(page, value.octets());
             }
         }
         Kind::Request => put_request(page, value),
         Kind::RevocationList => put_revocation_list(page, value),
         Kind::PublicKey => put_public_key(page, value),
+        Kind::Pfx => put_pfx(page, value),
+        Kind::OcspRequest => put_ocsp_request(page, value),
+        Kind::OcspResponse => put_ocsp_response(page, value),
+        Kind::Message | Kind::TimestampRequest | Kind::TimestampResponse => put_typed(page, value),
+        _ => put_key(page, kind, value),
+    }
+}
+
+fn put_key(page: &mut Page<'_>, kind: Kind, value: Cursor<'_>) {
+    match kind {
         Kind::PrivateKey => put_private_key(page, value),
         Kind::EncryptedPrivateKey => put_encrypted_key(page, value),
         Kind::RsaPrivateKey => put_rsa_private_key(page, value),
         Kind::RsaPublicKey => put_rsa_public_key(page, value),
         Kind::EcPrivateKey => put_ec_private_key(page, value),
         Kind::EcParameters => put_ec_parameters(page, value),
-        Kind::Pfx => put_pfx(page, value),
-        Kind::OcspRequest => put_ocsp_request(page, value),
-        Kind::OcspResponse => put_ocsp_response(page, value),
-        _ => put_fields(page, kind, value),
+        Kind::DsaPrivateKey => put_dsa_private_key(page, value),
+        Kind::DsaParameters => put_dsa_parameters(page, value),
+        Kind::DhParameters => put_dh_parameters(page, value),
+        _ => put_typed(page, value),
     }
 }
 
-// Prints each field with the name that the module gives it.
-fn put_fields(page: &mut Page, kind: Kind, value: &Element<'_>) {
-    let rules = page.rules;
+/// Prints each field with the name that the module gives it.
+pub fn put_typed(page: &mut Page<'_>, value: Cursor<'_>) {
     let out = take_output(page);
     let mut printer = Printer::new(out, Form::Lines);
     printer.has_offsets = page.has_offsets;
-    let (printer, is_whole) = print_value(page.alloc, printer, kind.offset(), *value, rules);
+    let printer = print_fields(page.alloc, page.schema, printer, value, page.base);
     page.out = printer.out;
-    if !is_whole {
-        page.out.has_failed = true;
-    }
 }
 
 /// Takes the output of the page, in place of which it has one that is dropped.
-pub fn take_output(page: &mut Page) -> Output {
+pub fn take_output(page: &mut Page<'_>) -> Output {
     let alloc = page.alloc;
     mem::replace(&mut page.out, Output::new(alloc, Sink::Memory))
 }
 
-// Prints a PEM block with the label of the value, or with its own one.
-fn put_block(show: &mut Show, place: &Place<'_>, label: &str, octets: &[u8]) {
-    match BlockText::new(place.label.unwrap_or(label), octets) {
+/// Prints the octets of a value, or as a PEM block. A message that is BER, and not DER, is written in DER.
+pub fn put_octets(
+    show: &mut Show<'_>,
+    place: &Place<'_>,
+    target: Target,
+    octets: &[u8],
+    departures: &[Departure],
+) {
+    let label = match target {
+        Target::Kind(kind) => Some(kind.label()),
+        Target::Node(_) | Target::Elements => None,
+    };
+    if label == Some(Kind::Message.label()) && is_only_ber(departures) {
+        if let Ok(written) = message_der(show.page.alloc, octets) {
+            put_form(show, place, label, written.as_slice());
+            return;
+        }
+        show.error(place, "the message cannot be written in DER");
+        return;
+    }
+    put_form(show, place, label, octets);
+}
+
+/// Prints octets, or a PEM block with the label of the block, or else with this one.
+pub fn put_form(show: &mut Show<'_>, place: &Place<'_>, label: Option<&str>, octets: &[u8]) {
+    if show.options.shown == Shown::Der {
+        show.page.out.put_bytes(octets);
+        return;
+    }
+    let own = match place.label {
+        Some(own) => Some(own),
+        None => label,
+    };
+    let Some(label) = own else {
+        show.error(
+            place,
+            "no label is known for elements of no known kind; use --as",
+        );
+        return;
+    };
+    match BlockText::new(label, octets) {
         Some(block) => {
             let _ = write!(show.page.out, "{block}");
         }
         None => show.error(place, "the label of the block cannot be written"),
-    }
-}
-
-/// Prints elements of no known kind in another form than text.
-pub fn put_elements(show: &mut Show, place: &Place<'_>, octets: &[u8], start: u32) {
-    match show.options.shown {
-        Shown::Json => {
-            let rest = octets.get(start as usize..).unwrap_or(&[]);
-            put_json_elements(show, place, Elements::new(rest, start, show.options.rules));
-        }
-        Shown::Pem => match place.label {
-            Some(label) => put_block(show, place, label, octets),
-            None => show.error(
-                place,
-                "no label is known for elements of no known kind; use --as",
-            ),
-        },
-        _ => show.page.out.put_bytes(octets),
     }
 }

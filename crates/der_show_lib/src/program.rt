@@ -1,18 +1,24 @@
 //! The program as a function of its arguments, files and outputs.
 
-use crate::help::HELP;
+use crate::files::show_octets;
+use crate::options::{Options, ShowCommand, Shown};
 use crate::place::Place;
 use crate::show::{Show, put_plain};
-use crate::source::show_octets;
-use der_show_certificates::Page;
-use der_show_kinds::{Misuse, Options, ShowCommand, Shown};
+use anyhow::Result;
+use asn1_schema::Schema;
+use clap::error::ErrorKind;
+use der_show_print::Page;
 use der_show_text::{Output, Sink};
+use der_show_tree::table_octets;
 use std::alloc::{AllocError, Global};
 use std::env::Args;
 use std::fmt::Write;
 use std::io::Read;
 use std::rt::Files;
 use std::{fs, io};
+
+/// The version of the program.
+const VERSION: &str = "0.2.0";
 
 /// How standard input is called in messages.
 const INPUT: &str = "standard input";
@@ -41,24 +47,42 @@ pub fn run_show<R: Files + Input + AllocGlobal>(
     out: Output,
     mut errors: Output,
 ) -> Finished {
-    let Ok(mut arguments) = given else {
+    let Ok(arguments) = given else {
         errors.put("error: an argument is not UTF-8 and cannot be read; pass the file by ");
         errors.put("standard input: der_show < FILE\n");
         return finish_run(1, out, errors);
     };
-    let _name = arguments.next();
-    let words: Result<Vec<String>, AllocError> = arguments.collect(rt.alloc());
-    let Ok(words) = words else {
+    let Ok(words) = words_of(rt.alloc(), arguments) else {
         errors.put("error: out of memory\n");
         return finish_run(1, out, errors);
     };
-    match ShowCommand::parse(&words) {
-        Ok(command) => run(rt, command, out, errors),
-        Err(misuse) => {
-            put_misuse(&mut errors, &misuse);
-            finish_run(2, out, errors)
-        }
+    match ShowCommand::parse(rt.alloc(), VERSION, &words) {
+        Ok(command) => run(rt, &command, out, errors),
+        Err(error) => say(&error, out, errors),
     }
+}
+
+fn words_of(alloc: Global, arguments: Args) -> std::result::Result<Vec<String>, AllocError> {
+    arguments.collect(alloc)
+}
+
+// Prints the help or the version, or why the words are no command.
+fn say(error: &clap::Error, mut out: Output, mut errors: Output) -> Finished {
+    let status = match error.kind() {
+        ErrorKind::DisplayHelp | ErrorKind::DisplayVersion => {
+            let _ = write!(out, "{error}");
+            0
+        }
+        ErrorKind::OutOfMemory => {
+            errors.put("error: out of memory\n");
+            1
+        }
+        _ => {
+            let _ = write!(errors, "{error}");
+            2
+        }
+    };
+    finish_run(status, out, errors)
 }
 
 fn finish_run(status: u8, mut out: Output, mut errors: Output) -> Finished {
@@ -76,42 +100,81 @@ fn finish_run(status: u8, mut out: Output, mut errors: Output) -> Finished {
     }
 }
 
-fn put_misuse(errors: &mut Output, misuse: &Misuse<'_>) {
-    errors.put("error: ");
-    errors.put(misuse.reason);
-    errors.put(": ");
-    put_plain(errors, misuse.word);
-    errors.put("; der_show --help explains the options\n");
-}
-
 fn run<R: Files + Input + AllocGlobal>(
     rt: &R,
-    command: ShowCommand<'_>,
-    mut out: Output,
-    errors: Output,
+    command: &ShowCommand<'_>,
+    out: Output,
+    mut errors: Output,
 ) -> Finished {
-    if command.wants_help {
-        out.put(HELP);
-        return finish_run(0, out, errors);
+    match table_of(rt, command) {
+        Ok(table) => run_with(rt, command, table.as_slice(), out, errors),
+        Err(error) => {
+            let _ = write!(errors, "error: {error}\n");
+            finish_run(1, out, errors)
+        }
     }
-    let mut show = new_show(rt.alloc(), command.options, out, errors);
-    match command.files {
+}
+
+// The octets of the table of types: that of the program, or that of the user.
+fn table_of<R: Files + Input + AllocGlobal>(rt: &R, command: &ShowCommand<'_>) -> Result<Vec<u8>> {
+    match command.schema {
+        Some(path) => Ok(fs::read(rt, path)?),
+        None => Ok(table_octets(rt.alloc())?),
+    }
+}
+
+fn run_with<R: Files + Input + AllocGlobal>(
+    rt: &R,
+    command: &ShowCommand<'_>,
+    table: &[u8],
+    out: Output,
+    mut errors: Output,
+) -> Finished {
+    let schema = match Schema::new(table) {
+        Ok(schema) => schema,
+        Err(fault) => {
+            let _ = write!(
+                errors,
+                "error: the table of types has a fault at offset {}\n",
+                fault.offset
+            );
+            return finish_run(1, out, errors);
+        }
+    };
+    let mut show = new_show(rt.alloc(), &schema, command.options, out, errors);
+    if let Some(name) = command.type_name {
+        show.node = schema.find_node(name);
+        if show.node.is_none() {
+            show.errors
+                .put("error: the table has no type of this name: ");
+            put_plain(&mut show.errors, name);
+            show.errors.put("\n");
+            return finish_run(1, show.page.out, show.errors);
+        }
+    }
+    match command.files.as_slice() {
         [] => show_file(rt, &mut show, "-"),
         files => show_files(rt, &mut show, files),
     }
     finish_run(show.status, show.page.out, show.errors)
 }
 
-fn new_show(alloc: Global, options: Options, out: Output, errors: Output) -> Show {
-    let mut page = Page::new(alloc, out, options.has_offsets);
-    page.rules = options.rules;
+fn new_show<'s>(
+    alloc: Global,
+    schema: &'s Schema<'s>,
+    options: Options,
+    out: Output,
+    errors: Output,
+) -> Show<'s> {
     Show {
-        page,
+        page: Page::new(alloc, schema, out, options.has_offsets),
         errors,
         options,
+        node: None,
         status: 0,
-        is_dry: false,
         count: 0,
+        departures: 0,
+        faults: 0,
     }
 }
 
@@ -119,24 +182,32 @@ fn new_show(alloc: Global, options: Options, out: Output, errors: Output) -> Sho
 /// memory.
 pub fn show_in_memory(alloc: Global, options: Options, file: &str, octets: &[u8]) -> Finished {
     let out = Output::new(alloc, Sink::Memory);
-    let errors = Output::new(alloc, Sink::Memory);
-    let mut show = new_show(alloc, options, out, errors);
+    let mut errors = Output::new(alloc, Sink::Memory);
+    let Ok(table) = table_octets(alloc) else {
+        errors.put("error: out of memory\n");
+        return finish_run(1, out, errors);
+    };
+    let Ok(schema) = Schema::new(table.as_slice()) else {
+        errors.put("error: the table of types has a fault\n");
+        return finish_run(1, out, errors);
+    };
+    let mut show = new_show(alloc, &schema, options, out, errors);
     show_octets(&mut show, file, octets);
     finish_run(show.status, show.page.out, show.errors)
 }
 
 // Shows each file, under its name if there are several.
-fn show_files<R: Files + Input + AllocGlobal>(rt: &R, show: &mut Show, files: &[String]) {
+fn show_files<R: Files + Input + AllocGlobal>(rt: &R, show: &mut Show<'_>, files: &[&str]) {
     for file in files {
         if files.len() > 1 && show.options.shown == Shown::Text {
-            put_plain(&mut show.page.out, file.as_str());
+            put_plain(&mut show.page.out, file);
             show.page.put(":\n");
         }
-        show_file(rt, show, file.as_str());
+        show_file(rt, show, file);
     }
 }
 
-fn show_file<R: Files + Input + AllocGlobal>(rt: &R, show: &mut Show, file: &str) {
+fn show_file<R: Files + Input + AllocGlobal>(rt: &R, show: &mut Show<'_>, file: &str) {
     let name = if file == "-" { INPUT } else { file };
     match read_octets(rt, file) {
         Ok(octets) => show_octets(show, name, octets.as_slice()),

@@ -1,261 +1,256 @@
 //! Values in sequence.
 
-use crate::decode::decoding_error;
+use crate::departures::Departures;
+use crate::elements::put_elements;
+use crate::options::Shown;
 use crate::place::Place;
-use crate::print::put_value;
+use crate::print::put_form;
 use crate::show::Show;
-use crate::source::is_plain;
-use der::{EncodingRules, Error};
-use der_show_certificates::{Page, put_trusted_certificate};
-use der_show_fields::{Fault, find_fault_at};
-use der_show_kinds::{Kind, Shown, damaged_kind, guess_kind, put_tree};
-use der_show_text::{Element, Elements, Output, Sink, moved};
+use crate::value::{Target, show_value};
+use asn1_cursor::Cursor;
+use asn1_tree::{Departure, Rule};
+use ber::{ElementFault, body_len, read_element};
+use der_show_print::put_trust;
+use der_show_tree::{Kind, TRUST, find_kind, is_encoding, read_as};
+use std::alloc::AllocError;
 
 /// Shows the values that the octets are, one after another: those of known kinds by their fields, and
-/// others as elements. Octets after the last value are an error.
-pub fn show_values(show: &mut Show, place: &Place<'_>, octets: &[u8]) {
-    if u32::try_from(octets.len()).is_err() {
-        show.error(place, "more than 4294967295 octets");
-        return;
-    }
-    let mut values = Elements::new(octets, 0, show.options.rules);
+/// what is left as elements.
+pub fn show_values(show: &mut Show<'_>, place: &Place<'_>, octets: &[u8]) {
+    let mut start = 0usize;
     for _ in 0..octets.len() {
-        if values.is_finished() {
+        let rest = octets.get(start..).unwrap_or(&[]);
+        if rest.is_empty() {
             return;
         }
-        let is_known = show_next(show, place, octets, &mut values);
-        if !is_known {
-            return;
+        match show_next(show, place, rest, start) {
+            Ok(Some(count)) if count > 0 => start = start.saturating_add(count),
+            Ok(_) => return,
+            Err(_) => {
+                show.memory_error(place);
+                return;
+            }
         }
     }
 }
 
-// Shows the next value, and returns whether the walk can go on after it.
-fn show_next<'a>(
-    show: &mut Show,
+// Shows the next value, and returns how many octets it has. `None` if nothing is left.
+fn show_next(
+    show: &mut Show<'_>,
     place: &Place<'_>,
-    octets: &'a [u8],
-    values: &mut Elements<'a>,
-) -> bool {
-    let start = values.at;
-    let rest = values.rest;
+    rest: &[u8],
+    start: usize,
+) -> Result<Option<usize>, AllocError> {
     if show.options.is_tree {
-        show_elements(show, place, octets, start);
-        return false;
+        show_elements(show, place, rest, start)?;
+        return Ok(None);
     }
-    match values.read() {
-        Ok(value) => match kind_of(show, place, &value) {
-            Some(kind) => {
-                show_value(show, place, kind, octets, &value);
-                if kind == Kind::Certificate {
-                    show_trust(show, values);
-                }
-                true
-            }
-            None => {
-                show_unknown(show, place, octets, start);
-                false
-            }
-        },
-        Err(error) => {
-            show_unreadable(show, place, octets, rest, start, error);
-            false
+    let count = value_len(rest);
+    let octets = rest.get(..count).unwrap_or(rest);
+    let Some(target) = target_of(show, place, octets)? else {
+        if start > 0 {
+            refuse_rest(show, place, rest, start);
         }
-    }
-}
-
-// The kind that the options, the label or the contents say.
-fn kind_of(show: &mut Show, place: &Place<'_>, value: &Element<'_>) -> Option<Kind> {
-    if show.options.kind.is_some() {
-        return show.options.kind;
-    }
-    let rules = show.options.rules;
-    let guessed = guess_kind(value, rules);
-    let promised = match place.label {
-        Some(label) => Kind::of_label(label),
-        None => None,
+        show_elements(show, place, rest, start)?;
+        return Ok(None);
     };
-    match (promised, guessed) {
-        (Some(kind), Some(other)) if kind != other => {
-            let alloc = show.page.alloc;
-            let fails = decoding_error(alloc, kind, value.octets, rules).is_some();
-            if fails && decoding_error(alloc, other, value.octets, rules).is_none() {
-                show.begin_error(place);
-                show.errors.put("the label does not match the contents, which are of the kind ");
-                show.errors.put(other.word());
-                show.errors.put("\n");
-                show.errors.flush();
-                return guessed;
+    let more = if matches!(target, Target::Kind(Kind::Certificate)) {
+        trust_len(show, rest.get(count..).unwrap_or(&[]))?
+    } else {
+        0
+    };
+    let whole = count.saturating_add(more);
+    let written = rest.get(..whole).unwrap_or(rest);
+    show_value(show, place, target, (octets, written), start);
+    if more > 0 && show.options.shown == Shown::Text {
+        show_trust(
+            show,
+            rest.get(count..whole).unwrap_or(&[]),
+            start.saturating_add(count),
+        )?;
+    }
+    Ok(Some(whole))
+}
+
+// How many octets the value at the front has: all, if it is cut off or cannot be read.
+fn value_len(rest: &[u8]) -> usize {
+    match read_element(rest) {
+        Ok(element) => rest.len().saturating_sub(element.rest.len()),
+        Err(ElementFault::Indefinite(header)) => {
+            let inside = rest.get(header.header_len..).unwrap_or(&[]);
+            match body_len(inside) {
+                Ok(count) => header.header_len.saturating_add(count),
+                Err(_) => rest.len(),
             }
-            promised
         }
-        (Some(_), _) => promised,
-        // two numbers under a label of something else, as DH PARAMETERS, are no key of RSA
-        (None, Some(Kind::RsaPublicKey)) if place.label.is_some() => None,
-        _ => guessed,
+        Err(_) => rest.len(),
     }
 }
 
-fn fault_of(show: &Show, error: Error, start: u32) -> Fault {
-    Fault {
-        path: String::new(show.page.alloc),
-        start,
-        error,
-        expected: "",
-    }
-}
-
-// Shows a value of a kind, or the field that fails to decode.
-fn show_value(show: &mut Show, place: &Place<'_>, kind: Kind, octets: &[u8], value: &Element<'_>) {
-    let alloc = show.page.alloc;
-    let rules = show.options.rules;
-    let Some(error) = decoding_error(alloc, kind, value.octets, rules) else {
-        if !show.is_dry {
-            put_value(show, place, kind, value);
-        }
-        return;
-    };
-    match find_fault_at(alloc, kind.offset(), value.octets, value.start, rules) {
-        Ok(Some(fault)) => show.refuse(place, Some(kind), octets, &fault),
-        Ok(None) => {
-            let fault = fault_of(show, moved(error, value.start), value.start);
-            show.refuse(place, Some(kind), octets, &fault);
-        }
-        Err(_) => show.memory_error(place),
-    }
-}
-
-// What openssl appends to a certificate that it trusts, if it is next.
-fn show_trust(show: &mut Show, values: &mut Elements<'_>) {
-    let mut next = *values;
-    let Some(trust) = next.take_first() else {
-        return;
-    };
-    let is_trust = trust.identifier() == 0x30
-        && Elements::inside(&trust, show.options.rules).all(|part| is_trust_part(&part));
-    if !is_trust {
-        return;
-    }
-    *values = next;
-    if !show.is_dry && show.options.shown == Shown::Text {
-        put_trusted_certificate(&mut show.page, &trust);
-    }
-}
-
-fn is_trust_part(part: &Element<'_>) -> bool {
-    match part.identifier() {
-        0x30 | 0xA0 | 0xA1 => Elements::inside(part, EncodingRules::Der).all(
-            |item| item.identifier() == 0x06 || item.identifier() == 0x30,
-        ),
-        0x0C | 0x04 => true,
-        _ => false,
-    }
-}
-
-// A value of no known kind: after another value it is an error, and else the file is shown as elements,
-// unless it is a value of which one of the outermost tags is wrong.
-fn show_unknown(show: &mut Show, place: &Place<'_>, octets: &[u8], start: u32) {
-    if start > 0 {
-        refuse_rest(show, place, octets, start);
-        return;
-    }
-    if let Some(kind) = recovered_kind(show, place, octets) {
-        if let Some(value) = Elements::new(octets, 0, show.options.rules).take_first() {
-            show_value(show, place, kind, octets, &value);
-        }
-        return;
-    }
-    show_elements(show, place, octets, 0);
-}
-
-// `None` also for a value whose label is that of no known kind.
-fn recovered_kind(show: &mut Show, place: &Place<'_>, octets: &[u8]) -> Option<Kind> {
-    if place
-        .label
-        .is_some_and(|label| Kind::of_label(label).is_none())
-    {
-        return None;
-    }
-    match damaged_kind(show.page.alloc, octets) {
-        Ok(kind) => kind,
-        Err(_) => {
-            show.memory_error(place);
-            None
-        }
-    }
-}
-
-fn refuse_rest(show: &mut Show, place: &Place<'_>, octets: &[u8], start: u32) {
-    let count = octets.len().saturating_sub(start as usize);
-    show.begin_error(place);
-    show.errors.put_number(count as u64);
-    show.errors
-        .put(if count == 1 { " octet" } else { " octets" });
-    show.errors.put(" after the last value, at offset ");
-    show.errors.put_number(u64::from(start));
-    show.errors.put("\n");
-    show.errors.flush();
-}
-
-// A value that is no element.
-fn show_unreadable(
-    show: &mut Show,
+// What the options, the label or the contents say that a value is.
+fn target_of(
+    show: &mut Show<'_>,
     place: &Place<'_>,
     octets: &[u8],
-    rest: &[u8],
-    start: u32,
-    error: Error,
-) {
-    if start > 0 {
-        refuse_rest(show, place, octets, start);
-        return;
+) -> Result<Option<Target>, AllocError> {
+    if let Some(node) = show.node {
+        return Ok(Some(Target::Node(node)));
     }
-    let promised = match place.label {
-        Some(label) => Kind::of_label(label),
+    if let Some(kind) = show.options.kind {
+        return Ok(Some(Target::Kind(kind)));
+    }
+    let (alloc, schema) = (show.page.alloc, show.page.schema);
+    let kind = match place.label {
+        Some(label) => labelled_kind(show, place, label, octets)?,
+        None => find_kind(alloc, schema, octets)?,
+    };
+    Ok(match kind {
+        Some(kind) => Some(Target::Kind(kind)),
         None => None,
-    };
-    let mut kind = if show.options.kind.is_some() {
-        show.options.kind
-    } else {
-        promised
-    };
-    if kind.is_none() {
-        kind = recovered_kind(show, place, rest);
-    }
-    let mut fault = fault_of(show, error, start);
-    if place.label.is_none() && is_plain(rest) {
-        fault.expected = "DER, or a PEM block, of which the text has none";
-    }
-    show.refuse(place, kind, octets, &fault);
+    })
 }
 
-// Shows all octets from the position on as elements.
-fn show_elements(show: &mut Show, place: &Place<'_>, octets: &[u8], start: u32) {
-    let result = match show.options.shown {
-        Shown::Text => {
-            if !show.options.is_tree {
-                show.page.put("Elements of no known kind:\n");
-            }
-            put_tree(&mut show.page, octets, start)
-        }
-        _ if show.is_dry => {
-            let mut dropped = Output::new(show.page.alloc, Sink::Memory);
-            dropped.has_failed = true;
-            let mut page = Page::new(show.page.alloc, dropped, false);
-            page.rules = show.options.rules;
-            put_tree(&mut page, octets, start)
-        }
-        _ => {
-            crate::print::put_elements(show, place, octets, start);
-            return;
-        }
+// The kind that a label promises, unless the value is well-formed as one of another kind.
+fn labelled_kind(
+    show: &mut Show<'_>,
+    place: &Place<'_>,
+    label: &str,
+    octets: &[u8],
+) -> Result<Option<Kind>, AllocError> {
+    let (alloc, schema) = (show.page.alloc, show.page.schema);
+    let Some(promised) = Kind::of_label(label) else {
+        // two numbers under a label of something else are no key of RSA
+        return Ok(match find_kind(alloc, schema, octets)? {
+            Some(Kind::RsaPublicKey) => None,
+            found => found,
+        });
     };
-    if let Err(error) = result {
-        let at = match error.position() {
-            Some(position) => u32::from(position),
-            None => start,
-        };
-        let fault = fault_of(show, error, at);
-        show.refuse(place, None, octets, &fault);
+    if is_encoding(alloc, schema, promised.node(), octets)? {
+        return Ok(Some(promised));
     }
+    match find_kind(alloc, schema, octets)? {
+        Some(other) if other != promised && is_encoding(alloc, schema, other.node(), octets)? => {
+            show.begin_error(place);
+            show.errors.put("the label does not match the contents, which are of the kind ");
+            show.errors.put(other.word());
+            show.errors.put("\n");
+            show.errors.flush();
+            Ok(Some(other))
+        }
+        _ => Ok(Some(promised)),
+    }
+}
+
+// How many octets has what openssl appends to a certificate that it trusts; none if it is not next.
+fn trust_len(show: &Show<'_>, rest: &[u8]) -> Result<usize, AllocError> {
+    let octets = rest.get(..value_len(rest)).unwrap_or(rest);
+    if !octets.is_empty() && is_encoding(show.page.alloc, show.page.schema, TRUST, octets)? {
+        Ok(octets.len())
+    } else {
+        Ok(0)
+    }
+}
+
+// Shows it.
+fn show_trust(show: &mut Show<'_>, octets: &[u8], start: usize) -> Result<(), AllocError> {
+    let (alloc, schema) = (show.page.alloc, show.page.schema);
+    let tree = read_as(alloc, schema, TRUST, octets)?;
+    if let Some(trust) = Cursor::root(octets, schema, &tree) {
+        show.page.base = start;
+        put_trust(&mut show.page, trust);
+        show.page.base = 0;
+    }
+    Ok(())
+}
+
+// Notes what follows the last value of a kind.
+fn refuse_rest(show: &mut Show<'_>, place: &Place<'_>, rest: &[u8], start: usize) {
+    let items = [Departure {
+        rule: Rule::Unexpected,
+        offset: 0,
+        node: 0,
+    }];
+    let departures = Departures {
+        items: &items,
+        octets: rest,
+        root: None,
+        base: start,
+    };
+    departures.put(show, place);
+}
+
+// Shows octets as elements.
+fn show_elements(
+    show: &mut Show<'_>,
+    place: &Place<'_>,
+    octets: &[u8],
+    base: usize,
+) -> Result<(), AllocError> {
+    if show.options.shown != Shown::Text {
+        return show_other_elements(show, place, octets, base);
+    }
+    if !show.options.is_tree {
+        show.page.put("Elements of no known kind:\n");
+    }
+    let hides = !show.options.is_tree && may_be_secret(place);
+    let found = put_elements(&mut show.page, octets, base, hides)?;
+    let departures = Departures {
+        items: found.as_slice(),
+        octets,
+        root: None,
+        base,
+    };
+    departures.put(show, place);
+    Ok(())
+}
+
+// Whether the label is that of a private key.
+fn may_be_secret(place: &Place<'_>) -> bool {
+    match place.label {
+        Some(label) => label.ends_with("PRIVATE KEY"),
+        None => false,
+    }
+}
+
+// Shows octets as elements in another form than text.
+fn show_other_elements(
+    show: &mut Show<'_>,
+    place: &Place<'_>,
+    octets: &[u8],
+    base: usize,
+) -> Result<(), AllocError> {
+    match show.options.shown {
+        Shown::Der | Shown::Pem => {
+            put_form(show, place, None, octets);
+            Ok(())
+        }
+        _ => show_each(show, place, octets, base),
+    }
+}
+
+// Shows each element as a value of any type.
+fn show_each(
+    show: &mut Show<'_>,
+    place: &Place<'_>,
+    octets: &[u8],
+    base: usize,
+) -> Result<(), AllocError> {
+    let mut start = 0usize;
+    for _ in 0..octets.len() {
+        let rest = octets.get(start..).unwrap_or(&[]);
+        if rest.is_empty() {
+            break;
+        }
+        let count = value_len(rest).max(1);
+        let octets = rest.get(..count).unwrap_or(rest);
+        show_value(
+            show,
+            place,
+            Target::Elements,
+            (octets, octets),
+            base.saturating_add(start),
+        );
+        start = start.saturating_add(count);
+    }
+    Ok(())
 }

@@ -3,6 +3,7 @@
 use crate::output::Output;
 use crate::rows::{NAMES_ISO, NAMES_OTHER, NAMES_PKIX, NAMES_RSA, NAMES_X500};
 use der_asn1::ObjectIdentifierRef;
+use std::cmp::Ordering;
 use std::fmt::Write;
 
 /// The names of the object identifier with these contents: a line of the table, without the digits
@@ -18,15 +19,59 @@ fn names_of(octets: &[u8]) -> Option<&'static str> {
     find_line(table, octets)
 }
 
+// The names in the line of these contents. The lines are in the order of their contents, so half of them is
+// left after each step.
 fn find_line(table: &'static str, octets: &[u8]) -> Option<&'static str> {
-    for line in table.lines() {
-        if let Some((digits, names)) = line.split_once(' ') {
-            if is_hexadecimal_of(digits.as_bytes(), octets) {
-                return Some(names);
-            }
+    let (mut low, mut high) = (0usize, table.len());
+    for _ in 0..usize::BITS {
+        if low >= high {
+            return None;
+        }
+        let (start, end) = line_around(table.as_bytes(), low, high);
+        let (digits, names) = table.get(start..end)?.split_once(' ')?;
+        match compare(digits.as_bytes(), octets) {
+            Ordering::Equal => return Some(names),
+            Ordering::Less => low = end.saturating_add(1),
+            Ordering::Greater => high = start,
         }
     }
     None
+}
+
+// Where the line begins and ends that the octet in the middle is in.
+fn line_around(text: &[u8], low: usize, high: usize) -> (usize, usize) {
+    let middle = low.saturating_add(high.saturating_sub(low) / 2);
+    let before = text.get(low..middle).unwrap_or(&[]);
+    let start = match before.iter().rposition(|octet| *octet == b'\n') {
+        Some(place) => low.saturating_add(place).saturating_add(1),
+        None => low,
+    };
+    let after = text.get(middle..high).unwrap_or(&[]);
+    let end = match after.iter().position(|octet| *octet == b'\n') {
+        Some(place) => middle.saturating_add(place),
+        None => high,
+    };
+    (start, end)
+}
+
+// The order of the octets with these lower-case hexadecimal digits and of others.
+fn compare(digits: &[u8], octets: &[u8]) -> Ordering {
+    let mut rest = digits;
+    for octet in octets {
+        let [high, low, after @ ..] = rest else {
+            return Ordering::Less;
+        };
+        let own = digit_value(*high) << 4 | digit_value(*low) & 15;
+        if own != *octet {
+            return own.cmp(octet);
+        }
+        rest = after;
+    }
+    if rest.is_empty() {
+        Ordering::Equal
+    } else {
+        Ordering::Greater
+    }
 }
 
 /// Whether these are the lower-case hexadecimal digits of the octets.

@@ -6,6 +6,6 @@ pub mod asn1;
 pub use asn1::{
     Address, AddressFields, Delivery, Handling, HandlingBit, Journey, JourneyFields, Label,
     LabelFields, Packing, Parcel, ParcelFields, ParcelPackingDefault, ParcelVersionDefault, Plan,
-    Property, PropertyFields, Seal, SealFields, Stop, StopFields, Text, TextTagged,
+    Property, PropertyFields, PropertyKnown, Seal, SealFields, Stop, StopFields, Text, TextTagged,
     TextTaggedFields, Time, Version,
 };

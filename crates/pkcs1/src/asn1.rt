@@ -11,7 +11,6 @@ mod rsa_oaep_params_part2;
 mod rsa_private_key;
 mod rsa_private_key_part1;
 mod rsa_private_key_part2;
-mod rsa_private_key_part3;
 mod rsa_pss_params;
 mod rsa_pss_params_part1;
 mod rsa_pss_params_part2;

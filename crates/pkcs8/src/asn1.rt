@@ -15,8 +15,6 @@ mod private_key_info;
 mod private_key_info_part1;
 mod private_key_info_part2;
 mod scrypt_params;
-mod scrypt_params_part1;
-mod scrypt_params_part2;
 pub mod values;
 mod version;
 

@@ -3,7 +3,5 @@
 //! The types of the module.
 
 mod visit;
-mod visit_part1;
-mod visit_part2;
 
 pub use visit::{Visit, VisitFields};

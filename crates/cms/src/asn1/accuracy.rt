@@ -5,7 +5,8 @@ ghost use Rattle.std.specs.Prelude.{◌≡◌};
 ghost use Rattle.std.proofs.Common.{arith, refl};
 ghost use Rattle.der.specs.Prelude.{map_ok};
 ghost use Rattle.der_asn1.specs.Item.{decodes_same};
-ghost use Rattle.der_asn1.specs.Meaning.{alternative, optional, sequence, sequence_is_item, sequence_item, two_fields};
+ghost use Rattle.der_asn1.specs.Meaning.{alternative, optional, sequence, sequence_is_item, sequence_item};
+ghost use Rattle.der_asn1.specs.TupleFields.{three_fields};
 
 use der::{
     Decode, DecodeValue, Encode, EncodeValue, Error, FromFields, Header, IsValue, Length, Reader,
@@ -27,20 +28,18 @@ pub struct Accuracy<'a> {
     pub micros: Optional<Implicit<IntegerIn<1, 999>, 1>>,
 }
 
-/// The fields of a [`Accuracy`] in pairs, in the order in which they are encoded.
+/// The fields of a [`Accuracy`], in the order in which they are encoded.
 pub type AccuracyFields<'a> = (
     Optional<IntRef<'a>>,
-    (
-        Optional<Implicit<IntegerIn<1, 999>, 0>>,
-        Optional<Implicit<IntegerIn<1, 999>, 1>>,
-    ),
+    Optional<Implicit<IntegerIn<1, 999>, 0>>,
+    Optional<Implicit<IntegerIn<1, 999>, 1>>,
 );
 
 impl<'a> FromFields<AccuracyFields<'a>> for Accuracy<'a> {
-    ghost fields = { λ v. (v.seconds, (v.millis, v.micros)) };
+    ghost fields = { λ v. (v.seconds, v.millis, v.micros) };
 
-    fn from_fields(members: AccuracyFields<'a>) -> Self {
-        let (seconds, (millis, micros)) = members;
+    fn from_fields(fields: AccuracyFields<'a>) -> Self {
+        let (seconds, millis, micros) = fields;
         Accuracy {
             seconds,
             millis,
@@ -50,10 +49,10 @@ impl<'a> FromFields<AccuracyFields<'a>> for Accuracy<'a> {
 }
 
 impl<'a> Sequence for Accuracy<'a> {
-    ghost meaning = { sequence (two_fields (optional (alternative
-        ⟦<IntRef<'a> as Described>⟧.element)) (two_fields (optional (alternative
+    ghost meaning = { sequence (three_fields (optional (alternative
+        ⟦<IntRef<'a> as Described>⟧.element)) (optional (alternative
         ⟦<Implicit<IntegerIn<1, 999>, 0> as Described>⟧.element)) (optional (alternative
-        ⟦<Implicit<IntegerIn<1, 999>, 1> as Described>⟧.element))))
+        ⟦<Implicit<IntegerIn<1, 999>, 1> as Described>⟧.element)))
         ⟦<Accuracy<'a> as FromFields<AccuracyFields<'a>>>⟧.fields };
 
     ghost fits = { (refl, refl) };
@@ -95,19 +94,19 @@ impl<'a> EncodeValue for Accuracy<'a> {
         (⟦<Accuracy<'a> as FromFields<AccuracyFields<'a>>>⟧.fields v) };
 
     fn value_len(&self) -> Result<Length, Error> {
-        field_refs!(self, (seconds, (millis, micros))).encoded_len()
+        field_refs!(self, (seconds, millis, micros)).encoded_len()
     }
 
     fn encode_value<W: Writer>(&self, writer: &mut W) -> Result<(), Error> {
-        field_refs!(self, (seconds, (millis, micros))).encode(writer)
+        field_refs!(self, (seconds, millis, micros)).encode(writer)
     }
 
     fn value_len_before(&self) -> Option<u32> {
-        field_refs!(self, (seconds, (millis, micros))).len_before()
+        field_refs!(self, (seconds, millis, micros)).len_before()
     }
 
     fn encode_value_before(&self, buf: &mut [u8], end: u32) -> u32 {
-        field_refs!(self, (seconds, (millis, micros))).encode_before(buf, end)
+        field_refs!(self, (seconds, millis, micros)).encode_before(buf, end)
     }
 }
 

@@ -6,6 +6,7 @@ ghost use Rattle.std.proofs.Common.{arith, refl};
 ghost use Rattle.der.specs.Prelude.{map_ok};
 ghost use Rattle.der_asn1.specs.Item.{decodes_same};
 ghost use Rattle.der_asn1.specs.Meaning.{alternative, field, optional, seen, sequence, sequence_is_item, sequence_item, two_fields};
+ghost use Rattle.der_asn1.specs.TupleFields.{four_fields, three_fields};
 
 use crate::asn1::auth_attributes::AuthAttributes;
 use crate::asn1::auth_enveloped_data_part1::{
@@ -48,7 +49,7 @@ pub struct AuthEnvelopedData<'a> {
     pub unauth_attrs: Optional<Implicit<AuthAttributes<'a>, 2>>,
 }
 
-/// The fields of a [`AuthEnvelopedData`] in pairs, in the order in which they are encoded.
+/// The fields of a [`AuthEnvelopedData`], in the order in which they are encoded.
 pub type AuthEnvelopedDataFields<'a> = (
     AuthEnvelopedDataPart1Fields<'a>,
     AuthEnvelopedDataPart2Fields<'a>,
@@ -66,8 +67,8 @@ impl<'a> FromFields<(AuthEnvelopedDataPart1<'a>, AuthEnvelopedDataPart2<'a>)>
       record { auth_attrs = v.auth_attrs; mac = v.mac; unauth_attrs = v.unauth_attrs },
     ) };
 
-    fn from_fields(members: (AuthEnvelopedDataPart1<'a>, AuthEnvelopedDataPart2<'a>)) -> Self {
-        let (part1, part2) = members;
+    fn from_fields(fields: (AuthEnvelopedDataPart1<'a>, AuthEnvelopedDataPart2<'a>)) -> Self {
+        let (part1, part2) = fields;
         AuthEnvelopedData {
             version: part1.version,
             originator_info: part1.originator_info,
@@ -83,15 +84,15 @@ impl<'a> FromFields<(AuthEnvelopedDataPart1<'a>, AuthEnvelopedDataPart2<'a>)>
 impl<'a> Sequence for AuthEnvelopedData<'a> {
     ghost meaning = { sequence (two_fields (seen
         ⟦<AuthEnvelopedDataPart1<'a> as FromFields<AuthEnvelopedDataPart1Fields<'a>>>⟧.fields
-        (two_fields (two_fields (field (alternative ⟦<CmsVersion<'a> as Described>⟧.element))
-        (optional (alternative ⟦<Implicit<OriginatorInfo<'a>, 0> as Described>⟧.element)))
-        (two_fields (field (alternative ⟦<RecipientInfos<'a> as Described>⟧.element)) (field
-        (alternative ⟦<EncryptedContentInfo<'a> as Described>⟧.element))))) (seen
+        (four_fields (field (alternative ⟦<CmsVersion<'a> as Described>⟧.element)) (optional
+        (alternative ⟦<Implicit<OriginatorInfo<'a>, 0> as Described>⟧.element)) (field (alternative
+        ⟦<RecipientInfos<'a> as Described>⟧.element)) (field (alternative
+        ⟦<EncryptedContentInfo<'a> as Described>⟧.element)))) (seen
         ⟦<AuthEnvelopedDataPart2<'a> as FromFields<AuthEnvelopedDataPart2Fields<'a>>>⟧.fields
-        (two_fields (optional (alternative
-        ⟦<Implicit<AuthAttributes<'a>, 1> as Described>⟧.element)) (two_fields (field (alternative
+        (three_fields (optional (alternative
+        ⟦<Implicit<AuthAttributes<'a>, 1> as Described>⟧.element)) (field (alternative
         ⟦<OctetStringRef<'a> as Described>⟧.element)) (optional (alternative
-        ⟦<Implicit<AuthAttributes<'a>, 2> as Described>⟧.element))))))
+        ⟦<Implicit<AuthAttributes<'a>, 2> as Described>⟧.element)))))
         ⟦<AuthEnvelopedData<'a> as FromFields<(AuthEnvelopedDataPart1<'a>, AuthEnvelopedDataPart2<'a>)>>⟧.fields };
 
     ghost fits = { (refl, refl) };
@@ -152,10 +153,12 @@ impl<'a> EncodeValue for AuthEnvelopedData<'a> {
             self,
             (
                 (
-                    (version, originator_info),
-                    (recipient_infos, auth_encrypted_content_info)
+                    version,
+                    originator_info,
+                    recipient_infos,
+                    auth_encrypted_content_info
                 ),
-                (auth_attrs, (mac, unauth_attrs))
+                (auth_attrs, mac, unauth_attrs)
             )
         )
         .encoded_len()
@@ -166,10 +169,12 @@ impl<'a> EncodeValue for AuthEnvelopedData<'a> {
             self,
             (
                 (
-                    (version, originator_info),
-                    (recipient_infos, auth_encrypted_content_info)
+                    version,
+                    originator_info,
+                    recipient_infos,
+                    auth_encrypted_content_info
                 ),
-                (auth_attrs, (mac, unauth_attrs))
+                (auth_attrs, mac, unauth_attrs)
             )
         )
         .encode(writer)
@@ -180,10 +185,12 @@ impl<'a> EncodeValue for AuthEnvelopedData<'a> {
             self,
             (
                 (
-                    (version, originator_info),
-                    (recipient_infos, auth_encrypted_content_info)
+                    version,
+                    originator_info,
+                    recipient_infos,
+                    auth_encrypted_content_info
                 ),
-                (auth_attrs, (mac, unauth_attrs))
+                (auth_attrs, mac, unauth_attrs)
             )
         )
         .len_before()
@@ -194,10 +201,12 @@ impl<'a> EncodeValue for AuthEnvelopedData<'a> {
             self,
             (
                 (
-                    (version, originator_info),
-                    (recipient_infos, auth_encrypted_content_info)
+                    version,
+                    originator_info,
+                    recipient_infos,
+                    auth_encrypted_content_info
                 ),
-                (auth_attrs, (mac, unauth_attrs))
+                (auth_attrs, mac, unauth_attrs)
             )
         )
         .encode_before(buf, end)

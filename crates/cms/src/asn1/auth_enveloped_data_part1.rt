@@ -21,17 +21,24 @@ pub(crate) struct AuthEnvelopedDataPart1<'a> {
     pub(crate) auth_encrypted_content_info: EncryptedContentInfo<'a>,
 }
 
-// The fields in pairs, in the order in which they are encoded.
+// The fields, in the order in which they are encoded.
 pub(crate) type AuthEnvelopedDataPart1Fields<'a> = (
-    (CmsVersion<'a>, Optional<Implicit<OriginatorInfo<'a>, 0>>),
-    (RecipientInfos<'a>, EncryptedContentInfo<'a>),
+    CmsVersion<'a>,
+    Optional<Implicit<OriginatorInfo<'a>, 0>>,
+    RecipientInfos<'a>,
+    EncryptedContentInfo<'a>,
 );
 
 impl<'a> FromFields<AuthEnvelopedDataPart1Fields<'a>> for AuthEnvelopedDataPart1<'a> {
-    ghost fields = { λ v. ((v.version, v.originator_info), (v.recipient_infos, v.auth_encrypted_content_info)) };
+    ghost fields = { λ v. (
+      v.version,
+      v.originator_info,
+      v.recipient_infos,
+      v.auth_encrypted_content_info,
+    ) };
 
-    fn from_fields(members: AuthEnvelopedDataPart1Fields<'a>) -> Self {
-        let ((version, originator_info), (recipient_infos, auth_encrypted_content_info)) = members;
+    fn from_fields(fields: AuthEnvelopedDataPart1Fields<'a>) -> Self {
+        let (version, originator_info, recipient_infos, auth_encrypted_content_info) = fields;
         AuthEnvelopedDataPart1 {
             version,
             originator_info,

@@ -17,20 +17,18 @@ pub(crate) struct AuthEnvelopedDataPart2<'a> {
     pub(crate) unauth_attrs: Optional<Implicit<AuthAttributes<'a>, 2>>,
 }
 
-// The fields in pairs, in the order in which they are encoded.
+// The fields, in the order in which they are encoded.
 pub(crate) type AuthEnvelopedDataPart2Fields<'a> = (
     Optional<Implicit<AuthAttributes<'a>, 1>>,
-    (
-        OctetStringRef<'a>,
-        Optional<Implicit<AuthAttributes<'a>, 2>>,
-    ),
+    OctetStringRef<'a>,
+    Optional<Implicit<AuthAttributes<'a>, 2>>,
 );
 
 impl<'a> FromFields<AuthEnvelopedDataPart2Fields<'a>> for AuthEnvelopedDataPart2<'a> {
-    ghost fields = { λ v. (v.auth_attrs, (v.mac, v.unauth_attrs)) };
+    ghost fields = { λ v. (v.auth_attrs, v.mac, v.unauth_attrs) };
 
-    fn from_fields(members: AuthEnvelopedDataPart2Fields<'a>) -> Self {
-        let (auth_attrs, (mac, unauth_attrs)) = members;
+    fn from_fields(fields: AuthEnvelopedDataPart2Fields<'a>) -> Self {
+        let (auth_attrs, mac, unauth_attrs) = fields;
         AuthEnvelopedDataPart2 {
             auth_attrs,
             mac,

@@ -5,7 +5,8 @@ ghost use Rattle.std.specs.Prelude.{◌≡◌};
 ghost use Rattle.std.proofs.Common.{arith, refl};
 ghost use Rattle.der.specs.Prelude.{map_ok};
 ghost use Rattle.der_asn1.specs.Item.{decodes_same};
-ghost use Rattle.der_asn1.specs.Meaning.{alternative, field, optional, seen, sequence, sequence_is_item, sequence_item, two_fields};
+ghost use Rattle.der_asn1.specs.Meaning.{alternative, field, optional, seen, sequence, sequence_is_item, sequence_item};
+ghost use Rattle.der_asn1.specs.TupleFields.{three_fields};
 
 use crate::asn1::auth_attributes::AuthAttributes;
 use crate::asn1::authenticated_data_part1::{AuthenticatedDataPart1, AuthenticatedDataPart1Fields};
@@ -51,19 +52,18 @@ pub struct AuthenticatedData<'a> {
     pub unauth_attrs: Optional<Implicit<AuthAttributes<'a>, 3>>,
 }
 
-/// The fields of a [`AuthenticatedData`] in pairs, in the order in which they are encoded.
+/// The fields of a [`AuthenticatedData`], in the order in which they are encoded.
 pub type AuthenticatedDataFields<'a> = (
     AuthenticatedDataPart1Fields<'a>,
-    (
-        AuthenticatedDataPart2Fields<'a>,
-        AuthenticatedDataPart3Fields<'a>,
-    ),
+    AuthenticatedDataPart2Fields<'a>,
+    AuthenticatedDataPart3Fields<'a>,
 );
 
 impl<'a> FromFields<
     (
         AuthenticatedDataPart1<'a>,
-        (AuthenticatedDataPart2<'a>, AuthenticatedDataPart3<'a>),
+        AuthenticatedDataPart2<'a>,
+        AuthenticatedDataPart3<'a>,
     ),
 > for AuthenticatedData<'a> {
     ghost fields = { λ v. (
@@ -72,23 +72,22 @@ impl<'a> FromFields<
         originator_info = v.originator_info;
         recipient_infos = v.recipient_infos;
       },
-      (
-        record {
-          mac_algorithm = v.mac_algorithm;
-          digest_algorithm = v.digest_algorithm;
-          encap_content_info = v.encap_content_info;
-        },
-        record { auth_attrs = v.auth_attrs; mac = v.mac; unauth_attrs = v.unauth_attrs },
-      ),
+      record {
+        mac_algorithm = v.mac_algorithm;
+        digest_algorithm = v.digest_algorithm;
+        encap_content_info = v.encap_content_info;
+      },
+      record { auth_attrs = v.auth_attrs; mac = v.mac; unauth_attrs = v.unauth_attrs },
     ) };
 
     fn from_fields(
-        members: (
+        fields: (
             AuthenticatedDataPart1<'a>,
-            (AuthenticatedDataPart2<'a>, AuthenticatedDataPart3<'a>),
+            AuthenticatedDataPart2<'a>,
+            AuthenticatedDataPart3<'a>,
         ),
     ) -> Self {
-        let (part1, (part2, part3)) = members;
+        let (part1, part2, part3) = fields;
         AuthenticatedData {
             version: part1.version,
             originator_info: part1.originator_info,
@@ -104,23 +103,21 @@ impl<'a> FromFields<
 }
 
 impl<'a> Sequence for AuthenticatedData<'a> {
-    ghost meaning = { sequence (two_fields (seen
+    ghost meaning = { sequence (three_fields (seen
         ⟦<AuthenticatedDataPart1<'a> as FromFields<AuthenticatedDataPart1Fields<'a>>>⟧.fields
-        (two_fields (field (alternative ⟦<CmsVersion<'a> as Described>⟧.element)) (two_fields
-        (optional (alternative ⟦<Implicit<OriginatorInfo<'a>, 0> as Described>⟧.element)) (field
-        (alternative ⟦<RecipientInfos<'a> as Described>⟧.element))))) (two_fields (seen
+        (three_fields (field (alternative ⟦<CmsVersion<'a> as Described>⟧.element)) (optional
+        (alternative ⟦<Implicit<OriginatorInfo<'a>, 0> as Described>⟧.element)) (field (alternative
+        ⟦<RecipientInfos<'a> as Described>⟧.element)))) (seen
         ⟦<AuthenticatedDataPart2<'a> as FromFields<AuthenticatedDataPart2Fields<'a>>>⟧.fields
-        (two_fields (field (alternative ⟦<AlgorithmIdentifierRef<'a> as Described>⟧.element))
-        (two_fields (optional (alternative
-        ⟦<Implicit<AlgorithmIdentifierRef<'a>, 1> as Described>⟧.element)) (field (alternative
-        ⟦<EncapsulatedContentInfo<'a> as Described>⟧.element))))) (seen
+        (three_fields (field (alternative ⟦<AlgorithmIdentifierRef<'a> as Described>⟧.element))
+        (optional (alternative ⟦<Implicit<AlgorithmIdentifierRef<'a>, 1> as Described>⟧.element))
+        (field (alternative ⟦<EncapsulatedContentInfo<'a> as Described>⟧.element)))) (seen
         ⟦<AuthenticatedDataPart3<'a> as FromFields<AuthenticatedDataPart3Fields<'a>>>⟧.fields
-        (two_fields (optional (alternative
-        ⟦<Implicit<AuthAttributes<'a>, 2> as Described>⟧.element)) (two_fields (field (alternative
+        (three_fields (optional (alternative
+        ⟦<Implicit<AuthAttributes<'a>, 2> as Described>⟧.element)) (field (alternative
         ⟦<OctetStringRef<'a> as Described>⟧.element)) (optional (alternative
-        ⟦<Implicit<AuthAttributes<'a>, 3> as Described>⟧.element)))))))
-        ⟦<AuthenticatedData<'a> as FromFields<(AuthenticatedDataPart1<'a>,
-        (AuthenticatedDataPart2<'a>, AuthenticatedDataPart3<'a>))>>⟧.fields };
+        ⟦<Implicit<AuthAttributes<'a>, 3> as Described>⟧.element)))))
+        ⟦<AuthenticatedData<'a> as FromFields<(AuthenticatedDataPart1<'a>, AuthenticatedDataPart2<'a>, AuthenticatedDataPart3<'a>)>>⟧.fields };
 
     ghost fits = { (refl, refl) };
 }
@@ -130,17 +127,17 @@ impl<'a, R: Reader<Borrowed = &'a [u8]>> DecodeValue<R> for AuthenticatedData<'a
     type Error = Error;
 
     ghost decode_value_answers = { λ h s result t.
-        ⟦<(AuthenticatedDataPart1<'a>,
-        (AuthenticatedDataPart2<'a>, AuthenticatedDataPart3<'a>)) as Decode<SliceReader<'a>>>⟧.decode_answers s
-        (map_ok ⟦<AuthenticatedData<'a> as FromFields<(AuthenticatedDataPart1<'a>,
-        (AuthenticatedDataPart2<'a>, AuthenticatedDataPart3<'a>))>>⟧.fields result) t };
+        ⟦<(AuthenticatedDataPart1<'a>, AuthenticatedDataPart2<'a>, AuthenticatedDataPart3<'a>) as Decode<SliceReader<'a>>>⟧.decode_answers s
+        (map_ok
+        ⟦<AuthenticatedData<'a> as FromFields<(AuthenticatedDataPart1<'a>, AuthenticatedDataPart2<'a>, AuthenticatedDataPart3<'a>)>>⟧.fields result) t };
 
     fn decode_value(alloc: Global, reader: &mut R, header: Header) -> Result<Self, Error> {
         decode_sequence::<
             R,
             (
                 AuthenticatedDataPart1<'a>,
-                (AuthenticatedDataPart2<'a>, AuthenticatedDataPart3<'a>),
+                AuthenticatedDataPart2<'a>,
+                AuthenticatedDataPart3<'a>,
             ),
             Self,
         >(alloc, reader, header)
@@ -173,41 +170,29 @@ impl<'a> IsValue for AuthenticatedData<'a> {
 impl<'a> EncodeValue for AuthenticatedData<'a> {
     ghost value_size = { λ v. ⟦<AuthenticatedDataFields<'a> as Encode>⟧.size (
       ⟦<AuthenticatedDataPart1<'a> as FromFields<AuthenticatedDataPart1Fields<'a>>>⟧.fields
-          (⟦<AuthenticatedData<'a> as FromFields<(AuthenticatedDataPart1<'a>,
-        (AuthenticatedDataPart2<'a>, AuthenticatedDataPart3<'a>))>>⟧.fields v).0,
-      (
-        ⟦<AuthenticatedDataPart2<'a> as FromFields<AuthenticatedDataPart2Fields<'a>>>⟧.fields
-            (⟦<AuthenticatedData<'a> as FromFields<(AuthenticatedDataPart1<'a>,
-        (AuthenticatedDataPart2<'a>, AuthenticatedDataPart3<'a>))>>⟧.fields v).1.0,
-        ⟦<AuthenticatedDataPart3<'a> as FromFields<AuthenticatedDataPart3Fields<'a>>>⟧.fields
-            (⟦<AuthenticatedData<'a> as FromFields<(AuthenticatedDataPart1<'a>,
-        (AuthenticatedDataPart2<'a>, AuthenticatedDataPart3<'a>))>>⟧.fields v).1.1,
-      ),
+          (⟦<AuthenticatedData<'a> as FromFields<(AuthenticatedDataPart1<'a>, AuthenticatedDataPart2<'a>, AuthenticatedDataPart3<'a>)>>⟧.fields v).0,
+      ⟦<AuthenticatedDataPart2<'a> as FromFields<AuthenticatedDataPart2Fields<'a>>>⟧.fields
+          (⟦<AuthenticatedData<'a> as FromFields<(AuthenticatedDataPart1<'a>, AuthenticatedDataPart2<'a>, AuthenticatedDataPart3<'a>)>>⟧.fields v).1,
+      ⟦<AuthenticatedDataPart3<'a> as FromFields<AuthenticatedDataPart3Fields<'a>>>⟧.fields
+          (⟦<AuthenticatedData<'a> as FromFields<(AuthenticatedDataPart1<'a>, AuthenticatedDataPart2<'a>, AuthenticatedDataPart3<'a>)>>⟧.fields v).2,
     ) };
 
     ghost encode_value_answers = { λ v. ⟦<AuthenticatedDataFields<'a> as Encode>⟧.encode_answers (
       ⟦<AuthenticatedDataPart1<'a> as FromFields<AuthenticatedDataPart1Fields<'a>>>⟧.fields
-          (⟦<AuthenticatedData<'a> as FromFields<(AuthenticatedDataPart1<'a>,
-        (AuthenticatedDataPart2<'a>, AuthenticatedDataPart3<'a>))>>⟧.fields v).0,
-      (
-        ⟦<AuthenticatedDataPart2<'a> as FromFields<AuthenticatedDataPart2Fields<'a>>>⟧.fields
-            (⟦<AuthenticatedData<'a> as FromFields<(AuthenticatedDataPart1<'a>,
-        (AuthenticatedDataPart2<'a>, AuthenticatedDataPart3<'a>))>>⟧.fields v).1.0,
-        ⟦<AuthenticatedDataPart3<'a> as FromFields<AuthenticatedDataPart3Fields<'a>>>⟧.fields
-            (⟦<AuthenticatedData<'a> as FromFields<(AuthenticatedDataPart1<'a>,
-        (AuthenticatedDataPart2<'a>, AuthenticatedDataPart3<'a>))>>⟧.fields v).1.1,
-      ),
+          (⟦<AuthenticatedData<'a> as FromFields<(AuthenticatedDataPart1<'a>, AuthenticatedDataPart2<'a>, AuthenticatedDataPart3<'a>)>>⟧.fields v).0,
+      ⟦<AuthenticatedDataPart2<'a> as FromFields<AuthenticatedDataPart2Fields<'a>>>⟧.fields
+          (⟦<AuthenticatedData<'a> as FromFields<(AuthenticatedDataPart1<'a>, AuthenticatedDataPart2<'a>, AuthenticatedDataPart3<'a>)>>⟧.fields v).1,
+      ⟦<AuthenticatedDataPart3<'a> as FromFields<AuthenticatedDataPart3Fields<'a>>>⟧.fields
+          (⟦<AuthenticatedData<'a> as FromFields<(AuthenticatedDataPart1<'a>, AuthenticatedDataPart2<'a>, AuthenticatedDataPart3<'a>)>>⟧.fields v).2,
     ) };
 
     fn value_len(&self) -> Result<Length, Error> {
         field_refs!(
             self,
             (
-                (version, (originator_info, recipient_infos)),
-                (
-                    (mac_algorithm, (digest_algorithm, encap_content_info)),
-                    (auth_attrs, (mac, unauth_attrs))
-                )
+                (version, originator_info, recipient_infos),
+                (mac_algorithm, digest_algorithm, encap_content_info),
+                (auth_attrs, mac, unauth_attrs)
             )
         )
         .encoded_len()
@@ -217,11 +202,9 @@ impl<'a> EncodeValue for AuthenticatedData<'a> {
         field_refs!(
             self,
             (
-                (version, (originator_info, recipient_infos)),
-                (
-                    (mac_algorithm, (digest_algorithm, encap_content_info)),
-                    (auth_attrs, (mac, unauth_attrs))
-                )
+                (version, originator_info, recipient_infos),
+                (mac_algorithm, digest_algorithm, encap_content_info),
+                (auth_attrs, mac, unauth_attrs)
             )
         )
         .encode(writer)
@@ -231,11 +214,9 @@ impl<'a> EncodeValue for AuthenticatedData<'a> {
         field_refs!(
             self,
             (
-                (version, (originator_info, recipient_infos)),
-                (
-                    (mac_algorithm, (digest_algorithm, encap_content_info)),
-                    (auth_attrs, (mac, unauth_attrs))
-                )
+                (version, originator_info, recipient_infos),
+                (mac_algorithm, digest_algorithm, encap_content_info),
+                (auth_attrs, mac, unauth_attrs)
             )
         )
         .len_before()
@@ -245,11 +226,9 @@ impl<'a> EncodeValue for AuthenticatedData<'a> {
         field_refs!(
             self,
             (
-                (version, (originator_info, recipient_infos)),
-                (
-                    (mac_algorithm, (digest_algorithm, encap_content_info)),
-                    (auth_attrs, (mac, unauth_attrs))
-                )
+                (version, originator_info, recipient_infos),
+                (mac_algorithm, digest_algorithm, encap_content_info),
+                (auth_attrs, mac, unauth_attrs)
             )
         )
         .encode_before(buf, end)

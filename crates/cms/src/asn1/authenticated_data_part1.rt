@@ -19,20 +19,18 @@ pub(crate) struct AuthenticatedDataPart1<'a> {
     pub(crate) recipient_infos: RecipientInfos<'a>,
 }
 
-// The fields in pairs, in the order in which they are encoded.
+// The fields, in the order in which they are encoded.
 pub(crate) type AuthenticatedDataPart1Fields<'a> = (
     CmsVersion<'a>,
-    (
-        Optional<Implicit<OriginatorInfo<'a>, 0>>,
-        RecipientInfos<'a>,
-    ),
+    Optional<Implicit<OriginatorInfo<'a>, 0>>,
+    RecipientInfos<'a>,
 );
 
 impl<'a> FromFields<AuthenticatedDataPart1Fields<'a>> for AuthenticatedDataPart1<'a> {
-    ghost fields = { λ v. (v.version, (v.originator_info, v.recipient_infos)) };
+    ghost fields = { λ v. (v.version, v.originator_info, v.recipient_infos) };
 
-    fn from_fields(members: AuthenticatedDataPart1Fields<'a>) -> Self {
-        let (version, (originator_info, recipient_infos)) = members;
+    fn from_fields(fields: AuthenticatedDataPart1Fields<'a>) -> Self {
+        let (version, originator_info, recipient_infos) = fields;
         AuthenticatedDataPart1 {
             version,
             originator_info,

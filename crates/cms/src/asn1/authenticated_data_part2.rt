@@ -18,20 +18,18 @@ pub(crate) struct AuthenticatedDataPart2<'a> {
     pub(crate) encap_content_info: EncapsulatedContentInfo<'a>,
 }
 
-// The fields in pairs, in the order in which they are encoded.
+// The fields, in the order in which they are encoded.
 pub(crate) type AuthenticatedDataPart2Fields<'a> = (
     AlgorithmIdentifierRef<'a>,
-    (
-        Optional<Implicit<AlgorithmIdentifierRef<'a>, 1>>,
-        EncapsulatedContentInfo<'a>,
-    ),
+    Optional<Implicit<AlgorithmIdentifierRef<'a>, 1>>,
+    EncapsulatedContentInfo<'a>,
 );
 
 impl<'a> FromFields<AuthenticatedDataPart2Fields<'a>> for AuthenticatedDataPart2<'a> {
-    ghost fields = { λ v. (v.mac_algorithm, (v.digest_algorithm, v.encap_content_info)) };
+    ghost fields = { λ v. (v.mac_algorithm, v.digest_algorithm, v.encap_content_info) };
 
-    fn from_fields(members: AuthenticatedDataPart2Fields<'a>) -> Self {
-        let (mac_algorithm, (digest_algorithm, encap_content_info)) = members;
+    fn from_fields(fields: AuthenticatedDataPart2Fields<'a>) -> Self {
+        let (mac_algorithm, digest_algorithm, encap_content_info) = fields;
         AuthenticatedDataPart2 {
             mac_algorithm,
             digest_algorithm,

@@ -17,20 +17,18 @@ pub(crate) struct AuthenticatedDataPart3<'a> {
     pub(crate) unauth_attrs: Optional<Implicit<AuthAttributes<'a>, 3>>,
 }
 
-// The fields in pairs, in the order in which they are encoded.
+// The fields, in the order in which they are encoded.
 pub(crate) type AuthenticatedDataPart3Fields<'a> = (
     Optional<Implicit<AuthAttributes<'a>, 2>>,
-    (
-        OctetStringRef<'a>,
-        Optional<Implicit<AuthAttributes<'a>, 3>>,
-    ),
+    OctetStringRef<'a>,
+    Optional<Implicit<AuthAttributes<'a>, 3>>,
 );
 
 impl<'a> FromFields<AuthenticatedDataPart3Fields<'a>> for AuthenticatedDataPart3<'a> {
-    ghost fields = { λ v. (v.auth_attrs, (v.mac, v.unauth_attrs)) };
+    ghost fields = { λ v. (v.auth_attrs, v.mac, v.unauth_attrs) };
 
-    fn from_fields(members: AuthenticatedDataPart3Fields<'a>) -> Self {
-        let (auth_attrs, (mac, unauth_attrs)) = members;
+    fn from_fields(fields: AuthenticatedDataPart3Fields<'a>) -> Self {
+        let (auth_attrs, mac, unauth_attrs) = fields;
         AuthenticatedDataPart3 {
             auth_attrs,
             mac,

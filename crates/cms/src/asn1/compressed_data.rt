@@ -5,7 +5,8 @@ ghost use Rattle.std.specs.Prelude.{◌≡◌};
 ghost use Rattle.std.proofs.Common.{arith, refl};
 ghost use Rattle.der.specs.Prelude.{map_ok};
 ghost use Rattle.der_asn1.specs.Item.{decodes_same};
-ghost use Rattle.der_asn1.specs.Meaning.{alternative, field, sequence, sequence_is_item, sequence_item, two_fields};
+ghost use Rattle.der_asn1.specs.Meaning.{alternative, field, sequence, sequence_is_item, sequence_item};
+ghost use Rattle.der_asn1.specs.TupleFields.{three_fields};
 
 use crate::asn1::cms_version::CmsVersion;
 use crate::asn1::encapsulated_content_info::EncapsulatedContentInfo;
@@ -28,17 +29,18 @@ pub struct CompressedData<'a> {
     pub encap_content_info: EncapsulatedContentInfo<'a>,
 }
 
-/// The fields of a [`CompressedData`] in pairs, in the order in which they are encoded.
+/// The fields of a [`CompressedData`], in the order in which they are encoded.
 pub type CompressedDataFields<'a> = (
     CmsVersion<'a>,
-    (AlgorithmIdentifierRef<'a>, EncapsulatedContentInfo<'a>),
+    AlgorithmIdentifierRef<'a>,
+    EncapsulatedContentInfo<'a>,
 );
 
 impl<'a> FromFields<CompressedDataFields<'a>> for CompressedData<'a> {
-    ghost fields = { λ v. (v.version, (v.compression_algorithm, v.encap_content_info)) };
+    ghost fields = { λ v. (v.version, v.compression_algorithm, v.encap_content_info) };
 
-    fn from_fields(members: CompressedDataFields<'a>) -> Self {
-        let (version, (compression_algorithm, encap_content_info)) = members;
+    fn from_fields(fields: CompressedDataFields<'a>) -> Self {
+        let (version, compression_algorithm, encap_content_info) = fields;
         CompressedData {
             version,
             compression_algorithm,
@@ -48,10 +50,10 @@ impl<'a> FromFields<CompressedDataFields<'a>> for CompressedData<'a> {
 }
 
 impl<'a> Sequence for CompressedData<'a> {
-    ghost meaning = { sequence (two_fields (field (alternative
-        ⟦<CmsVersion<'a> as Described>⟧.element)) (two_fields (field (alternative
+    ghost meaning = { sequence (three_fields (field (alternative
+        ⟦<CmsVersion<'a> as Described>⟧.element)) (field (alternative
         ⟦<AlgorithmIdentifierRef<'a> as Described>⟧.element)) (field (alternative
-        ⟦<EncapsulatedContentInfo<'a> as Described>⟧.element))))
+        ⟦<EncapsulatedContentInfo<'a> as Described>⟧.element)))
         ⟦<CompressedData<'a> as FromFields<CompressedDataFields<'a>>>⟧.fields };
 
     ghost fits = { (refl, refl) };
@@ -87,19 +89,19 @@ impl<'a> EncodeValue for CompressedData<'a> {
         (⟦<CompressedData<'a> as FromFields<CompressedDataFields<'a>>>⟧.fields v) };
 
     fn value_len(&self) -> Result<Length, Error> {
-        field_refs!(self, (version, (compression_algorithm, encap_content_info))).encoded_len()
+        field_refs!(self, (version, compression_algorithm, encap_content_info)).encoded_len()
     }
 
     fn encode_value<W: Writer>(&self, writer: &mut W) -> Result<(), Error> {
-        field_refs!(self, (version, (compression_algorithm, encap_content_info))).encode(writer)
+        field_refs!(self, (version, compression_algorithm, encap_content_info)).encode(writer)
     }
 
     fn value_len_before(&self) -> Option<u32> {
-        field_refs!(self, (version, (compression_algorithm, encap_content_info))).len_before()
+        field_refs!(self, (version, compression_algorithm, encap_content_info)).len_before()
     }
 
     fn encode_value_before(&self, buf: &mut [u8], end: u32) -> u32 {
-        field_refs!(self, (version, (compression_algorithm, encap_content_info))).encode_before(
+        field_refs!(self, (version, compression_algorithm, encap_content_info)).encode_before(
             buf, end,
         )
     }

@@ -24,14 +24,14 @@ pub struct ContentInfo<'a> {
     pub content: ExplicitAny<'a, 0>,
 }
 
-/// The fields of a [`ContentInfo`] in pairs, in the order in which they are encoded.
+/// The fields of a [`ContentInfo`], in the order in which they are encoded.
 pub type ContentInfoFields<'a> = (ContentType<'a>, ExplicitAny<'a, 0>);
 
 impl<'a> FromFields<ContentInfoFields<'a>> for ContentInfo<'a> {
     ghost fields = { λ v. (v.content_type, v.content) };
 
-    fn from_fields(members: ContentInfoFields<'a>) -> Self {
-        let (content_type, content) = members;
+    fn from_fields(fields: ContentInfoFields<'a>) -> Self {
+        let (content_type, content) = fields;
         ContentInfo {
             content_type,
             content,

@@ -5,7 +5,8 @@ ghost use Rattle.std.specs.Prelude.{◌≡◌};
 ghost use Rattle.std.proofs.Common.{arith, refl};
 ghost use Rattle.der.specs.Prelude.{map_ok};
 ghost use Rattle.der_asn1.specs.Item.{decodes_same};
-ghost use Rattle.der_asn1.specs.Meaning.{alternative, field, sequence, sequence_is_item, sequence_item, two_fields};
+ghost use Rattle.der_asn1.specs.Meaning.{alternative, field, sequence, sequence_is_item, sequence_item};
+ghost use Rattle.der_asn1.specs.TupleFields.{four_fields};
 
 use crate::asn1::cms_version::CmsVersion;
 use crate::asn1::encapsulated_content_info::EncapsulatedContentInfo;
@@ -31,17 +32,19 @@ pub struct DigestedData<'a> {
     pub digest: OctetStringRef<'a>,
 }
 
-/// The fields of a [`DigestedData`] in pairs, in the order in which they are encoded.
+/// The fields of a [`DigestedData`], in the order in which they are encoded.
 pub type DigestedDataFields<'a> = (
-    (CmsVersion<'a>, AlgorithmIdentifierRef<'a>),
-    (EncapsulatedContentInfo<'a>, OctetStringRef<'a>),
+    CmsVersion<'a>,
+    AlgorithmIdentifierRef<'a>,
+    EncapsulatedContentInfo<'a>,
+    OctetStringRef<'a>,
 );
 
 impl<'a> FromFields<DigestedDataFields<'a>> for DigestedData<'a> {
-    ghost fields = { λ v. ((v.version, v.digest_algorithm), (v.encap_content_info, v.digest)) };
+    ghost fields = { λ v. (v.version, v.digest_algorithm, v.encap_content_info, v.digest) };
 
-    fn from_fields(members: DigestedDataFields<'a>) -> Self {
-        let ((version, digest_algorithm), (encap_content_info, digest)) = members;
+    fn from_fields(fields: DigestedDataFields<'a>) -> Self {
+        let (version, digest_algorithm, encap_content_info, digest) = fields;
         DigestedData {
             version,
             digest_algorithm,
@@ -52,11 +55,11 @@ impl<'a> FromFields<DigestedDataFields<'a>> for DigestedData<'a> {
 }
 
 impl<'a> Sequence for DigestedData<'a> {
-    ghost meaning = { sequence (two_fields (two_fields (field (alternative
+    ghost meaning = { sequence (four_fields (field (alternative
         ⟦<CmsVersion<'a> as Described>⟧.element)) (field (alternative
-        ⟦<AlgorithmIdentifierRef<'a> as Described>⟧.element))) (two_fields (field (alternative
+        ⟦<AlgorithmIdentifierRef<'a> as Described>⟧.element)) (field (alternative
         ⟦<EncapsulatedContentInfo<'a> as Described>⟧.element)) (field (alternative
-        ⟦<OctetStringRef<'a> as Described>⟧.element))))
+        ⟦<OctetStringRef<'a> as Described>⟧.element)))
         ⟦<DigestedData<'a> as FromFields<DigestedDataFields<'a>>>⟧.fields };
 
     ghost fits = { (refl, refl) };
@@ -95,7 +98,7 @@ impl<'a> EncodeValue for DigestedData<'a> {
     fn value_len(&self) -> Result<Length, Error> {
         field_refs!(
             self,
-            ((version, digest_algorithm), (encap_content_info, digest))
+            (version, digest_algorithm, encap_content_info, digest)
         )
         .encoded_len()
     }
@@ -103,7 +106,7 @@ impl<'a> EncodeValue for DigestedData<'a> {
     fn encode_value<W: Writer>(&self, writer: &mut W) -> Result<(), Error> {
         field_refs!(
             self,
-            ((version, digest_algorithm), (encap_content_info, digest))
+            (version, digest_algorithm, encap_content_info, digest)
         )
         .encode(writer)
     }
@@ -111,7 +114,7 @@ impl<'a> EncodeValue for DigestedData<'a> {
     fn value_len_before(&self) -> Option<u32> {
         field_refs!(
             self,
-            ((version, digest_algorithm), (encap_content_info, digest))
+            (version, digest_algorithm, encap_content_info, digest)
         )
         .len_before()
     }
@@ -119,7 +122,7 @@ impl<'a> EncodeValue for DigestedData<'a> {
     fn encode_value_before(&self, buf: &mut [u8], end: u32) -> u32 {
         field_refs!(
             self,
-            ((version, digest_algorithm), (encap_content_info, digest))
+            (version, digest_algorithm, encap_content_info, digest)
         )
         .encode_before(buf, end)
     }

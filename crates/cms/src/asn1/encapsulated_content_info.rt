@@ -28,7 +28,7 @@ pub struct EncapsulatedContentInfo<'a> {
     pub e_content: Optional<Explicit<Segmented<'a>, 0>>,
 }
 
-/// The fields of a [`EncapsulatedContentInfo`] in pairs, in the order in which they are encoded.
+/// The fields of a [`EncapsulatedContentInfo`], in the order in which they are encoded.
 pub type EncapsulatedContentInfoFields<'a> = (
     ContentType<'a>,
     Optional<Explicit<Segmented<'a>, 0>>,
@@ -37,8 +37,8 @@ pub type EncapsulatedContentInfoFields<'a> = (
 impl<'a> FromFields<EncapsulatedContentInfoFields<'a>> for EncapsulatedContentInfo<'a> {
     ghost fields = { λ v. (v.e_content_type, v.e_content) };
 
-    fn from_fields(members: EncapsulatedContentInfoFields<'a>) -> Self {
-        let (e_content_type, e_content) = members;
+    fn from_fields(fields: EncapsulatedContentInfoFields<'a>) -> Self {
+        let (e_content_type, e_content) = fields;
         EncapsulatedContentInfo {
             e_content_type,
             e_content,

@@ -5,7 +5,8 @@ ghost use Rattle.std.specs.Prelude.{◌≡◌};
 ghost use Rattle.std.proofs.Common.{arith, refl};
 ghost use Rattle.der.specs.Prelude.{map_ok};
 ghost use Rattle.der_asn1.specs.Item.{decodes_same};
-ghost use Rattle.der_asn1.specs.Meaning.{alternative, field, optional, sequence, sequence_is_item, sequence_item, two_fields};
+ghost use Rattle.der_asn1.specs.Meaning.{alternative, field, optional, sequence, sequence_is_item, sequence_item};
+ghost use Rattle.der_asn1.specs.TupleFields.{three_fields};
 
 use crate::EncryptedOctets;
 use crate::asn1::content_type::ContentType;
@@ -28,17 +29,18 @@ pub struct EncryptedContentInfo<'a> {
     pub encrypted_content: Optional<EncryptedOctets<'a>>,
 }
 
-/// The fields of a [`EncryptedContentInfo`] in pairs, in the order in which they are encoded.
+/// The fields of a [`EncryptedContentInfo`], in the order in which they are encoded.
 pub type EncryptedContentInfoFields<'a> = (
     ContentType<'a>,
-    (AlgorithmIdentifierRef<'a>, Optional<EncryptedOctets<'a>>),
+    AlgorithmIdentifierRef<'a>,
+    Optional<EncryptedOctets<'a>>,
 );
 
 impl<'a> FromFields<EncryptedContentInfoFields<'a>> for EncryptedContentInfo<'a> {
-    ghost fields = { λ v. (v.content_type, (v.content_encryption_algorithm, v.encrypted_content)) };
+    ghost fields = { λ v. (v.content_type, v.content_encryption_algorithm, v.encrypted_content) };
 
-    fn from_fields(members: EncryptedContentInfoFields<'a>) -> Self {
-        let (content_type, (content_encryption_algorithm, encrypted_content)) = members;
+    fn from_fields(fields: EncryptedContentInfoFields<'a>) -> Self {
+        let (content_type, content_encryption_algorithm, encrypted_content) = fields;
         EncryptedContentInfo {
             content_type,
             content_encryption_algorithm,
@@ -48,10 +50,10 @@ impl<'a> FromFields<EncryptedContentInfoFields<'a>> for EncryptedContentInfo<'a>
 }
 
 impl<'a> Sequence for EncryptedContentInfo<'a> {
-    ghost meaning = { sequence (two_fields (field (alternative
-        ⟦<ContentType<'a> as Described>⟧.element)) (two_fields (field (alternative
+    ghost meaning = { sequence (three_fields (field (alternative
+        ⟦<ContentType<'a> as Described>⟧.element)) (field (alternative
         ⟦<AlgorithmIdentifierRef<'a> as Described>⟧.element)) (optional
-        ⟦<EncryptedOctets<'a> as DescribedChoice>⟧.alternative)))
+        ⟦<EncryptedOctets<'a> as DescribedChoice>⟧.alternative))
         ⟦<EncryptedContentInfo<'a> as FromFields<EncryptedContentInfoFields<'a>>>⟧.fields };
 
     ghost fits = { (refl, refl) };
@@ -93,7 +95,8 @@ impl<'a> EncodeValue for EncryptedContentInfo<'a> {
             self,
             (
                 content_type,
-                (content_encryption_algorithm, encrypted_content)
+                content_encryption_algorithm,
+                encrypted_content
             )
         )
         .encoded_len()
@@ -104,7 +107,8 @@ impl<'a> EncodeValue for EncryptedContentInfo<'a> {
             self,
             (
                 content_type,
-                (content_encryption_algorithm, encrypted_content)
+                content_encryption_algorithm,
+                encrypted_content
             )
         )
         .encode(writer)
@@ -115,7 +119,8 @@ impl<'a> EncodeValue for EncryptedContentInfo<'a> {
             self,
             (
                 content_type,
-                (content_encryption_algorithm, encrypted_content)
+                content_encryption_algorithm,
+                encrypted_content
             )
         )
         .len_before()
@@ -126,7 +131,8 @@ impl<'a> EncodeValue for EncryptedContentInfo<'a> {
             self,
             (
                 content_type,
-                (content_encryption_algorithm, encrypted_content)
+                content_encryption_algorithm,
+                encrypted_content
             )
         )
         .encode_before(buf, end)

@@ -5,7 +5,8 @@ ghost use Rattle.std.specs.Prelude.{◌≡◌};
 ghost use Rattle.std.proofs.Common.{arith, refl};
 ghost use Rattle.der.specs.Prelude.{map_ok};
 ghost use Rattle.der_asn1.specs.Item.{decodes_same};
-ghost use Rattle.der_asn1.specs.Meaning.{alternative, field, optional, sequence, sequence_is_item, sequence_item, two_fields};
+ghost use Rattle.der_asn1.specs.Meaning.{alternative, field, optional, sequence, sequence_is_item, sequence_item};
+ghost use Rattle.der_asn1.specs.TupleFields.{three_fields};
 
 use crate::asn1::cms_version::CmsVersion;
 use crate::asn1::encrypted_content_info::EncryptedContentInfo;
@@ -29,20 +30,18 @@ pub struct EncryptedData<'a> {
     pub unprotected_attrs: Optional<Implicit<Attributes<'a>, 1>>,
 }
 
-/// The fields of a [`EncryptedData`] in pairs, in the order in which they are encoded.
+/// The fields of a [`EncryptedData`], in the order in which they are encoded.
 pub type EncryptedDataFields<'a> = (
     CmsVersion<'a>,
-    (
-        EncryptedContentInfo<'a>,
-        Optional<Implicit<Attributes<'a>, 1>>,
-    ),
+    EncryptedContentInfo<'a>,
+    Optional<Implicit<Attributes<'a>, 1>>,
 );
 
 impl<'a> FromFields<EncryptedDataFields<'a>> for EncryptedData<'a> {
-    ghost fields = { λ v. (v.version, (v.encrypted_content_info, v.unprotected_attrs)) };
+    ghost fields = { λ v. (v.version, v.encrypted_content_info, v.unprotected_attrs) };
 
-    fn from_fields(members: EncryptedDataFields<'a>) -> Self {
-        let (version, (encrypted_content_info, unprotected_attrs)) = members;
+    fn from_fields(fields: EncryptedDataFields<'a>) -> Self {
+        let (version, encrypted_content_info, unprotected_attrs) = fields;
         EncryptedData {
             version,
             encrypted_content_info,
@@ -52,10 +51,10 @@ impl<'a> FromFields<EncryptedDataFields<'a>> for EncryptedData<'a> {
 }
 
 impl<'a> Sequence for EncryptedData<'a> {
-    ghost meaning = { sequence (two_fields (field (alternative
-        ⟦<CmsVersion<'a> as Described>⟧.element)) (two_fields (field (alternative
+    ghost meaning = { sequence (three_fields (field (alternative
+        ⟦<CmsVersion<'a> as Described>⟧.element)) (field (alternative
         ⟦<EncryptedContentInfo<'a> as Described>⟧.element)) (optional (alternative
-        ⟦<Implicit<Attributes<'a>, 1> as Described>⟧.element))))
+        ⟦<Implicit<Attributes<'a>, 1> as Described>⟧.element)))
         ⟦<EncryptedData<'a> as FromFields<EncryptedDataFields<'a>>>⟧.fields };
 
     ghost fits = { (refl, refl) };
@@ -93,19 +92,19 @@ impl<'a> EncodeValue for EncryptedData<'a> {
         (⟦<EncryptedData<'a> as FromFields<EncryptedDataFields<'a>>>⟧.fields v) };
 
     fn value_len(&self) -> Result<Length, Error> {
-        field_refs!(self, (version, (encrypted_content_info, unprotected_attrs))).encoded_len()
+        field_refs!(self, (version, encrypted_content_info, unprotected_attrs)).encoded_len()
     }
 
     fn encode_value<W: Writer>(&self, writer: &mut W) -> Result<(), Error> {
-        field_refs!(self, (version, (encrypted_content_info, unprotected_attrs))).encode(writer)
+        field_refs!(self, (version, encrypted_content_info, unprotected_attrs)).encode(writer)
     }
 
     fn value_len_before(&self) -> Option<u32> {
-        field_refs!(self, (version, (encrypted_content_info, unprotected_attrs))).len_before()
+        field_refs!(self, (version, encrypted_content_info, unprotected_attrs)).len_before()
     }
 
     fn encode_value_before(&self, buf: &mut [u8], end: u32) -> u32 {
-        field_refs!(self, (version, (encrypted_content_info, unprotected_attrs))).encode_before(
+        field_refs!(self, (version, encrypted_content_info, unprotected_attrs)).encode_before(
             buf, end,
         )
     }

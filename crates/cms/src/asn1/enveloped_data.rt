@@ -6,6 +6,7 @@ ghost use Rattle.std.proofs.Common.{arith, refl};
 ghost use Rattle.der.specs.Prelude.{map_ok};
 ghost use Rattle.der_asn1.specs.Item.{decodes_same};
 ghost use Rattle.der_asn1.specs.Meaning.{alternative, field, optional, seen, sequence, sequence_is_item, sequence_item, two_fields};
+ghost use Rattle.der_asn1.specs.TupleFields.{three_fields};
 
 use crate::asn1::cms_version::CmsVersion;
 use crate::asn1::encrypted_content_info::EncryptedContentInfo;
@@ -37,7 +38,7 @@ pub struct EnvelopedData<'a> {
     pub unprotected_attrs: Optional<Implicit<Attributes<'a>, 1>>,
 }
 
-/// The fields of a [`EnvelopedData`] in pairs, in the order in which they are encoded.
+/// The fields of a [`EnvelopedData`], in the order in which they are encoded.
 pub type EnvelopedDataFields<'a> = (EnvelopedDataPart1Fields<'a>, EnvelopedDataPart2Fields<'a>);
 
 impl<'a> FromFields<(EnvelopedDataPart1<'a>, EnvelopedDataPart2<'a>)> for EnvelopedData<'a> {
@@ -53,8 +54,8 @@ impl<'a> FromFields<(EnvelopedDataPart1<'a>, EnvelopedDataPart2<'a>)> for Envelo
       },
     ) };
 
-    fn from_fields(members: (EnvelopedDataPart1<'a>, EnvelopedDataPart2<'a>)) -> Self {
-        let (part1, part2) = members;
+    fn from_fields(fields: (EnvelopedDataPart1<'a>, EnvelopedDataPart2<'a>)) -> Self {
+        let (part1, part2) = fields;
         EnvelopedData {
             version: part1.version,
             originator_info: part1.originator_info,
@@ -67,10 +68,10 @@ impl<'a> FromFields<(EnvelopedDataPart1<'a>, EnvelopedDataPart2<'a>)> for Envelo
 
 impl<'a> Sequence for EnvelopedData<'a> {
     ghost meaning = { sequence (two_fields (seen
-        ⟦<EnvelopedDataPart1<'a> as FromFields<EnvelopedDataPart1Fields<'a>>>⟧.fields (two_fields
-        (field (alternative ⟦<CmsVersion<'a> as Described>⟧.element)) (two_fields (optional
-        (alternative ⟦<Implicit<OriginatorInfo<'a>, 0> as Described>⟧.element)) (field (alternative
-        ⟦<RecipientInfos<'a> as Described>⟧.element))))) (seen
+        ⟦<EnvelopedDataPart1<'a> as FromFields<EnvelopedDataPart1Fields<'a>>>⟧.fields (three_fields
+        (field (alternative ⟦<CmsVersion<'a> as Described>⟧.element)) (optional (alternative
+        ⟦<Implicit<OriginatorInfo<'a>, 0> as Described>⟧.element)) (field (alternative
+        ⟦<RecipientInfos<'a> as Described>⟧.element)))) (seen
         ⟦<EnvelopedDataPart2<'a> as FromFields<EnvelopedDataPart2Fields<'a>>>⟧.fields (two_fields
         (field (alternative ⟦<EncryptedContentInfo<'a> as Described>⟧.element)) (optional
         (alternative ⟦<Implicit<Attributes<'a>, 1> as Described>⟧.element)))))
@@ -129,7 +130,7 @@ impl<'a> EncodeValue for EnvelopedData<'a> {
         field_refs!(
             self,
             (
-                (version, (originator_info, recipient_infos)),
+                (version, originator_info, recipient_infos),
                 (encrypted_content_info, unprotected_attrs)
             )
         )
@@ -140,7 +141,7 @@ impl<'a> EncodeValue for EnvelopedData<'a> {
         field_refs!(
             self,
             (
-                (version, (originator_info, recipient_infos)),
+                (version, originator_info, recipient_infos),
                 (encrypted_content_info, unprotected_attrs)
             )
         )
@@ -151,7 +152,7 @@ impl<'a> EncodeValue for EnvelopedData<'a> {
         field_refs!(
             self,
             (
-                (version, (originator_info, recipient_infos)),
+                (version, originator_info, recipient_infos),
                 (encrypted_content_info, unprotected_attrs)
             )
         )
@@ -162,7 +163,7 @@ impl<'a> EncodeValue for EnvelopedData<'a> {
         field_refs!(
             self,
             (
-                (version, (originator_info, recipient_infos)),
+                (version, originator_info, recipient_infos),
                 (encrypted_content_info, unprotected_attrs)
             )
         )

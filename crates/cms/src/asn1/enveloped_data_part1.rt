@@ -19,20 +19,18 @@ pub(crate) struct EnvelopedDataPart1<'a> {
     pub(crate) recipient_infos: RecipientInfos<'a>,
 }
 
-// The fields in pairs, in the order in which they are encoded.
+// The fields, in the order in which they are encoded.
 pub(crate) type EnvelopedDataPart1Fields<'a> = (
     CmsVersion<'a>,
-    (
-        Optional<Implicit<OriginatorInfo<'a>, 0>>,
-        RecipientInfos<'a>,
-    ),
+    Optional<Implicit<OriginatorInfo<'a>, 0>>,
+    RecipientInfos<'a>,
 );
 
 impl<'a> FromFields<EnvelopedDataPart1Fields<'a>> for EnvelopedDataPart1<'a> {
-    ghost fields = { λ v. (v.version, (v.originator_info, v.recipient_infos)) };
+    ghost fields = { λ v. (v.version, v.originator_info, v.recipient_infos) };
 
-    fn from_fields(members: EnvelopedDataPart1Fields<'a>) -> Self {
-        let (version, (originator_info, recipient_infos)) = members;
+    fn from_fields(fields: EnvelopedDataPart1Fields<'a>) -> Self {
+        let (version, originator_info, recipient_infos) = fields;
         EnvelopedDataPart1 {
             version,
             originator_info,

@@ -17,7 +17,7 @@ pub(crate) struct EnvelopedDataPart2<'a> {
     pub(crate) unprotected_attrs: Optional<Implicit<Attributes<'a>, 1>>,
 }
 
-// The fields in pairs, in the order in which they are encoded.
+// The fields, in the order in which they are encoded.
 pub(crate) type EnvelopedDataPart2Fields<'a> = (
     EncryptedContentInfo<'a>,
     Optional<Implicit<Attributes<'a>, 1>>,
@@ -26,8 +26,8 @@ pub(crate) type EnvelopedDataPart2Fields<'a> = (
 impl<'a> FromFields<EnvelopedDataPart2Fields<'a>> for EnvelopedDataPart2<'a> {
     ghost fields = { λ v. (v.encrypted_content_info, v.unprotected_attrs) };
 
-    fn from_fields(members: EnvelopedDataPart2Fields<'a>) -> Self {
-        let (encrypted_content_info, unprotected_attrs) = members;
+    fn from_fields(fields: EnvelopedDataPart2Fields<'a>) -> Self {
+        let (encrypted_content_info, unprotected_attrs) = fields;
         EnvelopedDataPart2 {
             encrypted_content_info,
             unprotected_attrs,

@@ -24,14 +24,14 @@ pub struct EssCertId<'a> {
     pub issuer_serial: Optional<IssuerSerial<'a>>,
 }
 
-/// The fields of a [`EssCertId`] in pairs, in the order in which they are encoded.
+/// The fields of a [`EssCertId`], in the order in which they are encoded.
 pub type EssCertIdFields<'a> = (OctetStringRef<'a>, Optional<IssuerSerial<'a>>);
 
 impl<'a> FromFields<EssCertIdFields<'a>> for EssCertId<'a> {
     ghost fields = { λ v. (v.cert_hash, v.issuer_serial) };
 
-    fn from_fields(members: EssCertIdFields<'a>) -> Self {
-        let (cert_hash, issuer_serial) = members;
+    fn from_fields(fields: EssCertIdFields<'a>) -> Self {
+        let (cert_hash, issuer_serial) = fields;
         EssCertId {
             cert_hash,
             issuer_serial,

@@ -24,14 +24,14 @@ pub struct IssuerAndSerialNumber<'a> {
     pub serial_number: CertificateSerialNumber<'a>,
 }
 
-/// The fields of a [`IssuerAndSerialNumber`] in pairs, in the order in which they are encoded.
+/// The fields of a [`IssuerAndSerialNumber`], in the order in which they are encoded.
 pub type IssuerAndSerialNumberFields<'a> = (Name<'a>, CertificateSerialNumber<'a>);
 
 impl<'a> FromFields<IssuerAndSerialNumberFields<'a>> for IssuerAndSerialNumber<'a> {
     ghost fields = { λ v. (v.issuer, v.serial_number) };
 
-    fn from_fields(members: IssuerAndSerialNumberFields<'a>) -> Self {
-        let (issuer, serial_number) = members;
+    fn from_fields(fields: IssuerAndSerialNumberFields<'a>) -> Self {
+        let (issuer, serial_number) = fields;
         IssuerAndSerialNumber {
             issuer,
             serial_number,

@@ -25,14 +25,14 @@ pub struct IssuerSerial<'a> {
     pub serial_number: CertificateSerialNumber<'a>,
 }
 
-/// The fields of a [`IssuerSerial`] in pairs, in the order in which they are encoded.
+/// The fields of a [`IssuerSerial`], in the order in which they are encoded.
 pub type IssuerSerialFields<'a> = (GeneralNames<'a>, CertificateSerialNumber<'a>);
 
 impl<'a> FromFields<IssuerSerialFields<'a>> for IssuerSerial<'a> {
     ghost fields = { λ v. (v.issuer, v.serial_number) };
 
-    fn from_fields(members: IssuerSerialFields<'a>) -> Self {
-        let (issuer, serial_number) = members;
+    fn from_fields(fields: IssuerSerialFields<'a>) -> Self {
+        let (issuer, serial_number) = fields;
         IssuerSerial {
             issuer,
             serial_number,

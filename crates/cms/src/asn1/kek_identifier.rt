@@ -5,7 +5,8 @@ ghost use Rattle.std.specs.Prelude.{◌≡◌};
 ghost use Rattle.std.proofs.Common.{arith, refl};
 ghost use Rattle.der.specs.Prelude.{map_ok};
 ghost use Rattle.der_asn1.specs.Item.{decodes_same};
-ghost use Rattle.der_asn1.specs.Meaning.{alternative, field, optional, sequence, sequence_is_item, sequence_item, two_fields};
+ghost use Rattle.der_asn1.specs.Meaning.{alternative, field, optional, sequence, sequence_is_item, sequence_item};
+ghost use Rattle.der_asn1.specs.TupleFields.{three_fields};
 
 use crate::asn1::other_key_attribute::OtherKeyAttribute;
 use der::{
@@ -28,17 +29,18 @@ pub struct KekIdentifier<'a> {
     pub other: Optional<OtherKeyAttribute<'a>>,
 }
 
-/// The fields of a [`KekIdentifier`] in pairs, in the order in which they are encoded.
+/// The fields of a [`KekIdentifier`], in the order in which they are encoded.
 pub type KekIdentifierFields<'a> = (
     OctetStringRef<'a>,
-    (Optional<GeneralizedTime>, Optional<OtherKeyAttribute<'a>>),
+    Optional<GeneralizedTime>,
+    Optional<OtherKeyAttribute<'a>>,
 );
 
 impl<'a> FromFields<KekIdentifierFields<'a>> for KekIdentifier<'a> {
-    ghost fields = { λ v. (v.key_identifier, (v.date, v.other)) };
+    ghost fields = { λ v. (v.key_identifier, v.date, v.other) };
 
-    fn from_fields(members: KekIdentifierFields<'a>) -> Self {
-        let (key_identifier, (date, other)) = members;
+    fn from_fields(fields: KekIdentifierFields<'a>) -> Self {
+        let (key_identifier, date, other) = fields;
         KekIdentifier {
             key_identifier,
             date,
@@ -48,10 +50,10 @@ impl<'a> FromFields<KekIdentifierFields<'a>> for KekIdentifier<'a> {
 }
 
 impl<'a> Sequence for KekIdentifier<'a> {
-    ghost meaning = { sequence (two_fields (field (alternative
-        ⟦<OctetStringRef<'a> as Described>⟧.element)) (two_fields (optional (alternative
+    ghost meaning = { sequence (three_fields (field (alternative
+        ⟦<OctetStringRef<'a> as Described>⟧.element)) (optional (alternative
         ⟦<GeneralizedTime as Described>⟧.element)) (optional (alternative
-        ⟦<OtherKeyAttribute<'a> as Described>⟧.element))))
+        ⟦<OtherKeyAttribute<'a> as Described>⟧.element)))
         ⟦<KekIdentifier<'a> as FromFields<KekIdentifierFields<'a>>>⟧.fields };
 
     ghost fits = { (refl, refl) };
@@ -91,19 +93,19 @@ impl<'a> EncodeValue for KekIdentifier<'a> {
         (⟦<KekIdentifier<'a> as FromFields<KekIdentifierFields<'a>>>⟧.fields v) };
 
     fn value_len(&self) -> Result<Length, Error> {
-        field_refs!(self, (key_identifier, (date, other))).encoded_len()
+        field_refs!(self, (key_identifier, date, other)).encoded_len()
     }
 
     fn encode_value<W: Writer>(&self, writer: &mut W) -> Result<(), Error> {
-        field_refs!(self, (key_identifier, (date, other))).encode(writer)
+        field_refs!(self, (key_identifier, date, other)).encode(writer)
     }
 
     fn value_len_before(&self) -> Option<u32> {
-        field_refs!(self, (key_identifier, (date, other))).len_before()
+        field_refs!(self, (key_identifier, date, other)).len_before()
     }
 
     fn encode_value_before(&self, buf: &mut [u8], end: u32) -> u32 {
-        field_refs!(self, (key_identifier, (date, other))).encode_before(buf, end)
+        field_refs!(self, (key_identifier, date, other)).encode_before(buf, end)
     }
 }
 

@@ -5,7 +5,8 @@ ghost use Rattle.std.specs.Prelude.{◌≡◌};
 ghost use Rattle.std.proofs.Common.{arith, refl};
 ghost use Rattle.der.specs.Prelude.{map_ok};
 ghost use Rattle.der_asn1.specs.Item.{decodes_same};
-ghost use Rattle.der_asn1.specs.Meaning.{alternative, field, sequence, sequence_is_item, sequence_item, two_fields};
+ghost use Rattle.der_asn1.specs.Meaning.{alternative, field, sequence, sequence_is_item, sequence_item};
+ghost use Rattle.der_asn1.specs.TupleFields.{four_fields};
 
 use crate::asn1::cms_version::CmsVersion;
 use crate::asn1::kek_identifier::KekIdentifier;
@@ -30,17 +31,19 @@ pub struct KekRecipientInfo<'a> {
     pub encrypted_key: OctetStringRef<'a>,
 }
 
-/// The fields of a [`KekRecipientInfo`] in pairs, in the order in which they are encoded.
+/// The fields of a [`KekRecipientInfo`], in the order in which they are encoded.
 pub type KekRecipientInfoFields<'a> = (
-    (CmsVersion<'a>, KekIdentifier<'a>),
-    (AlgorithmIdentifierRef<'a>, OctetStringRef<'a>),
+    CmsVersion<'a>,
+    KekIdentifier<'a>,
+    AlgorithmIdentifierRef<'a>,
+    OctetStringRef<'a>,
 );
 
 impl<'a> FromFields<KekRecipientInfoFields<'a>> for KekRecipientInfo<'a> {
-    ghost fields = { λ v. ((v.version, v.kekid), (v.key_encryption_algorithm, v.encrypted_key)) };
+    ghost fields = { λ v. (v.version, v.kekid, v.key_encryption_algorithm, v.encrypted_key) };
 
-    fn from_fields(members: KekRecipientInfoFields<'a>) -> Self {
-        let ((version, kekid), (key_encryption_algorithm, encrypted_key)) = members;
+    fn from_fields(fields: KekRecipientInfoFields<'a>) -> Self {
+        let (version, kekid, key_encryption_algorithm, encrypted_key) = fields;
         KekRecipientInfo {
             version,
             kekid,
@@ -51,11 +54,11 @@ impl<'a> FromFields<KekRecipientInfoFields<'a>> for KekRecipientInfo<'a> {
 }
 
 impl<'a> Sequence for KekRecipientInfo<'a> {
-    ghost meaning = { sequence (two_fields (two_fields (field (alternative
+    ghost meaning = { sequence (four_fields (field (alternative
         ⟦<CmsVersion<'a> as Described>⟧.element)) (field (alternative
-        ⟦<KekIdentifier<'a> as Described>⟧.element))) (two_fields (field (alternative
+        ⟦<KekIdentifier<'a> as Described>⟧.element)) (field (alternative
         ⟦<AlgorithmIdentifierRef<'a> as Described>⟧.element)) (field (alternative
-        ⟦<OctetStringRef<'a> as Described>⟧.element))))
+        ⟦<OctetStringRef<'a> as Described>⟧.element)))
         ⟦<KekRecipientInfo<'a> as FromFields<KekRecipientInfoFields<'a>>>⟧.fields };
 
     ghost fits = { (refl, refl) };
@@ -94,7 +97,7 @@ impl<'a> EncodeValue for KekRecipientInfo<'a> {
     fn value_len(&self) -> Result<Length, Error> {
         field_refs!(
             self,
-            ((version, kekid), (key_encryption_algorithm, encrypted_key))
+            (version, kekid, key_encryption_algorithm, encrypted_key)
         )
         .encoded_len()
     }
@@ -102,7 +105,7 @@ impl<'a> EncodeValue for KekRecipientInfo<'a> {
     fn encode_value<W: Writer>(&self, writer: &mut W) -> Result<(), Error> {
         field_refs!(
             self,
-            ((version, kekid), (key_encryption_algorithm, encrypted_key))
+            (version, kekid, key_encryption_algorithm, encrypted_key)
         )
         .encode(writer)
     }
@@ -110,7 +113,7 @@ impl<'a> EncodeValue for KekRecipientInfo<'a> {
     fn value_len_before(&self) -> Option<u32> {
         field_refs!(
             self,
-            ((version, kekid), (key_encryption_algorithm, encrypted_key))
+            (version, kekid, key_encryption_algorithm, encrypted_key)
         )
         .len_before()
     }
@@ -118,7 +121,7 @@ impl<'a> EncodeValue for KekRecipientInfo<'a> {
     fn encode_value_before(&self, buf: &mut [u8], end: u32) -> u32 {
         field_refs!(
             self,
-            ((version, kekid), (key_encryption_algorithm, encrypted_key))
+            (version, kekid, key_encryption_algorithm, encrypted_key)
         )
         .encode_before(buf, end)
     }

@@ -5,15 +5,10 @@ ghost use Rattle.std.specs.Prelude.{◌≡◌};
 ghost use Rattle.std.proofs.Common.{arith, refl};
 ghost use Rattle.der.specs.Prelude.{map_ok};
 ghost use Rattle.der_asn1.specs.Item.{decodes_same};
-ghost use Rattle.der_asn1.specs.Meaning.{alternative, field, optional, seen, sequence, sequence_is_item, sequence_item, two_fields};
+ghost use Rattle.der_asn1.specs.Meaning.{alternative, field, optional, sequence, sequence_is_item, sequence_item};
+ghost use Rattle.der_asn1.specs.TupleFields.{five_fields};
 
 use crate::asn1::cms_version::CmsVersion;
-use crate::asn1::key_agree_recipient_info_part1::{
-    KeyAgreeRecipientInfoPart1, KeyAgreeRecipientInfoPart1Fields,
-};
-use crate::asn1::key_agree_recipient_info_part2::{
-    KeyAgreeRecipientInfoPart2, KeyAgreeRecipientInfoPart2Fields,
-};
 use crate::asn1::originator_identifier_or_key_tagged::OriginatorIdentifierOrKeyTagged;
 use crate::asn1::recipient_encrypted_key::RecipientEncryptedKey;
 use der::{
@@ -43,57 +38,44 @@ pub struct KeyAgreeRecipientInfo<'a> {
     pub recipient_encrypted_keys: SequenceOf<'a, RecipientEncryptedKey<'a>>,
 }
 
-/// The fields of a [`KeyAgreeRecipientInfo`] in pairs, in the order in which they are encoded.
+/// The fields of a [`KeyAgreeRecipientInfo`], in the order in which they are encoded.
 pub type KeyAgreeRecipientInfoFields<'a> = (
-    KeyAgreeRecipientInfoPart1Fields<'a>,
-    KeyAgreeRecipientInfoPart2Fields<'a>,
+    CmsVersion<'a>,
+    Implicit<OriginatorIdentifierOrKeyTagged<'a>, 0>,
+    Optional<Explicit<OctetStringRef<'a>, 1>>,
+    AlgorithmIdentifierRef<'a>,
+    SequenceOf<'a, RecipientEncryptedKey<'a>>,
 );
 
-impl<'a> FromFields<
-    (
-        KeyAgreeRecipientInfoPart1<'a>,
-        KeyAgreeRecipientInfoPart2<'a>,
-    ),
-> for KeyAgreeRecipientInfo<'a> {
+impl<'a> FromFields<KeyAgreeRecipientInfoFields<'a>> for KeyAgreeRecipientInfo<'a> {
     ghost fields = { λ v. (
-      record {
-        version = v.version;
-        originator = v.originator;
-        ukm = v.ukm;
-      },
-      record {
-        key_encryption_algorithm = v.key_encryption_algorithm;
-        recipient_encrypted_keys = v.recipient_encrypted_keys;
-      },
+      v.version,
+      v.originator,
+      v.ukm,
+      v.key_encryption_algorithm,
+      v.recipient_encrypted_keys,
     ) };
 
-    fn from_fields(
-        members: (
-            KeyAgreeRecipientInfoPart1<'a>,
-            KeyAgreeRecipientInfoPart2<'a>,
-        ),
-    ) -> Self {
-        let (part1, part2) = members;
+    fn from_fields(fields: KeyAgreeRecipientInfoFields<'a>) -> Self {
+        let (version, originator, ukm, key_encryption_algorithm, recipient_encrypted_keys) = fields;
         KeyAgreeRecipientInfo {
-            version: part1.version,
-            originator: part1.originator,
-            ukm: part1.ukm,
-            key_encryption_algorithm: part2.key_encryption_algorithm,
-            recipient_encrypted_keys: part2.recipient_encrypted_keys,
+            version,
+            originator,
+            ukm,
+            key_encryption_algorithm,
+            recipient_encrypted_keys,
         }
     }
 }
 
 impl<'a> Sequence for KeyAgreeRecipientInfo<'a> {
-    ghost meaning = { sequence (two_fields (seen
-        ⟦<KeyAgreeRecipientInfoPart1<'a> as FromFields<KeyAgreeRecipientInfoPart1Fields<'a>>>⟧.fields
-        (two_fields (field (alternative ⟦<CmsVersion<'a> as Described>⟧.element)) (two_fields (field
-        (alternative ⟦<Implicit<OriginatorIdentifierOrKeyTagged<'a>, 0> as Described>⟧.element))
-        (optional (alternative ⟦<Explicit<OctetStringRef<'a>, 1> as Described>⟧.element))))) (seen
-        ⟦<KeyAgreeRecipientInfoPart2<'a> as FromFields<KeyAgreeRecipientInfoPart2Fields<'a>>>⟧.fields
-        (two_fields (field (alternative ⟦<AlgorithmIdentifierRef<'a> as Described>⟧.element)) (field
-        (alternative ⟦<SequenceOf<'a, RecipientEncryptedKey<'a>> as Described>⟧.element)))))
-        ⟦<KeyAgreeRecipientInfo<'a> as FromFields<(KeyAgreeRecipientInfoPart1<'a>, KeyAgreeRecipientInfoPart2<'a>)>>⟧.fields };
+    ghost meaning = { sequence (five_fields (field (alternative
+        ⟦<CmsVersion<'a> as Described>⟧.element)) (field (alternative
+        ⟦<Implicit<OriginatorIdentifierOrKeyTagged<'a>, 0> as Described>⟧.element)) (optional
+        (alternative ⟦<Explicit<OctetStringRef<'a>, 1> as Described>⟧.element)) (field (alternative
+        ⟦<AlgorithmIdentifierRef<'a> as Described>⟧.element)) (field (alternative
+        ⟦<SequenceOf<'a, RecipientEncryptedKey<'a>> as Described>⟧.element)))
+        ⟦<KeyAgreeRecipientInfo<'a> as FromFields<KeyAgreeRecipientInfoFields<'a>>>⟧.fields };
 
     ghost fits = { (refl, refl) };
 }
@@ -103,19 +85,11 @@ impl<'a, R: Reader<Borrowed = &'a [u8]>> DecodeValue<R> for KeyAgreeRecipientInf
     type Error = Error;
 
     ghost decode_value_answers = { λ h s result t.
-        ⟦<(KeyAgreeRecipientInfoPart1<'a>, KeyAgreeRecipientInfoPart2<'a>) as Decode<SliceReader<'a>>>⟧.decode_answers s
-        (map_ok
-        ⟦<KeyAgreeRecipientInfo<'a> as FromFields<(KeyAgreeRecipientInfoPart1<'a>, KeyAgreeRecipientInfoPart2<'a>)>>⟧.fields result) t };
+        ⟦<KeyAgreeRecipientInfoFields<'a> as Decode<SliceReader<'a>>>⟧.decode_answers s (map_ok
+        ⟦<KeyAgreeRecipientInfo<'a> as FromFields<KeyAgreeRecipientInfoFields<'a>>>⟧.fields result) t };
 
     fn decode_value(alloc: Global, reader: &mut R, header: Header) -> Result<Self, Error> {
-        decode_sequence::<
-            R,
-            (
-                KeyAgreeRecipientInfoPart1<'a>,
-                KeyAgreeRecipientInfoPart2<'a>,
-            ),
-            Self,
-        >(alloc, reader, header)
+        decode_sequence::<R, KeyAgreeRecipientInfoFields<'a>, Self>(alloc, reader, header)
     }
 }
 
@@ -133,26 +107,21 @@ impl<'a> IsValue for KeyAgreeRecipientInfo<'a> {
 
 /// Writes the fields one after the other, with the errors of every [`Sequence`].
 impl<'a> EncodeValue for KeyAgreeRecipientInfo<'a> {
-    ghost value_size = { λ v. ⟦<KeyAgreeRecipientInfoFields<'a> as Encode>⟧.size (
-      ⟦<KeyAgreeRecipientInfoPart1<'a> as FromFields<KeyAgreeRecipientInfoPart1Fields<'a>>>⟧.fields
-          (⟦<KeyAgreeRecipientInfo<'a> as FromFields<(KeyAgreeRecipientInfoPart1<'a>, KeyAgreeRecipientInfoPart2<'a>)>>⟧.fields v).0,
-      ⟦<KeyAgreeRecipientInfoPart2<'a> as FromFields<KeyAgreeRecipientInfoPart2Fields<'a>>>⟧.fields
-          (⟦<KeyAgreeRecipientInfo<'a> as FromFields<(KeyAgreeRecipientInfoPart1<'a>, KeyAgreeRecipientInfoPart2<'a>)>>⟧.fields v).1,
-    ) };
+    ghost value_size = { λ v. ⟦<KeyAgreeRecipientInfoFields<'a> as Encode>⟧.size
+        (⟦<KeyAgreeRecipientInfo<'a> as FromFields<KeyAgreeRecipientInfoFields<'a>>>⟧.fields v) };
 
-    ghost encode_value_answers = { λ v. ⟦<KeyAgreeRecipientInfoFields<'a> as Encode>⟧.encode_answers (
-      ⟦<KeyAgreeRecipientInfoPart1<'a> as FromFields<KeyAgreeRecipientInfoPart1Fields<'a>>>⟧.fields
-          (⟦<KeyAgreeRecipientInfo<'a> as FromFields<(KeyAgreeRecipientInfoPart1<'a>, KeyAgreeRecipientInfoPart2<'a>)>>⟧.fields v).0,
-      ⟦<KeyAgreeRecipientInfoPart2<'a> as FromFields<KeyAgreeRecipientInfoPart2Fields<'a>>>⟧.fields
-          (⟦<KeyAgreeRecipientInfo<'a> as FromFields<(KeyAgreeRecipientInfoPart1<'a>, KeyAgreeRecipientInfoPart2<'a>)>>⟧.fields v).1,
-    ) };
+    ghost encode_value_answers = { λ v. ⟦<KeyAgreeRecipientInfoFields<'a> as Encode>⟧.encode_answers
+        (⟦<KeyAgreeRecipientInfo<'a> as FromFields<KeyAgreeRecipientInfoFields<'a>>>⟧.fields v) };
 
     fn value_len(&self) -> Result<Length, Error> {
         field_refs!(
             self,
             (
-                (version, (originator, ukm)),
-                (key_encryption_algorithm, recipient_encrypted_keys)
+                version,
+                originator,
+                ukm,
+                key_encryption_algorithm,
+                recipient_encrypted_keys
             )
         )
         .encoded_len()
@@ -162,8 +131,11 @@ impl<'a> EncodeValue for KeyAgreeRecipientInfo<'a> {
         field_refs!(
             self,
             (
-                (version, (originator, ukm)),
-                (key_encryption_algorithm, recipient_encrypted_keys)
+                version,
+                originator,
+                ukm,
+                key_encryption_algorithm,
+                recipient_encrypted_keys
             )
         )
         .encode(writer)
@@ -173,8 +145,11 @@ impl<'a> EncodeValue for KeyAgreeRecipientInfo<'a> {
         field_refs!(
             self,
             (
-                (version, (originator, ukm)),
-                (key_encryption_algorithm, recipient_encrypted_keys)
+                version,
+                originator,
+                ukm,
+                key_encryption_algorithm,
+                recipient_encrypted_keys
             )
         )
         .len_before()
@@ -184,8 +159,11 @@ impl<'a> EncodeValue for KeyAgreeRecipientInfo<'a> {
         field_refs!(
             self,
             (
-                (version, (originator, ukm)),
-                (key_encryption_algorithm, recipient_encrypted_keys)
+                version,
+                originator,
+                ukm,
+                key_encryption_algorithm,
+                recipient_encrypted_keys
             )
         )
         .encode_before(buf, end)

@@ -5,7 +5,8 @@ ghost use Rattle.std.specs.Prelude.{◌≡◌};
 ghost use Rattle.std.proofs.Common.{arith, refl};
 ghost use Rattle.der.specs.Prelude.{map_ok};
 ghost use Rattle.der_asn1.specs.Item.{decodes_same};
-ghost use Rattle.der_asn1.specs.Meaning.{alternative, field, sequence, sequence_is_item, sequence_item, two_fields};
+ghost use Rattle.der_asn1.specs.Meaning.{alternative, field, sequence, sequence_is_item, sequence_item};
+ghost use Rattle.der_asn1.specs.TupleFields.{four_fields};
 
 use crate::asn1::cms_version::CmsVersion;
 use crate::asn1::recipient_identifier::RecipientIdentifier;
@@ -35,17 +36,19 @@ pub struct KeyTransRecipientInfo<'a> {
     pub encrypted_key: OctetStringRef<'a>,
 }
 
-/// The fields of a [`KeyTransRecipientInfo`] in pairs, in the order in which they are encoded.
+/// The fields of a [`KeyTransRecipientInfo`], in the order in which they are encoded.
 pub type KeyTransRecipientInfoFields<'a> = (
-    (CmsVersion<'a>, RecipientIdentifier<'a>),
-    (AlgorithmIdentifierRef<'a>, OctetStringRef<'a>),
+    CmsVersion<'a>,
+    RecipientIdentifier<'a>,
+    AlgorithmIdentifierRef<'a>,
+    OctetStringRef<'a>,
 );
 
 impl<'a> FromFields<KeyTransRecipientInfoFields<'a>> for KeyTransRecipientInfo<'a> {
-    ghost fields = { λ v. ((v.version, v.rid), (v.key_encryption_algorithm, v.encrypted_key)) };
+    ghost fields = { λ v. (v.version, v.rid, v.key_encryption_algorithm, v.encrypted_key) };
 
-    fn from_fields(members: KeyTransRecipientInfoFields<'a>) -> Self {
-        let ((version, rid), (key_encryption_algorithm, encrypted_key)) = members;
+    fn from_fields(fields: KeyTransRecipientInfoFields<'a>) -> Self {
+        let (version, rid, key_encryption_algorithm, encrypted_key) = fields;
         KeyTransRecipientInfo {
             version,
             rid,
@@ -56,11 +59,11 @@ impl<'a> FromFields<KeyTransRecipientInfoFields<'a>> for KeyTransRecipientInfo<'
 }
 
 impl<'a> Sequence for KeyTransRecipientInfo<'a> {
-    ghost meaning = { sequence (two_fields (two_fields (field (alternative
+    ghost meaning = { sequence (four_fields (field (alternative
         ⟦<CmsVersion<'a> as Described>⟧.element)) (field
-        ⟦<RecipientIdentifier<'a> as DescribedChoice>⟧.alternative)) (two_fields (field (alternative
+        ⟦<RecipientIdentifier<'a> as DescribedChoice>⟧.alternative) (field (alternative
         ⟦<AlgorithmIdentifierRef<'a> as Described>⟧.element)) (field (alternative
-        ⟦<OctetStringRef<'a> as Described>⟧.element))))
+        ⟦<OctetStringRef<'a> as Described>⟧.element)))
         ⟦<KeyTransRecipientInfo<'a> as FromFields<KeyTransRecipientInfoFields<'a>>>⟧.fields };
 
     ghost fits = { (refl, refl) };
@@ -102,7 +105,7 @@ impl<'a> EncodeValue for KeyTransRecipientInfo<'a> {
     fn value_len(&self) -> Result<Length, Error> {
         field_refs!(
             self,
-            ((version, rid), (key_encryption_algorithm, encrypted_key))
+            (version, rid, key_encryption_algorithm, encrypted_key)
         )
         .encoded_len()
     }
@@ -110,7 +113,7 @@ impl<'a> EncodeValue for KeyTransRecipientInfo<'a> {
     fn encode_value<W: Writer>(&self, writer: &mut W) -> Result<(), Error> {
         field_refs!(
             self,
-            ((version, rid), (key_encryption_algorithm, encrypted_key))
+            (version, rid, key_encryption_algorithm, encrypted_key)
         )
         .encode(writer)
     }
@@ -118,7 +121,7 @@ impl<'a> EncodeValue for KeyTransRecipientInfo<'a> {
     fn value_len_before(&self) -> Option<u32> {
         field_refs!(
             self,
-            ((version, rid), (key_encryption_algorithm, encrypted_key))
+            (version, rid, key_encryption_algorithm, encrypted_key)
         )
         .len_before()
     }
@@ -126,7 +129,7 @@ impl<'a> EncodeValue for KeyTransRecipientInfo<'a> {
     fn encode_value_before(&self, buf: &mut [u8], end: u32) -> u32 {
         field_refs!(
             self,
-            ((version, rid), (key_encryption_algorithm, encrypted_key))
+            (version, rid, key_encryption_algorithm, encrypted_key)
         )
         .encode_before(buf, end)
     }

@@ -24,14 +24,14 @@ pub struct MessageImprint<'a> {
     pub hashed_message: OctetStringRef<'a>,
 }
 
-/// The fields of a [`MessageImprint`] in pairs, in the order in which they are encoded.
+/// The fields of a [`MessageImprint`], in the order in which they are encoded.
 pub type MessageImprintFields<'a> = (AlgorithmIdentifierRef<'a>, OctetStringRef<'a>);
 
 impl<'a> FromFields<MessageImprintFields<'a>> for MessageImprint<'a> {
     ghost fields = { λ v. (v.hash_algorithm, v.hashed_message) };
 
-    fn from_fields(members: MessageImprintFields<'a>) -> Self {
-        let (hash_algorithm, hashed_message) = members;
+    fn from_fields(fields: MessageImprintFields<'a>) -> Self {
+        let (hash_algorithm, hashed_message) = fields;
         MessageImprint {
             hash_algorithm,
             hashed_message,

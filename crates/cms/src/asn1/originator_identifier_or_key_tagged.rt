@@ -22,15 +22,15 @@ pub struct OriginatorIdentifierOrKeyTagged<'a> {
     pub value: OriginatorIdentifierOrKey<'a>,
 }
 
-/// The fields of a [`OriginatorIdentifierOrKeyTagged`] in pairs, in the order in which they are encoded.
+/// The fields of a [`OriginatorIdentifierOrKeyTagged`], in the order in which they are encoded.
 pub type OriginatorIdentifierOrKeyTaggedFields<'a> = OriginatorIdentifierOrKey<'a>;
 
 impl<'a> FromFields<OriginatorIdentifierOrKeyTaggedFields<'a>>
     for OriginatorIdentifierOrKeyTagged<'a> {
     ghost fields = { λ v. v.value };
 
-    fn from_fields(members: OriginatorIdentifierOrKeyTaggedFields<'a>) -> Self {
-        let value = members;
+    fn from_fields(fields: OriginatorIdentifierOrKeyTaggedFields<'a>) -> Self {
+        let value = fields;
         OriginatorIdentifierOrKeyTagged { value }
     }
 }

@@ -26,7 +26,7 @@ pub struct OriginatorInfo<'a> {
     pub crls: Optional<Implicit<RevocationInfoChoices<'a>, 1>>,
 }
 
-/// The fields of a [`OriginatorInfo`] in pairs, in the order in which they are encoded.
+/// The fields of a [`OriginatorInfo`], in the order in which they are encoded.
 pub type OriginatorInfoFields<'a> = (
     Optional<Implicit<CertificateSet<'a>, 0>>,
     Optional<Implicit<RevocationInfoChoices<'a>, 1>>,
@@ -35,8 +35,8 @@ pub type OriginatorInfoFields<'a> = (
 impl<'a> FromFields<OriginatorInfoFields<'a>> for OriginatorInfo<'a> {
     ghost fields = { λ v. (v.certs, v.crls) };
 
-    fn from_fields(members: OriginatorInfoFields<'a>) -> Self {
-        let (certs, crls) = members;
+    fn from_fields(fields: OriginatorInfoFields<'a>) -> Self {
+        let (certs, crls) = fields;
         OriginatorInfo { certs, crls }
     }
 }

@@ -5,7 +5,8 @@ ghost use Rattle.std.specs.Prelude.{◌≡◌};
 ghost use Rattle.std.proofs.Common.{arith, refl};
 ghost use Rattle.der.specs.Prelude.{map_ok};
 ghost use Rattle.der_asn1.specs.Item.{decodes_same};
-ghost use Rattle.der_asn1.specs.Meaning.{alternative, field, optional, sequence, sequence_is_item, sequence_item, two_fields};
+ghost use Rattle.der_asn1.specs.Meaning.{alternative, field, optional, sequence, sequence_is_item, sequence_item};
+ghost use Rattle.der_asn1.specs.TupleFields.{four_fields};
 
 use crate::asn1::cms_version::CmsVersion;
 use der::{
@@ -31,21 +32,24 @@ pub struct PasswordRecipientInfo<'a> {
     pub encrypted_key: OctetStringRef<'a>,
 }
 
-/// The fields of a [`PasswordRecipientInfo`] in pairs, in the order in which they are encoded.
+/// The fields of a [`PasswordRecipientInfo`], in the order in which they are encoded.
 pub type PasswordRecipientInfoFields<'a> = (
-    (
-        CmsVersion<'a>,
-        Optional<Implicit<AlgorithmIdentifierRef<'a>, 0>>,
-    ),
-    (AlgorithmIdentifierRef<'a>, OctetStringRef<'a>),
+    CmsVersion<'a>,
+    Optional<Implicit<AlgorithmIdentifierRef<'a>, 0>>,
+    AlgorithmIdentifierRef<'a>,
+    OctetStringRef<'a>,
 );
 
 impl<'a> FromFields<PasswordRecipientInfoFields<'a>> for PasswordRecipientInfo<'a> {
-    ghost fields = { λ v. ((v.version, v.key_derivation_algorithm), (v.key_encryption_algorithm, v.encrypted_key)) };
+    ghost fields = { λ v. (
+      v.version,
+      v.key_derivation_algorithm,
+      v.key_encryption_algorithm,
+      v.encrypted_key,
+    ) };
 
-    fn from_fields(members: PasswordRecipientInfoFields<'a>) -> Self {
-        let ((version, key_derivation_algorithm), (key_encryption_algorithm, encrypted_key)) =
-            members;
+    fn from_fields(fields: PasswordRecipientInfoFields<'a>) -> Self {
+        let (version, key_derivation_algorithm, key_encryption_algorithm, encrypted_key) = fields;
         PasswordRecipientInfo {
             version,
             key_derivation_algorithm,
@@ -56,11 +60,11 @@ impl<'a> FromFields<PasswordRecipientInfoFields<'a>> for PasswordRecipientInfo<'
 }
 
 impl<'a> Sequence for PasswordRecipientInfo<'a> {
-    ghost meaning = { sequence (two_fields (two_fields (field (alternative
+    ghost meaning = { sequence (four_fields (field (alternative
         ⟦<CmsVersion<'a> as Described>⟧.element)) (optional (alternative
-        ⟦<Implicit<AlgorithmIdentifierRef<'a>, 0> as Described>⟧.element))) (two_fields (field
-        (alternative ⟦<AlgorithmIdentifierRef<'a> as Described>⟧.element)) (field (alternative
-        ⟦<OctetStringRef<'a> as Described>⟧.element))))
+        ⟦<Implicit<AlgorithmIdentifierRef<'a>, 0> as Described>⟧.element)) (field (alternative
+        ⟦<AlgorithmIdentifierRef<'a> as Described>⟧.element)) (field (alternative
+        ⟦<OctetStringRef<'a> as Described>⟧.element)))
         ⟦<PasswordRecipientInfo<'a> as FromFields<PasswordRecipientInfoFields<'a>>>⟧.fields };
 
     ghost fits = { (refl, refl) };
@@ -102,8 +106,10 @@ impl<'a> EncodeValue for PasswordRecipientInfo<'a> {
         field_refs!(
             self,
             (
-                (version, key_derivation_algorithm),
-                (key_encryption_algorithm, encrypted_key)
+                version,
+                key_derivation_algorithm,
+                key_encryption_algorithm,
+                encrypted_key
             )
         )
         .encoded_len()
@@ -113,8 +119,10 @@ impl<'a> EncodeValue for PasswordRecipientInfo<'a> {
         field_refs!(
             self,
             (
-                (version, key_derivation_algorithm),
-                (key_encryption_algorithm, encrypted_key)
+                version,
+                key_derivation_algorithm,
+                key_encryption_algorithm,
+                encrypted_key
             )
         )
         .encode(writer)
@@ -124,8 +132,10 @@ impl<'a> EncodeValue for PasswordRecipientInfo<'a> {
         field_refs!(
             self,
             (
-                (version, key_derivation_algorithm),
-                (key_encryption_algorithm, encrypted_key)
+                version,
+                key_derivation_algorithm,
+                key_encryption_algorithm,
+                encrypted_key
             )
         )
         .len_before()
@@ -135,8 +145,10 @@ impl<'a> EncodeValue for PasswordRecipientInfo<'a> {
         field_refs!(
             self,
             (
-                (version, key_derivation_algorithm),
-                (key_encryption_algorithm, encrypted_key)
+                version,
+                key_derivation_algorithm,
+                key_encryption_algorithm,
+                encrypted_key
             )
         )
         .encode_before(buf, end)

@@ -25,14 +25,14 @@ pub struct Pkcs7ContentInfo<'a> {
     pub content: Optional<ExplicitAny<'a, 0>>,
 }
 
-/// The fields of a [`Pkcs7ContentInfo`] in pairs, in the order in which they are encoded.
+/// The fields of a [`Pkcs7ContentInfo`], in the order in which they are encoded.
 pub type Pkcs7ContentInfoFields<'a> = (ContentType<'a>, Optional<ExplicitAny<'a, 0>>);
 
 impl<'a> FromFields<Pkcs7ContentInfoFields<'a>> for Pkcs7ContentInfo<'a> {
     ghost fields = { λ v. (v.content_type, v.content) };
 
-    fn from_fields(members: Pkcs7ContentInfoFields<'a>) -> Self {
-        let (content_type, content) = members;
+    fn from_fields(fields: Pkcs7ContentInfoFields<'a>) -> Self {
+        let (content_type, content) = fields;
         Pkcs7ContentInfo {
             content_type,
             content,

@@ -6,6 +6,7 @@ ghost use Rattle.std.proofs.Common.{arith, refl};
 ghost use Rattle.der.specs.Prelude.{map_ok};
 ghost use Rattle.der_asn1.specs.Item.{decodes_same};
 ghost use Rattle.der_asn1.specs.Meaning.{alternative, field, optional, seen, sequence, sequence_is_item, sequence_item, two_fields};
+ghost use Rattle.der_asn1.specs.TupleFields.{three_fields};
 
 use crate::asn1::certificate_set::CertificateSet;
 use crate::asn1::cms_version::CmsVersion;
@@ -40,7 +41,7 @@ pub struct Pkcs7SignedData<'a> {
     pub signer_infos: SetOf<'a, SignerInfo<'a>>,
 }
 
-/// The fields of a [`Pkcs7SignedData`] in pairs, in the order in which they are encoded.
+/// The fields of a [`Pkcs7SignedData`], in the order in which they are encoded.
 pub type Pkcs7SignedDataFields<'a> = (
     Pkcs7SignedDataPart1Fields<'a>,
     Pkcs7SignedDataPart2Fields<'a>,
@@ -60,8 +61,8 @@ impl<'a> FromFields<(Pkcs7SignedDataPart1<'a>, Pkcs7SignedDataPart2<'a>)> for Pk
       },
     ) };
 
-    fn from_fields(members: (Pkcs7SignedDataPart1<'a>, Pkcs7SignedDataPart2<'a>)) -> Self {
-        let (part1, part2) = members;
+    fn from_fields(fields: (Pkcs7SignedDataPart1<'a>, Pkcs7SignedDataPart2<'a>)) -> Self {
+        let (part1, part2) = fields;
         Pkcs7SignedData {
             version: part1.version,
             digest_algorithms: part1.digest_algorithms,
@@ -76,14 +77,14 @@ impl<'a> FromFields<(Pkcs7SignedDataPart1<'a>, Pkcs7SignedDataPart2<'a>)> for Pk
 impl<'a> Sequence for Pkcs7SignedData<'a> {
     ghost meaning = { sequence (two_fields (seen
         ⟦<Pkcs7SignedDataPart1<'a> as FromFields<Pkcs7SignedDataPart1Fields<'a>>>⟧.fields
-        (two_fields (field (alternative ⟦<CmsVersion<'a> as Described>⟧.element)) (two_fields (field
+        (three_fields (field (alternative ⟦<CmsVersion<'a> as Described>⟧.element)) (field
         (alternative ⟦<SetOf<'a, AlgorithmIdentifierRef<'a>> as Described>⟧.element)) (field
-        (alternative ⟦<Pkcs7ContentInfo<'a> as Described>⟧.element))))) (seen
+        (alternative ⟦<Pkcs7ContentInfo<'a> as Described>⟧.element)))) (seen
         ⟦<Pkcs7SignedDataPart2<'a> as FromFields<Pkcs7SignedDataPart2Fields<'a>>>⟧.fields
-        (two_fields (optional (alternative
-        ⟦<Implicit<CertificateSet<'a>, 0> as Described>⟧.element)) (two_fields (optional
-        (alternative ⟦<Implicit<RevocationInfoChoices<'a>, 1> as Described>⟧.element)) (field
-        (alternative ⟦<SetOf<'a, SignerInfo<'a>> as Described>⟧.element))))))
+        (three_fields (optional (alternative
+        ⟦<Implicit<CertificateSet<'a>, 0> as Described>⟧.element)) (optional (alternative
+        ⟦<Implicit<RevocationInfoChoices<'a>, 1> as Described>⟧.element)) (field (alternative
+        ⟦<SetOf<'a, SignerInfo<'a>> as Described>⟧.element)))))
         ⟦<Pkcs7SignedData<'a> as FromFields<(Pkcs7SignedDataPart1<'a>, Pkcs7SignedDataPart2<'a>)>>⟧.fields };
 
     ghost fits = { (refl, refl) };
@@ -140,8 +141,8 @@ impl<'a> EncodeValue for Pkcs7SignedData<'a> {
         field_refs!(
             self,
             (
-                (version, (digest_algorithms, content_info)),
-                (certificates, (crls, signer_infos))
+                (version, digest_algorithms, content_info),
+                (certificates, crls, signer_infos)
             )
         )
         .encoded_len()
@@ -151,8 +152,8 @@ impl<'a> EncodeValue for Pkcs7SignedData<'a> {
         field_refs!(
             self,
             (
-                (version, (digest_algorithms, content_info)),
-                (certificates, (crls, signer_infos))
+                (version, digest_algorithms, content_info),
+                (certificates, crls, signer_infos)
             )
         )
         .encode(writer)
@@ -162,8 +163,8 @@ impl<'a> EncodeValue for Pkcs7SignedData<'a> {
         field_refs!(
             self,
             (
-                (version, (digest_algorithms, content_info)),
-                (certificates, (crls, signer_infos))
+                (version, digest_algorithms, content_info),
+                (certificates, crls, signer_infos)
             )
         )
         .len_before()
@@ -173,8 +174,8 @@ impl<'a> EncodeValue for Pkcs7SignedData<'a> {
         field_refs!(
             self,
             (
-                (version, (digest_algorithms, content_info)),
-                (certificates, (crls, signer_infos))
+                (version, digest_algorithms, content_info),
+                (certificates, crls, signer_infos)
             )
         )
         .encode_before(buf, end)

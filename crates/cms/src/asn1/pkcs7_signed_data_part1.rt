@@ -19,17 +19,18 @@ pub(crate) struct Pkcs7SignedDataPart1<'a> {
     pub(crate) content_info: Pkcs7ContentInfo<'a>,
 }
 
-// The fields in pairs, in the order in which they are encoded.
+// The fields, in the order in which they are encoded.
 pub(crate) type Pkcs7SignedDataPart1Fields<'a> = (
     CmsVersion<'a>,
-    (SetOf<'a, AlgorithmIdentifierRef<'a>>, Pkcs7ContentInfo<'a>),
+    SetOf<'a, AlgorithmIdentifierRef<'a>>,
+    Pkcs7ContentInfo<'a>,
 );
 
 impl<'a> FromFields<Pkcs7SignedDataPart1Fields<'a>> for Pkcs7SignedDataPart1<'a> {
-    ghost fields = { λ v. (v.version, (v.digest_algorithms, v.content_info)) };
+    ghost fields = { λ v. (v.version, v.digest_algorithms, v.content_info) };
 
-    fn from_fields(members: Pkcs7SignedDataPart1Fields<'a>) -> Self {
-        let (version, (digest_algorithms, content_info)) = members;
+    fn from_fields(fields: Pkcs7SignedDataPart1Fields<'a>) -> Self {
+        let (version, digest_algorithms, content_info) = fields;
         Pkcs7SignedDataPart1 {
             version,
             digest_algorithms,

@@ -19,20 +19,18 @@ pub(crate) struct Pkcs7SignedDataPart2<'a> {
     pub(crate) signer_infos: SetOf<'a, SignerInfo<'a>>,
 }
 
-// The fields in pairs, in the order in which they are encoded.
+// The fields, in the order in which they are encoded.
 pub(crate) type Pkcs7SignedDataPart2Fields<'a> = (
     Optional<Implicit<CertificateSet<'a>, 0>>,
-    (
-        Optional<Implicit<RevocationInfoChoices<'a>, 1>>,
-        SetOf<'a, SignerInfo<'a>>,
-    ),
+    Optional<Implicit<RevocationInfoChoices<'a>, 1>>,
+    SetOf<'a, SignerInfo<'a>>,
 );
 
 impl<'a> FromFields<Pkcs7SignedDataPart2Fields<'a>> for Pkcs7SignedDataPart2<'a> {
-    ghost fields = { λ v. (v.certificates, (v.crls, v.signer_infos)) };
+    ghost fields = { λ v. (v.certificates, v.crls, v.signer_infos) };
 
-    fn from_fields(members: Pkcs7SignedDataPart2Fields<'a>) -> Self {
-        let (certificates, (crls, signer_infos)) = members;
+    fn from_fields(fields: Pkcs7SignedDataPart2Fields<'a>) -> Self {
+        let (certificates, crls, signer_infos) = fields;
         Pkcs7SignedDataPart2 {
             certificates,
             crls,

@@ -5,7 +5,8 @@ ghost use Rattle.std.specs.Prelude.{◌≡◌};
 ghost use Rattle.std.proofs.Common.{arith, refl};
 ghost use Rattle.der.specs.Prelude.{map_ok};
 ghost use Rattle.der_asn1.specs.Item.{decodes_same};
-ghost use Rattle.der_asn1.specs.Meaning.{alternative, field, optional, sequence, sequence_is_item, sequence_item, two_fields};
+ghost use Rattle.der_asn1.specs.Meaning.{alternative, field, optional, sequence, sequence_is_item, sequence_item};
+ghost use Rattle.der_asn1.specs.TupleFields.{three_fields};
 
 use crate::asn1::pki_failure_info::PkiFailureInfo;
 use crate::asn1::pki_status::PkiStatus;
@@ -30,20 +31,18 @@ pub struct PkiStatusInfo<'a> {
     pub fail_info: Optional<PkiFailureInfo<'a>>,
 }
 
-/// The fields of a [`PkiStatusInfo`] in pairs, in the order in which they are encoded.
+/// The fields of a [`PkiStatusInfo`], in the order in which they are encoded.
 pub type PkiStatusInfoFields<'a> = (
     NamedInteger<PkiStatus>,
-    (
-        Optional<SequenceOf<'a, Utf8StringRef<'a>>>,
-        Optional<PkiFailureInfo<'a>>,
-    ),
+    Optional<SequenceOf<'a, Utf8StringRef<'a>>>,
+    Optional<PkiFailureInfo<'a>>,
 );
 
 impl<'a> FromFields<PkiStatusInfoFields<'a>> for PkiStatusInfo<'a> {
-    ghost fields = { λ v. (v.status, (v.status_string, v.fail_info)) };
+    ghost fields = { λ v. (v.status, v.status_string, v.fail_info) };
 
-    fn from_fields(members: PkiStatusInfoFields<'a>) -> Self {
-        let (status, (status_string, fail_info)) = members;
+    fn from_fields(fields: PkiStatusInfoFields<'a>) -> Self {
+        let (status, status_string, fail_info) = fields;
         PkiStatusInfo {
             status,
             status_string,
@@ -53,10 +52,10 @@ impl<'a> FromFields<PkiStatusInfoFields<'a>> for PkiStatusInfo<'a> {
 }
 
 impl<'a> Sequence for PkiStatusInfo<'a> {
-    ghost meaning = { sequence (two_fields (field (alternative
-        ⟦<NamedInteger<PkiStatus> as Described>⟧.element)) (two_fields (optional (alternative
+    ghost meaning = { sequence (three_fields (field (alternative
+        ⟦<NamedInteger<PkiStatus> as Described>⟧.element)) (optional (alternative
         ⟦<SequenceOf<'a, Utf8StringRef<'a>> as Described>⟧.element)) (optional (alternative
-        ⟦<PkiFailureInfo<'a> as Described>⟧.element))))
+        ⟦<PkiFailureInfo<'a> as Described>⟧.element)))
         ⟦<PkiStatusInfo<'a> as FromFields<PkiStatusInfoFields<'a>>>⟧.fields };
 
     ghost fits = { (refl, refl) };
@@ -96,19 +95,19 @@ impl<'a> EncodeValue for PkiStatusInfo<'a> {
         (⟦<PkiStatusInfo<'a> as FromFields<PkiStatusInfoFields<'a>>>⟧.fields v) };
 
     fn value_len(&self) -> Result<Length, Error> {
-        field_refs!(self, (status, (status_string, fail_info))).encoded_len()
+        field_refs!(self, (status, status_string, fail_info)).encoded_len()
     }
 
     fn encode_value<W: Writer>(&self, writer: &mut W) -> Result<(), Error> {
-        field_refs!(self, (status, (status_string, fail_info))).encode(writer)
+        field_refs!(self, (status, status_string, fail_info)).encode(writer)
     }
 
     fn value_len_before(&self) -> Option<u32> {
-        field_refs!(self, (status, (status_string, fail_info))).len_before()
+        field_refs!(self, (status, status_string, fail_info)).len_before()
     }
 
     fn encode_value_before(&self, buf: &mut [u8], end: u32) -> u32 {
-        field_refs!(self, (status, (status_string, fail_info))).encode_before(buf, end)
+        field_refs!(self, (status, status_string, fail_info)).encode_before(buf, end)
     }
 }
 

@@ -26,14 +26,14 @@ pub struct RecipientEncryptedKey<'a> {
     pub encrypted_key: OctetStringRef<'a>,
 }
 
-/// The fields of a [`RecipientEncryptedKey`] in pairs, in the order in which they are encoded.
+/// The fields of a [`RecipientEncryptedKey`], in the order in which they are encoded.
 pub type RecipientEncryptedKeyFields<'a> = (KeyAgreeRecipientIdentifier<'a>, OctetStringRef<'a>);
 
 impl<'a> FromFields<RecipientEncryptedKeyFields<'a>> for RecipientEncryptedKey<'a> {
     ghost fields = { λ v. (v.rid, v.encrypted_key) };
 
-    fn from_fields(members: RecipientEncryptedKeyFields<'a>) -> Self {
-        let (rid, encrypted_key) = members;
+    fn from_fields(fields: RecipientEncryptedKeyFields<'a>) -> Self {
+        let (rid, encrypted_key) = fields;
         RecipientEncryptedKey { rid, encrypted_key }
     }
 }

@@ -6,6 +6,7 @@ ghost use Rattle.std.proofs.Common.{arith, refl};
 ghost use Rattle.der.specs.Prelude.{map_ok};
 ghost use Rattle.der_asn1.specs.Item.{decodes_same};
 ghost use Rattle.der_asn1.specs.Meaning.{alternative, field, optional, seen, sequence, sequence_is_item, sequence_item, two_fields};
+ghost use Rattle.der_asn1.specs.TupleFields.{three_fields};
 
 use crate::asn1::certificate_set::CertificateSet;
 use crate::asn1::cms_version::CmsVersion;
@@ -39,7 +40,7 @@ pub struct SignedData<'a> {
     pub signer_infos: SetOf<'a, SignerInfo<'a>>,
 }
 
-/// The fields of a [`SignedData`] in pairs, in the order in which they are encoded.
+/// The fields of a [`SignedData`], in the order in which they are encoded.
 pub type SignedDataFields<'a> = (SignedDataPart1Fields<'a>, SignedDataPart2Fields<'a>);
 
 impl<'a> FromFields<(SignedDataPart1<'a>, SignedDataPart2<'a>)> for SignedData<'a> {
@@ -56,8 +57,8 @@ impl<'a> FromFields<(SignedDataPart1<'a>, SignedDataPart2<'a>)> for SignedData<'
       },
     ) };
 
-    fn from_fields(members: (SignedDataPart1<'a>, SignedDataPart2<'a>)) -> Self {
-        let (part1, part2) = members;
+    fn from_fields(fields: (SignedDataPart1<'a>, SignedDataPart2<'a>)) -> Self {
+        let (part1, part2) = fields;
         SignedData {
             version: part1.version,
             digest_algorithms: part1.digest_algorithms,
@@ -71,15 +72,14 @@ impl<'a> FromFields<(SignedDataPart1<'a>, SignedDataPart2<'a>)> for SignedData<'
 
 impl<'a> Sequence for SignedData<'a> {
     ghost meaning = { sequence (two_fields (seen
-        ⟦<SignedDataPart1<'a> as FromFields<SignedDataPart1Fields<'a>>>⟧.fields (two_fields (field
-        (alternative ⟦<CmsVersion<'a> as Described>⟧.element)) (two_fields (field (alternative
+        ⟦<SignedDataPart1<'a> as FromFields<SignedDataPart1Fields<'a>>>⟧.fields (three_fields (field
+        (alternative ⟦<CmsVersion<'a> as Described>⟧.element)) (field (alternative
         ⟦<SetOf<'a, AlgorithmIdentifierRef<'a>> as Described>⟧.element)) (field (alternative
-        ⟦<EncapsulatedContentInfo<'a> as Described>⟧.element))))) (seen
-        ⟦<SignedDataPart2<'a> as FromFields<SignedDataPart2Fields<'a>>>⟧.fields (two_fields
-        (optional (alternative ⟦<Implicit<CertificateSet<'a>, 0> as Described>⟧.element))
-        (two_fields (optional (alternative
-        ⟦<Implicit<RevocationInfoChoices<'a>, 1> as Described>⟧.element)) (field (alternative
-        ⟦<SetOf<'a, SignerInfo<'a>> as Described>⟧.element))))))
+        ⟦<EncapsulatedContentInfo<'a> as Described>⟧.element)))) (seen
+        ⟦<SignedDataPart2<'a> as FromFields<SignedDataPart2Fields<'a>>>⟧.fields (three_fields
+        (optional (alternative ⟦<Implicit<CertificateSet<'a>, 0> as Described>⟧.element)) (optional
+        (alternative ⟦<Implicit<RevocationInfoChoices<'a>, 1> as Described>⟧.element)) (field
+        (alternative ⟦<SetOf<'a, SignerInfo<'a>> as Described>⟧.element)))))
         ⟦<SignedData<'a> as FromFields<(SignedDataPart1<'a>, SignedDataPart2<'a>)>>⟧.fields };
 
     ghost fits = { (refl, refl) };
@@ -135,8 +135,8 @@ impl<'a> EncodeValue for SignedData<'a> {
         field_refs!(
             self,
             (
-                (version, (digest_algorithms, encap_content_info)),
-                (certificates, (crls, signer_infos))
+                (version, digest_algorithms, encap_content_info),
+                (certificates, crls, signer_infos)
             )
         )
         .encoded_len()
@@ -146,8 +146,8 @@ impl<'a> EncodeValue for SignedData<'a> {
         field_refs!(
             self,
             (
-                (version, (digest_algorithms, encap_content_info)),
-                (certificates, (crls, signer_infos))
+                (version, digest_algorithms, encap_content_info),
+                (certificates, crls, signer_infos)
             )
         )
         .encode(writer)
@@ -157,8 +157,8 @@ impl<'a> EncodeValue for SignedData<'a> {
         field_refs!(
             self,
             (
-                (version, (digest_algorithms, encap_content_info)),
-                (certificates, (crls, signer_infos))
+                (version, digest_algorithms, encap_content_info),
+                (certificates, crls, signer_infos)
             )
         )
         .len_before()
@@ -168,8 +168,8 @@ impl<'a> EncodeValue for SignedData<'a> {
         field_refs!(
             self,
             (
-                (version, (digest_algorithms, encap_content_info)),
-                (certificates, (crls, signer_infos))
+                (version, digest_algorithms, encap_content_info),
+                (certificates, crls, signer_infos)
             )
         )
         .encode_before(buf, end)

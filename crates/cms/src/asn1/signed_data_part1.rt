@@ -19,20 +19,18 @@ pub(crate) struct SignedDataPart1<'a> {
     pub(crate) encap_content_info: EncapsulatedContentInfo<'a>,
 }
 
-// The fields in pairs, in the order in which they are encoded.
+// The fields, in the order in which they are encoded.
 pub(crate) type SignedDataPart1Fields<'a> = (
     CmsVersion<'a>,
-    (
-        SetOf<'a, AlgorithmIdentifierRef<'a>>,
-        EncapsulatedContentInfo<'a>,
-    ),
+    SetOf<'a, AlgorithmIdentifierRef<'a>>,
+    EncapsulatedContentInfo<'a>,
 );
 
 impl<'a> FromFields<SignedDataPart1Fields<'a>> for SignedDataPart1<'a> {
-    ghost fields = { λ v. (v.version, (v.digest_algorithms, v.encap_content_info)) };
+    ghost fields = { λ v. (v.version, v.digest_algorithms, v.encap_content_info) };
 
-    fn from_fields(members: SignedDataPart1Fields<'a>) -> Self {
-        let (version, (digest_algorithms, encap_content_info)) = members;
+    fn from_fields(fields: SignedDataPart1Fields<'a>) -> Self {
+        let (version, digest_algorithms, encap_content_info) = fields;
         SignedDataPart1 {
             version,
             digest_algorithms,

@@ -19,20 +19,18 @@ pub(crate) struct SignedDataPart2<'a> {
     pub(crate) signer_infos: SetOf<'a, SignerInfo<'a>>,
 }
 
-// The fields in pairs, in the order in which they are encoded.
+// The fields, in the order in which they are encoded.
 pub(crate) type SignedDataPart2Fields<'a> = (
     Optional<Implicit<CertificateSet<'a>, 0>>,
-    (
-        Optional<Implicit<RevocationInfoChoices<'a>, 1>>,
-        SetOf<'a, SignerInfo<'a>>,
-    ),
+    Optional<Implicit<RevocationInfoChoices<'a>, 1>>,
+    SetOf<'a, SignerInfo<'a>>,
 );
 
 impl<'a> FromFields<SignedDataPart2Fields<'a>> for SignedDataPart2<'a> {
-    ghost fields = { λ v. (v.certificates, (v.crls, v.signer_infos)) };
+    ghost fields = { λ v. (v.certificates, v.crls, v.signer_infos) };
 
-    fn from_fields(members: SignedDataPart2Fields<'a>) -> Self {
-        let (certificates, (crls, signer_infos)) = members;
+    fn from_fields(fields: SignedDataPart2Fields<'a>) -> Self {
+        let (certificates, crls, signer_infos) = fields;
         SignedDataPart2 {
             certificates,
             crls,

@@ -25,14 +25,14 @@ pub struct SignedMessage<'a> {
     pub content: Explicit<SignedData<'a>, 0>,
 }
 
-/// The fields of a [`SignedMessage`] in pairs, in the order in which they are encoded.
+/// The fields of a [`SignedMessage`], in the order in which they are encoded.
 pub type SignedMessageFields<'a> = (ContentType<'a>, Explicit<SignedData<'a>, 0>);
 
 impl<'a> FromFields<SignedMessageFields<'a>> for SignedMessage<'a> {
     ghost fields = { λ v. (v.content_type, v.content) };
 
-    fn from_fields(members: SignedMessageFields<'a>) -> Self {
-        let (content_type, content) = members;
+    fn from_fields(fields: SignedMessageFields<'a>) -> Self {
+        let (content_type, content) = fields;
         SignedMessage {
             content_type,
             content,

@@ -6,6 +6,7 @@ ghost use Rattle.std.proofs.Common.{arith, refl};
 ghost use Rattle.der.specs.Prelude.{map_ok};
 ghost use Rattle.der_asn1.specs.Item.{decodes_same};
 ghost use Rattle.der_asn1.specs.Meaning.{alternative, field, optional, seen, sequence, sequence_is_item, sequence_item, two_fields};
+ghost use Rattle.der_asn1.specs.TupleFields.{four_fields, three_fields};
 
 use crate::asn1::cms_version::CmsVersion;
 use crate::asn1::signer_identifier::SignerIdentifier;
@@ -44,7 +45,7 @@ pub struct SignerInfo<'a> {
     pub unsigned_attrs: Optional<Implicit<Attributes<'a>, 1>>,
 }
 
-/// The fields of a [`SignerInfo`] in pairs, in the order in which they are encoded.
+/// The fields of a [`SignerInfo`], in the order in which they are encoded.
 pub type SignerInfoFields<'a> = (SignerInfoPart1Fields<'a>, SignerInfoPart2Fields<'a>);
 
 impl<'a> FromFields<(SignerInfoPart1<'a>, SignerInfoPart2<'a>)> for SignerInfo<'a> {
@@ -62,8 +63,8 @@ impl<'a> FromFields<(SignerInfoPart1<'a>, SignerInfoPart2<'a>)> for SignerInfo<'
       },
     ) };
 
-    fn from_fields(members: (SignerInfoPart1<'a>, SignerInfoPart2<'a>)) -> Self {
-        let (part1, part2) = members;
+    fn from_fields(fields: (SignerInfoPart1<'a>, SignerInfoPart2<'a>)) -> Self {
+        let (part1, part2) = fields;
         SignerInfo {
             version: part1.version,
             sid: part1.sid,
@@ -78,15 +79,15 @@ impl<'a> FromFields<(SignerInfoPart1<'a>, SignerInfoPart2<'a>)> for SignerInfo<'
 
 impl<'a> Sequence for SignerInfo<'a> {
     ghost meaning = { sequence (two_fields (seen
-        ⟦<SignerInfoPart1<'a> as FromFields<SignerInfoPart1Fields<'a>>>⟧.fields (two_fields
-        (two_fields (field (alternative ⟦<CmsVersion<'a> as Described>⟧.element)) (field
-        ⟦<SignerIdentifier<'a> as DescribedChoice>⟧.alternative)) (two_fields (field (alternative
+        ⟦<SignerInfoPart1<'a> as FromFields<SignerInfoPart1Fields<'a>>>⟧.fields (four_fields (field
+        (alternative ⟦<CmsVersion<'a> as Described>⟧.element)) (field
+        ⟦<SignerIdentifier<'a> as DescribedChoice>⟧.alternative) (field (alternative
         ⟦<AlgorithmIdentifierRef<'a> as Described>⟧.element)) (optional (alternative
-        ⟦<Implicit<Attributes<'a>, 0> as Described>⟧.element))))) (seen
-        ⟦<SignerInfoPart2<'a> as FromFields<SignerInfoPart2Fields<'a>>>⟧.fields (two_fields (field
-        (alternative ⟦<AlgorithmIdentifierRef<'a> as Described>⟧.element)) (two_fields (field
-        (alternative ⟦<OctetStringRef<'a> as Described>⟧.element)) (optional (alternative
-        ⟦<Implicit<Attributes<'a>, 1> as Described>⟧.element))))))
+        ⟦<Implicit<Attributes<'a>, 0> as Described>⟧.element)))) (seen
+        ⟦<SignerInfoPart2<'a> as FromFields<SignerInfoPart2Fields<'a>>>⟧.fields (three_fields (field
+        (alternative ⟦<AlgorithmIdentifierRef<'a> as Described>⟧.element)) (field (alternative
+        ⟦<OctetStringRef<'a> as Described>⟧.element)) (optional (alternative
+        ⟦<Implicit<Attributes<'a>, 1> as Described>⟧.element)))))
         ⟦<SignerInfo<'a> as FromFields<(SignerInfoPart1<'a>, SignerInfoPart2<'a>)>>⟧.fields };
 
     ghost fits = { (refl, refl) };
@@ -146,8 +147,8 @@ impl<'a> EncodeValue for SignerInfo<'a> {
         field_refs!(
             self,
             (
-                ((version, sid), (digest_algorithm, signed_attrs)),
-                (signature_algorithm, (signature, unsigned_attrs))
+                (version, sid, digest_algorithm, signed_attrs),
+                (signature_algorithm, signature, unsigned_attrs)
             )
         )
         .encoded_len()
@@ -157,8 +158,8 @@ impl<'a> EncodeValue for SignerInfo<'a> {
         field_refs!(
             self,
             (
-                ((version, sid), (digest_algorithm, signed_attrs)),
-                (signature_algorithm, (signature, unsigned_attrs))
+                (version, sid, digest_algorithm, signed_attrs),
+                (signature_algorithm, signature, unsigned_attrs)
             )
         )
         .encode(writer)
@@ -168,8 +169,8 @@ impl<'a> EncodeValue for SignerInfo<'a> {
         field_refs!(
             self,
             (
-                ((version, sid), (digest_algorithm, signed_attrs)),
-                (signature_algorithm, (signature, unsigned_attrs))
+                (version, sid, digest_algorithm, signed_attrs),
+                (signature_algorithm, signature, unsigned_attrs)
             )
         )
         .len_before()
@@ -179,8 +180,8 @@ impl<'a> EncodeValue for SignerInfo<'a> {
         field_refs!(
             self,
             (
-                ((version, sid), (digest_algorithm, signed_attrs)),
-                (signature_algorithm, (signature, unsigned_attrs))
+                (version, sid, digest_algorithm, signed_attrs),
+                (signature_algorithm, signature, unsigned_attrs)
             )
         )
         .encode_before(buf, end)

@@ -21,20 +21,19 @@ pub(crate) struct SignerInfoPart1<'a> {
     pub(crate) signed_attrs: Optional<Implicit<Attributes<'a>, 0>>,
 }
 
-// The fields in pairs, in the order in which they are encoded.
+// The fields, in the order in which they are encoded.
 pub(crate) type SignerInfoPart1Fields<'a> = (
-    (CmsVersion<'a>, SignerIdentifier<'a>),
-    (
-        AlgorithmIdentifierRef<'a>,
-        Optional<Implicit<Attributes<'a>, 0>>,
-    ),
+    CmsVersion<'a>,
+    SignerIdentifier<'a>,
+    AlgorithmIdentifierRef<'a>,
+    Optional<Implicit<Attributes<'a>, 0>>,
 );
 
 impl<'a> FromFields<SignerInfoPart1Fields<'a>> for SignerInfoPart1<'a> {
-    ghost fields = { λ v. ((v.version, v.sid), (v.digest_algorithm, v.signed_attrs)) };
+    ghost fields = { λ v. (v.version, v.sid, v.digest_algorithm, v.signed_attrs) };
 
-    fn from_fields(members: SignerInfoPart1Fields<'a>) -> Self {
-        let ((version, sid), (digest_algorithm, signed_attrs)) = members;
+    fn from_fields(fields: SignerInfoPart1Fields<'a>) -> Self {
+        let (version, sid, digest_algorithm, signed_attrs) = fields;
         SignerInfoPart1 {
             version,
             sid,

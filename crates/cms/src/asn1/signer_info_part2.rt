@@ -18,17 +18,18 @@ pub(crate) struct SignerInfoPart2<'a> {
     pub(crate) unsigned_attrs: Optional<Implicit<Attributes<'a>, 1>>,
 }
 
-// The fields in pairs, in the order in which they are encoded.
+// The fields, in the order in which they are encoded.
 pub(crate) type SignerInfoPart2Fields<'a> = (
     AlgorithmIdentifierRef<'a>,
-    (OctetStringRef<'a>, Optional<Implicit<Attributes<'a>, 1>>),
+    OctetStringRef<'a>,
+    Optional<Implicit<Attributes<'a>, 1>>,
 );
 
 impl<'a> FromFields<SignerInfoPart2Fields<'a>> for SignerInfoPart2<'a> {
-    ghost fields = { λ v. (v.signature_algorithm, (v.signature, v.unsigned_attrs)) };
+    ghost fields = { λ v. (v.signature_algorithm, v.signature, v.unsigned_attrs) };
 
-    fn from_fields(members: SignerInfoPart2Fields<'a>) -> Self {
-        let (signature_algorithm, (signature, unsigned_attrs)) = members;
+    fn from_fields(fields: SignerInfoPart2Fields<'a>) -> Self {
+        let (signature_algorithm, signature, unsigned_attrs) = fields;
         SignerInfoPart2 {
             signature_algorithm,
             signature,

@@ -27,7 +27,7 @@ pub struct SigningCertificate<'a> {
     pub policies: Optional<SequenceOf<'a, PolicyInformation<'a>>>,
 }
 
-/// The fields of a [`SigningCertificate`] in pairs, in the order in which they are encoded.
+/// The fields of a [`SigningCertificate`], in the order in which they are encoded.
 pub type SigningCertificateFields<'a> = (
     SequenceOf<'a, EssCertId<'a>>,
     Optional<SequenceOf<'a, PolicyInformation<'a>>>,
@@ -36,8 +36,8 @@ pub type SigningCertificateFields<'a> = (
 impl<'a> FromFields<SigningCertificateFields<'a>> for SigningCertificate<'a> {
     ghost fields = { λ v. (v.certs, v.policies) };
 
-    fn from_fields(members: SigningCertificateFields<'a>) -> Self {
-        let (certs, policies) = members;
+    fn from_fields(fields: SigningCertificateFields<'a>) -> Self {
+        let (certs, policies) = fields;
         SigningCertificate { certs, policies }
     }
 }

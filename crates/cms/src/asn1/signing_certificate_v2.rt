@@ -27,7 +27,7 @@ pub struct SigningCertificateV2<'a> {
     pub policies: Optional<SequenceOf<'a, PolicyInformation<'a>>>,
 }
 
-/// The fields of a [`SigningCertificateV2`] in pairs, in the order in which they are encoded.
+/// The fields of a [`SigningCertificateV2`], in the order in which they are encoded.
 pub type SigningCertificateV2Fields<'a> = (
     SequenceOf<'a, EssCertIdV2<'a>>,
     Optional<SequenceOf<'a, PolicyInformation<'a>>>,
@@ -36,8 +36,8 @@ pub type SigningCertificateV2Fields<'a> = (
 impl<'a> FromFields<SigningCertificateV2Fields<'a>> for SigningCertificateV2<'a> {
     ghost fields = { λ v. (v.certs, v.policies) };
 
-    fn from_fields(members: SigningCertificateV2Fields<'a>) -> Self {
-        let (certs, policies) = members;
+    fn from_fields(fields: SigningCertificateV2Fields<'a>) -> Self {
+        let (certs, policies) = fields;
         SigningCertificateV2 { certs, policies }
     }
 }

@@ -6,6 +6,7 @@ ghost use Rattle.std.proofs.Common.{arith, refl};
 ghost use Rattle.der.specs.Prelude.{map_ok};
 ghost use Rattle.der_asn1.specs.Item.{decodes_same};
 ghost use Rattle.der_asn1.specs.Meaning.{alternative, defaulted, field, optional, seen, sequence, sequence_is_item, sequence_item, two_fields};
+ghost use Rattle.der_asn1.specs.TupleFields.{three_fields};
 
 use crate::asn1::message_imprint::MessageImprint;
 use crate::asn1::time_stamp_req_part1::{TimeStampReqPart1, TimeStampReqPart1Fields};
@@ -40,36 +41,37 @@ pub struct TimeStampReq<'a> {
     pub extensions: Optional<Implicit<Extensions<'a>, 0>>,
 }
 
-/// The fields of a [`TimeStampReq`] in pairs, in the order in which they are encoded.
+/// The fields of a [`TimeStampReq`], in the order in which they are encoded.
 pub type TimeStampReqFields<'a> = (
     TimeStampReqPart1Fields<'a>,
-    (TimeStampReqPart2Fields<'a>, TimeStampReqPart3Fields<'a>),
+    TimeStampReqPart2Fields<'a>,
+    TimeStampReqPart3Fields<'a>,
 );
 
 impl<'a> FromFields<
     (
         TimeStampReqPart1<'a>,
-        (TimeStampReqPart2<'a>, TimeStampReqPart3<'a>),
+        TimeStampReqPart2<'a>,
+        TimeStampReqPart3<'a>,
     ),
 > for TimeStampReq<'a> {
     ghost fields = { λ v. (
       record { version = v.version; message_imprint = v.message_imprint },
-      (
-        record { req_policy = v.req_policy; nonce = v.nonce },
-        record {
-          cert_req = v.cert_req;
-          extensions = v.extensions;
-        },
-      ),
+      record { req_policy = v.req_policy; nonce = v.nonce },
+      record {
+        cert_req = v.cert_req;
+        extensions = v.extensions;
+      },
     ) };
 
     fn from_fields(
-        members: (
+        fields: (
             TimeStampReqPart1<'a>,
-            (TimeStampReqPart2<'a>, TimeStampReqPart3<'a>),
+            TimeStampReqPart2<'a>,
+            TimeStampReqPart3<'a>,
         ),
     ) -> Self {
-        let (part1, (part2, part3)) = members;
+        let (part1, part2, part3) = fields;
         TimeStampReq {
             version: part1.version,
             message_imprint: part1.message_imprint,
@@ -82,19 +84,18 @@ impl<'a> FromFields<
 }
 
 impl<'a> Sequence for TimeStampReq<'a> {
-    ghost meaning = { sequence (two_fields (seen
+    ghost meaning = { sequence (three_fields (seen
         ⟦<TimeStampReqPart1<'a> as FromFields<TimeStampReqPart1Fields<'a>>>⟧.fields (two_fields
         (field (alternative ⟦<IntRef<'a> as Described>⟧.element)) (field (alternative
-        ⟦<MessageImprint<'a> as Described>⟧.element)))) (two_fields (seen
+        ⟦<MessageImprint<'a> as Described>⟧.element)))) (seen
         ⟦<TimeStampReqPart2<'a> as FromFields<TimeStampReqPart2Fields<'a>>>⟧.fields (two_fields
         (optional (alternative ⟦<TsaPolicyId<'a> as Described>⟧.element)) (optional (alternative
         ⟦<IntRef<'a> as Described>⟧.element)))) (seen
         ⟦<TimeStampReqPart3<'a> as FromFields<TimeStampReqPart3Fields<'a>>>⟧.fields (two_fields
         (defaulted ⟦<BooleanRef<'a> as DefaultValue>⟧.is_default (alternative
         ⟦<BooleanRef<'a> as Described>⟧.element)) (optional (alternative
-        ⟦<Implicit<Extensions<'a>, 0> as Described>⟧.element))))))
-        ⟦<TimeStampReq<'a> as FromFields<(TimeStampReqPart1<'a>,
-        (TimeStampReqPart2<'a>, TimeStampReqPart3<'a>))>>⟧.fields };
+        ⟦<Implicit<Extensions<'a>, 0> as Described>⟧.element)))))
+        ⟦<TimeStampReq<'a> as FromFields<(TimeStampReqPart1<'a>, TimeStampReqPart2<'a>, TimeStampReqPart3<'a>)>>⟧.fields };
 
     ghost fits = { (refl, refl) };
 }
@@ -104,17 +105,17 @@ impl<'a, R: Reader<Borrowed = &'a [u8]>> DecodeValue<R> for TimeStampReq<'a> {
     type Error = Error;
 
     ghost decode_value_answers = { λ h s result t.
-        ⟦<(TimeStampReqPart1<'a>,
-        (TimeStampReqPart2<'a>, TimeStampReqPart3<'a>)) as Decode<SliceReader<'a>>>⟧.decode_answers s
-        (map_ok ⟦<TimeStampReq<'a> as FromFields<(TimeStampReqPart1<'a>,
-        (TimeStampReqPart2<'a>, TimeStampReqPart3<'a>))>>⟧.fields result) t };
+        ⟦<(TimeStampReqPart1<'a>, TimeStampReqPart2<'a>, TimeStampReqPart3<'a>) as Decode<SliceReader<'a>>>⟧.decode_answers s
+        (map_ok
+        ⟦<TimeStampReq<'a> as FromFields<(TimeStampReqPart1<'a>, TimeStampReqPart2<'a>, TimeStampReqPart3<'a>)>>⟧.fields result) t };
 
     fn decode_value(alloc: Global, reader: &mut R, header: Header) -> Result<Self, Error> {
         decode_sequence::<
             R,
             (
                 TimeStampReqPart1<'a>,
-                (TimeStampReqPart2<'a>, TimeStampReqPart3<'a>),
+                TimeStampReqPart2<'a>,
+                TimeStampReqPart3<'a>,
             ),
             Self,
         >(alloc, reader, header)
@@ -142,30 +143,20 @@ impl<'a> IsValue for TimeStampReq<'a> {
 impl<'a> EncodeValue for TimeStampReq<'a> {
     ghost value_size = { λ v. ⟦<TimeStampReqFields<'a> as Encode>⟧.size (
       ⟦<TimeStampReqPart1<'a> as FromFields<TimeStampReqPart1Fields<'a>>>⟧.fields
-          (⟦<TimeStampReq<'a> as FromFields<(TimeStampReqPart1<'a>,
-        (TimeStampReqPart2<'a>, TimeStampReqPart3<'a>))>>⟧.fields v).0,
-      (
-        ⟦<TimeStampReqPart2<'a> as FromFields<TimeStampReqPart2Fields<'a>>>⟧.fields
-            (⟦<TimeStampReq<'a> as FromFields<(TimeStampReqPart1<'a>,
-        (TimeStampReqPart2<'a>, TimeStampReqPart3<'a>))>>⟧.fields v).1.0,
-        ⟦<TimeStampReqPart3<'a> as FromFields<TimeStampReqPart3Fields<'a>>>⟧.fields
-            (⟦<TimeStampReq<'a> as FromFields<(TimeStampReqPart1<'a>,
-        (TimeStampReqPart2<'a>, TimeStampReqPart3<'a>))>>⟧.fields v).1.1,
-      ),
+          (⟦<TimeStampReq<'a> as FromFields<(TimeStampReqPart1<'a>, TimeStampReqPart2<'a>, TimeStampReqPart3<'a>)>>⟧.fields v).0,
+      ⟦<TimeStampReqPart2<'a> as FromFields<TimeStampReqPart2Fields<'a>>>⟧.fields
+          (⟦<TimeStampReq<'a> as FromFields<(TimeStampReqPart1<'a>, TimeStampReqPart2<'a>, TimeStampReqPart3<'a>)>>⟧.fields v).1,
+      ⟦<TimeStampReqPart3<'a> as FromFields<TimeStampReqPart3Fields<'a>>>⟧.fields
+          (⟦<TimeStampReq<'a> as FromFields<(TimeStampReqPart1<'a>, TimeStampReqPart2<'a>, TimeStampReqPart3<'a>)>>⟧.fields v).2,
     ) };
 
     ghost encode_value_answers = { λ v. ⟦<TimeStampReqFields<'a> as Encode>⟧.encode_answers (
       ⟦<TimeStampReqPart1<'a> as FromFields<TimeStampReqPart1Fields<'a>>>⟧.fields
-          (⟦<TimeStampReq<'a> as FromFields<(TimeStampReqPart1<'a>,
-        (TimeStampReqPart2<'a>, TimeStampReqPart3<'a>))>>⟧.fields v).0,
-      (
-        ⟦<TimeStampReqPart2<'a> as FromFields<TimeStampReqPart2Fields<'a>>>⟧.fields
-            (⟦<TimeStampReq<'a> as FromFields<(TimeStampReqPart1<'a>,
-        (TimeStampReqPart2<'a>, TimeStampReqPart3<'a>))>>⟧.fields v).1.0,
-        ⟦<TimeStampReqPart3<'a> as FromFields<TimeStampReqPart3Fields<'a>>>⟧.fields
-            (⟦<TimeStampReq<'a> as FromFields<(TimeStampReqPart1<'a>,
-        (TimeStampReqPart2<'a>, TimeStampReqPart3<'a>))>>⟧.fields v).1.1,
-      ),
+          (⟦<TimeStampReq<'a> as FromFields<(TimeStampReqPart1<'a>, TimeStampReqPart2<'a>, TimeStampReqPart3<'a>)>>⟧.fields v).0,
+      ⟦<TimeStampReqPart2<'a> as FromFields<TimeStampReqPart2Fields<'a>>>⟧.fields
+          (⟦<TimeStampReq<'a> as FromFields<(TimeStampReqPart1<'a>, TimeStampReqPart2<'a>, TimeStampReqPart3<'a>)>>⟧.fields v).1,
+      ⟦<TimeStampReqPart3<'a> as FromFields<TimeStampReqPart3Fields<'a>>>⟧.fields
+          (⟦<TimeStampReq<'a> as FromFields<(TimeStampReqPart1<'a>, TimeStampReqPart2<'a>, TimeStampReqPart3<'a>)>>⟧.fields v).2,
     ) };
 
     fn value_len(&self) -> Result<Length, Error> {
@@ -173,7 +164,8 @@ impl<'a> EncodeValue for TimeStampReq<'a> {
             self,
             (
                 (version, message_imprint),
-                ((req_policy, nonce), (cert_req, extensions))
+                (req_policy, nonce),
+                (cert_req, extensions)
             )
         )
         .encoded_len()
@@ -184,7 +176,8 @@ impl<'a> EncodeValue for TimeStampReq<'a> {
             self,
             (
                 (version, message_imprint),
-                ((req_policy, nonce), (cert_req, extensions))
+                (req_policy, nonce),
+                (cert_req, extensions)
             )
         )
         .encode(writer)
@@ -195,7 +188,8 @@ impl<'a> EncodeValue for TimeStampReq<'a> {
             self,
             (
                 (version, message_imprint),
-                ((req_policy, nonce), (cert_req, extensions))
+                (req_policy, nonce),
+                (cert_req, extensions)
             )
         )
         .len_before()
@@ -206,7 +200,8 @@ impl<'a> EncodeValue for TimeStampReq<'a> {
             self,
             (
                 (version, message_imprint),
-                ((req_policy, nonce), (cert_req, extensions))
+                (req_policy, nonce),
+                (cert_req, extensions)
             )
         )
         .encode_before(buf, end)

@@ -16,14 +16,14 @@ pub(crate) struct TimeStampReqPart1<'a> {
     pub(crate) message_imprint: MessageImprint<'a>,
 }
 
-// The fields in pairs, in the order in which they are encoded.
+// The fields, in the order in which they are encoded.
 pub(crate) type TimeStampReqPart1Fields<'a> = (IntRef<'a>, MessageImprint<'a>);
 
 impl<'a> FromFields<TimeStampReqPart1Fields<'a>> for TimeStampReqPart1<'a> {
     ghost fields = { λ v. (v.version, v.message_imprint) };
 
-    fn from_fields(members: TimeStampReqPart1Fields<'a>) -> Self {
-        let (version, message_imprint) = members;
+    fn from_fields(fields: TimeStampReqPart1Fields<'a>) -> Self {
+        let (version, message_imprint) = fields;
         TimeStampReqPart1 {
             version,
             message_imprint,

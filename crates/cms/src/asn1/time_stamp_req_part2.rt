@@ -16,14 +16,14 @@ pub(crate) struct TimeStampReqPart2<'a> {
     pub(crate) nonce: Optional<IntRef<'a>>,
 }
 
-// The fields in pairs, in the order in which they are encoded.
+// The fields, in the order in which they are encoded.
 pub(crate) type TimeStampReqPart2Fields<'a> = (Optional<TsaPolicyId<'a>>, Optional<IntRef<'a>>);
 
 impl<'a> FromFields<TimeStampReqPart2Fields<'a>> for TimeStampReqPart2<'a> {
     ghost fields = { λ v. (v.req_policy, v.nonce) };
 
-    fn from_fields(members: TimeStampReqPart2Fields<'a>) -> Self {
-        let (req_policy, nonce) = members;
+    fn from_fields(fields: TimeStampReqPart2Fields<'a>) -> Self {
+        let (req_policy, nonce) = fields;
         TimeStampReqPart2 { req_policy, nonce }
     }
 }

@@ -16,7 +16,7 @@ pub(crate) struct TimeStampReqPart3<'a> {
     pub(crate) extensions: Optional<Implicit<Extensions<'a>, 0>>,
 }
 
-// The fields in pairs, in the order in which they are encoded.
+// The fields, in the order in which they are encoded.
 pub(crate) type TimeStampReqPart3Fields<'a> = (
     Defaulted<BooleanRef<'a>>,
     Optional<Implicit<Extensions<'a>, 0>>,
@@ -25,8 +25,8 @@ pub(crate) type TimeStampReqPart3Fields<'a> = (
 impl<'a> FromFields<TimeStampReqPart3Fields<'a>> for TimeStampReqPart3<'a> {
     ghost fields = { λ v. (v.cert_req, v.extensions) };
 
-    fn from_fields(members: TimeStampReqPart3Fields<'a>) -> Self {
-        let (cert_req, extensions) = members;
+    fn from_fields(fields: TimeStampReqPart3Fields<'a>) -> Self {
+        let (cert_req, extensions) = fields;
         TimeStampReqPart3 {
             cert_req,
             extensions,

@@ -26,14 +26,14 @@ pub struct TimeStampResp<'a> {
     pub time_stamp_token: Optional<TimeStampToken<'a>>,
 }
 
-/// The fields of a [`TimeStampResp`] in pairs, in the order in which they are encoded.
+/// The fields of a [`TimeStampResp`], in the order in which they are encoded.
 pub type TimeStampRespFields<'a> = (PkiStatusInfo<'a>, Optional<TimeStampToken<'a>>);
 
 impl<'a> FromFields<TimeStampRespFields<'a>> for TimeStampResp<'a> {
     ghost fields = { λ v. (v.status, v.time_stamp_token) };
 
-    fn from_fields(members: TimeStampRespFields<'a>) -> Self {
-        let (status, time_stamp_token) = members;
+    fn from_fields(fields: TimeStampRespFields<'a>) -> Self {
+        let (status, time_stamp_token) = fields;
         TimeStampResp {
             status,
             time_stamp_token,

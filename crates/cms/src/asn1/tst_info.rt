@@ -6,6 +6,7 @@ ghost use Rattle.std.proofs.Common.{arith, refl};
 ghost use Rattle.der.specs.Prelude.{map_ok};
 ghost use Rattle.der_asn1.specs.Item.{decodes_same};
 ghost use Rattle.der_asn1.specs.Meaning.{alternative, defaulted, field, optional, seen, sequence, sequence_is_item, sequence_item, two_fields};
+ghost use Rattle.der_asn1.specs.TupleFields.{five_fields};
 
 use crate::asn1::accuracy::Accuracy;
 use crate::asn1::general_name_tagged::GeneralNameTagged;
@@ -53,48 +54,45 @@ pub struct TstInfo<'a> {
     pub extensions: Optional<Implicit<Extensions<'a>, 1>>,
 }
 
-/// The fields of a [`TstInfo`] in pairs, in the order in which they are encoded.
+/// The fields of a [`TstInfo`], in the order in which they are encoded.
 pub type TstInfoFields<'a> = (
-    (TstInfoPart1Fields<'a>, TstInfoPart2Fields<'a>),
-    (
-        TstInfoPart3Fields<'a>,
-        (TstInfoPart4Fields<'a>, TstInfoPart5Fields<'a>),
-    ),
+    TstInfoPart1Fields<'a>,
+    TstInfoPart2Fields<'a>,
+    TstInfoPart3Fields<'a>,
+    TstInfoPart4Fields<'a>,
+    TstInfoPart5Fields<'a>,
 );
 
 impl<'a> FromFields<
     (
-        (TstInfoPart1<'a>, TstInfoPart2<'a>),
-        (TstInfoPart3<'a>, (TstInfoPart4<'a>, TstInfoPart5<'a>)),
+        TstInfoPart1<'a>,
+        TstInfoPart2<'a>,
+        TstInfoPart3<'a>,
+        TstInfoPart4<'a>,
+        TstInfoPart5<'a>,
     ),
 > for TstInfo<'a> {
     ghost fields = { λ v. (
-      (
-        record {
-          version = v.version;
-          policy = v.policy;
-        },
-        record { message_imprint = v.message_imprint; serial_number = v.serial_number },
-      ),
-      (
-        record { gen_time = v.gen_time; accuracy = v.accuracy },
-        (
-          record {
-            ordering = v.ordering;
-            nonce = v.nonce;
-          },
-          record { tsa = v.tsa; extensions = v.extensions },
-        ),
-      ),
+      record { version = v.version; policy = v.policy },
+      record { message_imprint = v.message_imprint; serial_number = v.serial_number },
+      record { gen_time = v.gen_time; accuracy = v.accuracy },
+      record {
+        ordering = v.ordering;
+        nonce = v.nonce;
+      },
+      record { tsa = v.tsa; extensions = v.extensions },
     ) };
 
     fn from_fields(
-        members: (
-            (TstInfoPart1<'a>, TstInfoPart2<'a>),
-            (TstInfoPart3<'a>, (TstInfoPart4<'a>, TstInfoPart5<'a>)),
+        fields: (
+            TstInfoPart1<'a>,
+            TstInfoPart2<'a>,
+            TstInfoPart3<'a>,
+            TstInfoPart4<'a>,
+            TstInfoPart5<'a>,
         ),
     ) -> Self {
-        let ((part1, part2), (part3, (part4, part5))) = members;
+        let (part1, part2, part3, part4, part5) = fields;
         TstInfo {
             version: part1.version,
             policy: part1.policy,
@@ -111,25 +109,24 @@ impl<'a> FromFields<
 }
 
 impl<'a> Sequence for TstInfo<'a> {
-    ghost meaning = { sequence (two_fields (two_fields (seen
+    ghost meaning = { sequence (five_fields (seen
         ⟦<TstInfoPart1<'a> as FromFields<TstInfoPart1Fields<'a>>>⟧.fields (two_fields (field
         (alternative ⟦<IntRef<'a> as Described>⟧.element)) (field (alternative
         ⟦<TsaPolicyId<'a> as Described>⟧.element)))) (seen
         ⟦<TstInfoPart2<'a> as FromFields<TstInfoPart2Fields<'a>>>⟧.fields (two_fields (field
         (alternative ⟦<MessageImprint<'a> as Described>⟧.element)) (field (alternative
-        ⟦<IntRef<'a> as Described>⟧.element))))) (two_fields (seen
+        ⟦<IntRef<'a> as Described>⟧.element)))) (seen
         ⟦<TstInfoPart3<'a> as FromFields<TstInfoPart3Fields<'a>>>⟧.fields (two_fields (field
         (alternative ⟦<GeneralizedTime as Described>⟧.element)) (optional (alternative
-        ⟦<Accuracy<'a> as Described>⟧.element)))) (two_fields (seen
+        ⟦<Accuracy<'a> as Described>⟧.element)))) (seen
         ⟦<TstInfoPart4<'a> as FromFields<TstInfoPart4Fields<'a>>>⟧.fields (two_fields (defaulted
         ⟦<BooleanRef<'a> as DefaultValue>⟧.is_default (alternative
         ⟦<BooleanRef<'a> as Described>⟧.element)) (optional (alternative
         ⟦<IntRef<'a> as Described>⟧.element)))) (seen
         ⟦<TstInfoPart5<'a> as FromFields<TstInfoPart5Fields<'a>>>⟧.fields (two_fields (optional
         (alternative ⟦<Implicit<GeneralNameTagged<'a>, 0> as Described>⟧.element)) (optional
-        (alternative ⟦<Implicit<Extensions<'a>, 1> as Described>⟧.element)))))))
-        ⟦<TstInfo<'a> as FromFields<((TstInfoPart1<'a>, TstInfoPart2<'a>), (TstInfoPart3<'a>,
-        (TstInfoPart4<'a>, TstInfoPart5<'a>)))>>⟧.fields };
+        (alternative ⟦<Implicit<Extensions<'a>, 1> as Described>⟧.element)))))
+        ⟦<TstInfo<'a> as FromFields<(TstInfoPart1<'a>, TstInfoPart2<'a>, TstInfoPart3<'a>, TstInfoPart4<'a>, TstInfoPart5<'a>)>>⟧.fields };
 
     ghost fits = { (refl, refl) };
 }
@@ -139,17 +136,19 @@ impl<'a, R: Reader<Borrowed = &'a [u8]>> DecodeValue<R> for TstInfo<'a> {
     type Error = Error;
 
     ghost decode_value_answers = { λ h s result t.
-        ⟦<((TstInfoPart1<'a>, TstInfoPart2<'a>), (TstInfoPart3<'a>,
-        (TstInfoPart4<'a>, TstInfoPart5<'a>))) as Decode<SliceReader<'a>>>⟧.decode_answers s (map_ok
-        ⟦<TstInfo<'a> as FromFields<((TstInfoPart1<'a>, TstInfoPart2<'a>), (TstInfoPart3<'a>,
-        (TstInfoPart4<'a>, TstInfoPart5<'a>)))>>⟧.fields result) t };
+        ⟦<(TstInfoPart1<'a>, TstInfoPart2<'a>, TstInfoPart3<'a>, TstInfoPart4<'a>, TstInfoPart5<'a>) as Decode<SliceReader<'a>>>⟧.decode_answers s
+        (map_ok
+        ⟦<TstInfo<'a> as FromFields<(TstInfoPart1<'a>, TstInfoPart2<'a>, TstInfoPart3<'a>, TstInfoPart4<'a>, TstInfoPart5<'a>)>>⟧.fields result) t };
 
     fn decode_value(alloc: Global, reader: &mut R, header: Header) -> Result<Self, Error> {
         decode_sequence::<
             R,
             (
-                (TstInfoPart1<'a>, TstInfoPart2<'a>),
-                (TstInfoPart3<'a>, (TstInfoPart4<'a>, TstInfoPart5<'a>)),
+                TstInfoPart1<'a>,
+                TstInfoPart2<'a>,
+                TstInfoPart3<'a>,
+                TstInfoPart4<'a>,
+                TstInfoPart5<'a>,
             ),
             Self,
         >(alloc, reader, header)
@@ -182,59 +181,40 @@ impl<'a> IsValue for TstInfo<'a> {
 /// Writes the fields one after the other, with the errors of every [`Sequence`].
 impl<'a> EncodeValue for TstInfo<'a> {
     ghost value_size = { λ v. ⟦<TstInfoFields<'a> as Encode>⟧.size (
-      (
-        ⟦<TstInfoPart1<'a> as FromFields<TstInfoPart1Fields<'a>>>⟧.fields
-            (⟦<TstInfo<'a> as FromFields<((TstInfoPart1<'a>, TstInfoPart2<'a>), (TstInfoPart3<'a>,
-        (TstInfoPart4<'a>, TstInfoPart5<'a>)))>>⟧.fields v).0.0,
-        ⟦<TstInfoPart2<'a> as FromFields<TstInfoPart2Fields<'a>>>⟧.fields
-            (⟦<TstInfo<'a> as FromFields<((TstInfoPart1<'a>, TstInfoPart2<'a>), (TstInfoPart3<'a>,
-        (TstInfoPart4<'a>, TstInfoPart5<'a>)))>>⟧.fields v).0.1,
-      ),
-      (
-        ⟦<TstInfoPart3<'a> as FromFields<TstInfoPart3Fields<'a>>>⟧.fields
-            (⟦<TstInfo<'a> as FromFields<((TstInfoPart1<'a>, TstInfoPart2<'a>), (TstInfoPart3<'a>,
-        (TstInfoPart4<'a>, TstInfoPart5<'a>)))>>⟧.fields v).1.0,
-        (
-          ⟦<TstInfoPart4<'a> as FromFields<TstInfoPart4Fields<'a>>>⟧.fields
-              (⟦<TstInfo<'a> as FromFields<((TstInfoPart1<'a>, TstInfoPart2<'a>), (TstInfoPart3<'a>,
-        (TstInfoPart4<'a>, TstInfoPart5<'a>)))>>⟧.fields v).1.1.0,
-          ⟦<TstInfoPart5<'a> as FromFields<TstInfoPart5Fields<'a>>>⟧.fields
-              (⟦<TstInfo<'a> as FromFields<((TstInfoPart1<'a>, TstInfoPart2<'a>), (TstInfoPart3<'a>,
-        (TstInfoPart4<'a>, TstInfoPart5<'a>)))>>⟧.fields v).1.1.1,
-        ),
-      ),
+      ⟦<TstInfoPart1<'a> as FromFields<TstInfoPart1Fields<'a>>>⟧.fields
+          (⟦<TstInfo<'a> as FromFields<(TstInfoPart1<'a>, TstInfoPart2<'a>, TstInfoPart3<'a>, TstInfoPart4<'a>, TstInfoPart5<'a>)>>⟧.fields v).0,
+      ⟦<TstInfoPart2<'a> as FromFields<TstInfoPart2Fields<'a>>>⟧.fields
+          (⟦<TstInfo<'a> as FromFields<(TstInfoPart1<'a>, TstInfoPart2<'a>, TstInfoPart3<'a>, TstInfoPart4<'a>, TstInfoPart5<'a>)>>⟧.fields v).1,
+      ⟦<TstInfoPart3<'a> as FromFields<TstInfoPart3Fields<'a>>>⟧.fields
+          (⟦<TstInfo<'a> as FromFields<(TstInfoPart1<'a>, TstInfoPart2<'a>, TstInfoPart3<'a>, TstInfoPart4<'a>, TstInfoPart5<'a>)>>⟧.fields v).2,
+      ⟦<TstInfoPart4<'a> as FromFields<TstInfoPart4Fields<'a>>>⟧.fields
+          (⟦<TstInfo<'a> as FromFields<(TstInfoPart1<'a>, TstInfoPart2<'a>, TstInfoPart3<'a>, TstInfoPart4<'a>, TstInfoPart5<'a>)>>⟧.fields v).3,
+      ⟦<TstInfoPart5<'a> as FromFields<TstInfoPart5Fields<'a>>>⟧.fields
+          (⟦<TstInfo<'a> as FromFields<(TstInfoPart1<'a>, TstInfoPart2<'a>, TstInfoPart3<'a>, TstInfoPart4<'a>, TstInfoPart5<'a>)>>⟧.fields v).4,
     ) };
 
     ghost encode_value_answers = { λ v. ⟦<TstInfoFields<'a> as Encode>⟧.encode_answers (
-      (
-        ⟦<TstInfoPart1<'a> as FromFields<TstInfoPart1Fields<'a>>>⟧.fields
-            (⟦<TstInfo<'a> as FromFields<((TstInfoPart1<'a>, TstInfoPart2<'a>), (TstInfoPart3<'a>,
-        (TstInfoPart4<'a>, TstInfoPart5<'a>)))>>⟧.fields v).0.0,
-        ⟦<TstInfoPart2<'a> as FromFields<TstInfoPart2Fields<'a>>>⟧.fields
-            (⟦<TstInfo<'a> as FromFields<((TstInfoPart1<'a>, TstInfoPart2<'a>), (TstInfoPart3<'a>,
-        (TstInfoPart4<'a>, TstInfoPart5<'a>)))>>⟧.fields v).0.1,
-      ),
-      (
-        ⟦<TstInfoPart3<'a> as FromFields<TstInfoPart3Fields<'a>>>⟧.fields
-            (⟦<TstInfo<'a> as FromFields<((TstInfoPart1<'a>, TstInfoPart2<'a>), (TstInfoPart3<'a>,
-        (TstInfoPart4<'a>, TstInfoPart5<'a>)))>>⟧.fields v).1.0,
-        (
-          ⟦<TstInfoPart4<'a> as FromFields<TstInfoPart4Fields<'a>>>⟧.fields
-              (⟦<TstInfo<'a> as FromFields<((TstInfoPart1<'a>, TstInfoPart2<'a>), (TstInfoPart3<'a>,
-        (TstInfoPart4<'a>, TstInfoPart5<'a>)))>>⟧.fields v).1.1.0,
-          ⟦<TstInfoPart5<'a> as FromFields<TstInfoPart5Fields<'a>>>⟧.fields
-              (⟦<TstInfo<'a> as FromFields<((TstInfoPart1<'a>, TstInfoPart2<'a>), (TstInfoPart3<'a>,
-        (TstInfoPart4<'a>, TstInfoPart5<'a>)))>>⟧.fields v).1.1.1,
-        ),
-      ),
+      ⟦<TstInfoPart1<'a> as FromFields<TstInfoPart1Fields<'a>>>⟧.fields
+          (⟦<TstInfo<'a> as FromFields<(TstInfoPart1<'a>, TstInfoPart2<'a>, TstInfoPart3<'a>, TstInfoPart4<'a>, TstInfoPart5<'a>)>>⟧.fields v).0,
+      ⟦<TstInfoPart2<'a> as FromFields<TstInfoPart2Fields<'a>>>⟧.fields
+          (⟦<TstInfo<'a> as FromFields<(TstInfoPart1<'a>, TstInfoPart2<'a>, TstInfoPart3<'a>, TstInfoPart4<'a>, TstInfoPart5<'a>)>>⟧.fields v).1,
+      ⟦<TstInfoPart3<'a> as FromFields<TstInfoPart3Fields<'a>>>⟧.fields
+          (⟦<TstInfo<'a> as FromFields<(TstInfoPart1<'a>, TstInfoPart2<'a>, TstInfoPart3<'a>, TstInfoPart4<'a>, TstInfoPart5<'a>)>>⟧.fields v).2,
+      ⟦<TstInfoPart4<'a> as FromFields<TstInfoPart4Fields<'a>>>⟧.fields
+          (⟦<TstInfo<'a> as FromFields<(TstInfoPart1<'a>, TstInfoPart2<'a>, TstInfoPart3<'a>, TstInfoPart4<'a>, TstInfoPart5<'a>)>>⟧.fields v).3,
+      ⟦<TstInfoPart5<'a> as FromFields<TstInfoPart5Fields<'a>>>⟧.fields
+          (⟦<TstInfo<'a> as FromFields<(TstInfoPart1<'a>, TstInfoPart2<'a>, TstInfoPart3<'a>, TstInfoPart4<'a>, TstInfoPart5<'a>)>>⟧.fields v).4,
     ) };
 
     fn value_len(&self) -> Result<Length, Error> {
         field_refs!(
             self,
             (
-                ((version, policy), (message_imprint, serial_number)),
-                ((gen_time, accuracy), ((ordering, nonce), (tsa, extensions)))
+                (version, policy),
+                (message_imprint, serial_number),
+                (gen_time, accuracy),
+                (ordering, nonce),
+                (tsa, extensions)
             )
         )
         .encoded_len()
@@ -244,8 +224,11 @@ impl<'a> EncodeValue for TstInfo<'a> {
         field_refs!(
             self,
             (
-                ((version, policy), (message_imprint, serial_number)),
-                ((gen_time, accuracy), ((ordering, nonce), (tsa, extensions)))
+                (version, policy),
+                (message_imprint, serial_number),
+                (gen_time, accuracy),
+                (ordering, nonce),
+                (tsa, extensions)
             )
         )
         .encode(writer)
@@ -255,8 +238,11 @@ impl<'a> EncodeValue for TstInfo<'a> {
         field_refs!(
             self,
             (
-                ((version, policy), (message_imprint, serial_number)),
-                ((gen_time, accuracy), ((ordering, nonce), (tsa, extensions)))
+                (version, policy),
+                (message_imprint, serial_number),
+                (gen_time, accuracy),
+                (ordering, nonce),
+                (tsa, extensions)
             )
         )
         .len_before()
@@ -266,8 +252,11 @@ impl<'a> EncodeValue for TstInfo<'a> {
         field_refs!(
             self,
             (
-                ((version, policy), (message_imprint, serial_number)),
-                ((gen_time, accuracy), ((ordering, nonce), (tsa, extensions)))
+                (version, policy),
+                (message_imprint, serial_number),
+                (gen_time, accuracy),
+                (ordering, nonce),
+                (tsa, extensions)
             )
         )
         .encode_before(buf, end)

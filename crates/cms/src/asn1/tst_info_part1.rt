@@ -16,14 +16,14 @@ pub(crate) struct TstInfoPart1<'a> {
     pub(crate) policy: TsaPolicyId<'a>,
 }
 
-// The fields in pairs, in the order in which they are encoded.
+// The fields, in the order in which they are encoded.
 pub(crate) type TstInfoPart1Fields<'a> = (IntRef<'a>, TsaPolicyId<'a>);
 
 impl<'a> FromFields<TstInfoPart1Fields<'a>> for TstInfoPart1<'a> {
     ghost fields = { λ v. (v.version, v.policy) };
 
-    fn from_fields(members: TstInfoPart1Fields<'a>) -> Self {
-        let (version, policy) = members;
+    fn from_fields(fields: TstInfoPart1Fields<'a>) -> Self {
+        let (version, policy) = fields;
         TstInfoPart1 { version, policy }
     }
 }

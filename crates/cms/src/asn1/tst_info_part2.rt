@@ -16,14 +16,14 @@ pub(crate) struct TstInfoPart2<'a> {
     pub(crate) serial_number: IntRef<'a>,
 }
 
-// The fields in pairs, in the order in which they are encoded.
+// The fields, in the order in which they are encoded.
 pub(crate) type TstInfoPart2Fields<'a> = (MessageImprint<'a>, IntRef<'a>);
 
 impl<'a> FromFields<TstInfoPart2Fields<'a>> for TstInfoPart2<'a> {
     ghost fields = { λ v. (v.message_imprint, v.serial_number) };
 
-    fn from_fields(members: TstInfoPart2Fields<'a>) -> Self {
-        let (message_imprint, serial_number) = members;
+    fn from_fields(fields: TstInfoPart2Fields<'a>) -> Self {
+        let (message_imprint, serial_number) = fields;
         TstInfoPart2 {
             message_imprint,
             serial_number,

@@ -16,14 +16,14 @@ pub(crate) struct TstInfoPart3<'a> {
     pub(crate) accuracy: Optional<Accuracy<'a>>,
 }
 
-// The fields in pairs, in the order in which they are encoded.
+// The fields, in the order in which they are encoded.
 pub(crate) type TstInfoPart3Fields<'a> = (GeneralizedTime, Optional<Accuracy<'a>>);
 
 impl<'a> FromFields<TstInfoPart3Fields<'a>> for TstInfoPart3<'a> {
     ghost fields = { λ v. (v.gen_time, v.accuracy) };
 
-    fn from_fields(members: TstInfoPart3Fields<'a>) -> Self {
-        let (gen_time, accuracy) = members;
+    fn from_fields(fields: TstInfoPart3Fields<'a>) -> Self {
+        let (gen_time, accuracy) = fields;
         TstInfoPart3 { gen_time, accuracy }
     }
 }

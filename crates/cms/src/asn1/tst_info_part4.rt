@@ -15,14 +15,14 @@ pub(crate) struct TstInfoPart4<'a> {
     pub(crate) nonce: Optional<IntRef<'a>>,
 }
 
-// The fields in pairs, in the order in which they are encoded.
+// The fields, in the order in which they are encoded.
 pub(crate) type TstInfoPart4Fields<'a> = (Defaulted<BooleanRef<'a>>, Optional<IntRef<'a>>);
 
 impl<'a> FromFields<TstInfoPart4Fields<'a>> for TstInfoPart4<'a> {
     ghost fields = { λ v. (v.ordering, v.nonce) };
 
-    fn from_fields(members: TstInfoPart4Fields<'a>) -> Self {
-        let (ordering, nonce) = members;
+    fn from_fields(fields: TstInfoPart4Fields<'a>) -> Self {
+        let (ordering, nonce) = fields;
         TstInfoPart4 { ordering, nonce }
     }
 }

@@ -17,7 +17,7 @@ pub(crate) struct TstInfoPart5<'a> {
     pub(crate) extensions: Optional<Implicit<Extensions<'a>, 1>>,
 }
 
-// The fields in pairs, in the order in which they are encoded.
+// The fields, in the order in which they are encoded.
 pub(crate) type TstInfoPart5Fields<'a> = (
     Optional<Implicit<GeneralNameTagged<'a>, 0>>,
     Optional<Implicit<Extensions<'a>, 1>>,
@@ -26,8 +26,8 @@ pub(crate) type TstInfoPart5Fields<'a> = (
 impl<'a> FromFields<TstInfoPart5Fields<'a>> for TstInfoPart5<'a> {
     ghost fields = { λ v. (v.tsa, v.extensions) };
 
-    fn from_fields(members: TstInfoPart5Fields<'a>) -> Self {
-        let (tsa, extensions) = members;
+    fn from_fields(fields: TstInfoPart5Fields<'a>) -> Self {
+        let (tsa, extensions) = fields;
         TstInfoPart5 { tsa, extensions }
     }
 }

@@ -5,7 +5,8 @@ ghost use Rattle.std.specs.Prelude.{◌≡◌};
 ghost use Rattle.std.proofs.Common.{arith, refl};
 ghost use Rattle.der.specs.Prelude.{map_ok};
 ghost use Rattle.der_asn1.specs.Item.{decodes_same};
-ghost use Rattle.der_asn1.specs.Meaning.{alternative, field, optional, sequence, sequence_is_item, sequence_item, two_fields};
+ghost use Rattle.der_asn1.specs.Meaning.{alternative, field, optional, sequence, sequence_is_item, sequence_item};
+ghost use Rattle.der_asn1.specs.TupleFields.{four_fields};
 
 use crate::asn1::certificates::Certificates;
 use crate::asn1::response_data::ResponseData;
@@ -32,17 +33,19 @@ pub struct BasicOcspResponse<'a> {
     pub certs: Optional<Explicit<Certificates<'a>, 0>>,
 }
 
-/// The fields of a [`BasicOcspResponse`] in pairs, in the order in which they are encoded.
+/// The fields of a [`BasicOcspResponse`], in the order in which they are encoded.
 pub type BasicOcspResponseFields<'a> = (
-    (ResponseData<'a>, AlgorithmIdentifierRef<'a>),
-    (BitStringRef<'a>, Optional<Explicit<Certificates<'a>, 0>>),
+    ResponseData<'a>,
+    AlgorithmIdentifierRef<'a>,
+    BitStringRef<'a>,
+    Optional<Explicit<Certificates<'a>, 0>>,
 );
 
 impl<'a> FromFields<BasicOcspResponseFields<'a>> for BasicOcspResponse<'a> {
-    ghost fields = { λ v. ((v.tbs_response_data, v.signature_algorithm), (v.signature, v.certs)) };
+    ghost fields = { λ v. (v.tbs_response_data, v.signature_algorithm, v.signature, v.certs) };
 
-    fn from_fields(members: BasicOcspResponseFields<'a>) -> Self {
-        let ((tbs_response_data, signature_algorithm), (signature, certs)) = members;
+    fn from_fields(fields: BasicOcspResponseFields<'a>) -> Self {
+        let (tbs_response_data, signature_algorithm, signature, certs) = fields;
         BasicOcspResponse {
             tbs_response_data,
             signature_algorithm,
@@ -53,11 +56,11 @@ impl<'a> FromFields<BasicOcspResponseFields<'a>> for BasicOcspResponse<'a> {
 }
 
 impl<'a> Sequence for BasicOcspResponse<'a> {
-    ghost meaning = { sequence (two_fields (two_fields (field (alternative
+    ghost meaning = { sequence (four_fields (field (alternative
         ⟦<ResponseData<'a> as Described>⟧.element)) (field (alternative
-        ⟦<AlgorithmIdentifierRef<'a> as Described>⟧.element))) (two_fields (field (alternative
+        ⟦<AlgorithmIdentifierRef<'a> as Described>⟧.element)) (field (alternative
         ⟦<BitStringRef<'a> as Described>⟧.element)) (optional (alternative
-        ⟦<Explicit<Certificates<'a>, 0> as Described>⟧.element))))
+        ⟦<Explicit<Certificates<'a>, 0> as Described>⟧.element)))
         ⟦<BasicOcspResponse<'a> as FromFields<BasicOcspResponseFields<'a>>>⟧.fields };
 
     ghost fits = { (refl, refl) };
@@ -98,7 +101,7 @@ impl<'a> EncodeValue for BasicOcspResponse<'a> {
     fn value_len(&self) -> Result<Length, Error> {
         field_refs!(
             self,
-            ((tbs_response_data, signature_algorithm), (signature, certs))
+            (tbs_response_data, signature_algorithm, signature, certs)
         )
         .encoded_len()
     }
@@ -106,7 +109,7 @@ impl<'a> EncodeValue for BasicOcspResponse<'a> {
     fn encode_value<W: Writer>(&self, writer: &mut W) -> Result<(), Error> {
         field_refs!(
             self,
-            ((tbs_response_data, signature_algorithm), (signature, certs))
+            (tbs_response_data, signature_algorithm, signature, certs)
         )
         .encode(writer)
     }
@@ -114,7 +117,7 @@ impl<'a> EncodeValue for BasicOcspResponse<'a> {
     fn value_len_before(&self) -> Option<u32> {
         field_refs!(
             self,
-            ((tbs_response_data, signature_algorithm), (signature, certs))
+            (tbs_response_data, signature_algorithm, signature, certs)
         )
         .len_before()
     }
@@ -122,7 +125,7 @@ impl<'a> EncodeValue for BasicOcspResponse<'a> {
     fn encode_value_before(&self, buf: &mut [u8], end: u32) -> u32 {
         field_refs!(
             self,
-            ((tbs_response_data, signature_algorithm), (signature, certs))
+            (tbs_response_data, signature_algorithm, signature, certs)
         )
         .encode_before(buf, end)
     }

@@ -5,7 +5,8 @@ ghost use Rattle.std.specs.Prelude.{◌≡◌};
 ghost use Rattle.std.proofs.Common.{arith, refl};
 ghost use Rattle.der.specs.Prelude.{map_ok};
 ghost use Rattle.der_asn1.specs.Item.{decodes_same};
-ghost use Rattle.der_asn1.specs.Meaning.{alternative, field, sequence, sequence_is_item, sequence_item, two_fields};
+ghost use Rattle.der_asn1.specs.Meaning.{alternative, field, sequence, sequence_is_item, sequence_item};
+ghost use Rattle.der_asn1.specs.TupleFields.{four_fields};
 
 use der::{
     Decode, DecodeValue, Encode, EncodeValue, Error, FromFields, Header, IsValue, Length, Reader,
@@ -29,17 +30,24 @@ pub struct CertId<'a> {
     pub serial_number: CertificateSerialNumber<'a>,
 }
 
-/// The fields of a [`CertId`] in pairs, in the order in which they are encoded.
+/// The fields of a [`CertId`], in the order in which they are encoded.
 pub type CertIdFields<'a> = (
-    (AlgorithmIdentifierRef<'a>, OctetStringRef<'a>),
-    (OctetStringRef<'a>, CertificateSerialNumber<'a>),
+    AlgorithmIdentifierRef<'a>,
+    OctetStringRef<'a>,
+    OctetStringRef<'a>,
+    CertificateSerialNumber<'a>,
 );
 
 impl<'a> FromFields<CertIdFields<'a>> for CertId<'a> {
-    ghost fields = { λ v. ((v.hash_algorithm, v.issuer_name_hash), (v.issuer_key_hash, v.serial_number)) };
+    ghost fields = { λ v. (
+      v.hash_algorithm,
+      v.issuer_name_hash,
+      v.issuer_key_hash,
+      v.serial_number,
+    ) };
 
-    fn from_fields(members: CertIdFields<'a>) -> Self {
-        let ((hash_algorithm, issuer_name_hash), (issuer_key_hash, serial_number)) = members;
+    fn from_fields(fields: CertIdFields<'a>) -> Self {
+        let (hash_algorithm, issuer_name_hash, issuer_key_hash, serial_number) = fields;
         CertId {
             hash_algorithm,
             issuer_name_hash,
@@ -50,11 +58,11 @@ impl<'a> FromFields<CertIdFields<'a>> for CertId<'a> {
 }
 
 impl<'a> Sequence for CertId<'a> {
-    ghost meaning = { sequence (two_fields (two_fields (field (alternative
+    ghost meaning = { sequence (four_fields (field (alternative
         ⟦<AlgorithmIdentifierRef<'a> as Described>⟧.element)) (field (alternative
-        ⟦<OctetStringRef<'a> as Described>⟧.element))) (two_fields (field (alternative
         ⟦<OctetStringRef<'a> as Described>⟧.element)) (field (alternative
-        ⟦<CertificateSerialNumber<'a> as Described>⟧.element))))
+        ⟦<OctetStringRef<'a> as Described>⟧.element)) (field (alternative
+        ⟦<CertificateSerialNumber<'a> as Described>⟧.element)))
         ⟦<CertId<'a> as FromFields<CertIdFields<'a>>>⟧.fields };
 
     ghost fits = { (refl, refl) };
@@ -94,8 +102,10 @@ impl<'a> EncodeValue for CertId<'a> {
         field_refs!(
             self,
             (
-                (hash_algorithm, issuer_name_hash),
-                (issuer_key_hash, serial_number)
+                hash_algorithm,
+                issuer_name_hash,
+                issuer_key_hash,
+                serial_number
             )
         )
         .encoded_len()
@@ -105,8 +115,10 @@ impl<'a> EncodeValue for CertId<'a> {
         field_refs!(
             self,
             (
-                (hash_algorithm, issuer_name_hash),
-                (issuer_key_hash, serial_number)
+                hash_algorithm,
+                issuer_name_hash,
+                issuer_key_hash,
+                serial_number
             )
         )
         .encode(writer)
@@ -116,8 +128,10 @@ impl<'a> EncodeValue for CertId<'a> {
         field_refs!(
             self,
             (
-                (hash_algorithm, issuer_name_hash),
-                (issuer_key_hash, serial_number)
+                hash_algorithm,
+                issuer_name_hash,
+                issuer_key_hash,
+                serial_number
             )
         )
         .len_before()
@@ -127,8 +141,10 @@ impl<'a> EncodeValue for CertId<'a> {
         field_refs!(
             self,
             (
-                (hash_algorithm, issuer_name_hash),
-                (issuer_key_hash, serial_number)
+                hash_algorithm,
+                issuer_name_hash,
+                issuer_key_hash,
+                serial_number
             )
         )
         .encode_before(buf, end)

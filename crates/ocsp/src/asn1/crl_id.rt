@@ -5,7 +5,8 @@ ghost use Rattle.std.specs.Prelude.{◌≡◌};
 ghost use Rattle.std.proofs.Common.{arith, refl};
 ghost use Rattle.der.specs.Prelude.{map_ok};
 ghost use Rattle.der_asn1.specs.Item.{decodes_same};
-ghost use Rattle.der_asn1.specs.Meaning.{alternative, optional, sequence, sequence_is_item, sequence_item, two_fields};
+ghost use Rattle.der_asn1.specs.Meaning.{alternative, optional, sequence, sequence_is_item, sequence_item};
+ghost use Rattle.der_asn1.specs.TupleFields.{three_fields};
 
 use der::{
     Decode, DecodeValue, Encode, EncodeValue, Error, FromFields, Header, IsValue, Length, Reader,
@@ -28,20 +29,18 @@ pub struct CrlId<'a> {
     pub crl_time: Optional<Explicit<GeneralizedTime, 2>>,
 }
 
-/// The fields of a [`CrlId`] in pairs, in the order in which they are encoded.
+/// The fields of a [`CrlId`], in the order in which they are encoded.
 pub type CrlIdFields<'a> = (
     Optional<Explicit<Ia5StringRef<'a>, 0>>,
-    (
-        Optional<Explicit<IntRef<'a>, 1>>,
-        Optional<Explicit<GeneralizedTime, 2>>,
-    ),
+    Optional<Explicit<IntRef<'a>, 1>>,
+    Optional<Explicit<GeneralizedTime, 2>>,
 );
 
 impl<'a> FromFields<CrlIdFields<'a>> for CrlId<'a> {
-    ghost fields = { λ v. (v.crl_url, (v.crl_num, v.crl_time)) };
+    ghost fields = { λ v. (v.crl_url, v.crl_num, v.crl_time) };
 
-    fn from_fields(members: CrlIdFields<'a>) -> Self {
-        let (crl_url, (crl_num, crl_time)) = members;
+    fn from_fields(fields: CrlIdFields<'a>) -> Self {
+        let (crl_url, crl_num, crl_time) = fields;
         CrlId {
             crl_url,
             crl_num,
@@ -51,10 +50,10 @@ impl<'a> FromFields<CrlIdFields<'a>> for CrlId<'a> {
 }
 
 impl<'a> Sequence for CrlId<'a> {
-    ghost meaning = { sequence (two_fields (optional (alternative
-        ⟦<Explicit<Ia5StringRef<'a>, 0> as Described>⟧.element)) (two_fields (optional (alternative
+    ghost meaning = { sequence (three_fields (optional (alternative
+        ⟦<Explicit<Ia5StringRef<'a>, 0> as Described>⟧.element)) (optional (alternative
         ⟦<Explicit<IntRef<'a>, 1> as Described>⟧.element)) (optional (alternative
-        ⟦<Explicit<GeneralizedTime, 2> as Described>⟧.element))))
+        ⟦<Explicit<GeneralizedTime, 2> as Described>⟧.element)))
         ⟦<CrlId<'a> as FromFields<CrlIdFields<'a>>>⟧.fields };
 
     ghost fits = { (refl, refl) };
@@ -96,19 +95,19 @@ impl<'a> EncodeValue for CrlId<'a> {
         (⟦<CrlId<'a> as FromFields<CrlIdFields<'a>>>⟧.fields v) };
 
     fn value_len(&self) -> Result<Length, Error> {
-        field_refs!(self, (crl_url, (crl_num, crl_time))).encoded_len()
+        field_refs!(self, (crl_url, crl_num, crl_time)).encoded_len()
     }
 
     fn encode_value<W: Writer>(&self, writer: &mut W) -> Result<(), Error> {
-        field_refs!(self, (crl_url, (crl_num, crl_time))).encode(writer)
+        field_refs!(self, (crl_url, crl_num, crl_time)).encode(writer)
     }
 
     fn value_len_before(&self) -> Option<u32> {
-        field_refs!(self, (crl_url, (crl_num, crl_time))).len_before()
+        field_refs!(self, (crl_url, crl_num, crl_time)).len_before()
     }
 
     fn encode_value_before(&self, buf: &mut [u8], end: u32) -> u32 {
-        field_refs!(self, (crl_url, (crl_num, crl_time))).encode_before(buf, end)
+        field_refs!(self, (crl_url, crl_num, crl_time)).encode_before(buf, end)
     }
 }
 

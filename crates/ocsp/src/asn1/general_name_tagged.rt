@@ -22,14 +22,14 @@ pub struct GeneralNameTagged<'a> {
     pub value: GeneralName<'a>,
 }
 
-/// The fields of a [`GeneralNameTagged`] in pairs, in the order in which they are encoded.
+/// The fields of a [`GeneralNameTagged`], in the order in which they are encoded.
 pub type GeneralNameTaggedFields<'a> = GeneralName<'a>;
 
 impl<'a> FromFields<GeneralNameTaggedFields<'a>> for GeneralNameTagged<'a> {
     ghost fields = { λ v. v.value };
 
-    fn from_fields(members: GeneralNameTaggedFields<'a>) -> Self {
-        let value = members;
+    fn from_fields(fields: GeneralNameTaggedFields<'a>) -> Self {
+        let value = fields;
         GeneralNameTagged { value }
     }
 }

@@ -25,14 +25,14 @@ pub struct OcspRequest<'a> {
     pub optional_signature: Optional<Explicit<Signature<'a>, 0>>,
 }
 
-/// The fields of a [`OcspRequest`] in pairs, in the order in which they are encoded.
+/// The fields of a [`OcspRequest`], in the order in which they are encoded.
 pub type OcspRequestFields<'a> = (TbsRequest<'a>, Optional<Explicit<Signature<'a>, 0>>);
 
 impl<'a> FromFields<OcspRequestFields<'a>> for OcspRequest<'a> {
     ghost fields = { λ v. (v.tbs_request, v.optional_signature) };
 
-    fn from_fields(members: OcspRequestFields<'a>) -> Self {
-        let (tbs_request, optional_signature) = members;
+    fn from_fields(fields: OcspRequestFields<'a>) -> Self {
+        let (tbs_request, optional_signature) = fields;
         OcspRequest {
             tbs_request,
             optional_signature,

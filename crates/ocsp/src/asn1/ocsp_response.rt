@@ -28,7 +28,7 @@ pub struct OcspResponse<'a> {
     pub response_bytes: Optional<Explicit<ResponseBytes<'a>, 0>>,
 }
 
-/// The fields of a [`OcspResponse`] in pairs, in the order in which they are encoded.
+/// The fields of a [`OcspResponse`], in the order in which they are encoded.
 pub type OcspResponseFields<'a> = (
     Enumerated<OcspResponseStatus>,
     Optional<Explicit<ResponseBytes<'a>, 0>>,
@@ -37,8 +37,8 @@ pub type OcspResponseFields<'a> = (
 impl<'a> FromFields<OcspResponseFields<'a>> for OcspResponse<'a> {
     ghost fields = { λ v. (v.response_status, v.response_bytes) };
 
-    fn from_fields(members: OcspResponseFields<'a>) -> Self {
-        let (response_status, response_bytes) = members;
+    fn from_fields(fields: OcspResponseFields<'a>) -> Self {
+        let (response_status, response_bytes) = fields;
         OcspResponse {
             response_status,
             response_bytes,

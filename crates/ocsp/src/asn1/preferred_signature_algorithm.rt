@@ -25,7 +25,7 @@ pub struct PreferredSignatureAlgorithm<'a> {
     pub cert_identifier: Optional<AlgorithmIdentifierRef<'a>>,
 }
 
-/// The fields of a [`PreferredSignatureAlgorithm`] in pairs, in the order in which they are encoded.
+/// The fields of a [`PreferredSignatureAlgorithm`], in the order in which they are encoded.
 pub type PreferredSignatureAlgorithmFields<'a> = (
     AlgorithmIdentifierRef<'a>,
     Optional<AlgorithmIdentifierRef<'a>>,
@@ -34,8 +34,8 @@ pub type PreferredSignatureAlgorithmFields<'a> = (
 impl<'a> FromFields<PreferredSignatureAlgorithmFields<'a>> for PreferredSignatureAlgorithm<'a> {
     ghost fields = { λ v. (v.sig_identifier, v.cert_identifier) };
 
-    fn from_fields(members: PreferredSignatureAlgorithmFields<'a>) -> Self {
-        let (sig_identifier, cert_identifier) = members;
+    fn from_fields(fields: PreferredSignatureAlgorithmFields<'a>) -> Self {
+        let (sig_identifier, cert_identifier) = fields;
         PreferredSignatureAlgorithm {
             sig_identifier,
             cert_identifier,

@@ -25,14 +25,14 @@ pub struct Request<'a> {
     pub single_request_extensions: Optional<Explicit<Extensions<'a>, 0>>,
 }
 
-/// The fields of a [`Request`] in pairs, in the order in which they are encoded.
+/// The fields of a [`Request`], in the order in which they are encoded.
 pub type RequestFields<'a> = (CertId<'a>, Optional<Explicit<Extensions<'a>, 0>>);
 
 impl<'a> FromFields<RequestFields<'a>> for Request<'a> {
     ghost fields = { λ v. (v.req_cert, v.single_request_extensions) };
 
-    fn from_fields(members: RequestFields<'a>) -> Self {
-        let (req_cert, single_request_extensions) = members;
+    fn from_fields(fields: RequestFields<'a>) -> Self {
+        let (req_cert, single_request_extensions) = fields;
         Request {
             req_cert,
             single_request_extensions,

@@ -26,14 +26,14 @@ pub struct ResponseBytes<'a> {
     pub response: OctetStringRef<'a>,
 }
 
-/// The fields of a [`ResponseBytes`] in pairs, in the order in which they are encoded.
+/// The fields of a [`ResponseBytes`], in the order in which they are encoded.
 pub type ResponseBytesFields<'a> = (ObjectIdentifierRef<'a>, OctetStringRef<'a>);
 
 impl<'a> FromFields<ResponseBytesFields<'a>> for ResponseBytes<'a> {
     ghost fields = { λ v. (v.response_type, v.response) };
 
-    fn from_fields(members: ResponseBytesFields<'a>) -> Self {
-        let (response_type, response) = members;
+    fn from_fields(fields: ResponseBytesFields<'a>) -> Self {
+        let (response_type, response) = fields;
         ResponseBytes {
             response_type,
             response,

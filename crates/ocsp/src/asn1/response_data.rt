@@ -6,6 +6,7 @@ ghost use Rattle.std.proofs.Common.{arith, refl};
 ghost use Rattle.der.specs.Prelude.{map_ok};
 ghost use Rattle.der_asn1.specs.Item.{decodes_same};
 ghost use Rattle.der_asn1.specs.Meaning.{alternative, defaulted, field, optional, seen, sequence, sequence_is_item, sequence_item, two_fields};
+ghost use Rattle.der_asn1.specs.TupleFields.{three_fields};
 
 use crate::asn1::responder_id::ResponderId;
 use crate::asn1::response_data_part1::{ResponseDataPart1, ResponseDataPart1Fields};
@@ -39,36 +40,34 @@ pub struct ResponseData<'a> {
     pub response_extensions: Optional<Explicit<Extensions<'a>, 1>>,
 }
 
-/// The fields of a [`ResponseData`] in pairs, in the order in which they are encoded.
+/// The fields of a [`ResponseData`], in the order in which they are encoded.
 pub type ResponseDataFields<'a> = (
     ResponseDataPart1Fields<'a>,
-    (ResponseDataPart2Fields<'a>, ResponseDataPart3Fields<'a>),
+    ResponseDataPart2Fields<'a>,
+    ResponseDataPart3Fields<'a>,
 );
 
 impl<'a> FromFields<
     (
         ResponseDataPart1<'a>,
-        (ResponseDataPart2<'a>, ResponseDataPart3<'a>),
+        ResponseDataPart2<'a>,
+        ResponseDataPart3<'a>,
     ),
 > for ResponseData<'a> {
     ghost fields = { λ v. (
       record { version = v.version; responder_id = v.responder_id },
-      (
-        record {
-          produced_at = v.produced_at;
-          responses = v.responses;
-        },
-        record { response_extensions = v.response_extensions },
-      ),
+      record { produced_at = v.produced_at; responses = v.responses },
+      record { response_extensions = v.response_extensions },
     ) };
 
     fn from_fields(
-        members: (
+        fields: (
             ResponseDataPart1<'a>,
-            (ResponseDataPart2<'a>, ResponseDataPart3<'a>),
+            ResponseDataPart2<'a>,
+            ResponseDataPart3<'a>,
         ),
     ) -> Self {
-        let (part1, (part2, part3)) = members;
+        let (part1, part2, part3) = fields;
         ResponseData {
             version: part1.version,
             responder_id: part1.responder_id,
@@ -80,20 +79,19 @@ impl<'a> FromFields<
 }
 
 impl<'a> Sequence for ResponseData<'a> {
-    ghost meaning = { sequence (two_fields (seen
+    ghost meaning = { sequence (three_fields (seen
         ⟦<ResponseDataPart1<'a> as FromFields<ResponseDataPart1Fields<'a>>>⟧.fields (two_fields
         (defaulted
         ⟦<Explicit<WithDefault<IntegerOf<u64>, DefaultU64<0>>, 0> as DefaultValue>⟧.is_default
         (alternative
         ⟦<Explicit<WithDefault<IntegerOf<u64>, DefaultU64<0>>, 0> as Described>⟧.element)) (field
-        ⟦<ResponderId<'a> as DescribedChoice>⟧.alternative))) (two_fields (seen
+        ⟦<ResponderId<'a> as DescribedChoice>⟧.alternative))) (seen
         ⟦<ResponseDataPart2<'a> as FromFields<ResponseDataPart2Fields<'a>>>⟧.fields (two_fields
         (field (alternative ⟦<GeneralizedTime as Described>⟧.element)) (field (alternative
         ⟦<SequenceOf<'a, SingleResponse<'a>> as Described>⟧.element)))) (seen
         ⟦<ResponseDataPart3<'a> as FromFields<ResponseDataPart3Fields<'a>>>⟧.fields (optional
-        (alternative ⟦<Explicit<Extensions<'a>, 1> as Described>⟧.element)))))
-        ⟦<ResponseData<'a> as FromFields<(ResponseDataPart1<'a>,
-        (ResponseDataPart2<'a>, ResponseDataPart3<'a>))>>⟧.fields };
+        (alternative ⟦<Explicit<Extensions<'a>, 1> as Described>⟧.element))))
+        ⟦<ResponseData<'a> as FromFields<(ResponseDataPart1<'a>, ResponseDataPart2<'a>, ResponseDataPart3<'a>)>>⟧.fields };
 
     ghost fits = { (refl, refl) };
 }
@@ -103,17 +101,17 @@ impl<'a, R: Reader<Borrowed = &'a [u8]>> DecodeValue<R> for ResponseData<'a> {
     type Error = Error;
 
     ghost decode_value_answers = { λ h s result t.
-        ⟦<(ResponseDataPart1<'a>,
-        (ResponseDataPart2<'a>, ResponseDataPart3<'a>)) as Decode<SliceReader<'a>>>⟧.decode_answers s
-        (map_ok ⟦<ResponseData<'a> as FromFields<(ResponseDataPart1<'a>,
-        (ResponseDataPart2<'a>, ResponseDataPart3<'a>))>>⟧.fields result) t };
+        ⟦<(ResponseDataPart1<'a>, ResponseDataPart2<'a>, ResponseDataPart3<'a>) as Decode<SliceReader<'a>>>⟧.decode_answers s
+        (map_ok
+        ⟦<ResponseData<'a> as FromFields<(ResponseDataPart1<'a>, ResponseDataPart2<'a>, ResponseDataPart3<'a>)>>⟧.fields result) t };
 
     fn decode_value(alloc: Global, reader: &mut R, header: Header) -> Result<Self, Error> {
         decode_sequence::<
             R,
             (
                 ResponseDataPart1<'a>,
-                (ResponseDataPart2<'a>, ResponseDataPart3<'a>),
+                ResponseDataPart2<'a>,
+                ResponseDataPart3<'a>,
             ),
             Self,
         >(alloc, reader, header)
@@ -139,30 +137,20 @@ impl<'a> IsValue for ResponseData<'a> {
 impl<'a> EncodeValue for ResponseData<'a> {
     ghost value_size = { λ v. ⟦<ResponseDataFields<'a> as Encode>⟧.size (
       ⟦<ResponseDataPart1<'a> as FromFields<ResponseDataPart1Fields<'a>>>⟧.fields
-          (⟦<ResponseData<'a> as FromFields<(ResponseDataPart1<'a>,
-        (ResponseDataPart2<'a>, ResponseDataPart3<'a>))>>⟧.fields v).0,
-      (
-        ⟦<ResponseDataPart2<'a> as FromFields<ResponseDataPart2Fields<'a>>>⟧.fields
-            (⟦<ResponseData<'a> as FromFields<(ResponseDataPart1<'a>,
-        (ResponseDataPart2<'a>, ResponseDataPart3<'a>))>>⟧.fields v).1.0,
-        ⟦<ResponseDataPart3<'a> as FromFields<ResponseDataPart3Fields<'a>>>⟧.fields
-            (⟦<ResponseData<'a> as FromFields<(ResponseDataPart1<'a>,
-        (ResponseDataPart2<'a>, ResponseDataPart3<'a>))>>⟧.fields v).1.1,
-      ),
+          (⟦<ResponseData<'a> as FromFields<(ResponseDataPart1<'a>, ResponseDataPart2<'a>, ResponseDataPart3<'a>)>>⟧.fields v).0,
+      ⟦<ResponseDataPart2<'a> as FromFields<ResponseDataPart2Fields<'a>>>⟧.fields
+          (⟦<ResponseData<'a> as FromFields<(ResponseDataPart1<'a>, ResponseDataPart2<'a>, ResponseDataPart3<'a>)>>⟧.fields v).1,
+      ⟦<ResponseDataPart3<'a> as FromFields<ResponseDataPart3Fields<'a>>>⟧.fields
+          (⟦<ResponseData<'a> as FromFields<(ResponseDataPart1<'a>, ResponseDataPart2<'a>, ResponseDataPart3<'a>)>>⟧.fields v).2,
     ) };
 
     ghost encode_value_answers = { λ v. ⟦<ResponseDataFields<'a> as Encode>⟧.encode_answers (
       ⟦<ResponseDataPart1<'a> as FromFields<ResponseDataPart1Fields<'a>>>⟧.fields
-          (⟦<ResponseData<'a> as FromFields<(ResponseDataPart1<'a>,
-        (ResponseDataPart2<'a>, ResponseDataPart3<'a>))>>⟧.fields v).0,
-      (
-        ⟦<ResponseDataPart2<'a> as FromFields<ResponseDataPart2Fields<'a>>>⟧.fields
-            (⟦<ResponseData<'a> as FromFields<(ResponseDataPart1<'a>,
-        (ResponseDataPart2<'a>, ResponseDataPart3<'a>))>>⟧.fields v).1.0,
-        ⟦<ResponseDataPart3<'a> as FromFields<ResponseDataPart3Fields<'a>>>⟧.fields
-            (⟦<ResponseData<'a> as FromFields<(ResponseDataPart1<'a>,
-        (ResponseDataPart2<'a>, ResponseDataPart3<'a>))>>⟧.fields v).1.1,
-      ),
+          (⟦<ResponseData<'a> as FromFields<(ResponseDataPart1<'a>, ResponseDataPart2<'a>, ResponseDataPart3<'a>)>>⟧.fields v).0,
+      ⟦<ResponseDataPart2<'a> as FromFields<ResponseDataPart2Fields<'a>>>⟧.fields
+          (⟦<ResponseData<'a> as FromFields<(ResponseDataPart1<'a>, ResponseDataPart2<'a>, ResponseDataPart3<'a>)>>⟧.fields v).1,
+      ⟦<ResponseDataPart3<'a> as FromFields<ResponseDataPart3Fields<'a>>>⟧.fields
+          (⟦<ResponseData<'a> as FromFields<(ResponseDataPart1<'a>, ResponseDataPart2<'a>, ResponseDataPart3<'a>)>>⟧.fields v).2,
     ) };
 
     fn value_len(&self) -> Result<Length, Error> {
@@ -170,7 +158,8 @@ impl<'a> EncodeValue for ResponseData<'a> {
             self,
             (
                 (version, responder_id),
-                ((produced_at, responses), response_extensions)
+                (produced_at, responses),
+                response_extensions
             )
         )
         .encoded_len()
@@ -181,7 +170,8 @@ impl<'a> EncodeValue for ResponseData<'a> {
             self,
             (
                 (version, responder_id),
-                ((produced_at, responses), response_extensions)
+                (produced_at, responses),
+                response_extensions
             )
         )
         .encode(writer)
@@ -192,7 +182,8 @@ impl<'a> EncodeValue for ResponseData<'a> {
             self,
             (
                 (version, responder_id),
-                ((produced_at, responses), response_extensions)
+                (produced_at, responses),
+                response_extensions
             )
         )
         .len_before()
@@ -203,7 +194,8 @@ impl<'a> EncodeValue for ResponseData<'a> {
             self,
             (
                 (version, responder_id),
-                ((produced_at, responses), response_extensions)
+                (produced_at, responses),
+                response_extensions
             )
         )
         .encode_before(buf, end)

@@ -16,7 +16,7 @@ pub(crate) struct ResponseDataPart1<'a> {
     pub(crate) responder_id: ResponderId<'a>,
 }
 
-// The fields in pairs, in the order in which they are encoded.
+// The fields, in the order in which they are encoded.
 pub(crate) type ResponseDataPart1Fields<'a> = (
     Defaulted<Explicit<WithDefault<IntegerOf<u64>, DefaultU64<0>>, 0>>,
     ResponderId<'a>,
@@ -25,8 +25,8 @@ pub(crate) type ResponseDataPart1Fields<'a> = (
 impl<'a> FromFields<ResponseDataPart1Fields<'a>> for ResponseDataPart1<'a> {
     ghost fields = { λ v. (v.version, v.responder_id) };
 
-    fn from_fields(members: ResponseDataPart1Fields<'a>) -> Self {
-        let (version, responder_id) = members;
+    fn from_fields(fields: ResponseDataPart1Fields<'a>) -> Self {
+        let (version, responder_id) = fields;
         ResponseDataPart1 {
             version,
             responder_id,

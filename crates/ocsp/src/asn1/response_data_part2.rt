@@ -16,14 +16,14 @@ pub(crate) struct ResponseDataPart2<'a> {
     pub(crate) responses: SequenceOf<'a, SingleResponse<'a>>,
 }
 
-// The fields in pairs, in the order in which they are encoded.
+// The fields, in the order in which they are encoded.
 pub(crate) type ResponseDataPart2Fields<'a> = (GeneralizedTime, SequenceOf<'a, SingleResponse<'a>>);
 
 impl<'a> FromFields<ResponseDataPart2Fields<'a>> for ResponseDataPart2<'a> {
     ghost fields = { λ v. (v.produced_at, v.responses) };
 
-    fn from_fields(members: ResponseDataPart2Fields<'a>) -> Self {
-        let (produced_at, responses) = members;
+    fn from_fields(fields: ResponseDataPart2Fields<'a>) -> Self {
+        let (produced_at, responses) = fields;
         ResponseDataPart2 {
             produced_at,
             responses,

@@ -15,14 +15,14 @@ pub(crate) struct ResponseDataPart3<'a> {
     pub(crate) response_extensions: Optional<Explicit<Extensions<'a>, 1>>,
 }
 
-// The fields in pairs, in the order in which they are encoded.
+// The fields, in the order in which they are encoded.
 pub(crate) type ResponseDataPart3Fields<'a> = Optional<Explicit<Extensions<'a>, 1>>;
 
 impl<'a> FromFields<ResponseDataPart3Fields<'a>> for ResponseDataPart3<'a> {
     ghost fields = { λ v. v.response_extensions };
 
-    fn from_fields(members: ResponseDataPart3Fields<'a>) -> Self {
-        let response_extensions = members;
+    fn from_fields(fields: ResponseDataPart3Fields<'a>) -> Self {
+        let response_extensions = fields;
         ResponseDataPart3 {
             response_extensions,
         }

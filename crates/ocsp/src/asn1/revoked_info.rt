@@ -27,7 +27,7 @@ pub struct RevokedInfo {
     pub revocation_reason: Optional<Explicit<Enumerated<CrlReason>, 0>>,
 }
 
-/// The fields of a [`RevokedInfo`] in pairs, in the order in which they are encoded.
+/// The fields of a [`RevokedInfo`], in the order in which they are encoded.
 pub type RevokedInfoFields = (
     GeneralizedTime,
     Optional<Explicit<Enumerated<CrlReason>, 0>>,
@@ -36,8 +36,8 @@ pub type RevokedInfoFields = (
 impl FromFields<RevokedInfoFields> for RevokedInfo {
     ghost fields = { λ v. (v.revocation_time, v.revocation_reason) };
 
-    fn from_fields(members: RevokedInfoFields) -> Self {
-        let (revocation_time, revocation_reason) = members;
+    fn from_fields(fields: RevokedInfoFields) -> Self {
+        let (revocation_time, revocation_reason) = fields;
         RevokedInfo {
             revocation_time,
             revocation_reason,

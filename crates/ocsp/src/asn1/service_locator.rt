@@ -25,14 +25,14 @@ pub struct ServiceLocator<'a> {
     pub locator: Optional<AuthorityInfoAccessSyntax<'a>>,
 }
 
-/// The fields of a [`ServiceLocator`] in pairs, in the order in which they are encoded.
+/// The fields of a [`ServiceLocator`], in the order in which they are encoded.
 pub type ServiceLocatorFields<'a> = (Name<'a>, Optional<AuthorityInfoAccessSyntax<'a>>);
 
 impl<'a> FromFields<ServiceLocatorFields<'a>> for ServiceLocator<'a> {
     ghost fields = { λ v. (v.issuer, v.locator) };
 
-    fn from_fields(members: ServiceLocatorFields<'a>) -> Self {
-        let (issuer, locator) = members;
+    fn from_fields(fields: ServiceLocatorFields<'a>) -> Self {
+        let (issuer, locator) = fields;
         ServiceLocator { issuer, locator }
     }
 }

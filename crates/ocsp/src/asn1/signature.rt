@@ -5,7 +5,8 @@ ghost use Rattle.std.specs.Prelude.{◌≡◌};
 ghost use Rattle.std.proofs.Common.{arith, refl};
 ghost use Rattle.der.specs.Prelude.{map_ok};
 ghost use Rattle.der_asn1.specs.Item.{decodes_same};
-ghost use Rattle.der_asn1.specs.Meaning.{alternative, field, optional, sequence, sequence_is_item, sequence_item, two_fields};
+ghost use Rattle.der_asn1.specs.Meaning.{alternative, field, optional, sequence, sequence_is_item, sequence_item};
+ghost use Rattle.der_asn1.specs.TupleFields.{three_fields};
 
 use crate::asn1::certificates::Certificates;
 use der::{
@@ -29,17 +30,18 @@ pub struct Signature<'a> {
     pub certs: Optional<Explicit<Certificates<'a>, 0>>,
 }
 
-/// The fields of a [`Signature`] in pairs, in the order in which they are encoded.
+/// The fields of a [`Signature`], in the order in which they are encoded.
 pub type SignatureFields<'a> = (
     AlgorithmIdentifierRef<'a>,
-    (BitStringRef<'a>, Optional<Explicit<Certificates<'a>, 0>>),
+    BitStringRef<'a>,
+    Optional<Explicit<Certificates<'a>, 0>>,
 );
 
 impl<'a> FromFields<SignatureFields<'a>> for Signature<'a> {
-    ghost fields = { λ v. (v.signature_algorithm, (v.signature, v.certs)) };
+    ghost fields = { λ v. (v.signature_algorithm, v.signature, v.certs) };
 
-    fn from_fields(members: SignatureFields<'a>) -> Self {
-        let (signature_algorithm, (signature, certs)) = members;
+    fn from_fields(fields: SignatureFields<'a>) -> Self {
+        let (signature_algorithm, signature, certs) = fields;
         Signature {
             signature_algorithm,
             signature,
@@ -49,10 +51,10 @@ impl<'a> FromFields<SignatureFields<'a>> for Signature<'a> {
 }
 
 impl<'a> Sequence for Signature<'a> {
-    ghost meaning = { sequence (two_fields (field (alternative
-        ⟦<AlgorithmIdentifierRef<'a> as Described>⟧.element)) (two_fields (field (alternative
+    ghost meaning = { sequence (three_fields (field (alternative
+        ⟦<AlgorithmIdentifierRef<'a> as Described>⟧.element)) (field (alternative
         ⟦<BitStringRef<'a> as Described>⟧.element)) (optional (alternative
-        ⟦<Explicit<Certificates<'a>, 0> as Described>⟧.element))))
+        ⟦<Explicit<Certificates<'a>, 0> as Described>⟧.element)))
         ⟦<Signature<'a> as FromFields<SignatureFields<'a>>>⟧.fields };
 
     ghost fits = { (refl, refl) };
@@ -90,19 +92,19 @@ impl<'a> EncodeValue for Signature<'a> {
         (⟦<Signature<'a> as FromFields<SignatureFields<'a>>>⟧.fields v) };
 
     fn value_len(&self) -> Result<Length, Error> {
-        field_refs!(self, (signature_algorithm, (signature, certs))).encoded_len()
+        field_refs!(self, (signature_algorithm, signature, certs)).encoded_len()
     }
 
     fn encode_value<W: Writer>(&self, writer: &mut W) -> Result<(), Error> {
-        field_refs!(self, (signature_algorithm, (signature, certs))).encode(writer)
+        field_refs!(self, (signature_algorithm, signature, certs)).encode(writer)
     }
 
     fn value_len_before(&self) -> Option<u32> {
-        field_refs!(self, (signature_algorithm, (signature, certs))).len_before()
+        field_refs!(self, (signature_algorithm, signature, certs)).len_before()
     }
 
     fn encode_value_before(&self, buf: &mut [u8], end: u32) -> u32 {
-        field_refs!(self, (signature_algorithm, (signature, certs))).encode_before(buf, end)
+        field_refs!(self, (signature_algorithm, signature, certs)).encode_before(buf, end)
     }
 }
 

@@ -6,6 +6,7 @@ ghost use Rattle.std.proofs.Common.{arith, refl};
 ghost use Rattle.der.specs.Prelude.{map_ok};
 ghost use Rattle.der_asn1.specs.Item.{decodes_same};
 ghost use Rattle.der_asn1.specs.Meaning.{alternative, field, optional, seen, sequence, sequence_is_item, sequence_item, two_fields};
+ghost use Rattle.der_asn1.specs.TupleFields.{three_fields};
 
 use crate::asn1::cert_id::CertId;
 use crate::asn1::cert_status::CertStatus;
@@ -37,7 +38,7 @@ pub struct SingleResponse<'a> {
     pub single_extensions: Optional<Explicit<Extensions<'a>, 1>>,
 }
 
-/// The fields of a [`SingleResponse`] in pairs, in the order in which they are encoded.
+/// The fields of a [`SingleResponse`], in the order in which they are encoded.
 pub type SingleResponseFields<'a> = (SingleResponsePart1Fields<'a>, SingleResponsePart2Fields<'a>);
 
 impl<'a> FromFields<(SingleResponsePart1<'a>, SingleResponsePart2<'a>)> for SingleResponse<'a> {
@@ -53,8 +54,8 @@ impl<'a> FromFields<(SingleResponsePart1<'a>, SingleResponsePart2<'a>)> for Sing
       },
     ) };
 
-    fn from_fields(members: (SingleResponsePart1<'a>, SingleResponsePart2<'a>)) -> Self {
-        let (part1, part2) = members;
+    fn from_fields(fields: (SingleResponsePart1<'a>, SingleResponsePart2<'a>)) -> Self {
+        let (part1, part2) = fields;
         SingleResponse {
             cert_id: part1.cert_id,
             cert_status: part1.cert_status,
@@ -67,10 +68,10 @@ impl<'a> FromFields<(SingleResponsePart1<'a>, SingleResponsePart2<'a>)> for Sing
 
 impl<'a> Sequence for SingleResponse<'a> {
     ghost meaning = { sequence (two_fields (seen
-        ⟦<SingleResponsePart1<'a> as FromFields<SingleResponsePart1Fields<'a>>>⟧.fields (two_fields
-        (field (alternative ⟦<CertId<'a> as Described>⟧.element)) (two_fields (field
+        ⟦<SingleResponsePart1<'a> as FromFields<SingleResponsePart1Fields<'a>>>⟧.fields
+        (three_fields (field (alternative ⟦<CertId<'a> as Described>⟧.element)) (field
         ⟦<CertStatus<'a> as DescribedChoice>⟧.alternative) (field (alternative
-        ⟦<GeneralizedTime as Described>⟧.element))))) (seen
+        ⟦<GeneralizedTime as Described>⟧.element)))) (seen
         ⟦<SingleResponsePart2<'a> as FromFields<SingleResponsePart2Fields<'a>>>⟧.fields (two_fields
         (optional (alternative ⟦<Explicit<GeneralizedTime, 0> as Described>⟧.element)) (optional
         (alternative ⟦<Explicit<Extensions<'a>, 1> as Described>⟧.element)))))
@@ -133,7 +134,7 @@ impl<'a> EncodeValue for SingleResponse<'a> {
         field_refs!(
             self,
             (
-                (cert_id, (cert_status, this_update)),
+                (cert_id, cert_status, this_update),
                 (next_update, single_extensions)
             )
         )
@@ -144,7 +145,7 @@ impl<'a> EncodeValue for SingleResponse<'a> {
         field_refs!(
             self,
             (
-                (cert_id, (cert_status, this_update)),
+                (cert_id, cert_status, this_update),
                 (next_update, single_extensions)
             )
         )
@@ -155,7 +156,7 @@ impl<'a> EncodeValue for SingleResponse<'a> {
         field_refs!(
             self,
             (
-                (cert_id, (cert_status, this_update)),
+                (cert_id, cert_status, this_update),
                 (next_update, single_extensions)
             )
         )
@@ -166,7 +167,7 @@ impl<'a> EncodeValue for SingleResponse<'a> {
         field_refs!(
             self,
             (
-                (cert_id, (cert_status, this_update)),
+                (cert_id, cert_status, this_update),
                 (next_update, single_extensions)
             )
         )

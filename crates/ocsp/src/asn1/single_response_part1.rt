@@ -18,14 +18,14 @@ pub(crate) struct SingleResponsePart1<'a> {
     pub(crate) this_update: GeneralizedTime,
 }
 
-// The fields in pairs, in the order in which they are encoded.
-pub(crate) type SingleResponsePart1Fields<'a> = (CertId<'a>, (CertStatus<'a>, GeneralizedTime));
+// The fields, in the order in which they are encoded.
+pub(crate) type SingleResponsePart1Fields<'a> = (CertId<'a>, CertStatus<'a>, GeneralizedTime);
 
 impl<'a> FromFields<SingleResponsePart1Fields<'a>> for SingleResponsePart1<'a> {
-    ghost fields = { λ v. (v.cert_id, (v.cert_status, v.this_update)) };
+    ghost fields = { λ v. (v.cert_id, v.cert_status, v.this_update) };
 
-    fn from_fields(members: SingleResponsePart1Fields<'a>) -> Self {
-        let (cert_id, (cert_status, this_update)) = members;
+    fn from_fields(fields: SingleResponsePart1Fields<'a>) -> Self {
+        let (cert_id, cert_status, this_update) = fields;
         SingleResponsePart1 {
             cert_id,
             cert_status,

@@ -16,7 +16,7 @@ pub(crate) struct SingleResponsePart2<'a> {
     pub(crate) single_extensions: Optional<Explicit<Extensions<'a>, 1>>,
 }
 
-// The fields in pairs, in the order in which they are encoded.
+// The fields, in the order in which they are encoded.
 pub(crate) type SingleResponsePart2Fields<'a> = (
     Optional<Explicit<GeneralizedTime, 0>>,
     Optional<Explicit<Extensions<'a>, 1>>,
@@ -25,8 +25,8 @@ pub(crate) type SingleResponsePart2Fields<'a> = (
 impl<'a> FromFields<SingleResponsePart2Fields<'a>> for SingleResponsePart2<'a> {
     ghost fields = { λ v. (v.next_update, v.single_extensions) };
 
-    fn from_fields(members: SingleResponsePart2Fields<'a>) -> Self {
-        let (next_update, single_extensions) = members;
+    fn from_fields(fields: SingleResponsePart2Fields<'a>) -> Self {
+        let (next_update, single_extensions) = fields;
         SingleResponsePart2 {
             next_update,
             single_extensions,

@@ -5,7 +5,8 @@ ghost use Rattle.std.specs.Prelude.{◌≡◌};
 ghost use Rattle.std.proofs.Common.{arith, refl};
 ghost use Rattle.der.specs.Prelude.{map_ok};
 ghost use Rattle.der_asn1.specs.Item.{decodes_same};
-ghost use Rattle.der_asn1.specs.Meaning.{alternative, defaulted, field, optional, seen, sequence, sequence_is_item, sequence_item, two_fields};
+ghost use Rattle.der_asn1.specs.Meaning.{alternative, defaulted, field, optional, seen, sequence, sequence_is_item, sequence_item};
+ghost use Rattle.der_asn1.specs.TupleFields.{four_fields};
 
 use crate::asn1::general_name_tagged::GeneralNameTagged;
 use crate::asn1::request::Request;
@@ -38,40 +39,38 @@ pub struct TbsRequest<'a> {
     pub request_extensions: Optional<Explicit<Extensions<'a>, 2>>,
 }
 
-/// The fields of a [`TbsRequest`] in pairs, in the order in which they are encoded.
+/// The fields of a [`TbsRequest`], in the order in which they are encoded.
 pub type TbsRequestFields<'a> = (
-    (TbsRequestPart1Fields, TbsRequestPart2Fields<'a>),
-    (TbsRequestPart3Fields<'a>, TbsRequestPart4Fields<'a>),
+    TbsRequestPart1Fields,
+    TbsRequestPart2Fields<'a>,
+    TbsRequestPart3Fields<'a>,
+    TbsRequestPart4Fields<'a>,
 );
 
 impl<'a> FromFields<
     (
-        (TbsRequestPart1, TbsRequestPart2<'a>),
-        (TbsRequestPart3<'a>, TbsRequestPart4<'a>),
+        TbsRequestPart1,
+        TbsRequestPart2<'a>,
+        TbsRequestPart3<'a>,
+        TbsRequestPart4<'a>,
     ),
 > for TbsRequest<'a> {
     ghost fields = { λ v. (
-      (
-        record {
-          version = v.version;
-        },
-        record { requestor_name = v.requestor_name },
-      ),
-      (
-        record {
-          request_list = v.request_list;
-        },
-        record { request_extensions = v.request_extensions },
-      ),
+      record { version = v.version },
+      record { requestor_name = v.requestor_name },
+      record { request_list = v.request_list },
+      record { request_extensions = v.request_extensions },
     ) };
 
     fn from_fields(
-        members: (
-            (TbsRequestPart1, TbsRequestPart2<'a>),
-            (TbsRequestPart3<'a>, TbsRequestPart4<'a>),
+        fields: (
+            TbsRequestPart1,
+            TbsRequestPart2<'a>,
+            TbsRequestPart3<'a>,
+            TbsRequestPart4<'a>,
         ),
     ) -> Self {
-        let ((part1, part2), (part3, part4)) = members;
+        let (part1, part2, part3, part4) = fields;
         TbsRequest {
             version: part1.version,
             requestor_name: part2.requestor_name,
@@ -82,19 +81,18 @@ impl<'a> FromFields<
 }
 
 impl<'a> Sequence for TbsRequest<'a> {
-    ghost meaning = { sequence (two_fields (two_fields (seen
+    ghost meaning = { sequence (four_fields (seen
         ⟦<TbsRequestPart1 as FromFields<TbsRequestPart1Fields>>⟧.fields (defaulted
         ⟦<Explicit<WithDefault<IntegerOf<u64>, DefaultU64<0>>, 0> as DefaultValue>⟧.is_default
         (alternative
         ⟦<Explicit<WithDefault<IntegerOf<u64>, DefaultU64<0>>, 0> as Described>⟧.element))) (seen
         ⟦<TbsRequestPart2<'a> as FromFields<TbsRequestPart2Fields<'a>>>⟧.fields (optional
-        (alternative ⟦<Implicit<GeneralNameTagged<'a>, 1> as Described>⟧.element)))) (two_fields
-        (seen ⟦<TbsRequestPart3<'a> as FromFields<TbsRequestPart3Fields<'a>>>⟧.fields (field
-        (alternative ⟦<SequenceOf<'a, Request<'a>> as Described>⟧.element))) (seen
+        (alternative ⟦<Implicit<GeneralNameTagged<'a>, 1> as Described>⟧.element))) (seen
+        ⟦<TbsRequestPart3<'a> as FromFields<TbsRequestPart3Fields<'a>>>⟧.fields (field (alternative
+        ⟦<SequenceOf<'a, Request<'a>> as Described>⟧.element))) (seen
         ⟦<TbsRequestPart4<'a> as FromFields<TbsRequestPart4Fields<'a>>>⟧.fields (optional
-        (alternative ⟦<Explicit<Extensions<'a>, 2> as Described>⟧.element)))))
-        ⟦<TbsRequest<'a> as FromFields<((TbsRequestPart1, TbsRequestPart2<'a>),
-        (TbsRequestPart3<'a>, TbsRequestPart4<'a>))>>⟧.fields };
+        (alternative ⟦<Explicit<Extensions<'a>, 2> as Described>⟧.element))))
+        ⟦<TbsRequest<'a> as FromFields<(TbsRequestPart1, TbsRequestPart2<'a>, TbsRequestPart3<'a>, TbsRequestPart4<'a>)>>⟧.fields };
 
     ghost fits = { (refl, refl) };
 }
@@ -104,17 +102,18 @@ impl<'a, R: Reader<Borrowed = &'a [u8]>> DecodeValue<R> for TbsRequest<'a> {
     type Error = Error;
 
     ghost decode_value_answers = { λ h s result t.
-        ⟦<((TbsRequestPart1, TbsRequestPart2<'a>),
-        (TbsRequestPart3<'a>, TbsRequestPart4<'a>)) as Decode<SliceReader<'a>>>⟧.decode_answers s
-        (map_ok ⟦<TbsRequest<'a> as FromFields<((TbsRequestPart1, TbsRequestPart2<'a>),
-        (TbsRequestPart3<'a>, TbsRequestPart4<'a>))>>⟧.fields result) t };
+        ⟦<(TbsRequestPart1, TbsRequestPart2<'a>, TbsRequestPart3<'a>, TbsRequestPart4<'a>) as Decode<SliceReader<'a>>>⟧.decode_answers s
+        (map_ok
+        ⟦<TbsRequest<'a> as FromFields<(TbsRequestPart1, TbsRequestPart2<'a>, TbsRequestPart3<'a>, TbsRequestPart4<'a>)>>⟧.fields result) t };
 
     fn decode_value(alloc: Global, reader: &mut R, header: Header) -> Result<Self, Error> {
         decode_sequence::<
             R,
             (
-                (TbsRequestPart1, TbsRequestPart2<'a>),
-                (TbsRequestPart3<'a>, TbsRequestPart4<'a>),
+                TbsRequestPart1,
+                TbsRequestPart2<'a>,
+                TbsRequestPart3<'a>,
+                TbsRequestPart4<'a>,
             ),
             Self,
         >(alloc, reader, header)
@@ -137,50 +136,31 @@ impl<'a> IsValue for TbsRequest<'a> {
 /// Writes the fields one after the other, with the errors of every [`Sequence`].
 impl<'a> EncodeValue for TbsRequest<'a> {
     ghost value_size = { λ v. ⟦<TbsRequestFields<'a> as Encode>⟧.size (
-      (
-        ⟦<TbsRequestPart1 as FromFields<TbsRequestPart1Fields>>⟧.fields
-            (⟦<TbsRequest<'a> as FromFields<((TbsRequestPart1, TbsRequestPart2<'a>),
-        (TbsRequestPart3<'a>, TbsRequestPart4<'a>))>>⟧.fields v).0.0,
-        ⟦<TbsRequestPart2<'a> as FromFields<TbsRequestPart2Fields<'a>>>⟧.fields
-            (⟦<TbsRequest<'a> as FromFields<((TbsRequestPart1, TbsRequestPart2<'a>),
-        (TbsRequestPart3<'a>, TbsRequestPart4<'a>))>>⟧.fields v).0.1,
-      ),
-      (
-        ⟦<TbsRequestPart3<'a> as FromFields<TbsRequestPart3Fields<'a>>>⟧.fields
-            (⟦<TbsRequest<'a> as FromFields<((TbsRequestPart1, TbsRequestPart2<'a>),
-        (TbsRequestPart3<'a>, TbsRequestPart4<'a>))>>⟧.fields v).1.0,
-        ⟦<TbsRequestPart4<'a> as FromFields<TbsRequestPart4Fields<'a>>>⟧.fields
-            (⟦<TbsRequest<'a> as FromFields<((TbsRequestPart1, TbsRequestPart2<'a>),
-        (TbsRequestPart3<'a>, TbsRequestPart4<'a>))>>⟧.fields v).1.1,
-      ),
+      ⟦<TbsRequestPart1 as FromFields<TbsRequestPart1Fields>>⟧.fields
+          (⟦<TbsRequest<'a> as FromFields<(TbsRequestPart1, TbsRequestPart2<'a>, TbsRequestPart3<'a>, TbsRequestPart4<'a>)>>⟧.fields v).0,
+      ⟦<TbsRequestPart2<'a> as FromFields<TbsRequestPart2Fields<'a>>>⟧.fields
+          (⟦<TbsRequest<'a> as FromFields<(TbsRequestPart1, TbsRequestPart2<'a>, TbsRequestPart3<'a>, TbsRequestPart4<'a>)>>⟧.fields v).1,
+      ⟦<TbsRequestPart3<'a> as FromFields<TbsRequestPart3Fields<'a>>>⟧.fields
+          (⟦<TbsRequest<'a> as FromFields<(TbsRequestPart1, TbsRequestPart2<'a>, TbsRequestPart3<'a>, TbsRequestPart4<'a>)>>⟧.fields v).2,
+      ⟦<TbsRequestPart4<'a> as FromFields<TbsRequestPart4Fields<'a>>>⟧.fields
+          (⟦<TbsRequest<'a> as FromFields<(TbsRequestPart1, TbsRequestPart2<'a>, TbsRequestPart3<'a>, TbsRequestPart4<'a>)>>⟧.fields v).3,
     ) };
 
     ghost encode_value_answers = { λ v. ⟦<TbsRequestFields<'a> as Encode>⟧.encode_answers (
-      (
-        ⟦<TbsRequestPart1 as FromFields<TbsRequestPart1Fields>>⟧.fields
-            (⟦<TbsRequest<'a> as FromFields<((TbsRequestPart1, TbsRequestPart2<'a>),
-        (TbsRequestPart3<'a>, TbsRequestPart4<'a>))>>⟧.fields v).0.0,
-        ⟦<TbsRequestPart2<'a> as FromFields<TbsRequestPart2Fields<'a>>>⟧.fields
-            (⟦<TbsRequest<'a> as FromFields<((TbsRequestPart1, TbsRequestPart2<'a>),
-        (TbsRequestPart3<'a>, TbsRequestPart4<'a>))>>⟧.fields v).0.1,
-      ),
-      (
-        ⟦<TbsRequestPart3<'a> as FromFields<TbsRequestPart3Fields<'a>>>⟧.fields
-            (⟦<TbsRequest<'a> as FromFields<((TbsRequestPart1, TbsRequestPart2<'a>),
-        (TbsRequestPart3<'a>, TbsRequestPart4<'a>))>>⟧.fields v).1.0,
-        ⟦<TbsRequestPart4<'a> as FromFields<TbsRequestPart4Fields<'a>>>⟧.fields
-            (⟦<TbsRequest<'a> as FromFields<((TbsRequestPart1, TbsRequestPart2<'a>),
-        (TbsRequestPart3<'a>, TbsRequestPart4<'a>))>>⟧.fields v).1.1,
-      ),
+      ⟦<TbsRequestPart1 as FromFields<TbsRequestPart1Fields>>⟧.fields
+          (⟦<TbsRequest<'a> as FromFields<(TbsRequestPart1, TbsRequestPart2<'a>, TbsRequestPart3<'a>, TbsRequestPart4<'a>)>>⟧.fields v).0,
+      ⟦<TbsRequestPart2<'a> as FromFields<TbsRequestPart2Fields<'a>>>⟧.fields
+          (⟦<TbsRequest<'a> as FromFields<(TbsRequestPart1, TbsRequestPart2<'a>, TbsRequestPart3<'a>, TbsRequestPart4<'a>)>>⟧.fields v).1,
+      ⟦<TbsRequestPart3<'a> as FromFields<TbsRequestPart3Fields<'a>>>⟧.fields
+          (⟦<TbsRequest<'a> as FromFields<(TbsRequestPart1, TbsRequestPart2<'a>, TbsRequestPart3<'a>, TbsRequestPart4<'a>)>>⟧.fields v).2,
+      ⟦<TbsRequestPart4<'a> as FromFields<TbsRequestPart4Fields<'a>>>⟧.fields
+          (⟦<TbsRequest<'a> as FromFields<(TbsRequestPart1, TbsRequestPart2<'a>, TbsRequestPart3<'a>, TbsRequestPart4<'a>)>>⟧.fields v).3,
     ) };
 
     fn value_len(&self) -> Result<Length, Error> {
         field_refs!(
             self,
-            (
-                (version, requestor_name),
-                (request_list, request_extensions)
-            )
+            (version, requestor_name, request_list, request_extensions)
         )
         .encoded_len()
     }
@@ -188,10 +168,7 @@ impl<'a> EncodeValue for TbsRequest<'a> {
     fn encode_value<W: Writer>(&self, writer: &mut W) -> Result<(), Error> {
         field_refs!(
             self,
-            (
-                (version, requestor_name),
-                (request_list, request_extensions)
-            )
+            (version, requestor_name, request_list, request_extensions)
         )
         .encode(writer)
     }
@@ -199,10 +176,7 @@ impl<'a> EncodeValue for TbsRequest<'a> {
     fn value_len_before(&self) -> Option<u32> {
         field_refs!(
             self,
-            (
-                (version, requestor_name),
-                (request_list, request_extensions)
-            )
+            (version, requestor_name, request_list, request_extensions)
         )
         .len_before()
     }
@@ -210,10 +184,7 @@ impl<'a> EncodeValue for TbsRequest<'a> {
     fn encode_value_before(&self, buf: &mut [u8], end: u32) -> u32 {
         field_refs!(
             self,
-            (
-                (version, requestor_name),
-                (request_list, request_extensions)
-            )
+            (version, requestor_name, request_list, request_extensions)
         )
         .encode_before(buf, end)
     }

@@ -14,7 +14,7 @@ pub(crate) struct TbsRequestPart1 {
     pub(crate) version: Defaulted<Explicit<WithDefault<IntegerOf<u64>, DefaultU64<0>>, 0>>,
 }
 
-// The fields in pairs, in the order in which they are encoded.
+// The fields, in the order in which they are encoded.
 pub(crate) type TbsRequestPart1Fields = Defaulted<
     Explicit<WithDefault<IntegerOf<u64>, DefaultU64<0>>, 0>,
 >;
@@ -22,8 +22,8 @@ pub(crate) type TbsRequestPart1Fields = Defaulted<
 impl FromFields<TbsRequestPart1Fields> for TbsRequestPart1 {
     ghost fields = { λ v. v.version };
 
-    fn from_fields(members: TbsRequestPart1Fields) -> Self {
-        let version = members;
+    fn from_fields(fields: TbsRequestPart1Fields) -> Self {
+        let version = fields;
         TbsRequestPart1 { version }
     }
 }

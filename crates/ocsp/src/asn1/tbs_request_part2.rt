@@ -15,14 +15,14 @@ pub(crate) struct TbsRequestPart2<'a> {
     pub(crate) requestor_name: Optional<Implicit<GeneralNameTagged<'a>, 1>>,
 }
 
-// The fields in pairs, in the order in which they are encoded.
+// The fields, in the order in which they are encoded.
 pub(crate) type TbsRequestPart2Fields<'a> = Optional<Implicit<GeneralNameTagged<'a>, 1>>;
 
 impl<'a> FromFields<TbsRequestPart2Fields<'a>> for TbsRequestPart2<'a> {
     ghost fields = { λ v. v.requestor_name };
 
-    fn from_fields(members: TbsRequestPart2Fields<'a>) -> Self {
-        let requestor_name = members;
+    fn from_fields(fields: TbsRequestPart2Fields<'a>) -> Self {
+        let requestor_name = fields;
         TbsRequestPart2 { requestor_name }
     }
 }

@@ -15,14 +15,14 @@ pub(crate) struct TbsRequestPart3<'a> {
     pub(crate) request_list: SequenceOf<'a, Request<'a>>,
 }
 
-// The fields in pairs, in the order in which they are encoded.
+// The fields, in the order in which they are encoded.
 pub(crate) type TbsRequestPart3Fields<'a> = SequenceOf<'a, Request<'a>>;
 
 impl<'a> FromFields<TbsRequestPart3Fields<'a>> for TbsRequestPart3<'a> {
     ghost fields = { λ v. v.request_list };
 
-    fn from_fields(members: TbsRequestPart3Fields<'a>) -> Self {
-        let request_list = members;
+    fn from_fields(fields: TbsRequestPart3Fields<'a>) -> Self {
+        let request_list = fields;
         TbsRequestPart3 { request_list }
     }
 }

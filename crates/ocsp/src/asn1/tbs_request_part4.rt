@@ -15,14 +15,14 @@ pub(crate) struct TbsRequestPart4<'a> {
     pub(crate) request_extensions: Optional<Explicit<Extensions<'a>, 2>>,
 }
 
-// The fields in pairs, in the order in which they are encoded.
+// The fields, in the order in which they are encoded.
 pub(crate) type TbsRequestPart4Fields<'a> = Optional<Explicit<Extensions<'a>, 2>>;
 
 impl<'a> FromFields<TbsRequestPart4Fields<'a>> for TbsRequestPart4<'a> {
     ghost fields = { λ v. v.request_extensions };
 
-    fn from_fields(members: TbsRequestPart4Fields<'a>) -> Self {
-        let request_extensions = members;
+    fn from_fields(fields: TbsRequestPart4Fields<'a>) -> Self {
+        let request_extensions = fields;
         TbsRequestPart4 { request_extensions }
     }
 }

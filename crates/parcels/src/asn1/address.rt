@@ -6,6 +6,7 @@ ghost use Rattle.std.proofs.Common.{arith, refl};
 ghost use Rattle.der.specs.Prelude.{map_ok};
 ghost use Rattle.der_asn1.specs.Item.{decodes_same};
 ghost use Rattle.der_asn1.specs.Meaning.{alternative, field, optional, seen, sequence, sequence_is_item, sequence_item, two_fields};
+ghost use Rattle.der_asn1.specs.TupleFields.{three_fields};
 
 use crate::asn1::address_part1::{AddressPart1, AddressPart1Fields};
 use crate::asn1::address_part2::{AddressPart2, AddressPart2Fields};
@@ -34,21 +35,17 @@ pub struct Address<'a> {
     pub note: Optional<BmpStringRef<'a>>,
 }
 
-/// The fields of a [`Address`] in pairs, in the order in which they are encoded.
+/// The fields of a [`Address`], in the order in which they are encoded.
 pub type AddressFields<'a> = (AddressPart1Fields<'a>, AddressPart2Fields<'a>);
 
 impl<'a> FromFields<(AddressPart1<'a>, AddressPart2<'a>)> for Address<'a> {
     ghost fields = { λ v. (
-      record {
-        name = v.name;
-        street = v.street;
-        code = v.code;
-      },
+      record { name = v.name; street = v.street; code = v.code },
       record { type_ = v.type_; note = v.note },
     ) };
 
-    fn from_fields(members: (AddressPart1<'a>, AddressPart2<'a>)) -> Self {
-        let (part1, part2) = members;
+    fn from_fields(fields: (AddressPart1<'a>, AddressPart2<'a>)) -> Self {
+        let (part1, part2) = fields;
         Address {
             name: part1.name,
             street: part1.street,
@@ -61,10 +58,10 @@ impl<'a> FromFields<(AddressPart1<'a>, AddressPart2<'a>)> for Address<'a> {
 
 impl<'a> Sequence for Address<'a> {
     ghost meaning = { sequence (two_fields (seen
-        ⟦<AddressPart1<'a> as FromFields<AddressPart1Fields<'a>>>⟧.fields (two_fields (field
-        (alternative ⟦<Utf8StringRef<'a> as Described>⟧.element)) (two_fields (field (alternative
+        ⟦<AddressPart1<'a> as FromFields<AddressPart1Fields<'a>>>⟧.fields (three_fields (field
+        (alternative ⟦<Utf8StringRef<'a> as Described>⟧.element)) (field (alternative
         ⟦<PrintableStringRef<'a> as Described>⟧.element)) (optional (alternative
-        ⟦<Application<Implicit<NumericStringRef<'a>, 1>> as Described>⟧.element))))) (seen
+        ⟦<Application<Implicit<NumericStringRef<'a>, 1>> as Described>⟧.element)))) (seen
         ⟦<AddressPart2<'a> as FromFields<AddressPart2Fields<'a>>>⟧.fields (two_fields (optional
         (alternative ⟦<Ia5StringRef<'a> as Described>⟧.element)) (optional (alternative
         ⟦<BmpStringRef<'a> as Described>⟧.element)))))
@@ -119,19 +116,19 @@ impl<'a> EncodeValue for Address<'a> {
     ) };
 
     fn value_len(&self) -> Result<Length, Error> {
-        field_refs!(self, ((name, (street, code)), (type_, note))).encoded_len()
+        field_refs!(self, ((name, street, code), (type_, note))).encoded_len()
     }
 
     fn encode_value<W: Writer>(&self, writer: &mut W) -> Result<(), Error> {
-        field_refs!(self, ((name, (street, code)), (type_, note))).encode(writer)
+        field_refs!(self, ((name, street, code), (type_, note))).encode(writer)
     }
 
     fn value_len_before(&self) -> Option<u32> {
-        field_refs!(self, ((name, (street, code)), (type_, note))).len_before()
+        field_refs!(self, ((name, street, code), (type_, note))).len_before()
     }
 
     fn encode_value_before(&self, buf: &mut [u8], end: u32) -> u32 {
-        field_refs!(self, ((name, (street, code)), (type_, note))).encode_before(buf, end)
+        field_refs!(self, ((name, street, code), (type_, note))).encode_before(buf, end)
     }
 }
 

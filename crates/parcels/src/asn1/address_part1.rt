@@ -18,20 +18,18 @@ pub(crate) struct AddressPart1<'a> {
     pub(crate) code: Optional<Application<Implicit<NumericStringRef<'a>, 1>>>,
 }
 
-// The fields in pairs, in the order in which they are encoded.
+// The fields, in the order in which they are encoded.
 pub(crate) type AddressPart1Fields<'a> = (
     Utf8StringRef<'a>,
-    (
-        PrintableStringRef<'a>,
-        Optional<Application<Implicit<NumericStringRef<'a>, 1>>>,
-    ),
+    PrintableStringRef<'a>,
+    Optional<Application<Implicit<NumericStringRef<'a>, 1>>>,
 );
 
 impl<'a> FromFields<AddressPart1Fields<'a>> for AddressPart1<'a> {
-    ghost fields = { λ v. (v.name, (v.street, v.code)) };
+    ghost fields = { λ v. (v.name, v.street, v.code) };
 
-    fn from_fields(members: AddressPart1Fields<'a>) -> Self {
-        let (name, (street, code)) = members;
+    fn from_fields(fields: AddressPart1Fields<'a>) -> Self {
+        let (name, street, code) = fields;
         AddressPart1 { name, street, code }
     }
 }

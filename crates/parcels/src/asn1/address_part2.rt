@@ -15,14 +15,14 @@ pub(crate) struct AddressPart2<'a> {
     pub(crate) note: Optional<BmpStringRef<'a>>,
 }
 
-// The fields in pairs, in the order in which they are encoded.
+// The fields, in the order in which they are encoded.
 pub(crate) type AddressPart2Fields<'a> = (Optional<Ia5StringRef<'a>>, Optional<BmpStringRef<'a>>);
 
 impl<'a> FromFields<AddressPart2Fields<'a>> for AddressPart2<'a> {
     ghost fields = { λ v. (v.type_, v.note) };
 
-    fn from_fields(members: AddressPart2Fields<'a>) -> Self {
-        let (type_, note) = members;
+    fn from_fields(fields: AddressPart2Fields<'a>) -> Self {
+        let (type_, note) = fields;
         AddressPart2 { type_, note }
     }
 }

@@ -6,6 +6,7 @@ ghost use Rattle.std.proofs.Common.{arith, refl};
 ghost use Rattle.der.specs.Prelude.{map_ok};
 ghost use Rattle.der_asn1.specs.Item.{decodes_same};
 ghost use Rattle.der_asn1.specs.Meaning.{alternative, defaulted, field, optional, seen, sequence, sequence_is_item, sequence_item, two_fields};
+ghost use Rattle.der_asn1.specs.TupleFields.{three_fields};
 
 use crate::asn1::address::Address;
 use crate::asn1::journey_part1::{JourneyPart1, JourneyPart1Fields};
@@ -38,25 +39,24 @@ pub struct Journey<'a> {
     pub attempts: Defaulted<Implicit<WithDefault<IntegerOf<u64>, DefaultU64<0>>, 5>>,
 }
 
-/// The fields of a [`Journey`] in pairs, in the order in which they are encoded.
+/// The fields of a [`Journey`], in the order in which they are encoded.
 pub type JourneyFields<'a> = (
     JourneyPart1Fields<'a>,
-    (JourneyPart2Fields<'a>, JourneyPart3Fields),
+    JourneyPart2Fields<'a>,
+    JourneyPart3Fields,
 );
 
-impl<'a> FromFields<(JourneyPart1<'a>, (JourneyPart2<'a>, JourneyPart3))> for Journey<'a> {
+impl<'a> FromFields<(JourneyPart1<'a>, JourneyPart2<'a>, JourneyPart3)> for Journey<'a> {
     ghost fields = { λ v. (
       record { sender = v.sender; receiver = v.receiver },
-      (
-        record { stops = v.stops; properties = v.properties },
-        record {
-          attempts = v.attempts;
-        },
-      ),
+      record { stops = v.stops; properties = v.properties },
+      record {
+        attempts = v.attempts;
+      },
     ) };
 
-    fn from_fields(members: (JourneyPart1<'a>, (JourneyPart2<'a>, JourneyPart3))) -> Self {
-        let (part1, (part2, part3)) = members;
+    fn from_fields(fields: (JourneyPart1<'a>, JourneyPart2<'a>, JourneyPart3)) -> Self {
+        let (part1, part2, part3) = fields;
         Journey {
             sender: part1.sender,
             receiver: part1.receiver,
@@ -68,18 +68,18 @@ impl<'a> FromFields<(JourneyPart1<'a>, (JourneyPart2<'a>, JourneyPart3))> for Jo
 }
 
 impl<'a> Sequence for Journey<'a> {
-    ghost meaning = { sequence (two_fields (seen
+    ghost meaning = { sequence (three_fields (seen
         ⟦<JourneyPart1<'a> as FromFields<JourneyPart1Fields<'a>>>⟧.fields (two_fields (field
         (alternative ⟦<Implicit<Address<'a>, 1> as Described>⟧.element)) (optional (alternative
-        ⟦<Implicit<Address<'a>, 2> as Described>⟧.element)))) (two_fields (seen
+        ⟦<Implicit<Address<'a>, 2> as Described>⟧.element)))) (seen
         ⟦<JourneyPart2<'a> as FromFields<JourneyPart2Fields<'a>>>⟧.fields (two_fields (field
         (alternative ⟦<SequenceOf<'a, Stop<'a>> as Described>⟧.element)) (optional (alternative
         ⟦<Implicit<SetOf<'a, Property<'a>>, 3> as Described>⟧.element)))) (seen
         ⟦<JourneyPart3 as FromFields<JourneyPart3Fields>>⟧.fields (defaulted
         ⟦<Implicit<WithDefault<IntegerOf<u64>, DefaultU64<0>>, 5> as DefaultValue>⟧.is_default
         (alternative
-        ⟦<Implicit<WithDefault<IntegerOf<u64>, DefaultU64<0>>, 5> as Described>⟧.element)))))
-        ⟦<Journey<'a> as FromFields<(JourneyPart1<'a>, (JourneyPart2<'a>, JourneyPart3))>>⟧.fields };
+        ⟦<Implicit<WithDefault<IntegerOf<u64>, DefaultU64<0>>, 5> as Described>⟧.element))))
+        ⟦<Journey<'a> as FromFields<(JourneyPart1<'a>, JourneyPart2<'a>, JourneyPart3)>>⟧.fields };
 
     ghost fits = { (refl, refl) };
 }
@@ -89,11 +89,12 @@ impl<'a, R: Reader<Borrowed = &'a [u8]>> DecodeValue<R> for Journey<'a> {
     type Error = Error;
 
     ghost decode_value_answers = { λ h s result t.
-        ⟦<(JourneyPart1<'a>, (JourneyPart2<'a>, JourneyPart3)) as Decode<SliceReader<'a>>>⟧.decode_answers s
-        (map_ok ⟦<Journey<'a> as FromFields<(JourneyPart1<'a>, (JourneyPart2<'a>, JourneyPart3))>>⟧.fields result) t };
+        ⟦<(JourneyPart1<'a>, JourneyPart2<'a>, JourneyPart3) as Decode<SliceReader<'a>>>⟧.decode_answers s
+        (map_ok
+        ⟦<Journey<'a> as FromFields<(JourneyPart1<'a>, JourneyPart2<'a>, JourneyPart3)>>⟧.fields result) t };
 
     fn decode_value(alloc: Global, reader: &mut R, header: Header) -> Result<Self, Error> {
-        decode_sequence::<R, (JourneyPart1<'a>, (JourneyPart2<'a>, JourneyPart3)), Self>(
+        decode_sequence::<R, (JourneyPart1<'a>, JourneyPart2<'a>, JourneyPart3), Self>(
             alloc, reader, header,
         )
     }
@@ -117,40 +118,36 @@ impl<'a> IsValue for Journey<'a> {
 impl<'a> EncodeValue for Journey<'a> {
     ghost value_size = { λ v. ⟦<JourneyFields<'a> as Encode>⟧.size (
       ⟦<JourneyPart1<'a> as FromFields<JourneyPart1Fields<'a>>>⟧.fields
-          (⟦<Journey<'a> as FromFields<(JourneyPart1<'a>, (JourneyPart2<'a>, JourneyPart3))>>⟧.fields v).0,
-      (
-        ⟦<JourneyPart2<'a> as FromFields<JourneyPart2Fields<'a>>>⟧.fields
-            (⟦<Journey<'a> as FromFields<(JourneyPart1<'a>, (JourneyPart2<'a>, JourneyPart3))>>⟧.fields v).1.0,
-        ⟦<JourneyPart3 as FromFields<JourneyPart3Fields>>⟧.fields
-            (⟦<Journey<'a> as FromFields<(JourneyPart1<'a>, (JourneyPart2<'a>, JourneyPart3))>>⟧.fields v).1.1,
-      ),
+          (⟦<Journey<'a> as FromFields<(JourneyPart1<'a>, JourneyPart2<'a>, JourneyPart3)>>⟧.fields v).0,
+      ⟦<JourneyPart2<'a> as FromFields<JourneyPart2Fields<'a>>>⟧.fields
+          (⟦<Journey<'a> as FromFields<(JourneyPart1<'a>, JourneyPart2<'a>, JourneyPart3)>>⟧.fields v).1,
+      ⟦<JourneyPart3 as FromFields<JourneyPart3Fields>>⟧.fields
+          (⟦<Journey<'a> as FromFields<(JourneyPart1<'a>, JourneyPart2<'a>, JourneyPart3)>>⟧.fields v).2,
     ) };
 
     ghost encode_value_answers = { λ v. ⟦<JourneyFields<'a> as Encode>⟧.encode_answers (
       ⟦<JourneyPart1<'a> as FromFields<JourneyPart1Fields<'a>>>⟧.fields
-          (⟦<Journey<'a> as FromFields<(JourneyPart1<'a>, (JourneyPart2<'a>, JourneyPart3))>>⟧.fields v).0,
-      (
-        ⟦<JourneyPart2<'a> as FromFields<JourneyPart2Fields<'a>>>⟧.fields
-            (⟦<Journey<'a> as FromFields<(JourneyPart1<'a>, (JourneyPart2<'a>, JourneyPart3))>>⟧.fields v).1.0,
-        ⟦<JourneyPart3 as FromFields<JourneyPart3Fields>>⟧.fields
-            (⟦<Journey<'a> as FromFields<(JourneyPart1<'a>, (JourneyPart2<'a>, JourneyPart3))>>⟧.fields v).1.1,
-      ),
+          (⟦<Journey<'a> as FromFields<(JourneyPart1<'a>, JourneyPart2<'a>, JourneyPart3)>>⟧.fields v).0,
+      ⟦<JourneyPart2<'a> as FromFields<JourneyPart2Fields<'a>>>⟧.fields
+          (⟦<Journey<'a> as FromFields<(JourneyPart1<'a>, JourneyPart2<'a>, JourneyPart3)>>⟧.fields v).1,
+      ⟦<JourneyPart3 as FromFields<JourneyPart3Fields>>⟧.fields
+          (⟦<Journey<'a> as FromFields<(JourneyPart1<'a>, JourneyPart2<'a>, JourneyPart3)>>⟧.fields v).2,
     ) };
 
     fn value_len(&self) -> Result<Length, Error> {
-        field_refs!(self, ((sender, receiver), ((stops, properties), attempts))).encoded_len()
+        field_refs!(self, ((sender, receiver), (stops, properties), attempts)).encoded_len()
     }
 
     fn encode_value<W: Writer>(&self, writer: &mut W) -> Result<(), Error> {
-        field_refs!(self, ((sender, receiver), ((stops, properties), attempts))).encode(writer)
+        field_refs!(self, ((sender, receiver), (stops, properties), attempts)).encode(writer)
     }
 
     fn value_len_before(&self) -> Option<u32> {
-        field_refs!(self, ((sender, receiver), ((stops, properties), attempts))).len_before()
+        field_refs!(self, ((sender, receiver), (stops, properties), attempts)).len_before()
     }
 
     fn encode_value_before(&self, buf: &mut [u8], end: u32) -> u32 {
-        field_refs!(self, ((sender, receiver), ((stops, properties), attempts))).encode_before(
+        field_refs!(self, ((sender, receiver), (stops, properties), attempts)).encode_before(
             buf, end,
         )
     }

@@ -16,7 +16,7 @@ pub(crate) struct JourneyPart1<'a> {
     pub(crate) receiver: Optional<Implicit<Address<'a>, 2>>,
 }
 
-// The fields in pairs, in the order in which they are encoded.
+// The fields, in the order in which they are encoded.
 pub(crate) type JourneyPart1Fields<'a> = (
     Implicit<Address<'a>, 1>,
     Optional<Implicit<Address<'a>, 2>>,
@@ -25,8 +25,8 @@ pub(crate) type JourneyPart1Fields<'a> = (
 impl<'a> FromFields<JourneyPart1Fields<'a>> for JourneyPart1<'a> {
     ghost fields = { λ v. (v.sender, v.receiver) };
 
-    fn from_fields(members: JourneyPart1Fields<'a>) -> Self {
-        let (sender, receiver) = members;
+    fn from_fields(fields: JourneyPart1Fields<'a>) -> Self {
+        let (sender, receiver) = fields;
         JourneyPart1 { sender, receiver }
     }
 }

@@ -17,7 +17,7 @@ pub(crate) struct JourneyPart2<'a> {
     pub(crate) properties: Optional<Implicit<SetOf<'a, Property<'a>>, 3>>,
 }
 
-// The fields in pairs, in the order in which they are encoded.
+// The fields, in the order in which they are encoded.
 pub(crate) type JourneyPart2Fields<'a> = (
     SequenceOf<'a, Stop<'a>>,
     Optional<Implicit<SetOf<'a, Property<'a>>, 3>>,
@@ -26,8 +26,8 @@ pub(crate) type JourneyPart2Fields<'a> = (
 impl<'a> FromFields<JourneyPart2Fields<'a>> for JourneyPart2<'a> {
     ghost fields = { λ v. (v.stops, v.properties) };
 
-    fn from_fields(members: JourneyPart2Fields<'a>) -> Self {
-        let (stops, properties) = members;
+    fn from_fields(fields: JourneyPart2Fields<'a>) -> Self {
+        let (stops, properties) = fields;
         JourneyPart2 { stops, properties }
     }
 }

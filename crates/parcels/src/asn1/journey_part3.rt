@@ -14,7 +14,7 @@ pub(crate) struct JourneyPart3 {
     pub(crate) attempts: Defaulted<Implicit<WithDefault<IntegerOf<u64>, DefaultU64<0>>, 5>>,
 }
 
-// The fields in pairs, in the order in which they are encoded.
+// The fields, in the order in which they are encoded.
 pub(crate) type JourneyPart3Fields = Defaulted<
     Implicit<WithDefault<IntegerOf<u64>, DefaultU64<0>>, 5>,
 >;
@@ -22,8 +22,8 @@ pub(crate) type JourneyPart3Fields = Defaulted<
 impl FromFields<JourneyPart3Fields> for JourneyPart3 {
     ghost fields = { λ v. v.attempts };
 
-    fn from_fields(members: JourneyPart3Fields) -> Self {
-        let attempts = members;
+    fn from_fields(fields: JourneyPart3Fields) -> Self {
+        let attempts = fields;
         JourneyPart3 { attempts }
     }
 }

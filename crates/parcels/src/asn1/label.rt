@@ -5,7 +5,8 @@ ghost use Rattle.std.specs.Prelude.{◌≡◌};
 ghost use Rattle.std.proofs.Common.{arith, refl};
 ghost use Rattle.der.specs.Prelude.{map_ok};
 ghost use Rattle.der_asn1.specs.Item.{decodes_same};
-ghost use Rattle.der_asn1.specs.Meaning.{alternative, field, optional, sequence, sequence_is_item, sequence_item, two_fields};
+ghost use Rattle.der_asn1.specs.Meaning.{alternative, field, optional, sequence, sequence_is_item, sequence_item};
+ghost use Rattle.der_asn1.specs.TupleFields.{four_fields};
 
 use crate::asn1::address::Address;
 use crate::asn1::seal::Seal;
@@ -32,17 +33,19 @@ pub struct Label<'a> {
     pub seal: Optional<Implicit<Seal<'a>, 0>>,
 }
 
-/// The fields of a [`Label`] in pairs, in the order in which they are encoded.
+/// The fields of a [`Label`], in the order in which they are encoded.
 pub type LabelFields<'a> = (
-    (BitStringRef<'a>, OctetStringRef<'a>),
-    (OctetStringOf<Address<'a>>, Optional<Implicit<Seal<'a>, 0>>),
+    BitStringRef<'a>,
+    OctetStringRef<'a>,
+    OctetStringOf<Address<'a>>,
+    Optional<Implicit<Seal<'a>, 0>>,
 );
 
 impl<'a> FromFields<LabelFields<'a>> for Label<'a> {
-    ghost fields = { λ v. ((v.picture, v.octets), (v.address, v.seal)) };
+    ghost fields = { λ v. (v.picture, v.octets, v.address, v.seal) };
 
-    fn from_fields(members: LabelFields<'a>) -> Self {
-        let ((picture, octets), (address, seal)) = members;
+    fn from_fields(fields: LabelFields<'a>) -> Self {
+        let (picture, octets, address, seal) = fields;
         Label {
             picture,
             octets,
@@ -53,11 +56,11 @@ impl<'a> FromFields<LabelFields<'a>> for Label<'a> {
 }
 
 impl<'a> Sequence for Label<'a> {
-    ghost meaning = { sequence (two_fields (two_fields (field (alternative
+    ghost meaning = { sequence (four_fields (field (alternative
         ⟦<BitStringRef<'a> as Described>⟧.element)) (field (alternative
-        ⟦<OctetStringRef<'a> as Described>⟧.element))) (two_fields (field (alternative
+        ⟦<OctetStringRef<'a> as Described>⟧.element)) (field (alternative
         ⟦<OctetStringOf<Address<'a>> as Described>⟧.element)) (optional (alternative
-        ⟦<Implicit<Seal<'a>, 0> as Described>⟧.element))))
+        ⟦<Implicit<Seal<'a>, 0> as Described>⟧.element)))
         ⟦<Label<'a> as FromFields<LabelFields<'a>>>⟧.fields };
 
     ghost fits = { (refl, refl) };
@@ -96,19 +99,19 @@ impl<'a> EncodeValue for Label<'a> {
         (⟦<Label<'a> as FromFields<LabelFields<'a>>>⟧.fields v) };
 
     fn value_len(&self) -> Result<Length, Error> {
-        field_refs!(self, ((picture, octets), (address, seal))).encoded_len()
+        field_refs!(self, (picture, octets, address, seal)).encoded_len()
     }
 
     fn encode_value<W: Writer>(&self, writer: &mut W) -> Result<(), Error> {
-        field_refs!(self, ((picture, octets), (address, seal))).encode(writer)
+        field_refs!(self, (picture, octets, address, seal)).encode(writer)
     }
 
     fn value_len_before(&self) -> Option<u32> {
-        field_refs!(self, ((picture, octets), (address, seal))).len_before()
+        field_refs!(self, (picture, octets, address, seal)).len_before()
     }
 
     fn encode_value_before(&self, buf: &mut [u8], end: u32) -> u32 {
-        field_refs!(self, ((picture, octets), (address, seal))).encode_before(buf, end)
+        field_refs!(self, (picture, octets, address, seal)).encode_before(buf, end)
     }
 }
 

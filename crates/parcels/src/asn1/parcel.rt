@@ -7,6 +7,7 @@ ghost use Rattle.der.specs.Prelude.{map_ok};
 ghost use Rattle.der_asn1.specs.Integer.{integer_octets};
 ghost use Rattle.der_asn1.specs.Item.{decodes_same};
 ghost use Rattle.der_asn1.specs.Meaning.{alternative, defaulted, field, optional, seen, sequence, sequence_is_item, sequence_item, two_fields};
+ghost use Rattle.der_asn1.specs.TupleFields.{four_fields};
 
 use crate::asn1::handling::Handling;
 use crate::asn1::journey::Journey;
@@ -28,8 +29,7 @@ use der_asn1::{
 };
 use std::alloc::Global;
 
-/// A parcel on its way. It has more fields than one pair of pairs,
-/// so that its struct is read in parts.
+/// A parcel on its way, with fields of each kind of presence.
 #[derive(Clone, Copy, Drop)]
 pub struct Parcel<'a> {
     /// The version of the format; version 1 is the default.
@@ -50,42 +50,41 @@ pub struct Parcel<'a> {
     pub label: Optional<Implicit<Label<'a>, 4>>,
 }
 
-/// The fields of a [`Parcel`] in pairs, in the order in which they are encoded.
+/// The fields of a [`Parcel`], in the order in which they are encoded.
 pub type ParcelFields<'a> = (
-    (ParcelPart1Fields<'a>, ParcelPart2Fields),
-    (ParcelPart3Fields<'a>, ParcelPart4Fields<'a>),
+    ParcelPart1Fields<'a>,
+    ParcelPart2Fields,
+    ParcelPart3Fields<'a>,
+    ParcelPart4Fields<'a>,
 );
 
 impl<'a> FromFields<
     (
-        (ParcelPart1<'a>, ParcelPart2),
-        (ParcelPart3<'a>, ParcelPart4<'a>),
+        ParcelPart1<'a>,
+        ParcelPart2,
+        ParcelPart3<'a>,
+        ParcelPart4<'a>,
     ),
 > for Parcel<'a> {
     ghost fields = { λ v. (
-      (
-        record {
-          version = v.version;
-          number = v.number;
-        },
-        record { weight = v.weight; packing = v.packing },
-      ),
-      (
-        record {
-          handling = v.handling;
-          opened = v.opened;
-        },
-        record { journey = v.journey; label = v.label },
-      ),
+      record { version = v.version; number = v.number },
+      record { weight = v.weight; packing = v.packing },
+      record {
+        handling = v.handling;
+        opened = v.opened;
+      },
+      record { journey = v.journey; label = v.label },
     ) };
 
     fn from_fields(
-        members: (
-            (ParcelPart1<'a>, ParcelPart2),
-            (ParcelPart3<'a>, ParcelPart4<'a>),
+        fields: (
+            ParcelPart1<'a>,
+            ParcelPart2,
+            ParcelPart3<'a>,
+            ParcelPart4<'a>,
         ),
     ) -> Self {
-        let ((part1, part2), (part3, part4)) = members;
+        let (part1, part2, part3, part4) = fields;
         Parcel {
             version: part1.version,
             number: part1.number,
@@ -100,7 +99,7 @@ impl<'a> FromFields<
 }
 
 impl<'a> Sequence for Parcel<'a> {
-    ghost meaning = { sequence (two_fields (two_fields (seen
+    ghost meaning = { sequence (four_fields (seen
         ⟦<ParcelPart1<'a> as FromFields<ParcelPart1Fields<'a>>>⟧.fields (two_fields (defaulted
         ⟦<Explicit<WithDefault<NamedInteger<Version>, ParcelVersionDefault>, 0> as DefaultValue>⟧.is_default
         (alternative
@@ -110,16 +109,15 @@ impl<'a> Sequence for Parcel<'a> {
         ⟦<IntegerIn<1, 30000> as Described>⟧.element)) (defaulted
         ⟦<WithDefault<Enumerated<Packing>, ParcelPackingDefault> as DefaultValue>⟧.is_default
         (alternative
-        ⟦<WithDefault<Enumerated<Packing>, ParcelPackingDefault> as Described>⟧.element)))))
-        (two_fields (seen ⟦<ParcelPart3<'a> as FromFields<ParcelPart3Fields<'a>>>⟧.fields
-        (two_fields (optional (alternative ⟦<Handling<'a> as Described>⟧.element)) (defaulted
+        ⟦<WithDefault<Enumerated<Packing>, ParcelPackingDefault> as Described>⟧.element)))) (seen
+        ⟦<ParcelPart3<'a> as FromFields<ParcelPart3Fields<'a>>>⟧.fields (two_fields (optional
+        (alternative ⟦<Handling<'a> as Described>⟧.element)) (defaulted
         ⟦<BooleanRef<'a> as DefaultValue>⟧.is_default (alternative
         ⟦<BooleanRef<'a> as Described>⟧.element)))) (seen
         ⟦<ParcelPart4<'a> as FromFields<ParcelPart4Fields<'a>>>⟧.fields (two_fields (field
         (alternative ⟦<Journey<'a> as Described>⟧.element)) (optional (alternative
-        ⟦<Implicit<Label<'a>, 4> as Described>⟧.element))))))
-        ⟦<Parcel<'a> as FromFields<((ParcelPart1<'a>, ParcelPart2),
-        (ParcelPart3<'a>, ParcelPart4<'a>))>>⟧.fields };
+        ⟦<Implicit<Label<'a>, 4> as Described>⟧.element)))))
+        ⟦<Parcel<'a> as FromFields<(ParcelPart1<'a>, ParcelPart2, ParcelPart3<'a>, ParcelPart4<'a>)>>⟧.fields };
 
     ghost fits = { (refl, refl) };
 }
@@ -129,17 +127,18 @@ impl<'a, R: Reader<Borrowed = &'a [u8]>> DecodeValue<R> for Parcel<'a> {
     type Error = Error;
 
     ghost decode_value_answers = { λ h s result t.
-        ⟦<((ParcelPart1<'a>, ParcelPart2),
-        (ParcelPart3<'a>, ParcelPart4<'a>)) as Decode<SliceReader<'a>>>⟧.decode_answers s (map_ok
-        ⟦<Parcel<'a> as FromFields<((ParcelPart1<'a>, ParcelPart2),
-        (ParcelPart3<'a>, ParcelPart4<'a>))>>⟧.fields result) t };
+        ⟦<(ParcelPart1<'a>, ParcelPart2, ParcelPart3<'a>, ParcelPart4<'a>) as Decode<SliceReader<'a>>>⟧.decode_answers s
+        (map_ok
+        ⟦<Parcel<'a> as FromFields<(ParcelPart1<'a>, ParcelPart2, ParcelPart3<'a>, ParcelPart4<'a>)>>⟧.fields result) t };
 
     fn decode_value(alloc: Global, reader: &mut R, header: Header) -> Result<Self, Error> {
         decode_sequence::<
             R,
             (
-                (ParcelPart1<'a>, ParcelPart2),
-                (ParcelPart3<'a>, ParcelPart4<'a>),
+                ParcelPart1<'a>,
+                ParcelPart2,
+                ParcelPart3<'a>,
+                ParcelPart4<'a>,
             ),
             Self,
         >(alloc, reader, header)
@@ -166,49 +165,35 @@ impl<'a> IsValue for Parcel<'a> {
 /// Writes the fields one after the other, with the errors of every [`Sequence`].
 impl<'a> EncodeValue for Parcel<'a> {
     ghost value_size = { λ v. ⟦<ParcelFields<'a> as Encode>⟧.size (
-      (
-        ⟦<ParcelPart1<'a> as FromFields<ParcelPart1Fields<'a>>>⟧.fields
-            (⟦<Parcel<'a> as FromFields<((ParcelPart1<'a>, ParcelPart2),
-        (ParcelPart3<'a>, ParcelPart4<'a>))>>⟧.fields v).0.0,
-        ⟦<ParcelPart2 as FromFields<ParcelPart2Fields>>⟧.fields
-            (⟦<Parcel<'a> as FromFields<((ParcelPart1<'a>, ParcelPart2),
-        (ParcelPart3<'a>, ParcelPart4<'a>))>>⟧.fields v).0.1,
-      ),
-      (
-        ⟦<ParcelPart3<'a> as FromFields<ParcelPart3Fields<'a>>>⟧.fields
-            (⟦<Parcel<'a> as FromFields<((ParcelPart1<'a>, ParcelPart2),
-        (ParcelPart3<'a>, ParcelPart4<'a>))>>⟧.fields v).1.0,
-        ⟦<ParcelPart4<'a> as FromFields<ParcelPart4Fields<'a>>>⟧.fields
-            (⟦<Parcel<'a> as FromFields<((ParcelPart1<'a>, ParcelPart2),
-        (ParcelPart3<'a>, ParcelPart4<'a>))>>⟧.fields v).1.1,
-      ),
+      ⟦<ParcelPart1<'a> as FromFields<ParcelPart1Fields<'a>>>⟧.fields
+          (⟦<Parcel<'a> as FromFields<(ParcelPart1<'a>, ParcelPart2, ParcelPart3<'a>, ParcelPart4<'a>)>>⟧.fields v).0,
+      ⟦<ParcelPart2 as FromFields<ParcelPart2Fields>>⟧.fields
+          (⟦<Parcel<'a> as FromFields<(ParcelPart1<'a>, ParcelPart2, ParcelPart3<'a>, ParcelPart4<'a>)>>⟧.fields v).1,
+      ⟦<ParcelPart3<'a> as FromFields<ParcelPart3Fields<'a>>>⟧.fields
+          (⟦<Parcel<'a> as FromFields<(ParcelPart1<'a>, ParcelPart2, ParcelPart3<'a>, ParcelPart4<'a>)>>⟧.fields v).2,
+      ⟦<ParcelPart4<'a> as FromFields<ParcelPart4Fields<'a>>>⟧.fields
+          (⟦<Parcel<'a> as FromFields<(ParcelPart1<'a>, ParcelPart2, ParcelPart3<'a>, ParcelPart4<'a>)>>⟧.fields v).3,
     ) };
 
     ghost encode_value_answers = { λ v. ⟦<ParcelFields<'a> as Encode>⟧.encode_answers (
-      (
-        ⟦<ParcelPart1<'a> as FromFields<ParcelPart1Fields<'a>>>⟧.fields
-            (⟦<Parcel<'a> as FromFields<((ParcelPart1<'a>, ParcelPart2),
-        (ParcelPart3<'a>, ParcelPart4<'a>))>>⟧.fields v).0.0,
-        ⟦<ParcelPart2 as FromFields<ParcelPart2Fields>>⟧.fields
-            (⟦<Parcel<'a> as FromFields<((ParcelPart1<'a>, ParcelPart2),
-        (ParcelPart3<'a>, ParcelPart4<'a>))>>⟧.fields v).0.1,
-      ),
-      (
-        ⟦<ParcelPart3<'a> as FromFields<ParcelPart3Fields<'a>>>⟧.fields
-            (⟦<Parcel<'a> as FromFields<((ParcelPart1<'a>, ParcelPart2),
-        (ParcelPart3<'a>, ParcelPart4<'a>))>>⟧.fields v).1.0,
-        ⟦<ParcelPart4<'a> as FromFields<ParcelPart4Fields<'a>>>⟧.fields
-            (⟦<Parcel<'a> as FromFields<((ParcelPart1<'a>, ParcelPart2),
-        (ParcelPart3<'a>, ParcelPart4<'a>))>>⟧.fields v).1.1,
-      ),
+      ⟦<ParcelPart1<'a> as FromFields<ParcelPart1Fields<'a>>>⟧.fields
+          (⟦<Parcel<'a> as FromFields<(ParcelPart1<'a>, ParcelPart2, ParcelPart3<'a>, ParcelPart4<'a>)>>⟧.fields v).0,
+      ⟦<ParcelPart2 as FromFields<ParcelPart2Fields>>⟧.fields
+          (⟦<Parcel<'a> as FromFields<(ParcelPart1<'a>, ParcelPart2, ParcelPart3<'a>, ParcelPart4<'a>)>>⟧.fields v).1,
+      ⟦<ParcelPart3<'a> as FromFields<ParcelPart3Fields<'a>>>⟧.fields
+          (⟦<Parcel<'a> as FromFields<(ParcelPart1<'a>, ParcelPart2, ParcelPart3<'a>, ParcelPart4<'a>)>>⟧.fields v).2,
+      ⟦<ParcelPart4<'a> as FromFields<ParcelPart4Fields<'a>>>⟧.fields
+          (⟦<Parcel<'a> as FromFields<(ParcelPart1<'a>, ParcelPart2, ParcelPart3<'a>, ParcelPart4<'a>)>>⟧.fields v).3,
     ) };
 
     fn value_len(&self) -> Result<Length, Error> {
         field_refs!(
             self,
             (
-                ((version, number), (weight, packing)),
-                ((handling, opened), (journey, label))
+                (version, number),
+                (weight, packing),
+                (handling, opened),
+                (journey, label)
             )
         )
         .encoded_len()
@@ -218,8 +203,10 @@ impl<'a> EncodeValue for Parcel<'a> {
         field_refs!(
             self,
             (
-                ((version, number), (weight, packing)),
-                ((handling, opened), (journey, label))
+                (version, number),
+                (weight, packing),
+                (handling, opened),
+                (journey, label)
             )
         )
         .encode(writer)
@@ -229,8 +216,10 @@ impl<'a> EncodeValue for Parcel<'a> {
         field_refs!(
             self,
             (
-                ((version, number), (weight, packing)),
-                ((handling, opened), (journey, label))
+                (version, number),
+                (weight, packing),
+                (handling, opened),
+                (journey, label)
             )
         )
         .len_before()
@@ -240,8 +229,10 @@ impl<'a> EncodeValue for Parcel<'a> {
         field_refs!(
             self,
             (
-                ((version, number), (weight, packing)),
-                ((handling, opened), (journey, label))
+                (version, number),
+                (weight, packing),
+                (handling, opened),
+                (journey, label)
             )
         )
         .encode_before(buf, end)

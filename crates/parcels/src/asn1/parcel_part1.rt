@@ -19,7 +19,7 @@ pub(crate) struct ParcelPart1<'a> {
     pub(crate) number: IntRef<'a>,
 }
 
-// The fields in pairs, in the order in which they are encoded.
+// The fields, in the order in which they are encoded.
 pub(crate) type ParcelPart1Fields<'a> = (
     Defaulted<Explicit<WithDefault<NamedInteger<Version>, ParcelVersionDefault>, 0>>,
     IntRef<'a>,
@@ -28,8 +28,8 @@ pub(crate) type ParcelPart1Fields<'a> = (
 impl<'a> FromFields<ParcelPart1Fields<'a>> for ParcelPart1<'a> {
     ghost fields = { λ v. (v.version, v.number) };
 
-    fn from_fields(members: ParcelPart1Fields<'a>) -> Self {
-        let (version, number) = members;
+    fn from_fields(fields: ParcelPart1Fields<'a>) -> Self {
+        let (version, number) = fields;
         ParcelPart1 { version, number }
     }
 }

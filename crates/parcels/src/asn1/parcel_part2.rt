@@ -17,7 +17,7 @@ pub(crate) struct ParcelPart2 {
     pub(crate) packing: Defaulted<WithDefault<Enumerated<Packing>, ParcelPackingDefault>>,
 }
 
-// The fields in pairs, in the order in which they are encoded.
+// The fields, in the order in which they are encoded.
 pub(crate) type ParcelPart2Fields = (
     IntegerIn<1, 30000>,
     Defaulted<WithDefault<Enumerated<Packing>, ParcelPackingDefault>>,
@@ -26,8 +26,8 @@ pub(crate) type ParcelPart2Fields = (
 impl FromFields<ParcelPart2Fields> for ParcelPart2 {
     ghost fields = { λ v. (v.weight, v.packing) };
 
-    fn from_fields(members: ParcelPart2Fields) -> Self {
-        let (weight, packing) = members;
+    fn from_fields(fields: ParcelPart2Fields) -> Self {
+        let (weight, packing) = fields;
         ParcelPart2 { weight, packing }
     }
 }

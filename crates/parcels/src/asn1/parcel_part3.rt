@@ -16,14 +16,14 @@ pub(crate) struct ParcelPart3<'a> {
     pub(crate) opened: Defaulted<BooleanRef<'a>>,
 }
 
-// The fields in pairs, in the order in which they are encoded.
+// The fields, in the order in which they are encoded.
 pub(crate) type ParcelPart3Fields<'a> = (Optional<Handling<'a>>, Defaulted<BooleanRef<'a>>);
 
 impl<'a> FromFields<ParcelPart3Fields<'a>> for ParcelPart3<'a> {
     ghost fields = { λ v. (v.handling, v.opened) };
 
-    fn from_fields(members: ParcelPart3Fields<'a>) -> Self {
-        let (handling, opened) = members;
+    fn from_fields(fields: ParcelPart3Fields<'a>) -> Self {
+        let (handling, opened) = fields;
         ParcelPart3 { handling, opened }
     }
 }

@@ -17,14 +17,14 @@ pub(crate) struct ParcelPart4<'a> {
     pub(crate) label: Optional<Implicit<Label<'a>, 4>>,
 }
 
-// The fields in pairs, in the order in which they are encoded.
+// The fields, in the order in which they are encoded.
 pub(crate) type ParcelPart4Fields<'a> = (Journey<'a>, Optional<Implicit<Label<'a>, 4>>);
 
 impl<'a> FromFields<ParcelPart4Fields<'a>> for ParcelPart4<'a> {
     ghost fields = { λ v. (v.journey, v.label) };
 
-    fn from_fields(members: ParcelPart4Fields<'a>) -> Self {
-        let (journey, label) = members;
+    fn from_fields(fields: ParcelPart4Fields<'a>) -> Self {
+        let (journey, label) = fields;
         ParcelPart4 { journey, label }
     }
 }

@@ -5,14 +5,17 @@ ghost use Rattle.std.specs.Prelude.{◌≡◌};
 ghost use Rattle.std.proofs.Common.{arith, refl};
 ghost use Rattle.der.specs.Prelude.{map_ok};
 ghost use Rattle.der_asn1.specs.Item.{decodes_same};
-ghost use Rattle.der_asn1.specs.Meaning.{alternative, field, sequence, sequence_is_item, sequence_item, two_fields};
+ghost use Rattle.der_asn1.specs.Meaning.{alternative, field, sequence, sequence_is_item, sequence_item};
+ghost use Rattle.der_asn1.specs.TupleFields.{three_fields};
 
+use crate::asn1::property_known::PropertyKnown;
 use der::{
     Decode, DecodeValue, Encode, EncodeValue, Error, FromFields, Header, IsValue, Length, Reader,
     Sequence, SliceReader, Writer, decode_sequence, field_refs,
 };
 use der_asn1::{
-    BorrowedItem, DecodeItem, Described, ExplicitAny, Item, Nestable, ObjectIdentifierRef, Private,
+    Additions, BorrowedItem, DecodeItem, Described, DescribedField, ExplicitAny, Item, Nestable,
+    ObjectIdentifierRef, Private,
 };
 use std::alloc::Global;
 
@@ -23,24 +26,35 @@ pub struct Property<'a> {
     pub kind: ObjectIdentifierRef<'a>,
     /// value
     pub value: Private<ExplicitAny<'a, 1>>,
+    /// The elements of later versions, as they were.
+    pub additions: Additions<'a, PropertyKnown>,
 }
 
-/// The fields of a [`Property`] in pairs, in the order in which they are encoded.
-pub type PropertyFields<'a> = (ObjectIdentifierRef<'a>, Private<ExplicitAny<'a, 1>>);
+/// The fields of a [`Property`], in the order in which they are encoded.
+pub type PropertyFields<'a> = (
+    ObjectIdentifierRef<'a>,
+    Private<ExplicitAny<'a, 1>>,
+    Additions<'a, PropertyKnown>,
+);
 
 impl<'a> FromFields<PropertyFields<'a>> for Property<'a> {
-    ghost fields = { λ v. (v.kind, v.value) };
+    ghost fields = { λ v. (v.kind, v.value, v.additions) };
 
-    fn from_fields(members: PropertyFields<'a>) -> Self {
-        let (kind, value) = members;
-        Property { kind, value }
+    fn from_fields(fields: PropertyFields<'a>) -> Self {
+        let (kind, value, additions) = fields;
+        Property {
+            kind,
+            value,
+            additions,
+        }
     }
 }
 
 impl<'a> Sequence for Property<'a> {
-    ghost meaning = { sequence (two_fields (field (alternative
+    ghost meaning = { sequence (three_fields (field (alternative
         ⟦<ObjectIdentifierRef<'a> as Described>⟧.element)) (field (alternative
-        ⟦<Private<ExplicitAny<'a, 1>> as Described>⟧.element)))
+        ⟦<Private<ExplicitAny<'a, 1>> as Described>⟧.element))
+        ⟦<Additions<'a, PropertyKnown> as DescribedField>⟧.field)
         ⟦<Property<'a> as FromFields<PropertyFields<'a>>>⟧.fields };
 
     ghost fits = { (refl, refl) };
@@ -63,6 +77,7 @@ impl<'a> IsValue for Property<'a> {
     fn is_value(&self) {
         self.kind.is_value();
         self.value.is_value();
+        self.additions.is_value();
     }
 }
 
@@ -75,19 +90,19 @@ impl<'a> EncodeValue for Property<'a> {
         (⟦<Property<'a> as FromFields<PropertyFields<'a>>>⟧.fields v) };
 
     fn value_len(&self) -> Result<Length, Error> {
-        field_refs!(self, (kind, value)).encoded_len()
+        field_refs!(self, (kind, value, additions)).encoded_len()
     }
 
     fn encode_value<W: Writer>(&self, writer: &mut W) -> Result<(), Error> {
-        field_refs!(self, (kind, value)).encode(writer)
+        field_refs!(self, (kind, value, additions)).encode(writer)
     }
 
     fn value_len_before(&self) -> Option<u32> {
-        field_refs!(self, (kind, value)).len_before()
+        field_refs!(self, (kind, value, additions)).len_before()
     }
 
     fn encode_value_before(&self, buf: &mut [u8], end: u32) -> u32 {
-        field_refs!(self, (kind, value)).encode_before(buf, end)
+        field_refs!(self, (kind, value, additions)).encode_before(buf, end)
     }
 }
 

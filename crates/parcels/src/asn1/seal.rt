@@ -5,7 +5,8 @@ ghost use Rattle.std.specs.Prelude.{◌≡◌};
 ghost use Rattle.std.proofs.Common.{arith, refl};
 ghost use Rattle.der.specs.Prelude.{map_ok};
 ghost use Rattle.der_asn1.specs.Item.{decodes_same};
-ghost use Rattle.der_asn1.specs.Meaning.{alternative, any_element, field, optional, sequence, sequence_is_item, sequence_item, two_fields};
+ghost use Rattle.der_asn1.specs.Meaning.{alternative, any_element, field, optional, sequence, sequence_is_item, sequence_item};
+ghost use Rattle.der_asn1.specs.TupleFields.{three_fields};
 
 use crate::asn1::text_tagged::TextTagged;
 use der::{
@@ -27,17 +28,18 @@ pub struct Seal<'a> {
     pub extra: Optional<AnyRef<'a>>,
 }
 
-/// The fields of a [`Seal`] in pairs, in the order in which they are encoded.
+/// The fields of a [`Seal`], in the order in which they are encoded.
 pub type SealFields<'a> = (
     AlgorithmIdentifierRef<'a>,
-    (Implicit<TextTagged<'a>, 0>, Optional<AnyRef<'a>>),
+    Implicit<TextTagged<'a>, 0>,
+    Optional<AnyRef<'a>>,
 );
 
 impl<'a> FromFields<SealFields<'a>> for Seal<'a> {
-    ghost fields = { λ v. (v.algorithm, (v.text, v.extra)) };
+    ghost fields = { λ v. (v.algorithm, v.text, v.extra) };
 
-    fn from_fields(members: SealFields<'a>) -> Self {
-        let (algorithm, (text, extra)) = members;
+    fn from_fields(fields: SealFields<'a>) -> Self {
+        let (algorithm, text, extra) = fields;
         Seal {
             algorithm,
             text,
@@ -47,9 +49,9 @@ impl<'a> FromFields<SealFields<'a>> for Seal<'a> {
 }
 
 impl<'a> Sequence for Seal<'a> {
-    ghost meaning = { sequence (two_fields (field (alternative
-        ⟦<AlgorithmIdentifierRef<'a> as Described>⟧.element)) (two_fields (field (alternative
-        ⟦<Implicit<TextTagged<'a>, 0> as Described>⟧.element)) (optional any_element)))
+    ghost meaning = { sequence (three_fields (field (alternative
+        ⟦<AlgorithmIdentifierRef<'a> as Described>⟧.element)) (field (alternative
+        ⟦<Implicit<TextTagged<'a>, 0> as Described>⟧.element)) (optional any_element))
         ⟦<Seal<'a> as FromFields<SealFields<'a>>>⟧.fields };
 
     ghost fits = { (refl, refl) };
@@ -87,19 +89,19 @@ impl<'a> EncodeValue for Seal<'a> {
         (⟦<Seal<'a> as FromFields<SealFields<'a>>>⟧.fields v) };
 
     fn value_len(&self) -> Result<Length, Error> {
-        field_refs!(self, (algorithm, (text, extra))).encoded_len()
+        field_refs!(self, (algorithm, text, extra)).encoded_len()
     }
 
     fn encode_value<W: Writer>(&self, writer: &mut W) -> Result<(), Error> {
-        field_refs!(self, (algorithm, (text, extra))).encode(writer)
+        field_refs!(self, (algorithm, text, extra)).encode(writer)
     }
 
     fn value_len_before(&self) -> Option<u32> {
-        field_refs!(self, (algorithm, (text, extra))).len_before()
+        field_refs!(self, (algorithm, text, extra)).len_before()
     }
 
     fn encode_value_before(&self, buf: &mut [u8], end: u32) -> u32 {
-        field_refs!(self, (algorithm, (text, extra))).encode_before(buf, end)
+        field_refs!(self, (algorithm, text, extra)).encode_before(buf, end)
     }
 }
 

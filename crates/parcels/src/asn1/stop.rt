@@ -25,14 +25,14 @@ pub struct Stop<'a> {
     pub time: Time<'a>,
 }
 
-/// The fields of a [`Stop`] in pairs, in the order in which they are encoded.
+/// The fields of a [`Stop`], in the order in which they are encoded.
 pub type StopFields<'a> = (Text<'a>, Time<'a>);
 
 impl<'a> FromFields<StopFields<'a>> for Stop<'a> {
     ghost fields = { λ v. (v.place, v.time) };
 
-    fn from_fields(members: StopFields<'a>) -> Self {
-        let (place, time) = members;
+    fn from_fields(fields: StopFields<'a>) -> Self {
+        let (place, time) = fields;
         Stop { place, time }
     }
 }

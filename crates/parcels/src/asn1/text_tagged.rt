@@ -22,14 +22,14 @@ pub struct TextTagged<'a> {
     pub value: Text<'a>,
 }
 
-/// The fields of a [`TextTagged`] in pairs, in the order in which they are encoded.
+/// The fields of a [`TextTagged`], in the order in which they are encoded.
 pub type TextTaggedFields<'a> = Text<'a>;
 
 impl<'a> FromFields<TextTaggedFields<'a>> for TextTagged<'a> {
     ghost fields = { λ v. v.value };
 
-    fn from_fields(members: TextTaggedFields<'a>) -> Self {
-        let value = members;
+    fn from_fields(fields: TextTaggedFields<'a>) -> Self {
+        let value = fields;
         TextTagged { value }
     }
 }

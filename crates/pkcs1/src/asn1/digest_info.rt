@@ -25,14 +25,14 @@ pub struct DigestInfo<'a> {
     pub digest: OctetStringRef<'a>,
 }
 
-/// The fields of a [`DigestInfo`] in pairs, in the order in which they are encoded.
+/// The fields of a [`DigestInfo`], in the order in which they are encoded.
 pub type DigestInfoFields<'a> = (AlgorithmIdentifierRef<'a>, OctetStringRef<'a>);
 
 impl<'a> FromFields<DigestInfoFields<'a>> for DigestInfo<'a> {
     ghost fields = { λ v. (v.digest_algorithm, v.digest) };
 
-    fn from_fields(members: DigestInfoFields<'a>) -> Self {
-        let (digest_algorithm, digest) = members;
+    fn from_fields(fields: DigestInfoFields<'a>) -> Self {
+        let (digest_algorithm, digest) = fields;
         DigestInfo {
             digest_algorithm,
             digest,

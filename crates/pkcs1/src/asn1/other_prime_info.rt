@@ -5,7 +5,8 @@ ghost use Rattle.std.specs.Prelude.{◌≡◌};
 ghost use Rattle.std.proofs.Common.{arith, refl};
 ghost use Rattle.der.specs.Prelude.{map_ok};
 ghost use Rattle.der_asn1.specs.Item.{decodes_same};
-ghost use Rattle.der_asn1.specs.Meaning.{alternative, field, sequence, sequence_is_item, sequence_item, two_fields};
+ghost use Rattle.der_asn1.specs.Meaning.{alternative, field, sequence, sequence_is_item, sequence_item};
+ghost use Rattle.der_asn1.specs.TupleFields.{three_fields};
 
 use der::{
     Decode, DecodeValue, Encode, EncodeValue, Error, FromFields, Header, IsValue, Length, Reader,
@@ -26,14 +27,14 @@ pub struct OtherPrimeInfo<'a> {
     pub coefficient: IntRef<'a>,
 }
 
-/// The fields of a [`OtherPrimeInfo`] in pairs, in the order in which they are encoded.
-pub type OtherPrimeInfoFields<'a> = (IntRef<'a>, (IntRef<'a>, IntRef<'a>));
+/// The fields of a [`OtherPrimeInfo`], in the order in which they are encoded.
+pub type OtherPrimeInfoFields<'a> = (IntRef<'a>, IntRef<'a>, IntRef<'a>);
 
 impl<'a> FromFields<OtherPrimeInfoFields<'a>> for OtherPrimeInfo<'a> {
-    ghost fields = { λ v. (v.prime, (v.exponent, v.coefficient)) };
+    ghost fields = { λ v. (v.prime, v.exponent, v.coefficient) };
 
-    fn from_fields(members: OtherPrimeInfoFields<'a>) -> Self {
-        let (prime, (exponent, coefficient)) = members;
+    fn from_fields(fields: OtherPrimeInfoFields<'a>) -> Self {
+        let (prime, exponent, coefficient) = fields;
         OtherPrimeInfo {
             prime,
             exponent,
@@ -43,9 +44,10 @@ impl<'a> FromFields<OtherPrimeInfoFields<'a>> for OtherPrimeInfo<'a> {
 }
 
 impl<'a> Sequence for OtherPrimeInfo<'a> {
-    ghost meaning = { sequence (two_fields (field (alternative ⟦<IntRef<'a> as Described>⟧.element))
-        (two_fields (field (alternative ⟦<IntRef<'a> as Described>⟧.element)) (field (alternative
-        ⟦<IntRef<'a> as Described>⟧.element))))
+    ghost meaning = { sequence (three_fields (field (alternative
+        ⟦<IntRef<'a> as Described>⟧.element)) (field (alternative
+        ⟦<IntRef<'a> as Described>⟧.element)) (field (alternative
+        ⟦<IntRef<'a> as Described>⟧.element)))
         ⟦<OtherPrimeInfo<'a> as FromFields<OtherPrimeInfoFields<'a>>>⟧.fields };
 
     ghost fits = { (refl, refl) };
@@ -81,19 +83,19 @@ impl<'a> EncodeValue for OtherPrimeInfo<'a> {
         (⟦<OtherPrimeInfo<'a> as FromFields<OtherPrimeInfoFields<'a>>>⟧.fields v) };
 
     fn value_len(&self) -> Result<Length, Error> {
-        field_refs!(self, (prime, (exponent, coefficient))).encoded_len()
+        field_refs!(self, (prime, exponent, coefficient)).encoded_len()
     }
 
     fn encode_value<W: Writer>(&self, writer: &mut W) -> Result<(), Error> {
-        field_refs!(self, (prime, (exponent, coefficient))).encode(writer)
+        field_refs!(self, (prime, exponent, coefficient)).encode(writer)
     }
 
     fn value_len_before(&self) -> Option<u32> {
-        field_refs!(self, (prime, (exponent, coefficient))).len_before()
+        field_refs!(self, (prime, exponent, coefficient)).len_before()
     }
 
     fn encode_value_before(&self, buf: &mut [u8], end: u32) -> u32 {
-        field_refs!(self, (prime, (exponent, coefficient))).encode_before(buf, end)
+        field_refs!(self, (prime, exponent, coefficient)).encode_before(buf, end)
     }
 }
 

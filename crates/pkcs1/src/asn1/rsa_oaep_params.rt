@@ -32,20 +32,17 @@ pub struct RsaOaepParams<'a> {
     pub p_source: DefaultedTo<Explicit<AlgorithmIdentifierRef<'a>, 2>, EmptyLabelDefault>,
 }
 
-/// The fields of a [`RsaOaepParams`] in pairs, in the order in which they are encoded.
+/// The fields of a [`RsaOaepParams`], in the order in which they are encoded.
 pub type RsaOaepParamsFields<'a> = (RsaOaepParamsPart1Fields<'a>, RsaOaepParamsPart2Fields<'a>);
 
 impl<'a> FromFields<(RsaOaepParamsPart1<'a>, RsaOaepParamsPart2<'a>)> for RsaOaepParams<'a> {
     ghost fields = { λ v. (
-      record {
-        hash = v.hash;
-        mask_gen = v.mask_gen;
-      },
+      record { hash = v.hash; mask_gen = v.mask_gen },
       record { p_source = v.p_source },
     ) };
 
-    fn from_fields(members: (RsaOaepParamsPart1<'a>, RsaOaepParamsPart2<'a>)) -> Self {
-        let (part1, part2) = members;
+    fn from_fields(fields: (RsaOaepParamsPart1<'a>, RsaOaepParamsPart2<'a>)) -> Self {
+        let (part1, part2) = fields;
         RsaOaepParams {
             hash: part1.hash,
             mask_gen: part1.mask_gen,

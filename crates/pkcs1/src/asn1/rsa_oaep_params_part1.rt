@@ -17,7 +17,7 @@ pub(crate) struct RsaOaepParamsPart1<'a> {
     pub(crate) mask_gen: DefaultedTo<Explicit<AlgorithmIdentifierRef<'a>, 1>, Mgf1Sha1Default>,
 }
 
-// The fields in pairs, in the order in which they are encoded.
+// The fields, in the order in which they are encoded.
 pub(crate) type RsaOaepParamsPart1Fields<'a> = (
     DefaultedTo<Explicit<AlgorithmIdentifierRef<'a>, 0>, Sha1Default>,
     DefaultedTo<Explicit<AlgorithmIdentifierRef<'a>, 1>, Mgf1Sha1Default>,
@@ -26,8 +26,8 @@ pub(crate) type RsaOaepParamsPart1Fields<'a> = (
 impl<'a> FromFields<RsaOaepParamsPart1Fields<'a>> for RsaOaepParamsPart1<'a> {
     ghost fields = { λ v. (v.hash, v.mask_gen) };
 
-    fn from_fields(members: RsaOaepParamsPart1Fields<'a>) -> Self {
-        let (hash, mask_gen) = members;
+    fn from_fields(fields: RsaOaepParamsPart1Fields<'a>) -> Self {
+        let (hash, mask_gen) = fields;
         RsaOaepParamsPart1 { hash, mask_gen }
     }
 }

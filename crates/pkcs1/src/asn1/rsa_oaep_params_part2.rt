@@ -16,7 +16,7 @@ pub(crate) struct RsaOaepParamsPart2<'a> {
     pub(crate) p_source: DefaultedTo<Explicit<AlgorithmIdentifierRef<'a>, 2>, EmptyLabelDefault>,
 }
 
-// The fields in pairs, in the order in which they are encoded.
+// The fields, in the order in which they are encoded.
 pub(crate) type RsaOaepParamsPart2Fields<'a> = DefaultedTo<
     Explicit<AlgorithmIdentifierRef<'a>, 2>,
     EmptyLabelDefault,
@@ -25,8 +25,8 @@ pub(crate) type RsaOaepParamsPart2Fields<'a> = DefaultedTo<
 impl<'a> FromFields<RsaOaepParamsPart2Fields<'a>> for RsaOaepParamsPart2<'a> {
     ghost fields = { λ v. v.p_source };
 
-    fn from_fields(members: RsaOaepParamsPart2Fields<'a>) -> Self {
-        let p_source = members;
+    fn from_fields(fields: RsaOaepParamsPart2Fields<'a>) -> Self {
+        let p_source = fields;
         RsaOaepParamsPart2 { p_source }
     }
 }

@@ -6,11 +6,11 @@ ghost use Rattle.std.proofs.Common.{arith, refl};
 ghost use Rattle.der.specs.Prelude.{map_ok};
 ghost use Rattle.der_asn1.specs.Item.{decodes_same};
 ghost use Rattle.der_asn1.specs.Meaning.{alternative, field, optional, seen, sequence, sequence_is_item, sequence_item, two_fields};
+ghost use Rattle.der_asn1.specs.TupleFields.{five_fields};
 
 use crate::asn1::other_prime_infos::OtherPrimeInfos;
 use crate::asn1::rsa_private_key_part1::{RsaPrivateKeyPart1, RsaPrivateKeyPart1Fields};
 use crate::asn1::rsa_private_key_part2::{RsaPrivateKeyPart2, RsaPrivateKeyPart2Fields};
-use crate::asn1::rsa_private_key_part3::{RsaPrivateKeyPart3, RsaPrivateKeyPart3Fields};
 use der::{
     Decode, DecodeValue, Encode, EncodeValue, Error, FromFields, Header, IsValue, Length, Reader,
     Sequence, SliceReader, Writer, decode_sequence, field_refs,
@@ -44,78 +44,59 @@ pub struct RsaPrivateKey<'a> {
     pub other_prime_infos: Optional<OtherPrimeInfos<'a>>,
 }
 
-/// The fields of a [`RsaPrivateKey`] in pairs, in the order in which they are encoded.
-pub type RsaPrivateKeyFields<'a> = (
-    RsaPrivateKeyPart1Fields<'a>,
-    (RsaPrivateKeyPart2Fields<'a>, RsaPrivateKeyPart3Fields<'a>),
-);
+/// The fields of a [`RsaPrivateKey`], in the order in which they are encoded.
+pub type RsaPrivateKeyFields<'a> = (RsaPrivateKeyPart1Fields<'a>, RsaPrivateKeyPart2Fields<'a>);
 
-impl<'a> FromFields<
-    (
-        RsaPrivateKeyPart1<'a>,
-        (RsaPrivateKeyPart2<'a>, RsaPrivateKeyPart3<'a>),
-    ),
-> for RsaPrivateKey<'a> {
+impl<'a> FromFields<(RsaPrivateKeyPart1<'a>, RsaPrivateKeyPart2<'a>)> for RsaPrivateKey<'a> {
     ghost fields = { λ v. (
       record {
         version = v.version;
         modulus = v.modulus;
         public_exponent = v.public_exponent;
         private_exponent = v.private_exponent;
+        prime1 = v.prime1;
       },
-      (
-        record {
-          prime1 = v.prime1;
-          prime2 = v.prime2;
-          exponent1 = v.exponent1;
-          exponent2 = v.exponent2;
-        },
-        record {
-          coefficient = v.coefficient;
-          other_prime_infos = v.other_prime_infos;
-        },
-      ),
+      record {
+        prime2 = v.prime2;
+        exponent1 = v.exponent1;
+        exponent2 = v.exponent2;
+        coefficient = v.coefficient;
+        other_prime_infos = v.other_prime_infos;
+      },
     ) };
 
-    fn from_fields(
-        members: (
-            RsaPrivateKeyPart1<'a>,
-            (RsaPrivateKeyPart2<'a>, RsaPrivateKeyPart3<'a>),
-        ),
-    ) -> Self {
-        let (part1, (part2, part3)) = members;
+    fn from_fields(fields: (RsaPrivateKeyPart1<'a>, RsaPrivateKeyPart2<'a>)) -> Self {
+        let (part1, part2) = fields;
         RsaPrivateKey {
             version: part1.version,
             modulus: part1.modulus,
             public_exponent: part1.public_exponent,
             private_exponent: part1.private_exponent,
-            prime1: part2.prime1,
+            prime1: part1.prime1,
             prime2: part2.prime2,
             exponent1: part2.exponent1,
             exponent2: part2.exponent2,
-            coefficient: part3.coefficient,
-            other_prime_infos: part3.other_prime_infos,
+            coefficient: part2.coefficient,
+            other_prime_infos: part2.other_prime_infos,
         }
     }
 }
 
 impl<'a> Sequence for RsaPrivateKey<'a> {
     ghost meaning = { sequence (two_fields (seen
-        ⟦<RsaPrivateKeyPart1<'a> as FromFields<RsaPrivateKeyPart1Fields<'a>>>⟧.fields (two_fields
-        (two_fields (field (alternative ⟦<IntRef<'a> as Described>⟧.element)) (field (alternative
-        ⟦<IntRef<'a> as Described>⟧.element))) (two_fields (field (alternative
+        ⟦<RsaPrivateKeyPart1<'a> as FromFields<RsaPrivateKeyPart1Fields<'a>>>⟧.fields (five_fields
+        (field (alternative ⟦<IntRef<'a> as Described>⟧.element)) (field (alternative
         ⟦<IntRef<'a> as Described>⟧.element)) (field (alternative
-        ⟦<IntRef<'a> as Described>⟧.element))))) (two_fields (seen
-        ⟦<RsaPrivateKeyPart2<'a> as FromFields<RsaPrivateKeyPart2Fields<'a>>>⟧.fields (two_fields
-        (two_fields (field (alternative ⟦<IntRef<'a> as Described>⟧.element)) (field (alternative
-        ⟦<IntRef<'a> as Described>⟧.element))) (two_fields (field (alternative
         ⟦<IntRef<'a> as Described>⟧.element)) (field (alternative
-        ⟦<IntRef<'a> as Described>⟧.element))))) (seen
-        ⟦<RsaPrivateKeyPart3<'a> as FromFields<RsaPrivateKeyPart3Fields<'a>>>⟧.fields (two_fields
-        (field (alternative ⟦<IntRef<'a> as Described>⟧.element)) (optional (alternative
-        ⟦<OtherPrimeInfos<'a> as Described>⟧.element))))))
-        ⟦<RsaPrivateKey<'a> as FromFields<(RsaPrivateKeyPart1<'a>,
-        (RsaPrivateKeyPart2<'a>, RsaPrivateKeyPart3<'a>))>>⟧.fields };
+        ⟦<IntRef<'a> as Described>⟧.element)) (field (alternative
+        ⟦<IntRef<'a> as Described>⟧.element)))) (seen
+        ⟦<RsaPrivateKeyPart2<'a> as FromFields<RsaPrivateKeyPart2Fields<'a>>>⟧.fields (five_fields
+        (field (alternative ⟦<IntRef<'a> as Described>⟧.element)) (field (alternative
+        ⟦<IntRef<'a> as Described>⟧.element)) (field (alternative
+        ⟦<IntRef<'a> as Described>⟧.element)) (field (alternative
+        ⟦<IntRef<'a> as Described>⟧.element)) (optional (alternative
+        ⟦<OtherPrimeInfos<'a> as Described>⟧.element)))))
+        ⟦<RsaPrivateKey<'a> as FromFields<(RsaPrivateKeyPart1<'a>, RsaPrivateKeyPart2<'a>)>>⟧.fields };
 
     ghost fits = { (refl, refl) };
 }
@@ -125,20 +106,14 @@ impl<'a, R: Reader<Borrowed = &'a [u8]>> DecodeValue<R> for RsaPrivateKey<'a> {
     type Error = Error;
 
     ghost decode_value_answers = { λ h s result t.
-        ⟦<(RsaPrivateKeyPart1<'a>,
-        (RsaPrivateKeyPart2<'a>, RsaPrivateKeyPart3<'a>)) as Decode<SliceReader<'a>>>⟧.decode_answers s
-        (map_ok ⟦<RsaPrivateKey<'a> as FromFields<(RsaPrivateKeyPart1<'a>,
-        (RsaPrivateKeyPart2<'a>, RsaPrivateKeyPart3<'a>))>>⟧.fields result) t };
+        ⟦<(RsaPrivateKeyPart1<'a>, RsaPrivateKeyPart2<'a>) as Decode<SliceReader<'a>>>⟧.decode_answers s
+        (map_ok
+        ⟦<RsaPrivateKey<'a> as FromFields<(RsaPrivateKeyPart1<'a>, RsaPrivateKeyPart2<'a>)>>⟧.fields result) t };
 
     fn decode_value(alloc: Global, reader: &mut R, header: Header) -> Result<Self, Error> {
-        decode_sequence::<
-            R,
-            (
-                RsaPrivateKeyPart1<'a>,
-                (RsaPrivateKeyPart2<'a>, RsaPrivateKeyPart3<'a>),
-            ),
-            Self,
-        >(alloc, reader, header)
+        decode_sequence::<R, (RsaPrivateKeyPart1<'a>, RsaPrivateKeyPart2<'a>), Self>(
+            alloc, reader, header,
+        )
     }
 }
 
@@ -163,41 +138,24 @@ impl<'a> IsValue for RsaPrivateKey<'a> {
 impl<'a> EncodeValue for RsaPrivateKey<'a> {
     ghost value_size = { λ v. ⟦<RsaPrivateKeyFields<'a> as Encode>⟧.size (
       ⟦<RsaPrivateKeyPart1<'a> as FromFields<RsaPrivateKeyPart1Fields<'a>>>⟧.fields
-          (⟦<RsaPrivateKey<'a> as FromFields<(RsaPrivateKeyPart1<'a>,
-        (RsaPrivateKeyPart2<'a>, RsaPrivateKeyPart3<'a>))>>⟧.fields v).0,
-      (
-        ⟦<RsaPrivateKeyPart2<'a> as FromFields<RsaPrivateKeyPart2Fields<'a>>>⟧.fields
-            (⟦<RsaPrivateKey<'a> as FromFields<(RsaPrivateKeyPart1<'a>,
-        (RsaPrivateKeyPart2<'a>, RsaPrivateKeyPart3<'a>))>>⟧.fields v).1.0,
-        ⟦<RsaPrivateKeyPart3<'a> as FromFields<RsaPrivateKeyPart3Fields<'a>>>⟧.fields
-            (⟦<RsaPrivateKey<'a> as FromFields<(RsaPrivateKeyPart1<'a>,
-        (RsaPrivateKeyPart2<'a>, RsaPrivateKeyPart3<'a>))>>⟧.fields v).1.1,
-      ),
+          (⟦<RsaPrivateKey<'a> as FromFields<(RsaPrivateKeyPart1<'a>, RsaPrivateKeyPart2<'a>)>>⟧.fields v).0,
+      ⟦<RsaPrivateKeyPart2<'a> as FromFields<RsaPrivateKeyPart2Fields<'a>>>⟧.fields
+          (⟦<RsaPrivateKey<'a> as FromFields<(RsaPrivateKeyPart1<'a>, RsaPrivateKeyPart2<'a>)>>⟧.fields v).1,
     ) };
 
     ghost encode_value_answers = { λ v. ⟦<RsaPrivateKeyFields<'a> as Encode>⟧.encode_answers (
       ⟦<RsaPrivateKeyPart1<'a> as FromFields<RsaPrivateKeyPart1Fields<'a>>>⟧.fields
-          (⟦<RsaPrivateKey<'a> as FromFields<(RsaPrivateKeyPart1<'a>,
-        (RsaPrivateKeyPart2<'a>, RsaPrivateKeyPart3<'a>))>>⟧.fields v).0,
-      (
-        ⟦<RsaPrivateKeyPart2<'a> as FromFields<RsaPrivateKeyPart2Fields<'a>>>⟧.fields
-            (⟦<RsaPrivateKey<'a> as FromFields<(RsaPrivateKeyPart1<'a>,
-        (RsaPrivateKeyPart2<'a>, RsaPrivateKeyPart3<'a>))>>⟧.fields v).1.0,
-        ⟦<RsaPrivateKeyPart3<'a> as FromFields<RsaPrivateKeyPart3Fields<'a>>>⟧.fields
-            (⟦<RsaPrivateKey<'a> as FromFields<(RsaPrivateKeyPart1<'a>,
-        (RsaPrivateKeyPart2<'a>, RsaPrivateKeyPart3<'a>))>>⟧.fields v).1.1,
-      ),
+          (⟦<RsaPrivateKey<'a> as FromFields<(RsaPrivateKeyPart1<'a>, RsaPrivateKeyPart2<'a>)>>⟧.fields v).0,
+      ⟦<RsaPrivateKeyPart2<'a> as FromFields<RsaPrivateKeyPart2Fields<'a>>>⟧.fields
+          (⟦<RsaPrivateKey<'a> as FromFields<(RsaPrivateKeyPart1<'a>, RsaPrivateKeyPart2<'a>)>>⟧.fields v).1,
     ) };
 
     fn value_len(&self) -> Result<Length, Error> {
         field_refs!(
             self,
             (
-                ((version, modulus), (public_exponent, private_exponent)),
-                (
-                    ((prime1, prime2), (exponent1, exponent2)),
-                    (coefficient, other_prime_infos)
-                )
+                (version, modulus, public_exponent, private_exponent, prime1),
+                (prime2, exponent1, exponent2, coefficient, other_prime_infos)
             )
         )
         .encoded_len()
@@ -207,11 +165,8 @@ impl<'a> EncodeValue for RsaPrivateKey<'a> {
         field_refs!(
             self,
             (
-                ((version, modulus), (public_exponent, private_exponent)),
-                (
-                    ((prime1, prime2), (exponent1, exponent2)),
-                    (coefficient, other_prime_infos)
-                )
+                (version, modulus, public_exponent, private_exponent, prime1),
+                (prime2, exponent1, exponent2, coefficient, other_prime_infos)
             )
         )
         .encode(writer)
@@ -221,11 +176,8 @@ impl<'a> EncodeValue for RsaPrivateKey<'a> {
         field_refs!(
             self,
             (
-                ((version, modulus), (public_exponent, private_exponent)),
-                (
-                    ((prime1, prime2), (exponent1, exponent2)),
-                    (coefficient, other_prime_infos)
-                )
+                (version, modulus, public_exponent, private_exponent, prime1),
+                (prime2, exponent1, exponent2, coefficient, other_prime_infos)
             )
         )
         .len_before()
@@ -235,11 +187,8 @@ impl<'a> EncodeValue for RsaPrivateKey<'a> {
         field_refs!(
             self,
             (
-                ((version, modulus), (public_exponent, private_exponent)),
-                (
-                    ((prime1, prime2), (exponent1, exponent2)),
-                    (coefficient, other_prime_infos)
-                )
+                (version, modulus, public_exponent, private_exponent, prime1),
+                (prime2, exponent1, exponent2, coefficient, other_prime_infos)
             )
         )
         .encode_before(buf, end)

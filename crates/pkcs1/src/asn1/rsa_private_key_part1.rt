@@ -15,21 +15,29 @@ pub(crate) struct RsaPrivateKeyPart1<'a> {
     pub(crate) modulus: IntRef<'a>,
     pub(crate) public_exponent: IntRef<'a>,
     pub(crate) private_exponent: IntRef<'a>,
+    pub(crate) prime1: IntRef<'a>,
 }
 
-// The fields in pairs, in the order in which they are encoded.
-pub(crate) type RsaPrivateKeyPart1Fields<'a> = ((IntRef<'a>, IntRef<'a>), (IntRef<'a>, IntRef<'a>));
+// The fields, in the order in which they are encoded.
+pub(crate) type RsaPrivateKeyPart1Fields<'a> = (
+    IntRef<'a>,
+    IntRef<'a>,
+    IntRef<'a>,
+    IntRef<'a>,
+    IntRef<'a>,
+);
 
 impl<'a> FromFields<RsaPrivateKeyPart1Fields<'a>> for RsaPrivateKeyPart1<'a> {
-    ghost fields = { λ v. ((v.version, v.modulus), (v.public_exponent, v.private_exponent)) };
+    ghost fields = { λ v. (v.version, v.modulus, v.public_exponent, v.private_exponent, v.prime1) };
 
-    fn from_fields(members: RsaPrivateKeyPart1Fields<'a>) -> Self {
-        let ((version, modulus), (public_exponent, private_exponent)) = members;
+    fn from_fields(fields: RsaPrivateKeyPart1Fields<'a>) -> Self {
+        let (version, modulus, public_exponent, private_exponent, prime1) = fields;
         RsaPrivateKeyPart1 {
             version,
             modulus,
             public_exponent,
             private_exponent,
+            prime1,
         }
     }
 }

@@ -4,32 +4,47 @@
 ghost use Rattle.std.specs.Prelude.{false};
 ghost use Rattle.der.specs.Prelude.{map_ok};
 
+use crate::asn1::other_prime_infos::OtherPrimeInfos;
 use der::{Decode, Error, FromFields, Reader, SliceReader, decode_fields};
-use der_asn1::IntRef;
+use der_asn1::{IntRef, Optional};
 use std::alloc::Global;
 
 // Some fields of a RsaPrivateKey.
 #[derive(Drop)]
 pub(crate) struct RsaPrivateKeyPart2<'a> {
-    pub(crate) prime1: IntRef<'a>,
     pub(crate) prime2: IntRef<'a>,
     pub(crate) exponent1: IntRef<'a>,
     pub(crate) exponent2: IntRef<'a>,
+    pub(crate) coefficient: IntRef<'a>,
+    pub(crate) other_prime_infos: Optional<OtherPrimeInfos<'a>>,
 }
 
-// The fields in pairs, in the order in which they are encoded.
-pub(crate) type RsaPrivateKeyPart2Fields<'a> = ((IntRef<'a>, IntRef<'a>), (IntRef<'a>, IntRef<'a>));
+// The fields, in the order in which they are encoded.
+pub(crate) type RsaPrivateKeyPart2Fields<'a> = (
+    IntRef<'a>,
+    IntRef<'a>,
+    IntRef<'a>,
+    IntRef<'a>,
+    Optional<OtherPrimeInfos<'a>>,
+);
 
 impl<'a> FromFields<RsaPrivateKeyPart2Fields<'a>> for RsaPrivateKeyPart2<'a> {
-    ghost fields = { λ v. ((v.prime1, v.prime2), (v.exponent1, v.exponent2)) };
+    ghost fields = { λ v. (
+      v.prime2,
+      v.exponent1,
+      v.exponent2,
+      v.coefficient,
+      v.other_prime_infos,
+    ) };
 
-    fn from_fields(members: RsaPrivateKeyPart2Fields<'a>) -> Self {
-        let ((prime1, prime2), (exponent1, exponent2)) = members;
+    fn from_fields(fields: RsaPrivateKeyPart2Fields<'a>) -> Self {
+        let (prime2, exponent1, exponent2, coefficient, other_prime_infos) = fields;
         RsaPrivateKeyPart2 {
-            prime1,
             prime2,
             exponent1,
             exponent2,
+            coefficient,
+            other_prime_infos,
         }
     }
 }

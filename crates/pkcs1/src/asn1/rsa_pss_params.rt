@@ -6,7 +6,8 @@ ghost use Rattle.std.proofs.Common.{arith, refl};
 ghost use Rattle.der.specs.Prelude.{map_ok};
 ghost use Rattle.der_asn1.specs.Item.{decodes_same};
 ghost use Rattle.der_asn1.specs.DefaultedTo.{defaulted_to};
-ghost use Rattle.der_asn1.specs.Meaning.{alternative, defaulted, seen, sequence, sequence_is_item, sequence_item, two_fields};
+ghost use Rattle.der_asn1.specs.Meaning.{alternative, defaulted, seen, sequence, sequence_is_item, sequence_item};
+ghost use Rattle.der_asn1.specs.TupleFields.{four_fields};
 
 use crate::asn1::rsa_pss_params_part1::{RsaPssParamsPart1, RsaPssParamsPart1Fields};
 use crate::asn1::rsa_pss_params_part2::{RsaPssParamsPart2, RsaPssParamsPart2Fields};
@@ -39,30 +40,38 @@ pub struct RsaPssParams<'a> {
     pub trailer_field: Defaulted<Explicit<WithDefault<IntegerOf<u64>, DefaultU64<1>>, 3>>,
 }
 
-/// The fields of a [`RsaPssParams`] in pairs, in the order in which they are encoded.
+/// The fields of a [`RsaPssParams`], in the order in which they are encoded.
 pub type RsaPssParamsFields<'a> = (
-    (RsaPssParamsPart1Fields<'a>, RsaPssParamsPart2Fields<'a>),
-    (RsaPssParamsPart3Fields, RsaPssParamsPart4Fields),
+    RsaPssParamsPart1Fields<'a>,
+    RsaPssParamsPart2Fields<'a>,
+    RsaPssParamsPart3Fields,
+    RsaPssParamsPart4Fields,
 );
 
 impl<'a> FromFields<
     (
-        (RsaPssParamsPart1<'a>, RsaPssParamsPart2<'a>),
-        (RsaPssParamsPart3, RsaPssParamsPart4),
+        RsaPssParamsPart1<'a>,
+        RsaPssParamsPart2<'a>,
+        RsaPssParamsPart3,
+        RsaPssParamsPart4,
     ),
 > for RsaPssParams<'a> {
     ghost fields = { λ v. (
-      (record { hash = v.hash }, record { mask_gen = v.mask_gen }),
-      (record { salt_len = v.salt_len }, record { trailer_field = v.trailer_field }),
+      record { hash = v.hash },
+      record { mask_gen = v.mask_gen },
+      record { salt_len = v.salt_len },
+      record { trailer_field = v.trailer_field },
     ) };
 
     fn from_fields(
-        members: (
-            (RsaPssParamsPart1<'a>, RsaPssParamsPart2<'a>),
-            (RsaPssParamsPart3, RsaPssParamsPart4),
+        fields: (
+            RsaPssParamsPart1<'a>,
+            RsaPssParamsPart2<'a>,
+            RsaPssParamsPart3,
+            RsaPssParamsPart4,
         ),
     ) -> Self {
-        let ((part1, part2), (part3, part4)) = members;
+        let (part1, part2, part3, part4) = fields;
         RsaPssParams {
             hash: part1.hash,
             mask_gen: part2.mask_gen,
@@ -73,23 +82,22 @@ impl<'a> FromFields<
 }
 
 impl<'a> Sequence for RsaPssParams<'a> {
-    ghost meaning = { sequence (two_fields (two_fields (seen
+    ghost meaning = { sequence (four_fields (seen
         ⟦<RsaPssParamsPart1<'a> as FromFields<RsaPssParamsPart1Fields<'a>>>⟧.fields (defaulted_to
         ⟦<Sha1Default as DefaultOf<Explicit<AlgorithmIdentifierRef<'a>, 0>>>⟧.default_contents
         ⟦<Explicit<AlgorithmIdentifierRef<'a>, 0> as Described>⟧.element (λ v. v.0))) (seen
         ⟦<RsaPssParamsPart2<'a> as FromFields<RsaPssParamsPart2Fields<'a>>>⟧.fields (defaulted_to
         ⟦<Mgf1Sha1Default as DefaultOf<Explicit<AlgorithmIdentifierRef<'a>, 1>>>⟧.default_contents
-        ⟦<Explicit<AlgorithmIdentifierRef<'a>, 1> as Described>⟧.element (λ v. v.0)))) (two_fields
-        (seen ⟦<RsaPssParamsPart3 as FromFields<RsaPssParamsPart3Fields>>⟧.fields (defaulted
+        ⟦<Explicit<AlgorithmIdentifierRef<'a>, 1> as Described>⟧.element (λ v. v.0))) (seen
+        ⟦<RsaPssParamsPart3 as FromFields<RsaPssParamsPart3Fields>>⟧.fields (defaulted
         ⟦<Explicit<WithDefault<IntegerOf<u64>, DefaultU64<20>>, 2> as DefaultValue>⟧.is_default
         (alternative
         ⟦<Explicit<WithDefault<IntegerOf<u64>, DefaultU64<20>>, 2> as Described>⟧.element))) (seen
         ⟦<RsaPssParamsPart4 as FromFields<RsaPssParamsPart4Fields>>⟧.fields (defaulted
         ⟦<Explicit<WithDefault<IntegerOf<u64>, DefaultU64<1>>, 3> as DefaultValue>⟧.is_default
         (alternative
-        ⟦<Explicit<WithDefault<IntegerOf<u64>, DefaultU64<1>>, 3> as Described>⟧.element)))))
-        ⟦<RsaPssParams<'a> as FromFields<((RsaPssParamsPart1<'a>, RsaPssParamsPart2<'a>),
-        (RsaPssParamsPart3, RsaPssParamsPart4))>>⟧.fields };
+        ⟦<Explicit<WithDefault<IntegerOf<u64>, DefaultU64<1>>, 3> as Described>⟧.element))))
+        ⟦<RsaPssParams<'a> as FromFields<(RsaPssParamsPart1<'a>, RsaPssParamsPart2<'a>, RsaPssParamsPart3, RsaPssParamsPart4)>>⟧.fields };
 
     ghost fits = { (refl, refl) };
 }
@@ -99,17 +107,18 @@ impl<'a, R: Reader<Borrowed = &'a [u8]>> DecodeValue<R> for RsaPssParams<'a> {
     type Error = Error;
 
     ghost decode_value_answers = { λ h s result t.
-        ⟦<((RsaPssParamsPart1<'a>, RsaPssParamsPart2<'a>),
-        (RsaPssParamsPart3, RsaPssParamsPart4)) as Decode<SliceReader<'a>>>⟧.decode_answers s
-        (map_ok ⟦<RsaPssParams<'a> as FromFields<((RsaPssParamsPart1<'a>, RsaPssParamsPart2<'a>),
-        (RsaPssParamsPart3, RsaPssParamsPart4))>>⟧.fields result) t };
+        ⟦<(RsaPssParamsPart1<'a>, RsaPssParamsPart2<'a>, RsaPssParamsPart3, RsaPssParamsPart4) as Decode<SliceReader<'a>>>⟧.decode_answers s
+        (map_ok
+        ⟦<RsaPssParams<'a> as FromFields<(RsaPssParamsPart1<'a>, RsaPssParamsPart2<'a>, RsaPssParamsPart3, RsaPssParamsPart4)>>⟧.fields result) t };
 
     fn decode_value(alloc: Global, reader: &mut R, header: Header) -> Result<Self, Error> {
         decode_sequence::<
             R,
             (
-                (RsaPssParamsPart1<'a>, RsaPssParamsPart2<'a>),
-                (RsaPssParamsPart3, RsaPssParamsPart4),
+                RsaPssParamsPart1<'a>,
+                RsaPssParamsPart2<'a>,
+                RsaPssParamsPart3,
+                RsaPssParamsPart4,
             ),
             Self,
         >(alloc, reader, header)
@@ -128,57 +137,41 @@ impl<'a> IsValue for RsaPssParams<'a> {
 /// Writes the fields one after the other, with the errors of every [`Sequence`].
 impl<'a> EncodeValue for RsaPssParams<'a> {
     ghost value_size = { λ v. ⟦<RsaPssParamsFields<'a> as Encode>⟧.size (
-      (
-        ⟦<RsaPssParamsPart1<'a> as FromFields<RsaPssParamsPart1Fields<'a>>>⟧.fields
-            (⟦<RsaPssParams<'a> as FromFields<((RsaPssParamsPart1<'a>, RsaPssParamsPart2<'a>),
-        (RsaPssParamsPart3, RsaPssParamsPart4))>>⟧.fields v).0.0,
-        ⟦<RsaPssParamsPart2<'a> as FromFields<RsaPssParamsPart2Fields<'a>>>⟧.fields
-            (⟦<RsaPssParams<'a> as FromFields<((RsaPssParamsPart1<'a>, RsaPssParamsPart2<'a>),
-        (RsaPssParamsPart3, RsaPssParamsPart4))>>⟧.fields v).0.1,
-      ),
-      (
-        ⟦<RsaPssParamsPart3 as FromFields<RsaPssParamsPart3Fields>>⟧.fields
-            (⟦<RsaPssParams<'a> as FromFields<((RsaPssParamsPart1<'a>, RsaPssParamsPart2<'a>),
-        (RsaPssParamsPart3, RsaPssParamsPart4))>>⟧.fields v).1.0,
-        ⟦<RsaPssParamsPart4 as FromFields<RsaPssParamsPart4Fields>>⟧.fields
-            (⟦<RsaPssParams<'a> as FromFields<((RsaPssParamsPart1<'a>, RsaPssParamsPart2<'a>),
-        (RsaPssParamsPart3, RsaPssParamsPart4))>>⟧.fields v).1.1,
-      ),
+      ⟦<RsaPssParamsPart1<'a> as FromFields<RsaPssParamsPart1Fields<'a>>>⟧.fields
+          (⟦<RsaPssParams<'a> as FromFields<(RsaPssParamsPart1<'a>, RsaPssParamsPart2<'a>, RsaPssParamsPart3, RsaPssParamsPart4)>>⟧.fields v).0,
+      ⟦<RsaPssParamsPart2<'a> as FromFields<RsaPssParamsPart2Fields<'a>>>⟧.fields
+          (⟦<RsaPssParams<'a> as FromFields<(RsaPssParamsPart1<'a>, RsaPssParamsPart2<'a>, RsaPssParamsPart3, RsaPssParamsPart4)>>⟧.fields v).1,
+      ⟦<RsaPssParamsPart3 as FromFields<RsaPssParamsPart3Fields>>⟧.fields
+          (⟦<RsaPssParams<'a> as FromFields<(RsaPssParamsPart1<'a>, RsaPssParamsPart2<'a>, RsaPssParamsPart3, RsaPssParamsPart4)>>⟧.fields v).2,
+      ⟦<RsaPssParamsPart4 as FromFields<RsaPssParamsPart4Fields>>⟧.fields
+          (⟦<RsaPssParams<'a> as FromFields<(RsaPssParamsPart1<'a>, RsaPssParamsPart2<'a>, RsaPssParamsPart3, RsaPssParamsPart4)>>⟧.fields v).3,
     ) };
 
     ghost encode_value_answers = { λ v. ⟦<RsaPssParamsFields<'a> as Encode>⟧.encode_answers (
-      (
-        ⟦<RsaPssParamsPart1<'a> as FromFields<RsaPssParamsPart1Fields<'a>>>⟧.fields
-            (⟦<RsaPssParams<'a> as FromFields<((RsaPssParamsPart1<'a>, RsaPssParamsPart2<'a>),
-        (RsaPssParamsPart3, RsaPssParamsPart4))>>⟧.fields v).0.0,
-        ⟦<RsaPssParamsPart2<'a> as FromFields<RsaPssParamsPart2Fields<'a>>>⟧.fields
-            (⟦<RsaPssParams<'a> as FromFields<((RsaPssParamsPart1<'a>, RsaPssParamsPart2<'a>),
-        (RsaPssParamsPart3, RsaPssParamsPart4))>>⟧.fields v).0.1,
-      ),
-      (
-        ⟦<RsaPssParamsPart3 as FromFields<RsaPssParamsPart3Fields>>⟧.fields
-            (⟦<RsaPssParams<'a> as FromFields<((RsaPssParamsPart1<'a>, RsaPssParamsPart2<'a>),
-        (RsaPssParamsPart3, RsaPssParamsPart4))>>⟧.fields v).1.0,
-        ⟦<RsaPssParamsPart4 as FromFields<RsaPssParamsPart4Fields>>⟧.fields
-            (⟦<RsaPssParams<'a> as FromFields<((RsaPssParamsPart1<'a>, RsaPssParamsPart2<'a>),
-        (RsaPssParamsPart3, RsaPssParamsPart4))>>⟧.fields v).1.1,
-      ),
+      ⟦<RsaPssParamsPart1<'a> as FromFields<RsaPssParamsPart1Fields<'a>>>⟧.fields
+          (⟦<RsaPssParams<'a> as FromFields<(RsaPssParamsPart1<'a>, RsaPssParamsPart2<'a>, RsaPssParamsPart3, RsaPssParamsPart4)>>⟧.fields v).0,
+      ⟦<RsaPssParamsPart2<'a> as FromFields<RsaPssParamsPart2Fields<'a>>>⟧.fields
+          (⟦<RsaPssParams<'a> as FromFields<(RsaPssParamsPart1<'a>, RsaPssParamsPart2<'a>, RsaPssParamsPart3, RsaPssParamsPart4)>>⟧.fields v).1,
+      ⟦<RsaPssParamsPart3 as FromFields<RsaPssParamsPart3Fields>>⟧.fields
+          (⟦<RsaPssParams<'a> as FromFields<(RsaPssParamsPart1<'a>, RsaPssParamsPart2<'a>, RsaPssParamsPart3, RsaPssParamsPart4)>>⟧.fields v).2,
+      ⟦<RsaPssParamsPart4 as FromFields<RsaPssParamsPart4Fields>>⟧.fields
+          (⟦<RsaPssParams<'a> as FromFields<(RsaPssParamsPart1<'a>, RsaPssParamsPart2<'a>, RsaPssParamsPart3, RsaPssParamsPart4)>>⟧.fields v).3,
     ) };
 
     fn value_len(&self) -> Result<Length, Error> {
-        field_refs!(self, ((hash, mask_gen), (salt_len, trailer_field))).encoded_len()
+        field_refs!(self, (hash, mask_gen, salt_len, trailer_field)).encoded_len()
     }
 
     fn encode_value<W: Writer>(&self, writer: &mut W) -> Result<(), Error> {
-        field_refs!(self, ((hash, mask_gen), (salt_len, trailer_field))).encode(writer)
+        field_refs!(self, (hash, mask_gen, salt_len, trailer_field)).encode(writer)
     }
 
     fn value_len_before(&self) -> Option<u32> {
-        field_refs!(self, ((hash, mask_gen), (salt_len, trailer_field))).len_before()
+        field_refs!(self, (hash, mask_gen, salt_len, trailer_field)).len_before()
     }
 
     fn encode_value_before(&self, buf: &mut [u8], end: u32) -> u32 {
-        field_refs!(self, ((hash, mask_gen), (salt_len, trailer_field))).encode_before(buf, end)
+        field_refs!(self, (hash, mask_gen, salt_len, trailer_field)).encode_before(buf, end)
     }
 }
 

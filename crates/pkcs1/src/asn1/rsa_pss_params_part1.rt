@@ -16,7 +16,7 @@ pub(crate) struct RsaPssParamsPart1<'a> {
     pub(crate) hash: DefaultedTo<Explicit<AlgorithmIdentifierRef<'a>, 0>, Sha1Default>,
 }
 
-// The fields in pairs, in the order in which they are encoded.
+// The fields, in the order in which they are encoded.
 pub(crate) type RsaPssParamsPart1Fields<'a> = DefaultedTo<
     Explicit<AlgorithmIdentifierRef<'a>, 0>,
     Sha1Default,
@@ -25,8 +25,8 @@ pub(crate) type RsaPssParamsPart1Fields<'a> = DefaultedTo<
 impl<'a> FromFields<RsaPssParamsPart1Fields<'a>> for RsaPssParamsPart1<'a> {
     ghost fields = { λ v. v.hash };
 
-    fn from_fields(members: RsaPssParamsPart1Fields<'a>) -> Self {
-        let hash = members;
+    fn from_fields(fields: RsaPssParamsPart1Fields<'a>) -> Self {
+        let hash = fields;
         RsaPssParamsPart1 { hash }
     }
 }

@@ -16,7 +16,7 @@ pub(crate) struct RsaPssParamsPart2<'a> {
     pub(crate) mask_gen: DefaultedTo<Explicit<AlgorithmIdentifierRef<'a>, 1>, Mgf1Sha1Default>,
 }
 
-// The fields in pairs, in the order in which they are encoded.
+// The fields, in the order in which they are encoded.
 pub(crate) type RsaPssParamsPart2Fields<'a> = DefaultedTo<
     Explicit<AlgorithmIdentifierRef<'a>, 1>,
     Mgf1Sha1Default,
@@ -25,8 +25,8 @@ pub(crate) type RsaPssParamsPart2Fields<'a> = DefaultedTo<
 impl<'a> FromFields<RsaPssParamsPart2Fields<'a>> for RsaPssParamsPart2<'a> {
     ghost fields = { λ v. v.mask_gen };
 
-    fn from_fields(members: RsaPssParamsPart2Fields<'a>) -> Self {
-        let mask_gen = members;
+    fn from_fields(fields: RsaPssParamsPart2Fields<'a>) -> Self {
+        let mask_gen = fields;
         RsaPssParamsPart2 { mask_gen }
     }
 }

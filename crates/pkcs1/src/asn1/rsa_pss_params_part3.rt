@@ -14,7 +14,7 @@ pub(crate) struct RsaPssParamsPart3 {
     pub(crate) salt_len: Defaulted<Explicit<WithDefault<IntegerOf<u64>, DefaultU64<20>>, 2>>,
 }
 
-// The fields in pairs, in the order in which they are encoded.
+// The fields, in the order in which they are encoded.
 pub(crate) type RsaPssParamsPart3Fields = Defaulted<
     Explicit<WithDefault<IntegerOf<u64>, DefaultU64<20>>, 2>,
 >;
@@ -22,8 +22,8 @@ pub(crate) type RsaPssParamsPart3Fields = Defaulted<
 impl FromFields<RsaPssParamsPart3Fields> for RsaPssParamsPart3 {
     ghost fields = { λ v. v.salt_len };
 
-    fn from_fields(members: RsaPssParamsPart3Fields) -> Self {
-        let salt_len = members;
+    fn from_fields(fields: RsaPssParamsPart3Fields) -> Self {
+        let salt_len = fields;
         RsaPssParamsPart3 { salt_len }
     }
 }

@@ -14,7 +14,7 @@ pub(crate) struct RsaPssParamsPart4 {
     pub(crate) trailer_field: Defaulted<Explicit<WithDefault<IntegerOf<u64>, DefaultU64<1>>, 3>>,
 }
 
-// The fields in pairs, in the order in which they are encoded.
+// The fields, in the order in which they are encoded.
 pub(crate) type RsaPssParamsPart4Fields = Defaulted<
     Explicit<WithDefault<IntegerOf<u64>, DefaultU64<1>>, 3>,
 >;
@@ -22,8 +22,8 @@ pub(crate) type RsaPssParamsPart4Fields = Defaulted<
 impl FromFields<RsaPssParamsPart4Fields> for RsaPssParamsPart4 {
     ghost fields = { λ v. v.trailer_field };
 
-    fn from_fields(members: RsaPssParamsPart4Fields) -> Self {
-        let trailer_field = members;
+    fn from_fields(fields: RsaPssParamsPart4Fields) -> Self {
+        let trailer_field = fields;
         RsaPssParamsPart4 { trailer_field }
     }
 }

@@ -23,14 +23,14 @@ pub struct RsaPublicKey<'a> {
     pub public_exponent: IntRef<'a>,
 }
 
-/// The fields of a [`RsaPublicKey`] in pairs, in the order in which they are encoded.
+/// The fields of a [`RsaPublicKey`], in the order in which they are encoded.
 pub type RsaPublicKeyFields<'a> = (IntRef<'a>, IntRef<'a>);
 
 impl<'a> FromFields<RsaPublicKeyFields<'a>> for RsaPublicKey<'a> {
     ghost fields = { λ v. (v.modulus, v.public_exponent) };
 
-    fn from_fields(members: RsaPublicKeyFields<'a>) -> Self {
-        let (modulus, public_exponent) = members;
+    fn from_fields(fields: RsaPublicKeyFields<'a>) -> Self {
+        let (modulus, public_exponent) = fields;
         RsaPublicKey {
             modulus,
             public_exponent,

@@ -25,14 +25,14 @@ pub struct CertBag<'a> {
     pub value: ExplicitAny<'a, 0>,
 }
 
-/// The fields of a [`CertBag`] in pairs, in the order in which they are encoded.
+/// The fields of a [`CertBag`], in the order in which they are encoded.
 pub type CertBagFields<'a> = (ObjectIdentifierRef<'a>, ExplicitAny<'a, 0>);
 
 impl<'a> FromFields<CertBagFields<'a>> for CertBag<'a> {
     ghost fields = { λ v. (v.oid, v.value) };
 
-    fn from_fields(members: CertBagFields<'a>) -> Self {
-        let (oid, value) = members;
+    fn from_fields(fields: CertBagFields<'a>) -> Self {
+        let (oid, value) = fields;
         CertBag { oid, value }
     }
 }

@@ -31,20 +31,17 @@ pub struct MacData<'a> {
     pub iterations: Defaulted<WithDefault<IntegerOf<u64>, DefaultU64<1>>>,
 }
 
-/// The fields of a [`MacData`] in pairs, in the order in which they are encoded.
+/// The fields of a [`MacData`], in the order in which they are encoded.
 pub type MacDataFields<'a> = (MacDataPart1Fields<'a>, MacDataPart2Fields);
 
 impl<'a> FromFields<(MacDataPart1<'a>, MacDataPart2)> for MacData<'a> {
     ghost fields = { λ v. (
-      record {
-        mac = v.mac;
-        mac_salt = v.mac_salt;
-      },
+      record { mac = v.mac; mac_salt = v.mac_salt },
       record { iterations = v.iterations },
     ) };
 
-    fn from_fields(members: (MacDataPart1<'a>, MacDataPart2)) -> Self {
-        let (part1, part2) = members;
+    fn from_fields(fields: (MacDataPart1<'a>, MacDataPart2)) -> Self {
+        let (part1, part2) = fields;
         MacData {
             mac: part1.mac,
             mac_salt: part1.mac_salt,

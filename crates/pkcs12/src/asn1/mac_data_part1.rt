@@ -16,14 +16,14 @@ pub(crate) struct MacDataPart1<'a> {
     pub(crate) mac_salt: OctetStringRef<'a>,
 }
 
-// The fields in pairs, in the order in which they are encoded.
+// The fields, in the order in which they are encoded.
 pub(crate) type MacDataPart1Fields<'a> = (DigestInfo<'a>, OctetStringRef<'a>);
 
 impl<'a> FromFields<MacDataPart1Fields<'a>> for MacDataPart1<'a> {
     ghost fields = { λ v. (v.mac, v.mac_salt) };
 
-    fn from_fields(members: MacDataPart1Fields<'a>) -> Self {
-        let (mac, mac_salt) = members;
+    fn from_fields(fields: MacDataPart1Fields<'a>) -> Self {
+        let (mac, mac_salt) = fields;
         MacDataPart1 { mac, mac_salt }
     }
 }

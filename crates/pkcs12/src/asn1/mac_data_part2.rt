@@ -14,14 +14,14 @@ pub(crate) struct MacDataPart2 {
     pub(crate) iterations: Defaulted<WithDefault<IntegerOf<u64>, DefaultU64<1>>>,
 }
 
-// The fields in pairs, in the order in which they are encoded.
+// The fields, in the order in which they are encoded.
 pub(crate) type MacDataPart2Fields = Defaulted<WithDefault<IntegerOf<u64>, DefaultU64<1>>>;
 
 impl FromFields<MacDataPart2Fields> for MacDataPart2 {
     ghost fields = { λ v. v.iterations };
 
-    fn from_fields(members: MacDataPart2Fields) -> Self {
-        let iterations = members;
+    fn from_fields(fields: MacDataPart2Fields) -> Self {
+        let iterations = fields;
         MacDataPart2 { iterations }
     }
 }

@@ -5,7 +5,8 @@ ghost use Rattle.std.specs.Prelude.{◌≡◌};
 ghost use Rattle.std.proofs.Common.{arith, refl};
 ghost use Rattle.der.specs.Prelude.{map_ok};
 ghost use Rattle.der_asn1.specs.Item.{decodes_same};
-ghost use Rattle.der_asn1.specs.Meaning.{alternative, field, optional, sequence, sequence_is_item, sequence_item, two_fields};
+ghost use Rattle.der_asn1.specs.Meaning.{alternative, field, optional, sequence, sequence_is_item, sequence_item};
+ghost use Rattle.der_asn1.specs.TupleFields.{three_fields};
 
 use crate::asn1::mac_data::MacData;
 use cms::ContentInfo;
@@ -30,14 +31,14 @@ pub struct Pfx<'a> {
     pub mac_data: Optional<MacData<'a>>,
 }
 
-/// The fields of a [`Pfx`] in pairs, in the order in which they are encoded.
-pub type PfxFields<'a> = (IntRef<'a>, (ContentInfo<'a>, Optional<MacData<'a>>));
+/// The fields of a [`Pfx`], in the order in which they are encoded.
+pub type PfxFields<'a> = (IntRef<'a>, ContentInfo<'a>, Optional<MacData<'a>>);
 
 impl<'a> FromFields<PfxFields<'a>> for Pfx<'a> {
-    ghost fields = { λ v. (v.version, (v.auth_safe, v.mac_data)) };
+    ghost fields = { λ v. (v.version, v.auth_safe, v.mac_data) };
 
-    fn from_fields(members: PfxFields<'a>) -> Self {
-        let (version, (auth_safe, mac_data)) = members;
+    fn from_fields(fields: PfxFields<'a>) -> Self {
+        let (version, auth_safe, mac_data) = fields;
         Pfx {
             version,
             auth_safe,
@@ -47,10 +48,10 @@ impl<'a> FromFields<PfxFields<'a>> for Pfx<'a> {
 }
 
 impl<'a> Sequence for Pfx<'a> {
-    ghost meaning = { sequence (two_fields (field (alternative ⟦<IntRef<'a> as Described>⟧.element))
-        (two_fields (field (alternative ⟦<ContentInfo<'a> as Described>⟧.element)) (optional
-        (alternative ⟦<MacData<'a> as Described>⟧.element))))
-        ⟦<Pfx<'a> as FromFields<PfxFields<'a>>>⟧.fields };
+    ghost meaning = { sequence (three_fields (field (alternative
+        ⟦<IntRef<'a> as Described>⟧.element)) (field (alternative
+        ⟦<ContentInfo<'a> as Described>⟧.element)) (optional (alternative
+        ⟦<MacData<'a> as Described>⟧.element))) ⟦<Pfx<'a> as FromFields<PfxFields<'a>>>⟧.fields };
 
     ghost fits = { (refl, refl) };
 }
@@ -87,19 +88,19 @@ impl<'a> EncodeValue for Pfx<'a> {
         (⟦<Pfx<'a> as FromFields<PfxFields<'a>>>⟧.fields v) };
 
     fn value_len(&self) -> Result<Length, Error> {
-        field_refs!(self, (version, (auth_safe, mac_data))).encoded_len()
+        field_refs!(self, (version, auth_safe, mac_data)).encoded_len()
     }
 
     fn encode_value<W: Writer>(&self, writer: &mut W) -> Result<(), Error> {
-        field_refs!(self, (version, (auth_safe, mac_data))).encode(writer)
+        field_refs!(self, (version, auth_safe, mac_data)).encode(writer)
     }
 
     fn value_len_before(&self) -> Option<u32> {
-        field_refs!(self, (version, (auth_safe, mac_data))).len_before()
+        field_refs!(self, (version, auth_safe, mac_data)).len_before()
     }
 
     fn encode_value_before(&self, buf: &mut [u8], end: u32) -> u32 {
-        field_refs!(self, (version, (auth_safe, mac_data))).encode_before(buf, end)
+        field_refs!(self, (version, auth_safe, mac_data)).encode_before(buf, end)
     }
 }
 

@@ -5,7 +5,8 @@ ghost use Rattle.std.specs.Prelude.{◌≡◌};
 ghost use Rattle.std.proofs.Common.{arith, refl};
 ghost use Rattle.der.specs.Prelude.{map_ok};
 ghost use Rattle.der_asn1.specs.Item.{decodes_same};
-ghost use Rattle.der_asn1.specs.Meaning.{alternative, field, optional, sequence, sequence_is_item, sequence_item, two_fields};
+ghost use Rattle.der_asn1.specs.Meaning.{alternative, field, optional, sequence, sequence_is_item, sequence_item};
+ghost use Rattle.der_asn1.specs.TupleFields.{three_fields};
 
 use der::{
     Decode, DecodeValue, Encode, EncodeValue, Error, FromFields, Header, IsValue, Length, Reader,
@@ -28,17 +29,18 @@ pub struct SafeBag<'a> {
     pub bag_attributes: Optional<Attributes<'a>>,
 }
 
-/// The fields of a [`SafeBag`] in pairs, in the order in which they are encoded.
+/// The fields of a [`SafeBag`], in the order in which they are encoded.
 pub type SafeBagFields<'a> = (
     ObjectIdentifierRef<'a>,
-    (ExplicitAny<'a, 0>, Optional<Attributes<'a>>),
+    ExplicitAny<'a, 0>,
+    Optional<Attributes<'a>>,
 );
 
 impl<'a> FromFields<SafeBagFields<'a>> for SafeBag<'a> {
-    ghost fields = { λ v. (v.bag_id, (v.bag_value, v.bag_attributes)) };
+    ghost fields = { λ v. (v.bag_id, v.bag_value, v.bag_attributes) };
 
-    fn from_fields(members: SafeBagFields<'a>) -> Self {
-        let (bag_id, (bag_value, bag_attributes)) = members;
+    fn from_fields(fields: SafeBagFields<'a>) -> Self {
+        let (bag_id, bag_value, bag_attributes) = fields;
         SafeBag {
             bag_id,
             bag_value,
@@ -48,10 +50,10 @@ impl<'a> FromFields<SafeBagFields<'a>> for SafeBag<'a> {
 }
 
 impl<'a> Sequence for SafeBag<'a> {
-    ghost meaning = { sequence (two_fields (field (alternative
-        ⟦<ObjectIdentifierRef<'a> as Described>⟧.element)) (two_fields (field (alternative
+    ghost meaning = { sequence (three_fields (field (alternative
+        ⟦<ObjectIdentifierRef<'a> as Described>⟧.element)) (field (alternative
         ⟦<ExplicitAny<'a, 0> as Described>⟧.element)) (optional (alternative
-        ⟦<Attributes<'a> as Described>⟧.element))))
+        ⟦<Attributes<'a> as Described>⟧.element)))
         ⟦<SafeBag<'a> as FromFields<SafeBagFields<'a>>>⟧.fields };
 
     ghost fits = { (refl, refl) };
@@ -89,19 +91,19 @@ impl<'a> EncodeValue for SafeBag<'a> {
         (⟦<SafeBag<'a> as FromFields<SafeBagFields<'a>>>⟧.fields v) };
 
     fn value_len(&self) -> Result<Length, Error> {
-        field_refs!(self, (bag_id, (bag_value, bag_attributes))).encoded_len()
+        field_refs!(self, (bag_id, bag_value, bag_attributes)).encoded_len()
     }
 
     fn encode_value<W: Writer>(&self, writer: &mut W) -> Result<(), Error> {
-        field_refs!(self, (bag_id, (bag_value, bag_attributes))).encode(writer)
+        field_refs!(self, (bag_id, bag_value, bag_attributes)).encode(writer)
     }
 
     fn value_len_before(&self) -> Option<u32> {
-        field_refs!(self, (bag_id, (bag_value, bag_attributes))).len_before()
+        field_refs!(self, (bag_id, bag_value, bag_attributes)).len_before()
     }
 
     fn encode_value_before(&self, buf: &mut [u8], end: u32) -> u32 {
-        field_refs!(self, (bag_id, (bag_value, bag_attributes))).encode_before(buf, end)
+        field_refs!(self, (bag_id, bag_value, bag_attributes)).encode_before(buf, end)
     }
 }
 

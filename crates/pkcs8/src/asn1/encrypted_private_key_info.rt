@@ -25,14 +25,14 @@ pub struct EncryptedPrivateKeyInfo<'a> {
     pub encrypted_data: OctetStringRef<'a>,
 }
 
-/// The fields of a [`EncryptedPrivateKeyInfo`] in pairs, in the order in which they are encoded.
+/// The fields of a [`EncryptedPrivateKeyInfo`], in the order in which they are encoded.
 pub type EncryptedPrivateKeyInfoFields<'a> = (AlgorithmIdentifierRef<'a>, OctetStringRef<'a>);
 
 impl<'a> FromFields<EncryptedPrivateKeyInfoFields<'a>> for EncryptedPrivateKeyInfo<'a> {
     ghost fields = { λ v. (v.encryption_algorithm, v.encrypted_data) };
 
-    fn from_fields(members: EncryptedPrivateKeyInfoFields<'a>) -> Self {
-        let (encryption_algorithm, encrypted_data) = members;
+    fn from_fields(fields: EncryptedPrivateKeyInfoFields<'a>) -> Self {
+        let (encryption_algorithm, encrypted_data) = fields;
         EncryptedPrivateKeyInfo {
             encryption_algorithm,
             encrypted_data,

@@ -23,14 +23,14 @@ pub struct PbeParameter<'a> {
     pub iteration_count: IntRef<'a>,
 }
 
-/// The fields of a [`PbeParameter`] in pairs, in the order in which they are encoded.
+/// The fields of a [`PbeParameter`], in the order in which they are encoded.
 pub type PbeParameterFields<'a> = (OctetStringRef<'a>, IntRef<'a>);
 
 impl<'a> FromFields<PbeParameterFields<'a>> for PbeParameter<'a> {
     ghost fields = { λ v. (v.salt, v.iteration_count) };
 
-    fn from_fields(members: PbeParameterFields<'a>) -> Self {
-        let (salt, iteration_count) = members;
+    fn from_fields(fields: PbeParameterFields<'a>) -> Self {
+        let (salt, iteration_count) = fields;
         PbeParameter {
             salt,
             iteration_count,

@@ -24,14 +24,14 @@ pub struct Pbes2Params<'a> {
     pub encryption_scheme: AlgorithmIdentifierRef<'a>,
 }
 
-/// The fields of a [`Pbes2Params`] in pairs, in the order in which they are encoded.
+/// The fields of a [`Pbes2Params`], in the order in which they are encoded.
 pub type Pbes2ParamsFields<'a> = (AlgorithmIdentifierRef<'a>, AlgorithmIdentifierRef<'a>);
 
 impl<'a> FromFields<Pbes2ParamsFields<'a>> for Pbes2Params<'a> {
     ghost fields = { λ v. (v.key_derivation_func, v.encryption_scheme) };
 
-    fn from_fields(members: Pbes2ParamsFields<'a>) -> Self {
-        let (key_derivation_func, encryption_scheme) = members;
+    fn from_fields(fields: Pbes2ParamsFields<'a>) -> Self {
+        let (key_derivation_func, encryption_scheme) = fields;
         Pbes2Params {
             key_derivation_func,
             encryption_scheme,

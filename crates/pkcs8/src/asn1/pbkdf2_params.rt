@@ -37,20 +37,17 @@ pub struct Pbkdf2Params<'a> {
     pub prf: DefaultedTo<AlgorithmIdentifierRef<'a>, HmacWithSha1Default>,
 }
 
-/// The fields of a [`Pbkdf2Params`] in pairs, in the order in which they are encoded.
+/// The fields of a [`Pbkdf2Params`], in the order in which they are encoded.
 pub type Pbkdf2ParamsFields<'a> = (Pbkdf2ParamsPart1Fields<'a>, Pbkdf2ParamsPart2Fields<'a>);
 
 impl<'a> FromFields<(Pbkdf2ParamsPart1<'a>, Pbkdf2ParamsPart2<'a>)> for Pbkdf2Params<'a> {
     ghost fields = { λ v. (
-      record {
-        salt = v.salt;
-        iteration_count = v.iteration_count;
-      },
+      record { salt = v.salt; iteration_count = v.iteration_count },
       record { key_length = v.key_length; prf = v.prf },
     ) };
 
-    fn from_fields(members: (Pbkdf2ParamsPart1<'a>, Pbkdf2ParamsPart2<'a>)) -> Self {
-        let (part1, part2) = members;
+    fn from_fields(fields: (Pbkdf2ParamsPart1<'a>, Pbkdf2ParamsPart2<'a>)) -> Self {
+        let (part1, part2) = fields;
         Pbkdf2Params {
             salt: part1.salt,
             iteration_count: part1.iteration_count,

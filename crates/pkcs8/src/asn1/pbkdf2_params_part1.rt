@@ -16,14 +16,14 @@ pub(crate) struct Pbkdf2ParamsPart1<'a> {
     pub(crate) iteration_count: IntRef<'a>,
 }
 
-// The fields in pairs, in the order in which they are encoded.
+// The fields, in the order in which they are encoded.
 pub(crate) type Pbkdf2ParamsPart1Fields<'a> = (Pbkdf2Salt<'a>, IntRef<'a>);
 
 impl<'a> FromFields<Pbkdf2ParamsPart1Fields<'a>> for Pbkdf2ParamsPart1<'a> {
     ghost fields = { λ v. (v.salt, v.iteration_count) };
 
-    fn from_fields(members: Pbkdf2ParamsPart1Fields<'a>) -> Self {
-        let (salt, iteration_count) = members;
+    fn from_fields(fields: Pbkdf2ParamsPart1Fields<'a>) -> Self {
+        let (salt, iteration_count) = fields;
         Pbkdf2ParamsPart1 {
             salt,
             iteration_count,

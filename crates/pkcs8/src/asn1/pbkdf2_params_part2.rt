@@ -17,7 +17,7 @@ pub(crate) struct Pbkdf2ParamsPart2<'a> {
     pub(crate) prf: DefaultedTo<AlgorithmIdentifierRef<'a>, HmacWithSha1Default>,
 }
 
-// The fields in pairs, in the order in which they are encoded.
+// The fields, in the order in which they are encoded.
 pub(crate) type Pbkdf2ParamsPart2Fields<'a> = (
     Optional<IntRef<'a>>,
     DefaultedTo<AlgorithmIdentifierRef<'a>, HmacWithSha1Default>,
@@ -26,8 +26,8 @@ pub(crate) type Pbkdf2ParamsPart2Fields<'a> = (
 impl<'a> FromFields<Pbkdf2ParamsPart2Fields<'a>> for Pbkdf2ParamsPart2<'a> {
     ghost fields = { λ v. (v.key_length, v.prf) };
 
-    fn from_fields(members: Pbkdf2ParamsPart2Fields<'a>) -> Self {
-        let (key_length, prf) = members;
+    fn from_fields(fields: Pbkdf2ParamsPart2Fields<'a>) -> Self {
+        let (key_length, prf) = fields;
         Pbkdf2ParamsPart2 { key_length, prf }
     }
 }

@@ -26,14 +26,14 @@ pub struct PrivateKeyAttribute<'a> {
     pub attr_values: SetOf<'a, AnyRef<'a>>,
 }
 
-/// The fields of a [`PrivateKeyAttribute`] in pairs, in the order in which they are encoded.
+/// The fields of a [`PrivateKeyAttribute`], in the order in which they are encoded.
 pub type PrivateKeyAttributeFields<'a> = (ObjectIdentifierRef<'a>, SetOf<'a, AnyRef<'a>>);
 
 impl<'a> FromFields<PrivateKeyAttributeFields<'a>> for PrivateKeyAttribute<'a> {
     ghost fields = { λ v. (v.oid, v.attr_values) };
 
-    fn from_fields(members: PrivateKeyAttributeFields<'a>) -> Self {
-        let (oid, attr_values) = members;
+    fn from_fields(fields: PrivateKeyAttributeFields<'a>) -> Self {
+        let (oid, attr_values) = fields;
         PrivateKeyAttribute { oid, attr_values }
     }
 }

@@ -6,6 +6,7 @@ ghost use Rattle.std.proofs.Common.{arith, refl};
 ghost use Rattle.der.specs.Prelude.{map_ok};
 ghost use Rattle.der_asn1.specs.Item.{decodes_same};
 ghost use Rattle.der_asn1.specs.Meaning.{alternative, field, optional, seen, sequence, sequence_is_item, sequence_item, two_fields};
+ghost use Rattle.der_asn1.specs.TupleFields.{three_fields};
 
 use crate::asn1::private_key_attributes::PrivateKeyAttributes;
 use crate::asn1::private_key_info_part1::{PrivateKeyInfoPart1, PrivateKeyInfoPart1Fields};
@@ -40,7 +41,7 @@ pub struct PrivateKeyInfo<'a> {
     pub public_key: Optional<Implicit<BitStringRef<'a>, 1>>,
 }
 
-/// The fields of a [`PrivateKeyInfo`] in pairs, in the order in which they are encoded.
+/// The fields of a [`PrivateKeyInfo`], in the order in which they are encoded.
 pub type PrivateKeyInfoFields<'a> = (PrivateKeyInfoPart1Fields<'a>, PrivateKeyInfoPart2Fields<'a>);
 
 impl<'a> FromFields<(PrivateKeyInfoPart1<'a>, PrivateKeyInfoPart2<'a>)> for PrivateKeyInfo<'a> {
@@ -53,8 +54,8 @@ impl<'a> FromFields<(PrivateKeyInfoPart1<'a>, PrivateKeyInfoPart2<'a>)> for Priv
       record { attributes = v.attributes; public_key = v.public_key },
     ) };
 
-    fn from_fields(members: (PrivateKeyInfoPart1<'a>, PrivateKeyInfoPart2<'a>)) -> Self {
-        let (part1, part2) = members;
+    fn from_fields(fields: (PrivateKeyInfoPart1<'a>, PrivateKeyInfoPart2<'a>)) -> Self {
+        let (part1, part2) = fields;
         PrivateKeyInfo {
             version: part1.version,
             private_key_algorithm: part1.private_key_algorithm,
@@ -67,10 +68,10 @@ impl<'a> FromFields<(PrivateKeyInfoPart1<'a>, PrivateKeyInfoPart2<'a>)> for Priv
 
 impl<'a> Sequence for PrivateKeyInfo<'a> {
     ghost meaning = { sequence (two_fields (seen
-        ⟦<PrivateKeyInfoPart1<'a> as FromFields<PrivateKeyInfoPart1Fields<'a>>>⟧.fields (two_fields
-        (field (alternative ⟦<NamedInteger<Version> as Described>⟧.element)) (two_fields (field
+        ⟦<PrivateKeyInfoPart1<'a> as FromFields<PrivateKeyInfoPart1Fields<'a>>>⟧.fields
+        (three_fields (field (alternative ⟦<NamedInteger<Version> as Described>⟧.element)) (field
         (alternative ⟦<AlgorithmIdentifierRef<'a> as Described>⟧.element)) (field (alternative
-        ⟦<OctetStringRef<'a> as Described>⟧.element))))) (seen
+        ⟦<OctetStringRef<'a> as Described>⟧.element)))) (seen
         ⟦<PrivateKeyInfoPart2<'a> as FromFields<PrivateKeyInfoPart2Fields<'a>>>⟧.fields (two_fields
         (optional (alternative ⟦<Implicit<PrivateKeyAttributes<'a>, 0> as Described>⟧.element))
         (optional (alternative ⟦<Implicit<BitStringRef<'a>, 1> as Described>⟧.element)))))
@@ -129,7 +130,7 @@ impl<'a> EncodeValue for PrivateKeyInfo<'a> {
         field_refs!(
             self,
             (
-                (version, (private_key_algorithm, private_key)),
+                (version, private_key_algorithm, private_key),
                 (attributes, public_key)
             )
         )
@@ -140,7 +141,7 @@ impl<'a> EncodeValue for PrivateKeyInfo<'a> {
         field_refs!(
             self,
             (
-                (version, (private_key_algorithm, private_key)),
+                (version, private_key_algorithm, private_key),
                 (attributes, public_key)
             )
         )
@@ -151,7 +152,7 @@ impl<'a> EncodeValue for PrivateKeyInfo<'a> {
         field_refs!(
             self,
             (
-                (version, (private_key_algorithm, private_key)),
+                (version, private_key_algorithm, private_key),
                 (attributes, public_key)
             )
         )
@@ -162,7 +163,7 @@ impl<'a> EncodeValue for PrivateKeyInfo<'a> {
         field_refs!(
             self,
             (
-                (version, (private_key_algorithm, private_key)),
+                (version, private_key_algorithm, private_key),
                 (attributes, public_key)
             )
         )

@@ -18,17 +18,18 @@ pub(crate) struct PrivateKeyInfoPart1<'a> {
     pub(crate) private_key: OctetStringRef<'a>,
 }
 
-// The fields in pairs, in the order in which they are encoded.
+// The fields, in the order in which they are encoded.
 pub(crate) type PrivateKeyInfoPart1Fields<'a> = (
     NamedInteger<Version>,
-    (AlgorithmIdentifierRef<'a>, OctetStringRef<'a>),
+    AlgorithmIdentifierRef<'a>,
+    OctetStringRef<'a>,
 );
 
 impl<'a> FromFields<PrivateKeyInfoPart1Fields<'a>> for PrivateKeyInfoPart1<'a> {
-    ghost fields = { λ v. (v.version, (v.private_key_algorithm, v.private_key)) };
+    ghost fields = { λ v. (v.version, v.private_key_algorithm, v.private_key) };
 
-    fn from_fields(members: PrivateKeyInfoPart1Fields<'a>) -> Self {
-        let (version, (private_key_algorithm, private_key)) = members;
+    fn from_fields(fields: PrivateKeyInfoPart1Fields<'a>) -> Self {
+        let (version, private_key_algorithm, private_key) = fields;
         PrivateKeyInfoPart1 {
             version,
             private_key_algorithm,

@@ -16,7 +16,7 @@ pub(crate) struct PrivateKeyInfoPart2<'a> {
     pub(crate) public_key: Optional<Implicit<BitStringRef<'a>, 1>>,
 }
 
-// The fields in pairs, in the order in which they are encoded.
+// The fields, in the order in which they are encoded.
 pub(crate) type PrivateKeyInfoPart2Fields<'a> = (
     Optional<Implicit<PrivateKeyAttributes<'a>, 0>>,
     Optional<Implicit<BitStringRef<'a>, 1>>,
@@ -25,8 +25,8 @@ pub(crate) type PrivateKeyInfoPart2Fields<'a> = (
 impl<'a> FromFields<PrivateKeyInfoPart2Fields<'a>> for PrivateKeyInfoPart2<'a> {
     ghost fields = { λ v. (v.attributes, v.public_key) };
 
-    fn from_fields(members: PrivateKeyInfoPart2Fields<'a>) -> Self {
-        let (attributes, public_key) = members;
+    fn from_fields(fields: PrivateKeyInfoPart2Fields<'a>) -> Self {
+        let (attributes, public_key) = fields;
         PrivateKeyInfoPart2 {
             attributes,
             public_key,

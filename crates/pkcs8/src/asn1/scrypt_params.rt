@@ -5,10 +5,9 @@ ghost use Rattle.std.specs.Prelude.{◌≡◌};
 ghost use Rattle.std.proofs.Common.{arith, refl};
 ghost use Rattle.der.specs.Prelude.{map_ok};
 ghost use Rattle.der_asn1.specs.Item.{decodes_same};
-ghost use Rattle.der_asn1.specs.Meaning.{alternative, field, optional, seen, sequence, sequence_is_item, sequence_item, two_fields};
+ghost use Rattle.der_asn1.specs.Meaning.{alternative, field, optional, sequence, sequence_is_item, sequence_item};
+ghost use Rattle.der_asn1.specs.TupleFields.{five_fields};
 
-use crate::asn1::scrypt_params_part1::{ScryptParamsPart1, ScryptParamsPart1Fields};
-use crate::asn1::scrypt_params_part2::{ScryptParamsPart2, ScryptParamsPart2Fields};
 use der::{
     Decode, DecodeValue, Encode, EncodeValue, Error, FromFields, Header, IsValue, Length, Reader,
     Sequence, SliceReader, Writer, decode_sequence, field_refs,
@@ -34,44 +33,44 @@ pub struct ScryptParams<'a> {
     pub key_length: Optional<IntRef<'a>>,
 }
 
-/// The fields of a [`ScryptParams`] in pairs, in the order in which they are encoded.
-pub type ScryptParamsFields<'a> = (ScryptParamsPart1Fields<'a>, ScryptParamsPart2Fields<'a>);
+/// The fields of a [`ScryptParams`], in the order in which they are encoded.
+pub type ScryptParamsFields<'a> = (
+    OctetStringRef<'a>,
+    IntRef<'a>,
+    IntRef<'a>,
+    IntRef<'a>,
+    Optional<IntRef<'a>>,
+);
 
-impl<'a> FromFields<(ScryptParamsPart1<'a>, ScryptParamsPart2<'a>)> for ScryptParams<'a> {
+impl<'a> FromFields<ScryptParamsFields<'a>> for ScryptParams<'a> {
     ghost fields = { λ v. (
-      record {
-        salt = v.salt;
-        cost_parameter = v.cost_parameter;
-        block_size = v.block_size;
-      },
-      record {
-        parallelization = v.parallelization;
-        key_length = v.key_length;
-      },
+      v.salt,
+      v.cost_parameter,
+      v.block_size,
+      v.parallelization,
+      v.key_length,
     ) };
 
-    fn from_fields(members: (ScryptParamsPart1<'a>, ScryptParamsPart2<'a>)) -> Self {
-        let (part1, part2) = members;
+    fn from_fields(fields: ScryptParamsFields<'a>) -> Self {
+        let (salt, cost_parameter, block_size, parallelization, key_length) = fields;
         ScryptParams {
-            salt: part1.salt,
-            cost_parameter: part1.cost_parameter,
-            block_size: part1.block_size,
-            parallelization: part2.parallelization,
-            key_length: part2.key_length,
+            salt,
+            cost_parameter,
+            block_size,
+            parallelization,
+            key_length,
         }
     }
 }
 
 impl<'a> Sequence for ScryptParams<'a> {
-    ghost meaning = { sequence (two_fields (seen
-        ⟦<ScryptParamsPart1<'a> as FromFields<ScryptParamsPart1Fields<'a>>>⟧.fields (two_fields
-        (field (alternative ⟦<OctetStringRef<'a> as Described>⟧.element)) (two_fields (field
-        (alternative ⟦<IntRef<'a> as Described>⟧.element)) (field (alternative
-        ⟦<IntRef<'a> as Described>⟧.element))))) (seen
-        ⟦<ScryptParamsPart2<'a> as FromFields<ScryptParamsPart2Fields<'a>>>⟧.fields (two_fields
-        (field (alternative ⟦<IntRef<'a> as Described>⟧.element)) (optional (alternative
-        ⟦<IntRef<'a> as Described>⟧.element)))))
-        ⟦<ScryptParams<'a> as FromFields<(ScryptParamsPart1<'a>, ScryptParamsPart2<'a>)>>⟧.fields };
+    ghost meaning = { sequence (five_fields (field (alternative
+        ⟦<OctetStringRef<'a> as Described>⟧.element)) (field (alternative
+        ⟦<IntRef<'a> as Described>⟧.element)) (field (alternative
+        ⟦<IntRef<'a> as Described>⟧.element)) (field (alternative
+        ⟦<IntRef<'a> as Described>⟧.element)) (optional (alternative
+        ⟦<IntRef<'a> as Described>⟧.element)))
+        ⟦<ScryptParams<'a> as FromFields<ScryptParamsFields<'a>>>⟧.fields };
 
     ghost fits = { (refl, refl) };
 }
@@ -81,14 +80,11 @@ impl<'a, R: Reader<Borrowed = &'a [u8]>> DecodeValue<R> for ScryptParams<'a> {
     type Error = Error;
 
     ghost decode_value_answers = { λ h s result t.
-        ⟦<(ScryptParamsPart1<'a>, ScryptParamsPart2<'a>) as Decode<SliceReader<'a>>>⟧.decode_answers s
-        (map_ok
-        ⟦<ScryptParams<'a> as FromFields<(ScryptParamsPart1<'a>, ScryptParamsPart2<'a>)>>⟧.fields result) t };
+        ⟦<ScryptParamsFields<'a> as Decode<SliceReader<'a>>>⟧.decode_answers s (map_ok
+        ⟦<ScryptParams<'a> as FromFields<ScryptParamsFields<'a>>>⟧.fields result) t };
 
     fn decode_value(alloc: Global, reader: &mut R, header: Header) -> Result<Self, Error> {
-        decode_sequence::<R, (ScryptParamsPart1<'a>, ScryptParamsPart2<'a>), Self>(
-            alloc, reader, header,
-        )
+        decode_sequence::<R, ScryptParamsFields<'a>, Self>(alloc, reader, header)
     }
 }
 
@@ -106,26 +102,21 @@ impl<'a> IsValue for ScryptParams<'a> {
 
 /// Writes the fields one after the other, with the errors of every [`Sequence`].
 impl<'a> EncodeValue for ScryptParams<'a> {
-    ghost value_size = { λ v. ⟦<ScryptParamsFields<'a> as Encode>⟧.size (
-      ⟦<ScryptParamsPart1<'a> as FromFields<ScryptParamsPart1Fields<'a>>>⟧.fields
-          (⟦<ScryptParams<'a> as FromFields<(ScryptParamsPart1<'a>, ScryptParamsPart2<'a>)>>⟧.fields v).0,
-      ⟦<ScryptParamsPart2<'a> as FromFields<ScryptParamsPart2Fields<'a>>>⟧.fields
-          (⟦<ScryptParams<'a> as FromFields<(ScryptParamsPart1<'a>, ScryptParamsPart2<'a>)>>⟧.fields v).1,
-    ) };
+    ghost value_size = { λ v. ⟦<ScryptParamsFields<'a> as Encode>⟧.size
+        (⟦<ScryptParams<'a> as FromFields<ScryptParamsFields<'a>>>⟧.fields v) };
 
-    ghost encode_value_answers = { λ v. ⟦<ScryptParamsFields<'a> as Encode>⟧.encode_answers (
-      ⟦<ScryptParamsPart1<'a> as FromFields<ScryptParamsPart1Fields<'a>>>⟧.fields
-          (⟦<ScryptParams<'a> as FromFields<(ScryptParamsPart1<'a>, ScryptParamsPart2<'a>)>>⟧.fields v).0,
-      ⟦<ScryptParamsPart2<'a> as FromFields<ScryptParamsPart2Fields<'a>>>⟧.fields
-          (⟦<ScryptParams<'a> as FromFields<(ScryptParamsPart1<'a>, ScryptParamsPart2<'a>)>>⟧.fields v).1,
-    ) };
+    ghost encode_value_answers = { λ v. ⟦<ScryptParamsFields<'a> as Encode>⟧.encode_answers
+        (⟦<ScryptParams<'a> as FromFields<ScryptParamsFields<'a>>>⟧.fields v) };
 
     fn value_len(&self) -> Result<Length, Error> {
         field_refs!(
             self,
             (
-                (salt, (cost_parameter, block_size)),
-                (parallelization, key_length)
+                salt,
+                cost_parameter,
+                block_size,
+                parallelization,
+                key_length
             )
         )
         .encoded_len()
@@ -135,8 +126,11 @@ impl<'a> EncodeValue for ScryptParams<'a> {
         field_refs!(
             self,
             (
-                (salt, (cost_parameter, block_size)),
-                (parallelization, key_length)
+                salt,
+                cost_parameter,
+                block_size,
+                parallelization,
+                key_length
             )
         )
         .encode(writer)
@@ -146,8 +140,11 @@ impl<'a> EncodeValue for ScryptParams<'a> {
         field_refs!(
             self,
             (
-                (salt, (cost_parameter, block_size)),
-                (parallelization, key_length)
+                salt,
+                cost_parameter,
+                block_size,
+                parallelization,
+                key_length
             )
         )
         .len_before()
@@ -157,8 +154,11 @@ impl<'a> EncodeValue for ScryptParams<'a> {
         field_refs!(
             self,
             (
-                (salt, (cost_parameter, block_size)),
-                (parallelization, key_length)
+                salt,
+                cost_parameter,
+                block_size,
+                parallelization,
+                key_length
             )
         )
         .encode_before(buf, end)

@@ -5,7 +5,8 @@ ghost use Rattle.std.specs.Prelude.{◌≡◌};
 ghost use Rattle.std.proofs.Common.{arith, refl};
 ghost use Rattle.der.specs.Prelude.{map_ok};
 ghost use Rattle.der_asn1.specs.Item.{decodes_same};
-ghost use Rattle.der_asn1.specs.Meaning.{alternative, any_element, field, sequence, sequence_is_item, sequence_item, two_fields};
+ghost use Rattle.der_asn1.specs.Meaning.{alternative, any_element, field, sequence, sequence_is_item, sequence_item};
+ghost use Rattle.der_asn1.specs.TupleFields.{three_fields};
 
 use der::{
     Decode, DecodeValue, Encode, EncodeValue, Error, FromFields, Header, IsValue, Length, Reader,
@@ -28,14 +29,14 @@ pub struct CharacteristicTwo<'a> {
     pub parameters: AnyRef<'a>,
 }
 
-/// The fields of a [`CharacteristicTwo`] in pairs, in the order in which they are encoded.
-pub type CharacteristicTwoFields<'a> = (IntRef<'a>, (ObjectIdentifierRef<'a>, AnyRef<'a>));
+/// The fields of a [`CharacteristicTwo`], in the order in which they are encoded.
+pub type CharacteristicTwoFields<'a> = (IntRef<'a>, ObjectIdentifierRef<'a>, AnyRef<'a>);
 
 impl<'a> FromFields<CharacteristicTwoFields<'a>> for CharacteristicTwo<'a> {
-    ghost fields = { λ v. (v.m, (v.basis, v.parameters)) };
+    ghost fields = { λ v. (v.m, v.basis, v.parameters) };
 
-    fn from_fields(members: CharacteristicTwoFields<'a>) -> Self {
-        let (m, (basis, parameters)) = members;
+    fn from_fields(fields: CharacteristicTwoFields<'a>) -> Self {
+        let (m, basis, parameters) = fields;
         CharacteristicTwo {
             m,
             basis,
@@ -45,9 +46,9 @@ impl<'a> FromFields<CharacteristicTwoFields<'a>> for CharacteristicTwo<'a> {
 }
 
 impl<'a> Sequence for CharacteristicTwo<'a> {
-    ghost meaning = { sequence (two_fields (field (alternative ⟦<IntRef<'a> as Described>⟧.element))
-        (two_fields (field (alternative ⟦<ObjectIdentifierRef<'a> as Described>⟧.element))
-        (field any_element)))
+    ghost meaning = { sequence (three_fields (field (alternative
+        ⟦<IntRef<'a> as Described>⟧.element)) (field (alternative
+        ⟦<ObjectIdentifierRef<'a> as Described>⟧.element)) (field any_element))
         ⟦<CharacteristicTwo<'a> as FromFields<CharacteristicTwoFields<'a>>>⟧.fields };
 
     ghost fits = { (refl, refl) };
@@ -83,19 +84,19 @@ impl<'a> EncodeValue for CharacteristicTwo<'a> {
         (⟦<CharacteristicTwo<'a> as FromFields<CharacteristicTwoFields<'a>>>⟧.fields v) };
 
     fn value_len(&self) -> Result<Length, Error> {
-        field_refs!(self, (m, (basis, parameters))).encoded_len()
+        field_refs!(self, (m, basis, parameters)).encoded_len()
     }
 
     fn encode_value<W: Writer>(&self, writer: &mut W) -> Result<(), Error> {
-        field_refs!(self, (m, (basis, parameters))).encode(writer)
+        field_refs!(self, (m, basis, parameters)).encode(writer)
     }
 
     fn value_len_before(&self) -> Option<u32> {
-        field_refs!(self, (m, (basis, parameters))).len_before()
+        field_refs!(self, (m, basis, parameters)).len_before()
     }
 
     fn encode_value_before(&self, buf: &mut [u8], end: u32) -> u32 {
-        field_refs!(self, (m, (basis, parameters))).encode_before(buf, end)
+        field_refs!(self, (m, basis, parameters)).encode_before(buf, end)
     }
 }
 

@@ -5,7 +5,8 @@ ghost use Rattle.std.specs.Prelude.{◌≡◌};
 ghost use Rattle.std.proofs.Common.{arith, refl};
 ghost use Rattle.der.specs.Prelude.{map_ok};
 ghost use Rattle.der_asn1.specs.Item.{decodes_same};
-ghost use Rattle.der_asn1.specs.Meaning.{alternative, field, optional, sequence, sequence_is_item, sequence_item, two_fields};
+ghost use Rattle.der_asn1.specs.Meaning.{alternative, field, optional, sequence, sequence_is_item, sequence_item};
+ghost use Rattle.der_asn1.specs.TupleFields.{three_fields};
 
 use crate::asn1::field_element::FieldElement;
 use der::{
@@ -26,26 +27,27 @@ pub struct Curve<'a> {
     pub seed: Optional<BitStringRef<'a>>,
 }
 
-/// The fields of a [`Curve`] in pairs, in the order in which they are encoded.
+/// The fields of a [`Curve`], in the order in which they are encoded.
 pub type CurveFields<'a> = (
     FieldElement<'a>,
-    (FieldElement<'a>, Optional<BitStringRef<'a>>),
+    FieldElement<'a>,
+    Optional<BitStringRef<'a>>,
 );
 
 impl<'a> FromFields<CurveFields<'a>> for Curve<'a> {
-    ghost fields = { λ v. (v.a, (v.b, v.seed)) };
+    ghost fields = { λ v. (v.a, v.b, v.seed) };
 
-    fn from_fields(members: CurveFields<'a>) -> Self {
-        let (a, (b, seed)) = members;
+    fn from_fields(fields: CurveFields<'a>) -> Self {
+        let (a, b, seed) = fields;
         Curve { a, b, seed }
     }
 }
 
 impl<'a> Sequence for Curve<'a> {
-    ghost meaning = { sequence (two_fields (field (alternative
-        ⟦<FieldElement<'a> as Described>⟧.element)) (two_fields (field (alternative
+    ghost meaning = { sequence (three_fields (field (alternative
+        ⟦<FieldElement<'a> as Described>⟧.element)) (field (alternative
         ⟦<FieldElement<'a> as Described>⟧.element)) (optional (alternative
-        ⟦<BitStringRef<'a> as Described>⟧.element))))
+        ⟦<BitStringRef<'a> as Described>⟧.element)))
         ⟦<Curve<'a> as FromFields<CurveFields<'a>>>⟧.fields };
 
     ghost fits = { (refl, refl) };
@@ -83,19 +85,19 @@ impl<'a> EncodeValue for Curve<'a> {
         (⟦<Curve<'a> as FromFields<CurveFields<'a>>>⟧.fields v) };
 
     fn value_len(&self) -> Result<Length, Error> {
-        field_refs!(self, (a, (b, seed))).encoded_len()
+        field_refs!(self, (a, b, seed)).encoded_len()
     }
 
     fn encode_value<W: Writer>(&self, writer: &mut W) -> Result<(), Error> {
-        field_refs!(self, (a, (b, seed))).encode(writer)
+        field_refs!(self, (a, b, seed)).encode(writer)
     }
 
     fn value_len_before(&self) -> Option<u32> {
-        field_refs!(self, (a, (b, seed))).len_before()
+        field_refs!(self, (a, b, seed)).len_before()
     }
 
     fn encode_value_before(&self, buf: &mut [u8], end: u32) -> u32 {
-        field_refs!(self, (a, (b, seed))).encode_before(buf, end)
+        field_refs!(self, (a, b, seed)).encode_before(buf, end)
     }
 }
 

@@ -5,7 +5,8 @@ ghost use Rattle.std.specs.Prelude.{◌≡◌};
 ghost use Rattle.std.proofs.Common.{arith, refl};
 ghost use Rattle.der.specs.Prelude.{map_ok};
 ghost use Rattle.der_asn1.specs.Item.{decodes_same};
-ghost use Rattle.der_asn1.specs.Meaning.{alternative, field, sequence, sequence_is_item, sequence_item, two_fields};
+ghost use Rattle.der_asn1.specs.Meaning.{alternative, field, sequence, sequence_is_item, sequence_item};
+ghost use Rattle.der_asn1.specs.TupleFields.{three_fields};
 
 use der::{
     Decode, DecodeValue, Encode, EncodeValue, Error, FromFields, Header, IsValue, Length, Reader,
@@ -25,22 +26,23 @@ pub struct DssParms<'a> {
     pub g: IntRef<'a>,
 }
 
-/// The fields of a [`DssParms`] in pairs, in the order in which they are encoded.
-pub type DssParmsFields<'a> = (IntRef<'a>, (IntRef<'a>, IntRef<'a>));
+/// The fields of a [`DssParms`], in the order in which they are encoded.
+pub type DssParmsFields<'a> = (IntRef<'a>, IntRef<'a>, IntRef<'a>);
 
 impl<'a> FromFields<DssParmsFields<'a>> for DssParms<'a> {
-    ghost fields = { λ v. (v.p, (v.q, v.g)) };
+    ghost fields = { λ v. (v.p, v.q, v.g) };
 
-    fn from_fields(members: DssParmsFields<'a>) -> Self {
-        let (p, (q, g)) = members;
+    fn from_fields(fields: DssParmsFields<'a>) -> Self {
+        let (p, q, g) = fields;
         DssParms { p, q, g }
     }
 }
 
 impl<'a> Sequence for DssParms<'a> {
-    ghost meaning = { sequence (two_fields (field (alternative ⟦<IntRef<'a> as Described>⟧.element))
-        (two_fields (field (alternative ⟦<IntRef<'a> as Described>⟧.element)) (field (alternative
-        ⟦<IntRef<'a> as Described>⟧.element))))
+    ghost meaning = { sequence (three_fields (field (alternative
+        ⟦<IntRef<'a> as Described>⟧.element)) (field (alternative
+        ⟦<IntRef<'a> as Described>⟧.element)) (field (alternative
+        ⟦<IntRef<'a> as Described>⟧.element)))
         ⟦<DssParms<'a> as FromFields<DssParmsFields<'a>>>⟧.fields };
 
     ghost fits = { (refl, refl) };
@@ -76,19 +78,19 @@ impl<'a> EncodeValue for DssParms<'a> {
         (⟦<DssParms<'a> as FromFields<DssParmsFields<'a>>>⟧.fields v) };
 
     fn value_len(&self) -> Result<Length, Error> {
-        field_refs!(self, (p, (q, g))).encoded_len()
+        field_refs!(self, (p, q, g)).encoded_len()
     }
 
     fn encode_value<W: Writer>(&self, writer: &mut W) -> Result<(), Error> {
-        field_refs!(self, (p, (q, g))).encode(writer)
+        field_refs!(self, (p, q, g)).encode(writer)
     }
 
     fn value_len_before(&self) -> Option<u32> {
-        field_refs!(self, (p, (q, g))).len_before()
+        field_refs!(self, (p, q, g)).len_before()
     }
 
     fn encode_value_before(&self, buf: &mut [u8], end: u32) -> u32 {
-        field_refs!(self, (p, (q, g))).encode_before(buf, end)
+        field_refs!(self, (p, q, g)).encode_before(buf, end)
     }
 }
 

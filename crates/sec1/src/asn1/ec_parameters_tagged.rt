@@ -22,14 +22,14 @@ pub struct EcParametersTagged<'a> {
     pub value: EcParameters<'a>,
 }
 
-/// The fields of a [`EcParametersTagged`] in pairs, in the order in which they are encoded.
+/// The fields of a [`EcParametersTagged`], in the order in which they are encoded.
 pub type EcParametersTaggedFields<'a> = EcParameters<'a>;
 
 impl<'a> FromFields<EcParametersTaggedFields<'a>> for EcParametersTagged<'a> {
     ghost fields = { λ v. v.value };
 
-    fn from_fields(members: EcParametersTaggedFields<'a>) -> Self {
-        let value = members;
+    fn from_fields(fields: EcParametersTaggedFields<'a>) -> Self {
+        let value = fields;
         EcParametersTagged { value }
     }
 }

@@ -33,20 +33,17 @@ pub struct EcPrivateKey<'a> {
     pub public_key: Optional<Explicit<BitStringRef<'a>, 1>>,
 }
 
-/// The fields of a [`EcPrivateKey`] in pairs, in the order in which they are encoded.
+/// The fields of a [`EcPrivateKey`], in the order in which they are encoded.
 pub type EcPrivateKeyFields<'a> = (EcPrivateKeyPart1Fields<'a>, EcPrivateKeyPart2Fields<'a>);
 
 impl<'a> FromFields<(EcPrivateKeyPart1<'a>, EcPrivateKeyPart2<'a>)> for EcPrivateKey<'a> {
     ghost fields = { λ v. (
-      record {
-        version = v.version;
-        private_key = v.private_key;
-      },
+      record { version = v.version; private_key = v.private_key },
       record { parameters = v.parameters; public_key = v.public_key },
     ) };
 
-    fn from_fields(members: (EcPrivateKeyPart1<'a>, EcPrivateKeyPart2<'a>)) -> Self {
-        let (part1, part2) = members;
+    fn from_fields(fields: (EcPrivateKeyPart1<'a>, EcPrivateKeyPart2<'a>)) -> Self {
+        let (part1, part2) = fields;
         EcPrivateKey {
             version: part1.version,
             private_key: part1.private_key,

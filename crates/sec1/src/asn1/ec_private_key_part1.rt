@@ -15,14 +15,14 @@ pub(crate) struct EcPrivateKeyPart1<'a> {
     pub(crate) private_key: OctetStringRef<'a>,
 }
 
-// The fields in pairs, in the order in which they are encoded.
+// The fields, in the order in which they are encoded.
 pub(crate) type EcPrivateKeyPart1Fields<'a> = (IntRef<'a>, OctetStringRef<'a>);
 
 impl<'a> FromFields<EcPrivateKeyPart1Fields<'a>> for EcPrivateKeyPart1<'a> {
     ghost fields = { λ v. (v.version, v.private_key) };
 
-    fn from_fields(members: EcPrivateKeyPart1Fields<'a>) -> Self {
-        let (version, private_key) = members;
+    fn from_fields(fields: EcPrivateKeyPart1Fields<'a>) -> Self {
+        let (version, private_key) = fields;
         EcPrivateKeyPart1 {
             version,
             private_key,

@@ -16,7 +16,7 @@ pub(crate) struct EcPrivateKeyPart2<'a> {
     pub(crate) public_key: Optional<Explicit<BitStringRef<'a>, 1>>,
 }
 
-// The fields in pairs, in the order in which they are encoded.
+// The fields, in the order in which they are encoded.
 pub(crate) type EcPrivateKeyPart2Fields<'a> = (
     Optional<Implicit<EcParametersTagged<'a>, 0>>,
     Optional<Explicit<BitStringRef<'a>, 1>>,
@@ -25,8 +25,8 @@ pub(crate) type EcPrivateKeyPart2Fields<'a> = (
 impl<'a> FromFields<EcPrivateKeyPart2Fields<'a>> for EcPrivateKeyPart2<'a> {
     ghost fields = { λ v. (v.parameters, v.public_key) };
 
-    fn from_fields(members: EcPrivateKeyPart2Fields<'a>) -> Self {
-        let (parameters, public_key) = members;
+    fn from_fields(fields: EcPrivateKeyPart2Fields<'a>) -> Self {
+        let (parameters, public_key) = fields;
         EcPrivateKeyPart2 {
             parameters,
             public_key,

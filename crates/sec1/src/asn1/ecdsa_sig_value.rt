@@ -23,14 +23,14 @@ pub struct EcdsaSigValue<'a> {
     pub s: IntRef<'a>,
 }
 
-/// The fields of a [`EcdsaSigValue`] in pairs, in the order in which they are encoded.
+/// The fields of a [`EcdsaSigValue`], in the order in which they are encoded.
 pub type EcdsaSigValueFields<'a> = (IntRef<'a>, IntRef<'a>);
 
 impl<'a> FromFields<EcdsaSigValueFields<'a>> for EcdsaSigValue<'a> {
     ghost fields = { λ v. (v.r, v.s) };
 
-    fn from_fields(members: EcdsaSigValueFields<'a>) -> Self {
-        let (r, s) = members;
+    fn from_fields(fields: EcdsaSigValueFields<'a>) -> Self {
+        let (r, s) = fields;
         EcdsaSigValue { r, s }
     }
 }

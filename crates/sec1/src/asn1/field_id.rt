@@ -24,14 +24,14 @@ pub struct FieldId<'a> {
     pub parameters: AnyRef<'a>,
 }
 
-/// The fields of a [`FieldId`] in pairs, in the order in which they are encoded.
+/// The fields of a [`FieldId`], in the order in which they are encoded.
 pub type FieldIdFields<'a> = (ObjectIdentifierRef<'a>, AnyRef<'a>);
 
 impl<'a> FromFields<FieldIdFields<'a>> for FieldId<'a> {
     ghost fields = { λ v. (v.field_type, v.parameters) };
 
-    fn from_fields(members: FieldIdFields<'a>) -> Self {
-        let (field_type, parameters) = members;
+    fn from_fields(fields: FieldIdFields<'a>) -> Self {
+        let (field_type, parameters) = fields;
         FieldId {
             field_type,
             parameters,

@@ -5,7 +5,8 @@ ghost use Rattle.std.specs.Prelude.{◌≡◌};
 ghost use Rattle.std.proofs.Common.{arith, refl};
 ghost use Rattle.der.specs.Prelude.{map_ok};
 ghost use Rattle.der_asn1.specs.Item.{decodes_same};
-ghost use Rattle.der_asn1.specs.Meaning.{alternative, field, sequence, sequence_is_item, sequence_item, two_fields};
+ghost use Rattle.der_asn1.specs.Meaning.{alternative, field, sequence, sequence_is_item, sequence_item};
+ghost use Rattle.der_asn1.specs.TupleFields.{three_fields};
 
 use der::{
     Decode, DecodeValue, Encode, EncodeValue, Error, FromFields, Header, IsValue, Length, Reader,
@@ -25,22 +26,23 @@ pub struct Pentanomial<'a> {
     pub k3: IntRef<'a>,
 }
 
-/// The fields of a [`Pentanomial`] in pairs, in the order in which they are encoded.
-pub type PentanomialFields<'a> = (IntRef<'a>, (IntRef<'a>, IntRef<'a>));
+/// The fields of a [`Pentanomial`], in the order in which they are encoded.
+pub type PentanomialFields<'a> = (IntRef<'a>, IntRef<'a>, IntRef<'a>);
 
 impl<'a> FromFields<PentanomialFields<'a>> for Pentanomial<'a> {
-    ghost fields = { λ v. (v.k1, (v.k2, v.k3)) };
+    ghost fields = { λ v. (v.k1, v.k2, v.k3) };
 
-    fn from_fields(members: PentanomialFields<'a>) -> Self {
-        let (k1, (k2, k3)) = members;
+    fn from_fields(fields: PentanomialFields<'a>) -> Self {
+        let (k1, k2, k3) = fields;
         Pentanomial { k1, k2, k3 }
     }
 }
 
 impl<'a> Sequence for Pentanomial<'a> {
-    ghost meaning = { sequence (two_fields (field (alternative ⟦<IntRef<'a> as Described>⟧.element))
-        (two_fields (field (alternative ⟦<IntRef<'a> as Described>⟧.element)) (field (alternative
-        ⟦<IntRef<'a> as Described>⟧.element))))
+    ghost meaning = { sequence (three_fields (field (alternative
+        ⟦<IntRef<'a> as Described>⟧.element)) (field (alternative
+        ⟦<IntRef<'a> as Described>⟧.element)) (field (alternative
+        ⟦<IntRef<'a> as Described>⟧.element)))
         ⟦<Pentanomial<'a> as FromFields<PentanomialFields<'a>>>⟧.fields };
 
     ghost fits = { (refl, refl) };
@@ -76,19 +78,19 @@ impl<'a> EncodeValue for Pentanomial<'a> {
         (⟦<Pentanomial<'a> as FromFields<PentanomialFields<'a>>>⟧.fields v) };
 
     fn value_len(&self) -> Result<Length, Error> {
-        field_refs!(self, (k1, (k2, k3))).encoded_len()
+        field_refs!(self, (k1, k2, k3)).encoded_len()
     }
 
     fn encode_value<W: Writer>(&self, writer: &mut W) -> Result<(), Error> {
-        field_refs!(self, (k1, (k2, k3))).encode(writer)
+        field_refs!(self, (k1, k2, k3)).encode(writer)
     }
 
     fn value_len_before(&self) -> Option<u32> {
-        field_refs!(self, (k1, (k2, k3))).len_before()
+        field_refs!(self, (k1, k2, k3)).len_before()
     }
 
     fn encode_value_before(&self, buf: &mut [u8], end: u32) -> u32 {
-        field_refs!(self, (k1, (k2, k3))).encode_before(buf, end)
+        field_refs!(self, (k1, k2, k3)).encode_before(buf, end)
     }
 }
 

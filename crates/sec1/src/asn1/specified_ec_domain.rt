@@ -6,6 +6,7 @@ ghost use Rattle.std.proofs.Common.{arith, refl};
 ghost use Rattle.der.specs.Prelude.{map_ok};
 ghost use Rattle.der_asn1.specs.Item.{decodes_same};
 ghost use Rattle.der_asn1.specs.Meaning.{alternative, field, optional, seen, sequence, sequence_is_item, sequence_item, two_fields};
+ghost use Rattle.der_asn1.specs.TupleFields.{four_fields, three_fields};
 
 use crate::asn1::curve::Curve;
 use crate::asn1::ec_point::EcPoint;
@@ -44,7 +45,7 @@ pub struct SpecifiedEcDomain<'a> {
     pub hash: Optional<AlgorithmIdentifierRef<'a>>,
 }
 
-/// The fields of a [`SpecifiedEcDomain`] in pairs, in the order in which they are encoded.
+/// The fields of a [`SpecifiedEcDomain`], in the order in which they are encoded.
 pub type SpecifiedEcDomainFields<'a> = (
     SpecifiedEcDomainPart1Fields<'a>,
     SpecifiedEcDomainPart2Fields<'a>,
@@ -62,8 +63,8 @@ impl<'a> FromFields<(SpecifiedEcDomainPart1<'a>, SpecifiedEcDomainPart2<'a>)>
       record { order = v.order; cofactor = v.cofactor; hash = v.hash },
     ) };
 
-    fn from_fields(members: (SpecifiedEcDomainPart1<'a>, SpecifiedEcDomainPart2<'a>)) -> Self {
-        let (part1, part2) = members;
+    fn from_fields(fields: (SpecifiedEcDomainPart1<'a>, SpecifiedEcDomainPart2<'a>)) -> Self {
+        let (part1, part2) = fields;
         SpecifiedEcDomain {
             version: part1.version,
             field_id: part1.field_id,
@@ -79,14 +80,14 @@ impl<'a> FromFields<(SpecifiedEcDomainPart1<'a>, SpecifiedEcDomainPart2<'a>)>
 impl<'a> Sequence for SpecifiedEcDomain<'a> {
     ghost meaning = { sequence (two_fields (seen
         ⟦<SpecifiedEcDomainPart1<'a> as FromFields<SpecifiedEcDomainPart1Fields<'a>>>⟧.fields
-        (two_fields (two_fields (field (alternative ⟦<IntRef<'a> as Described>⟧.element)) (field
-        (alternative ⟦<FieldId<'a> as Described>⟧.element))) (two_fields (field (alternative
+        (four_fields (field (alternative ⟦<IntRef<'a> as Described>⟧.element)) (field (alternative
+        ⟦<FieldId<'a> as Described>⟧.element)) (field (alternative
         ⟦<Curve<'a> as Described>⟧.element)) (field (alternative
-        ⟦<EcPoint<'a> as Described>⟧.element))))) (seen
+        ⟦<EcPoint<'a> as Described>⟧.element)))) (seen
         ⟦<SpecifiedEcDomainPart2<'a> as FromFields<SpecifiedEcDomainPart2Fields<'a>>>⟧.fields
-        (two_fields (field (alternative ⟦<IntRef<'a> as Described>⟧.element)) (two_fields (optional
+        (three_fields (field (alternative ⟦<IntRef<'a> as Described>⟧.element)) (optional
         (alternative ⟦<IntRef<'a> as Described>⟧.element)) (optional (alternative
-        ⟦<AlgorithmIdentifierRef<'a> as Described>⟧.element))))))
+        ⟦<AlgorithmIdentifierRef<'a> as Described>⟧.element)))))
         ⟦<SpecifiedEcDomain<'a> as FromFields<(SpecifiedEcDomainPart1<'a>, SpecifiedEcDomainPart2<'a>)>>⟧.fields };
 
     ghost fits = { (refl, refl) };
@@ -143,10 +144,7 @@ impl<'a> EncodeValue for SpecifiedEcDomain<'a> {
     fn value_len(&self) -> Result<Length, Error> {
         field_refs!(
             self,
-            (
-                ((version, field_id), (curve, base)),
-                (order, (cofactor, hash))
-            )
+            ((version, field_id, curve, base), (order, cofactor, hash))
         )
         .encoded_len()
     }
@@ -154,10 +152,7 @@ impl<'a> EncodeValue for SpecifiedEcDomain<'a> {
     fn encode_value<W: Writer>(&self, writer: &mut W) -> Result<(), Error> {
         field_refs!(
             self,
-            (
-                ((version, field_id), (curve, base)),
-                (order, (cofactor, hash))
-            )
+            ((version, field_id, curve, base), (order, cofactor, hash))
         )
         .encode(writer)
     }
@@ -165,10 +160,7 @@ impl<'a> EncodeValue for SpecifiedEcDomain<'a> {
     fn value_len_before(&self) -> Option<u32> {
         field_refs!(
             self,
-            (
-                ((version, field_id), (curve, base)),
-                (order, (cofactor, hash))
-            )
+            ((version, field_id, curve, base), (order, cofactor, hash))
         )
         .len_before()
     }
@@ -176,10 +168,7 @@ impl<'a> EncodeValue for SpecifiedEcDomain<'a> {
     fn encode_value_before(&self, buf: &mut [u8], end: u32) -> u32 {
         field_refs!(
             self,
-            (
-                ((version, field_id), (curve, base)),
-                (order, (cofactor, hash))
-            )
+            ((version, field_id, curve, base), (order, cofactor, hash))
         )
         .encode_before(buf, end)
     }

@@ -20,17 +20,19 @@ pub(crate) struct SpecifiedEcDomainPart1<'a> {
     pub(crate) base: EcPoint<'a>,
 }
 
-// The fields in pairs, in the order in which they are encoded.
+// The fields, in the order in which they are encoded.
 pub(crate) type SpecifiedEcDomainPart1Fields<'a> = (
-    (IntRef<'a>, FieldId<'a>),
-    (Curve<'a>, EcPoint<'a>),
+    IntRef<'a>,
+    FieldId<'a>,
+    Curve<'a>,
+    EcPoint<'a>,
 );
 
 impl<'a> FromFields<SpecifiedEcDomainPart1Fields<'a>> for SpecifiedEcDomainPart1<'a> {
-    ghost fields = { λ v. ((v.version, v.field_id), (v.curve, v.base)) };
+    ghost fields = { λ v. (v.version, v.field_id, v.curve, v.base) };
 
-    fn from_fields(members: SpecifiedEcDomainPart1Fields<'a>) -> Self {
-        let ((version, field_id), (curve, base)) = members;
+    fn from_fields(fields: SpecifiedEcDomainPart1Fields<'a>) -> Self {
+        let (version, field_id, curve, base) = fields;
         SpecifiedEcDomainPart1 {
             version,
             field_id,

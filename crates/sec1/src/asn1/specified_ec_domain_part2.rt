@@ -17,17 +17,18 @@ pub(crate) struct SpecifiedEcDomainPart2<'a> {
     pub(crate) hash: Optional<AlgorithmIdentifierRef<'a>>,
 }
 
-// The fields in pairs, in the order in which they are encoded.
+// The fields, in the order in which they are encoded.
 pub(crate) type SpecifiedEcDomainPart2Fields<'a> = (
     IntRef<'a>,
-    (Optional<IntRef<'a>>, Optional<AlgorithmIdentifierRef<'a>>),
+    Optional<IntRef<'a>>,
+    Optional<AlgorithmIdentifierRef<'a>>,
 );
 
 impl<'a> FromFields<SpecifiedEcDomainPart2Fields<'a>> for SpecifiedEcDomainPart2<'a> {
-    ghost fields = { λ v. (v.order, (v.cofactor, v.hash)) };
+    ghost fields = { λ v. (v.order, v.cofactor, v.hash) };
 
-    fn from_fields(members: SpecifiedEcDomainPart2Fields<'a>) -> Self {
-        let (order, (cofactor, hash)) = members;
+    fn from_fields(fields: SpecifiedEcDomainPart2Fields<'a>) -> Self {
+        let (order, cofactor, hash) = fields;
         SpecifiedEcDomainPart2 {
             order,
             cofactor,

@@ -25,14 +25,14 @@ pub struct AlgorithmIdentifierRef<'a> {
     pub parameters: Optional<AnyRef<'a>>,
 }
 
-/// The fields of a [`AlgorithmIdentifierRef`] in pairs, in the order in which they are encoded.
+/// The fields of a [`AlgorithmIdentifierRef`], in the order in which they are encoded.
 pub type AlgorithmIdentifierRefFields<'a> = (ObjectIdentifierRef<'a>, Optional<AnyRef<'a>>);
 
 impl<'a> FromFields<AlgorithmIdentifierRefFields<'a>> for AlgorithmIdentifierRef<'a> {
     ghost fields = { λ v. (v.oid, v.parameters) };
 
-    fn from_fields(members: AlgorithmIdentifierRefFields<'a>) -> Self {
-        let (oid, parameters) = members;
+    fn from_fields(fields: AlgorithmIdentifierRefFields<'a>) -> Self {
+        let (oid, parameters) = fields;
         AlgorithmIdentifierRef { oid, parameters }
     }
 }

@@ -24,14 +24,14 @@ pub struct SubjectPublicKeyInfoRef<'a> {
     pub subject_public_key: BitStringRef<'a>,
 }
 
-/// The fields of a [`SubjectPublicKeyInfoRef`] in pairs, in the order in which they are encoded.
+/// The fields of a [`SubjectPublicKeyInfoRef`], in the order in which they are encoded.
 pub type SubjectPublicKeyInfoRefFields<'a> = (AlgorithmIdentifierRef<'a>, BitStringRef<'a>);
 
 impl<'a> FromFields<SubjectPublicKeyInfoRefFields<'a>> for SubjectPublicKeyInfoRef<'a> {
     ghost fields = { λ v. (v.algorithm, v.subject_public_key) };
 
-    fn from_fields(members: SubjectPublicKeyInfoRefFields<'a>) -> Self {
-        let (algorithm, subject_public_key) = members;
+    fn from_fields(fields: SubjectPublicKeyInfoRefFields<'a>) -> Self {
+        let (algorithm, subject_public_key) = fields;
         SubjectPublicKeyInfoRef {
             algorithm,
             subject_public_key,

@@ -26,14 +26,14 @@ pub struct AccessDescription<'a> {
     pub access_location: GeneralName<'a>,
 }
 
-/// The fields of a [`AccessDescription`] in pairs, in the order in which they are encoded.
+/// The fields of a [`AccessDescription`], in the order in which they are encoded.
 pub type AccessDescriptionFields<'a> = (ObjectIdentifierRef<'a>, GeneralName<'a>);
 
 impl<'a> FromFields<AccessDescriptionFields<'a>> for AccessDescription<'a> {
     ghost fields = { λ v. (v.access_method, v.access_location) };
 
-    fn from_fields(members: AccessDescriptionFields<'a>) -> Self {
-        let (access_method, access_location) = members;
+    fn from_fields(fields: AccessDescriptionFields<'a>) -> Self {
+        let (access_method, access_location) = fields;
         AccessDescription {
             access_method,
             access_location,

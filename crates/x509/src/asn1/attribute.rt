@@ -24,14 +24,14 @@ pub struct Attribute<'a> {
     pub values: AttributeValues<'a>,
 }
 
-/// The fields of a [`Attribute`] in pairs, in the order in which they are encoded.
+/// The fields of a [`Attribute`], in the order in which they are encoded.
 pub type AttributeFields<'a> = (ObjectIdentifierRef<'a>, AttributeValues<'a>);
 
 impl<'a> FromFields<AttributeFields<'a>> for Attribute<'a> {
     ghost fields = { λ v. (v.oid, v.values) };
 
-    fn from_fields(members: AttributeFields<'a>) -> Self {
-        let (oid, values) = members;
+    fn from_fields(fields: AttributeFields<'a>) -> Self {
+        let (oid, values) = fields;
         Attribute { oid, values }
     }
 }

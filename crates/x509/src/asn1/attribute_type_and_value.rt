@@ -23,14 +23,14 @@ pub struct AttributeTypeAndValue<'a> {
     pub value: AnyRef<'a>,
 }
 
-/// The fields of a [`AttributeTypeAndValue`] in pairs, in the order in which they are encoded.
+/// The fields of a [`AttributeTypeAndValue`], in the order in which they are encoded.
 pub type AttributeTypeAndValueFields<'a> = (ObjectIdentifierRef<'a>, AnyRef<'a>);
 
 impl<'a> FromFields<AttributeTypeAndValueFields<'a>> for AttributeTypeAndValue<'a> {
     ghost fields = { λ v. (v.oid, v.value) };
 
-    fn from_fields(members: AttributeTypeAndValueFields<'a>) -> Self {
-        let (oid, value) = members;
+    fn from_fields(fields: AttributeTypeAndValueFields<'a>) -> Self {
+        let (oid, value) = fields;
         AttributeTypeAndValue { oid, value }
     }
 }

@@ -5,7 +5,8 @@ ghost use Rattle.std.specs.Prelude.{◌≡◌};
 ghost use Rattle.std.proofs.Common.{arith, refl};
 ghost use Rattle.der.specs.Prelude.{map_ok};
 ghost use Rattle.der_asn1.specs.Item.{decodes_same};
-ghost use Rattle.der_asn1.specs.Meaning.{alternative, optional, sequence, sequence_is_item, sequence_item, two_fields};
+ghost use Rattle.der_asn1.specs.Meaning.{alternative, optional, sequence, sequence_is_item, sequence_item};
+ghost use Rattle.der_asn1.specs.TupleFields.{three_fields};
 
 use crate::asn1::certificate_serial_number::CertificateSerialNumber;
 use crate::asn1::general_names::GeneralNames;
@@ -30,20 +31,22 @@ pub struct AuthorityKeyIdentifier<'a> {
     pub authority_cert_serial_number: Optional<Implicit<CertificateSerialNumber<'a>, 2>>,
 }
 
-/// The fields of a [`AuthorityKeyIdentifier`] in pairs, in the order in which they are encoded.
+/// The fields of a [`AuthorityKeyIdentifier`], in the order in which they are encoded.
 pub type AuthorityKeyIdentifierFields<'a> = (
     Optional<Implicit<KeyIdentifier<'a>, 0>>,
-    (
-        Optional<Implicit<GeneralNames<'a>, 1>>,
-        Optional<Implicit<CertificateSerialNumber<'a>, 2>>,
-    ),
+    Optional<Implicit<GeneralNames<'a>, 1>>,
+    Optional<Implicit<CertificateSerialNumber<'a>, 2>>,
 );
 
 impl<'a> FromFields<AuthorityKeyIdentifierFields<'a>> for AuthorityKeyIdentifier<'a> {
-    ghost fields = { λ v. (v.key_identifier, (v.authority_cert_issuer, v.authority_cert_serial_number)) };
+    ghost fields = { λ v. (
+      v.key_identifier,
+      v.authority_cert_issuer,
+      v.authority_cert_serial_number,
+    ) };
 
-    fn from_fields(members: AuthorityKeyIdentifierFields<'a>) -> Self {
-        let (key_identifier, (authority_cert_issuer, authority_cert_serial_number)) = members;
+    fn from_fields(fields: AuthorityKeyIdentifierFields<'a>) -> Self {
+        let (key_identifier, authority_cert_issuer, authority_cert_serial_number) = fields;
         AuthorityKeyIdentifier {
             key_identifier,
             authority_cert_issuer,
@@ -53,10 +56,10 @@ impl<'a> FromFields<AuthorityKeyIdentifierFields<'a>> for AuthorityKeyIdentifier
 }
 
 impl<'a> Sequence for AuthorityKeyIdentifier<'a> {
-    ghost meaning = { sequence (two_fields (optional (alternative
-        ⟦<Implicit<KeyIdentifier<'a>, 0> as Described>⟧.element)) (two_fields (optional (alternative
+    ghost meaning = { sequence (three_fields (optional (alternative
+        ⟦<Implicit<KeyIdentifier<'a>, 0> as Described>⟧.element)) (optional (alternative
         ⟦<Implicit<GeneralNames<'a>, 1> as Described>⟧.element)) (optional (alternative
-        ⟦<Implicit<CertificateSerialNumber<'a>, 2> as Described>⟧.element))))
+        ⟦<Implicit<CertificateSerialNumber<'a>, 2> as Described>⟧.element)))
         ⟦<AuthorityKeyIdentifier<'a> as FromFields<AuthorityKeyIdentifierFields<'a>>>⟧.fields };
 
     ghost fits = { (refl, refl) };
@@ -103,7 +106,8 @@ impl<'a> EncodeValue for AuthorityKeyIdentifier<'a> {
             self,
             (
                 key_identifier,
-                (authority_cert_issuer, authority_cert_serial_number)
+                authority_cert_issuer,
+                authority_cert_serial_number
             )
         )
         .encoded_len()
@@ -114,7 +118,8 @@ impl<'a> EncodeValue for AuthorityKeyIdentifier<'a> {
             self,
             (
                 key_identifier,
-                (authority_cert_issuer, authority_cert_serial_number)
+                authority_cert_issuer,
+                authority_cert_serial_number
             )
         )
         .encode(writer)
@@ -125,7 +130,8 @@ impl<'a> EncodeValue for AuthorityKeyIdentifier<'a> {
             self,
             (
                 key_identifier,
-                (authority_cert_issuer, authority_cert_serial_number)
+                authority_cert_issuer,
+                authority_cert_serial_number
             )
         )
         .len_before()
@@ -136,7 +142,8 @@ impl<'a> EncodeValue for AuthorityKeyIdentifier<'a> {
             self,
             (
                 key_identifier,
-                (authority_cert_issuer, authority_cert_serial_number)
+                authority_cert_issuer,
+                authority_cert_serial_number
             )
         )
         .encode_before(buf, end)

@@ -28,14 +28,14 @@ pub struct BasicConstraints<'a> {
     pub path_len_constraint: Optional<IntRef<'a>>,
 }
 
-/// The fields of a [`BasicConstraints`] in pairs, in the order in which they are encoded.
+/// The fields of a [`BasicConstraints`], in the order in which they are encoded.
 pub type BasicConstraintsFields<'a> = (Defaulted<BooleanRef<'a>>, Optional<IntRef<'a>>);
 
 impl<'a> FromFields<BasicConstraintsFields<'a>> for BasicConstraints<'a> {
     ghost fields = { λ v. (v.ca, v.path_len_constraint) };
 
-    fn from_fields(members: BasicConstraintsFields<'a>) -> Self {
-        let (ca, path_len_constraint) = members;
+    fn from_fields(fields: BasicConstraintsFields<'a>) -> Self {
+        let (ca, path_len_constraint) = fields;
         BasicConstraints {
             ca,
             path_len_constraint,

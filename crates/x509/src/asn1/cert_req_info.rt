@@ -5,7 +5,8 @@ ghost use Rattle.std.specs.Prelude.{◌≡◌};
 ghost use Rattle.std.proofs.Common.{arith, refl};
 ghost use Rattle.der.specs.Prelude.{map_ok};
 ghost use Rattle.der_asn1.specs.Item.{decodes_same};
-ghost use Rattle.der_asn1.specs.Meaning.{alternative, field, sequence, sequence_is_item, sequence_item, two_fields};
+ghost use Rattle.der_asn1.specs.Meaning.{alternative, field, sequence, sequence_is_item, sequence_item};
+ghost use Rattle.der_asn1.specs.TupleFields.{four_fields};
 
 use crate::asn1::attributes::Attributes;
 use crate::asn1::cert_req_version::CertReqVersion;
@@ -33,17 +34,19 @@ pub struct CertReqInfo<'a> {
     pub attributes: Implicit<Attributes<'a>, 0>,
 }
 
-/// The fields of a [`CertReqInfo`] in pairs, in the order in which they are encoded.
+/// The fields of a [`CertReqInfo`], in the order in which they are encoded.
 pub type CertReqInfoFields<'a> = (
-    (NamedInteger<CertReqVersion>, Name<'a>),
-    (SubjectPublicKeyInfoRef<'a>, Implicit<Attributes<'a>, 0>),
+    NamedInteger<CertReqVersion>,
+    Name<'a>,
+    SubjectPublicKeyInfoRef<'a>,
+    Implicit<Attributes<'a>, 0>,
 );
 
 impl<'a> FromFields<CertReqInfoFields<'a>> for CertReqInfo<'a> {
-    ghost fields = { λ v. ((v.version, v.subject), (v.public_key, v.attributes)) };
+    ghost fields = { λ v. (v.version, v.subject, v.public_key, v.attributes) };
 
-    fn from_fields(members: CertReqInfoFields<'a>) -> Self {
-        let ((version, subject), (public_key, attributes)) = members;
+    fn from_fields(fields: CertReqInfoFields<'a>) -> Self {
+        let (version, subject, public_key, attributes) = fields;
         CertReqInfo {
             version,
             subject,
@@ -54,11 +57,11 @@ impl<'a> FromFields<CertReqInfoFields<'a>> for CertReqInfo<'a> {
 }
 
 impl<'a> Sequence for CertReqInfo<'a> {
-    ghost meaning = { sequence (two_fields (two_fields (field (alternative
+    ghost meaning = { sequence (four_fields (field (alternative
         ⟦<NamedInteger<CertReqVersion> as Described>⟧.element)) (field (alternative
-        ⟦<Name<'a> as Described>⟧.element))) (two_fields (field (alternative
+        ⟦<Name<'a> as Described>⟧.element)) (field (alternative
         ⟦<SubjectPublicKeyInfoRef<'a> as Described>⟧.element)) (field (alternative
-        ⟦<Implicit<Attributes<'a>, 0> as Described>⟧.element))))
+        ⟦<Implicit<Attributes<'a>, 0> as Described>⟧.element)))
         ⟦<CertReqInfo<'a> as FromFields<CertReqInfoFields<'a>>>⟧.fields };
 
     ghost fits = { (refl, refl) };
@@ -95,19 +98,19 @@ impl<'a> EncodeValue for CertReqInfo<'a> {
         (⟦<CertReqInfo<'a> as FromFields<CertReqInfoFields<'a>>>⟧.fields v) };
 
     fn value_len(&self) -> Result<Length, Error> {
-        field_refs!(self, ((version, subject), (public_key, attributes))).encoded_len()
+        field_refs!(self, (version, subject, public_key, attributes)).encoded_len()
     }
 
     fn encode_value<W: Writer>(&self, writer: &mut W) -> Result<(), Error> {
-        field_refs!(self, ((version, subject), (public_key, attributes))).encode(writer)
+        field_refs!(self, (version, subject, public_key, attributes)).encode(writer)
     }
 
     fn value_len_before(&self) -> Option<u32> {
-        field_refs!(self, ((version, subject), (public_key, attributes))).len_before()
+        field_refs!(self, (version, subject, public_key, attributes)).len_before()
     }
 
     fn encode_value_before(&self, buf: &mut [u8], end: u32) -> u32 {
-        field_refs!(self, ((version, subject), (public_key, attributes))).encode_before(buf, end)
+        field_refs!(self, (version, subject, public_key, attributes)).encode_before(buf, end)
     }
 }
 

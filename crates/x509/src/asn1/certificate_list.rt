@@ -5,7 +5,8 @@ ghost use Rattle.std.specs.Prelude.{◌≡◌};
 ghost use Rattle.std.proofs.Common.{arith, refl};
 ghost use Rattle.der.specs.Prelude.{map_ok};
 ghost use Rattle.der_asn1.specs.Item.{decodes_same};
-ghost use Rattle.der_asn1.specs.Meaning.{alternative, field, sequence, sequence_is_item, sequence_item, two_fields};
+ghost use Rattle.der_asn1.specs.Meaning.{alternative, field, sequence, sequence_is_item, sequence_item};
+ghost use Rattle.der_asn1.specs.TupleFields.{three_fields};
 
 use crate::asn1::tbs_cert_list::TbsCertList;
 use der::{
@@ -27,17 +28,18 @@ pub struct CertificateList<'a> {
     pub signature: BitStringRef<'a>,
 }
 
-/// The fields of a [`CertificateList`] in pairs, in the order in which they are encoded.
+/// The fields of a [`CertificateList`], in the order in which they are encoded.
 pub type CertificateListFields<'a> = (
     TbsCertList<'a>,
-    (AlgorithmIdentifierRef<'a>, BitStringRef<'a>),
+    AlgorithmIdentifierRef<'a>,
+    BitStringRef<'a>,
 );
 
 impl<'a> FromFields<CertificateListFields<'a>> for CertificateList<'a> {
-    ghost fields = { λ v. (v.tbs_cert_list, (v.signature_algorithm, v.signature)) };
+    ghost fields = { λ v. (v.tbs_cert_list, v.signature_algorithm, v.signature) };
 
-    fn from_fields(members: CertificateListFields<'a>) -> Self {
-        let (tbs_cert_list, (signature_algorithm, signature)) = members;
+    fn from_fields(fields: CertificateListFields<'a>) -> Self {
+        let (tbs_cert_list, signature_algorithm, signature) = fields;
         CertificateList {
             tbs_cert_list,
             signature_algorithm,
@@ -47,10 +49,10 @@ impl<'a> FromFields<CertificateListFields<'a>> for CertificateList<'a> {
 }
 
 impl<'a> Sequence for CertificateList<'a> {
-    ghost meaning = { sequence (two_fields (field (alternative
-        ⟦<TbsCertList<'a> as Described>⟧.element)) (two_fields (field (alternative
+    ghost meaning = { sequence (three_fields (field (alternative
+        ⟦<TbsCertList<'a> as Described>⟧.element)) (field (alternative
         ⟦<AlgorithmIdentifierRef<'a> as Described>⟧.element)) (field (alternative
-        ⟦<BitStringRef<'a> as Described>⟧.element))))
+        ⟦<BitStringRef<'a> as Described>⟧.element)))
         ⟦<CertificateList<'a> as FromFields<CertificateListFields<'a>>>⟧.fields };
 
     ghost fits = { (refl, refl) };
@@ -86,19 +88,19 @@ impl<'a> EncodeValue for CertificateList<'a> {
         (⟦<CertificateList<'a> as FromFields<CertificateListFields<'a>>>⟧.fields v) };
 
     fn value_len(&self) -> Result<Length, Error> {
-        field_refs!(self, (tbs_cert_list, (signature_algorithm, signature))).encoded_len()
+        field_refs!(self, (tbs_cert_list, signature_algorithm, signature)).encoded_len()
     }
 
     fn encode_value<W: Writer>(&self, writer: &mut W) -> Result<(), Error> {
-        field_refs!(self, (tbs_cert_list, (signature_algorithm, signature))).encode(writer)
+        field_refs!(self, (tbs_cert_list, signature_algorithm, signature)).encode(writer)
     }
 
     fn value_len_before(&self) -> Option<u32> {
-        field_refs!(self, (tbs_cert_list, (signature_algorithm, signature))).len_before()
+        field_refs!(self, (tbs_cert_list, signature_algorithm, signature)).len_before()
     }
 
     fn encode_value_before(&self, buf: &mut [u8], end: u32) -> u32 {
-        field_refs!(self, (tbs_cert_list, (signature_algorithm, signature))).encode_before(buf, end)
+        field_refs!(self, (tbs_cert_list, signature_algorithm, signature)).encode_before(buf, end)
     }
 }
 

@@ -22,14 +22,14 @@ pub struct DirectoryStringTagged<'a> {
     pub value: DirectoryString<'a>,
 }
 
-/// The fields of a [`DirectoryStringTagged`] in pairs, in the order in which they are encoded.
+/// The fields of a [`DirectoryStringTagged`], in the order in which they are encoded.
 pub type DirectoryStringTaggedFields<'a> = DirectoryString<'a>;
 
 impl<'a> FromFields<DirectoryStringTaggedFields<'a>> for DirectoryStringTagged<'a> {
     ghost fields = { λ v. v.value };
 
-    fn from_fields(members: DirectoryStringTaggedFields<'a>) -> Self {
-        let value = members;
+    fn from_fields(fields: DirectoryStringTaggedFields<'a>) -> Self {
+        let value = fields;
         DirectoryStringTagged { value }
     }
 }

@@ -30,7 +30,7 @@ pub struct DistributionPoint<'a> {
     pub crl_issuer: Optional<Implicit<GeneralNames<'a>, 2>>,
 }
 
-/// The fields of a [`DistributionPoint`] in pairs, in the order in which they are encoded.
+/// The fields of a [`DistributionPoint`], in the order in which they are encoded.
 pub type DistributionPointFields<'a> = (
     DistributionPointPart1Fields<'a>,
     DistributionPointPart2Fields<'a>,
@@ -46,8 +46,8 @@ impl<'a> FromFields<(DistributionPointPart1<'a>, DistributionPointPart2<'a>)>
       record { crl_issuer = v.crl_issuer },
     ) };
 
-    fn from_fields(members: (DistributionPointPart1<'a>, DistributionPointPart2<'a>)) -> Self {
-        let (part1, part2) = members;
+    fn from_fields(fields: (DistributionPointPart1<'a>, DistributionPointPart2<'a>)) -> Self {
+        let (part1, part2) = fields;
         DistributionPoint {
             distribution_point: part1.distribution_point,
             reasons: part1.reasons,

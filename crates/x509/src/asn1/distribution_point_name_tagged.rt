@@ -22,14 +22,14 @@ pub struct DistributionPointNameTagged<'a> {
     pub value: DistributionPointName<'a>,
 }
 
-/// The fields of a [`DistributionPointNameTagged`] in pairs, in the order in which they are encoded.
+/// The fields of a [`DistributionPointNameTagged`], in the order in which they are encoded.
 pub type DistributionPointNameTaggedFields<'a> = DistributionPointName<'a>;
 
 impl<'a> FromFields<DistributionPointNameTaggedFields<'a>> for DistributionPointNameTagged<'a> {
     ghost fields = { λ v. v.value };
 
-    fn from_fields(members: DistributionPointNameTaggedFields<'a>) -> Self {
-        let value = members;
+    fn from_fields(fields: DistributionPointNameTaggedFields<'a>) -> Self {
+        let value = fields;
         DistributionPointNameTagged { value }
     }
 }

@@ -17,7 +17,7 @@ pub(crate) struct DistributionPointPart1<'a> {
     pub(crate) reasons: Optional<Implicit<ReasonFlags<'a>, 1>>,
 }
 
-// The fields in pairs, in the order in which they are encoded.
+// The fields, in the order in which they are encoded.
 pub(crate) type DistributionPointPart1Fields<'a> = (
     Optional<Implicit<DistributionPointNameTagged<'a>, 0>>,
     Optional<Implicit<ReasonFlags<'a>, 1>>,
@@ -26,8 +26,8 @@ pub(crate) type DistributionPointPart1Fields<'a> = (
 impl<'a> FromFields<DistributionPointPart1Fields<'a>> for DistributionPointPart1<'a> {
     ghost fields = { λ v. (v.distribution_point, v.reasons) };
 
-    fn from_fields(members: DistributionPointPart1Fields<'a>) -> Self {
-        let (distribution_point, reasons) = members;
+    fn from_fields(fields: DistributionPointPart1Fields<'a>) -> Self {
+        let (distribution_point, reasons) = fields;
         DistributionPointPart1 {
             distribution_point,
             reasons,

@@ -15,14 +15,14 @@ pub(crate) struct DistributionPointPart2<'a> {
     pub(crate) crl_issuer: Optional<Implicit<GeneralNames<'a>, 2>>,
 }
 
-// The fields in pairs, in the order in which they are encoded.
+// The fields, in the order in which they are encoded.
 pub(crate) type DistributionPointPart2Fields<'a> = Optional<Implicit<GeneralNames<'a>, 2>>;
 
 impl<'a> FromFields<DistributionPointPart2Fields<'a>> for DistributionPointPart2<'a> {
     ghost fields = { λ v. v.crl_issuer };
 
-    fn from_fields(members: DistributionPointPart2Fields<'a>) -> Self {
-        let crl_issuer = members;
+    fn from_fields(fields: DistributionPointPart2Fields<'a>) -> Self {
+        let crl_issuer = fields;
         DistributionPointPart2 { crl_issuer }
     }
 }

@@ -25,7 +25,7 @@ pub struct EdiPartyName<'a> {
     pub party_name: Implicit<DirectoryStringTagged<'a>, 1>,
 }
 
-/// The fields of a [`EdiPartyName`] in pairs, in the order in which they are encoded.
+/// The fields of a [`EdiPartyName`], in the order in which they are encoded.
 pub type EdiPartyNameFields<'a> = (
     Optional<Implicit<DirectoryStringTagged<'a>, 0>>,
     Implicit<DirectoryStringTagged<'a>, 1>,
@@ -34,8 +34,8 @@ pub type EdiPartyNameFields<'a> = (
 impl<'a> FromFields<EdiPartyNameFields<'a>> for EdiPartyName<'a> {
     ghost fields = { λ v. (v.name_assigner, v.party_name) };
 
-    fn from_fields(members: EdiPartyNameFields<'a>) -> Self {
-        let (name_assigner, party_name) = members;
+    fn from_fields(fields: EdiPartyNameFields<'a>) -> Self {
+        let (name_assigner, party_name) = fields;
         EdiPartyName {
             name_assigner,
             party_name,

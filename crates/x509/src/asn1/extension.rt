@@ -5,7 +5,8 @@ ghost use Rattle.std.specs.Prelude.{◌≡◌};
 ghost use Rattle.std.proofs.Common.{arith, refl};
 ghost use Rattle.der.specs.Prelude.{map_ok};
 ghost use Rattle.der_asn1.specs.Item.{decodes_same};
-ghost use Rattle.der_asn1.specs.Meaning.{alternative, defaulted, field, sequence, sequence_is_item, sequence_item, two_fields};
+ghost use Rattle.der_asn1.specs.Meaning.{alternative, defaulted, field, sequence, sequence_is_item, sequence_item};
+ghost use Rattle.der_asn1.specs.TupleFields.{three_fields};
 
 use der::{
     Decode, DecodeValue, Encode, EncodeValue, Error, FromFields, Header, IsValue, Length, Reader,
@@ -29,17 +30,18 @@ pub struct Extension<'a> {
     pub extn_value: OctetStringRef<'a>,
 }
 
-/// The fields of a [`Extension`] in pairs, in the order in which they are encoded.
+/// The fields of a [`Extension`], in the order in which they are encoded.
 pub type ExtensionFields<'a> = (
     ObjectIdentifierRef<'a>,
-    (Defaulted<BooleanRef<'a>>, OctetStringRef<'a>),
+    Defaulted<BooleanRef<'a>>,
+    OctetStringRef<'a>,
 );
 
 impl<'a> FromFields<ExtensionFields<'a>> for Extension<'a> {
-    ghost fields = { λ v. (v.extn_id, (v.critical, v.extn_value)) };
+    ghost fields = { λ v. (v.extn_id, v.critical, v.extn_value) };
 
-    fn from_fields(members: ExtensionFields<'a>) -> Self {
-        let (extn_id, (critical, extn_value)) = members;
+    fn from_fields(fields: ExtensionFields<'a>) -> Self {
+        let (extn_id, critical, extn_value) = fields;
         Extension {
             extn_id,
             critical,
@@ -49,11 +51,11 @@ impl<'a> FromFields<ExtensionFields<'a>> for Extension<'a> {
 }
 
 impl<'a> Sequence for Extension<'a> {
-    ghost meaning = { sequence (two_fields (field (alternative
-        ⟦<ObjectIdentifierRef<'a> as Described>⟧.element)) (two_fields (defaulted
+    ghost meaning = { sequence (three_fields (field (alternative
+        ⟦<ObjectIdentifierRef<'a> as Described>⟧.element)) (defaulted
         ⟦<BooleanRef<'a> as DefaultValue>⟧.is_default (alternative
         ⟦<BooleanRef<'a> as Described>⟧.element)) (field (alternative
-        ⟦<OctetStringRef<'a> as Described>⟧.element))))
+        ⟦<OctetStringRef<'a> as Described>⟧.element)))
         ⟦<Extension<'a> as FromFields<ExtensionFields<'a>>>⟧.fields };
 
     ghost fits = { (refl, refl) };
@@ -89,19 +91,19 @@ impl<'a> EncodeValue for Extension<'a> {
         (⟦<Extension<'a> as FromFields<ExtensionFields<'a>>>⟧.fields v) };
 
     fn value_len(&self) -> Result<Length, Error> {
-        field_refs!(self, (extn_id, (critical, extn_value))).encoded_len()
+        field_refs!(self, (extn_id, critical, extn_value)).encoded_len()
     }
 
     fn encode_value<W: Writer>(&self, writer: &mut W) -> Result<(), Error> {
-        field_refs!(self, (extn_id, (critical, extn_value))).encode(writer)
+        field_refs!(self, (extn_id, critical, extn_value)).encode(writer)
     }
 
     fn value_len_before(&self) -> Option<u32> {
-        field_refs!(self, (extn_id, (critical, extn_value))).len_before()
+        field_refs!(self, (extn_id, critical, extn_value)).len_before()
     }
 
     fn encode_value_before(&self, buf: &mut [u8], end: u32) -> u32 {
-        field_refs!(self, (extn_id, (critical, extn_value))).encode_before(buf, end)
+        field_refs!(self, (extn_id, critical, extn_value)).encode_before(buf, end)
     }
 }
 

@@ -34,20 +34,17 @@ pub struct GeneralSubtree<'a> {
     pub maximum: Optional<Implicit<BaseDistance<'a>, 1>>,
 }
 
-/// The fields of a [`GeneralSubtree`] in pairs, in the order in which they are encoded.
+/// The fields of a [`GeneralSubtree`], in the order in which they are encoded.
 pub type GeneralSubtreeFields<'a> = (GeneralSubtreePart1Fields<'a>, GeneralSubtreePart2Fields<'a>);
 
 impl<'a> FromFields<(GeneralSubtreePart1<'a>, GeneralSubtreePart2<'a>)> for GeneralSubtree<'a> {
     ghost fields = { λ v. (
-      record {
-        base = v.base;
-        minimum = v.minimum;
-      },
+      record { base = v.base; minimum = v.minimum },
       record { maximum = v.maximum },
     ) };
 
-    fn from_fields(members: (GeneralSubtreePart1<'a>, GeneralSubtreePart2<'a>)) -> Self {
-        let (part1, part2) = members;
+    fn from_fields(fields: (GeneralSubtreePart1<'a>, GeneralSubtreePart2<'a>)) -> Self {
+        let (part1, part2) = fields;
         GeneralSubtree {
             base: part1.base,
             minimum: part1.minimum,

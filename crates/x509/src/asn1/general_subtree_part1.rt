@@ -16,7 +16,7 @@ pub(crate) struct GeneralSubtreePart1<'a> {
     pub(crate) minimum: Defaulted<Implicit<WithDefault<IntegerOf<u64>, DefaultU64<0>>, 0>>,
 }
 
-// The fields in pairs, in the order in which they are encoded.
+// The fields, in the order in which they are encoded.
 pub(crate) type GeneralSubtreePart1Fields<'a> = (
     GeneralName<'a>,
     Defaulted<Implicit<WithDefault<IntegerOf<u64>, DefaultU64<0>>, 0>>,
@@ -25,8 +25,8 @@ pub(crate) type GeneralSubtreePart1Fields<'a> = (
 impl<'a> FromFields<GeneralSubtreePart1Fields<'a>> for GeneralSubtreePart1<'a> {
     ghost fields = { λ v. (v.base, v.minimum) };
 
-    fn from_fields(members: GeneralSubtreePart1Fields<'a>) -> Self {
-        let (base, minimum) = members;
+    fn from_fields(fields: GeneralSubtreePart1Fields<'a>) -> Self {
+        let (base, minimum) = fields;
         GeneralSubtreePart1 { base, minimum }
     }
 }

@@ -15,14 +15,14 @@ pub(crate) struct GeneralSubtreePart2<'a> {
     pub(crate) maximum: Optional<Implicit<BaseDistance<'a>, 1>>,
 }
 
-// The fields in pairs, in the order in which they are encoded.
+// The fields, in the order in which they are encoded.
 pub(crate) type GeneralSubtreePart2Fields<'a> = Optional<Implicit<BaseDistance<'a>, 1>>;
 
 impl<'a> FromFields<GeneralSubtreePart2Fields<'a>> for GeneralSubtreePart2<'a> {
     ghost fields = { λ v. v.maximum };
 
-    fn from_fields(members: GeneralSubtreePart2Fields<'a>) -> Self {
-        let maximum = members;
+    fn from_fields(fields: GeneralSubtreePart2Fields<'a>) -> Self {
+        let maximum = fields;
         GeneralSubtreePart2 { maximum }
     }
 }

@@ -6,6 +6,7 @@ ghost use Rattle.std.proofs.Common.{arith, refl};
 ghost use Rattle.der.specs.Prelude.{map_ok};
 ghost use Rattle.der_asn1.specs.Item.{decodes_same};
 ghost use Rattle.der_asn1.specs.Meaning.{alternative, defaulted, optional, seen, sequence, sequence_is_item, sequence_item, two_fields};
+ghost use Rattle.der_asn1.specs.TupleFields.{three_fields};
 
 use crate::asn1::distribution_point_name_tagged::DistributionPointNameTagged;
 use crate::asn1::issuing_distribution_point_part1::{
@@ -46,22 +47,18 @@ pub struct IssuingDistributionPoint<'a> {
     pub only_contains_attribute_certs: Defaulted<Implicit<BooleanRef<'a>, 5>>,
 }
 
-/// The fields of a [`IssuingDistributionPoint`] in pairs, in the order in which they are encoded.
+/// The fields of a [`IssuingDistributionPoint`], in the order in which they are encoded.
 pub type IssuingDistributionPointFields<'a> = (
     IssuingDistributionPointPart1Fields<'a>,
-    (
-        IssuingDistributionPointPart2Fields<'a>,
-        IssuingDistributionPointPart3Fields<'a>,
-    ),
+    IssuingDistributionPointPart2Fields<'a>,
+    IssuingDistributionPointPart3Fields<'a>,
 );
 
 impl<'a> FromFields<
     (
         IssuingDistributionPointPart1<'a>,
-        (
-            IssuingDistributionPointPart2<'a>,
-            IssuingDistributionPointPart3<'a>,
-        ),
+        IssuingDistributionPointPart2<'a>,
+        IssuingDistributionPointPart3<'a>,
     ),
 > for IssuingDistributionPoint<'a> {
     ghost fields = { λ v. (
@@ -69,28 +66,24 @@ impl<'a> FromFields<
         distribution_point = v.distribution_point;
         only_contains_user_certs = v.only_contains_user_certs;
       },
-      (
-        record {
-          only_contains_ca_certs = v.only_contains_ca_certs;
-          only_some_reasons = v.only_some_reasons;
-        },
-        record {
-          indirect_crl = v.indirect_crl;
-          only_contains_attribute_certs = v.only_contains_attribute_certs;
-        },
-      ),
+      record {
+        only_contains_ca_certs = v.only_contains_ca_certs;
+        only_some_reasons = v.only_some_reasons;
+      },
+      record {
+        indirect_crl = v.indirect_crl;
+        only_contains_attribute_certs = v.only_contains_attribute_certs;
+      },
     ) };
 
     fn from_fields(
-        members: (
+        fields: (
             IssuingDistributionPointPart1<'a>,
-            (
-                IssuingDistributionPointPart2<'a>,
-                IssuingDistributionPointPart3<'a>,
-            ),
+            IssuingDistributionPointPart2<'a>,
+            IssuingDistributionPointPart3<'a>,
         ),
     ) -> Self {
-        let (part1, (part2, part3)) = members;
+        let (part1, part2, part3) = fields;
         IssuingDistributionPoint {
             distribution_point: part1.distribution_point,
             only_contains_user_certs: part1.only_contains_user_certs,
@@ -103,12 +96,12 @@ impl<'a> FromFields<
 }
 
 impl<'a> Sequence for IssuingDistributionPoint<'a> {
-    ghost meaning = { sequence (two_fields (seen
+    ghost meaning = { sequence (three_fields (seen
         ⟦<IssuingDistributionPointPart1<'a> as FromFields<IssuingDistributionPointPart1Fields<'a>>>⟧.fields
         (two_fields (optional (alternative
         ⟦<Implicit<DistributionPointNameTagged<'a>, 0> as Described>⟧.element)) (defaulted
         ⟦<Implicit<BooleanRef<'a>, 1> as DefaultValue>⟧.is_default (alternative
-        ⟦<Implicit<BooleanRef<'a>, 1> as Described>⟧.element)))) (two_fields (seen
+        ⟦<Implicit<BooleanRef<'a>, 1> as Described>⟧.element)))) (seen
         ⟦<IssuingDistributionPointPart2<'a> as FromFields<IssuingDistributionPointPart2Fields<'a>>>⟧.fields
         (two_fields (defaulted ⟦<Implicit<BooleanRef<'a>, 2> as DefaultValue>⟧.is_default
         (alternative ⟦<Implicit<BooleanRef<'a>, 2> as Described>⟧.element)) (optional (alternative
@@ -117,9 +110,8 @@ impl<'a> Sequence for IssuingDistributionPoint<'a> {
         (two_fields (defaulted ⟦<Implicit<BooleanRef<'a>, 4> as DefaultValue>⟧.is_default
         (alternative ⟦<Implicit<BooleanRef<'a>, 4> as Described>⟧.element)) (defaulted
         ⟦<Implicit<BooleanRef<'a>, 5> as DefaultValue>⟧.is_default (alternative
-        ⟦<Implicit<BooleanRef<'a>, 5> as Described>⟧.element))))))
-        ⟦<IssuingDistributionPoint<'a> as FromFields<(IssuingDistributionPointPart1<'a>,
-        (IssuingDistributionPointPart2<'a>, IssuingDistributionPointPart3<'a>))>>⟧.fields };
+        ⟦<Implicit<BooleanRef<'a>, 5> as Described>⟧.element)))))
+        ⟦<IssuingDistributionPoint<'a> as FromFields<(IssuingDistributionPointPart1<'a>, IssuingDistributionPointPart2<'a>, IssuingDistributionPointPart3<'a>)>>⟧.fields };
 
     ghost fits = { (refl, refl) };
 }
@@ -129,20 +121,17 @@ impl<'a, R: Reader<Borrowed = &'a [u8]>> DecodeValue<R> for IssuingDistributionP
     type Error = Error;
 
     ghost decode_value_answers = { λ h s result t.
-        ⟦<(IssuingDistributionPointPart1<'a>,
-        (IssuingDistributionPointPart2<'a>, IssuingDistributionPointPart3<'a>)) as Decode<SliceReader<'a>>>⟧.decode_answers s
-        (map_ok ⟦<IssuingDistributionPoint<'a> as FromFields<(IssuingDistributionPointPart1<'a>,
-        (IssuingDistributionPointPart2<'a>, IssuingDistributionPointPart3<'a>))>>⟧.fields result) t };
+        ⟦<(IssuingDistributionPointPart1<'a>, IssuingDistributionPointPart2<'a>, IssuingDistributionPointPart3<'a>) as Decode<SliceReader<'a>>>⟧.decode_answers s
+        (map_ok
+        ⟦<IssuingDistributionPoint<'a> as FromFields<(IssuingDistributionPointPart1<'a>, IssuingDistributionPointPart2<'a>, IssuingDistributionPointPart3<'a>)>>⟧.fields result) t };
 
     fn decode_value(alloc: Global, reader: &mut R, header: Header) -> Result<Self, Error> {
         decode_sequence::<
             R,
             (
                 IssuingDistributionPointPart1<'a>,
-                (
-                    IssuingDistributionPointPart2<'a>,
-                    IssuingDistributionPointPart3<'a>,
-                ),
+                IssuingDistributionPointPart2<'a>,
+                IssuingDistributionPointPart3<'a>,
             ),
             Self,
         >(alloc, reader, header)
@@ -168,31 +157,21 @@ impl<'a> IsValue for IssuingDistributionPoint<'a> {
 impl<'a> EncodeValue for IssuingDistributionPoint<'a> {
     ghost value_size = { λ v. ⟦<IssuingDistributionPointFields<'a> as Encode>⟧.size (
       ⟦<IssuingDistributionPointPart1<'a> as FromFields<IssuingDistributionPointPart1Fields<'a>>>⟧.fields
-          (⟦<IssuingDistributionPoint<'a> as FromFields<(IssuingDistributionPointPart1<'a>,
-        (IssuingDistributionPointPart2<'a>, IssuingDistributionPointPart3<'a>))>>⟧.fields v).0,
-      (
-        ⟦<IssuingDistributionPointPart2<'a> as FromFields<IssuingDistributionPointPart2Fields<'a>>>⟧.fields
-            (⟦<IssuingDistributionPoint<'a> as FromFields<(IssuingDistributionPointPart1<'a>,
-        (IssuingDistributionPointPart2<'a>, IssuingDistributionPointPart3<'a>))>>⟧.fields v).1.0,
-        ⟦<IssuingDistributionPointPart3<'a> as FromFields<IssuingDistributionPointPart3Fields<'a>>>⟧.fields
-            (⟦<IssuingDistributionPoint<'a> as FromFields<(IssuingDistributionPointPart1<'a>,
-        (IssuingDistributionPointPart2<'a>, IssuingDistributionPointPart3<'a>))>>⟧.fields v).1.1,
-      ),
+          (⟦<IssuingDistributionPoint<'a> as FromFields<(IssuingDistributionPointPart1<'a>, IssuingDistributionPointPart2<'a>, IssuingDistributionPointPart3<'a>)>>⟧.fields v).0,
+      ⟦<IssuingDistributionPointPart2<'a> as FromFields<IssuingDistributionPointPart2Fields<'a>>>⟧.fields
+          (⟦<IssuingDistributionPoint<'a> as FromFields<(IssuingDistributionPointPart1<'a>, IssuingDistributionPointPart2<'a>, IssuingDistributionPointPart3<'a>)>>⟧.fields v).1,
+      ⟦<IssuingDistributionPointPart3<'a> as FromFields<IssuingDistributionPointPart3Fields<'a>>>⟧.fields
+          (⟦<IssuingDistributionPoint<'a> as FromFields<(IssuingDistributionPointPart1<'a>, IssuingDistributionPointPart2<'a>, IssuingDistributionPointPart3<'a>)>>⟧.fields v).2,
     ) };
 
     ghost encode_value_answers = { λ v.
         ⟦<IssuingDistributionPointFields<'a> as Encode>⟧.encode_answers (
           ⟦<IssuingDistributionPointPart1<'a> as FromFields<IssuingDistributionPointPart1Fields<'a>>>⟧.fields
-              (⟦<IssuingDistributionPoint<'a> as FromFields<(IssuingDistributionPointPart1<'a>,
-        (IssuingDistributionPointPart2<'a>, IssuingDistributionPointPart3<'a>))>>⟧.fields v).0,
-          (
-            ⟦<IssuingDistributionPointPart2<'a> as FromFields<IssuingDistributionPointPart2Fields<'a>>>⟧.fields
-                (⟦<IssuingDistributionPoint<'a> as FromFields<(IssuingDistributionPointPart1<'a>,
-        (IssuingDistributionPointPart2<'a>, IssuingDistributionPointPart3<'a>))>>⟧.fields v).1.0,
-            ⟦<IssuingDistributionPointPart3<'a> as FromFields<IssuingDistributionPointPart3Fields<'a>>>⟧.fields
-                (⟦<IssuingDistributionPoint<'a> as FromFields<(IssuingDistributionPointPart1<'a>,
-        (IssuingDistributionPointPart2<'a>, IssuingDistributionPointPart3<'a>))>>⟧.fields v).1.1,
-          ),
+              (⟦<IssuingDistributionPoint<'a> as FromFields<(IssuingDistributionPointPart1<'a>, IssuingDistributionPointPart2<'a>, IssuingDistributionPointPart3<'a>)>>⟧.fields v).0,
+          ⟦<IssuingDistributionPointPart2<'a> as FromFields<IssuingDistributionPointPart2Fields<'a>>>⟧.fields
+              (⟦<IssuingDistributionPoint<'a> as FromFields<(IssuingDistributionPointPart1<'a>, IssuingDistributionPointPart2<'a>, IssuingDistributionPointPart3<'a>)>>⟧.fields v).1,
+          ⟦<IssuingDistributionPointPart3<'a> as FromFields<IssuingDistributionPointPart3Fields<'a>>>⟧.fields
+              (⟦<IssuingDistributionPoint<'a> as FromFields<(IssuingDistributionPointPart1<'a>, IssuingDistributionPointPart2<'a>, IssuingDistributionPointPart3<'a>)>>⟧.fields v).2,
         ) };
 
     fn value_len(&self) -> Result<Length, Error> {
@@ -200,10 +179,8 @@ impl<'a> EncodeValue for IssuingDistributionPoint<'a> {
             self,
             (
                 (distribution_point, only_contains_user_certs),
-                (
-                    (only_contains_ca_certs, only_some_reasons),
-                    (indirect_crl, only_contains_attribute_certs)
-                )
+                (only_contains_ca_certs, only_some_reasons),
+                (indirect_crl, only_contains_attribute_certs)
             )
         )
         .encoded_len()
@@ -214,10 +191,8 @@ impl<'a> EncodeValue for IssuingDistributionPoint<'a> {
             self,
             (
                 (distribution_point, only_contains_user_certs),
-                (
-                    (only_contains_ca_certs, only_some_reasons),
-                    (indirect_crl, only_contains_attribute_certs)
-                )
+                (only_contains_ca_certs, only_some_reasons),
+                (indirect_crl, only_contains_attribute_certs)
             )
         )
         .encode(writer)
@@ -228,10 +203,8 @@ impl<'a> EncodeValue for IssuingDistributionPoint<'a> {
             self,
             (
                 (distribution_point, only_contains_user_certs),
-                (
-                    (only_contains_ca_certs, only_some_reasons),
-                    (indirect_crl, only_contains_attribute_certs)
-                )
+                (only_contains_ca_certs, only_some_reasons),
+                (indirect_crl, only_contains_attribute_certs)
             )
         )
         .len_before()
@@ -242,10 +215,8 @@ impl<'a> EncodeValue for IssuingDistributionPoint<'a> {
             self,
             (
                 (distribution_point, only_contains_user_certs),
-                (
-                    (only_contains_ca_certs, only_some_reasons),
-                    (indirect_crl, only_contains_attribute_certs)
-                )
+                (only_contains_ca_certs, only_some_reasons),
+                (indirect_crl, only_contains_attribute_certs)
             )
         )
         .encode_before(buf, end)

@@ -16,7 +16,7 @@ pub(crate) struct IssuingDistributionPointPart1<'a> {
     pub(crate) only_contains_user_certs: Defaulted<Implicit<BooleanRef<'a>, 1>>,
 }
 
-// The fields in pairs, in the order in which they are encoded.
+// The fields, in the order in which they are encoded.
 pub(crate) type IssuingDistributionPointPart1Fields<'a> = (
     Optional<Implicit<DistributionPointNameTagged<'a>, 0>>,
     Defaulted<Implicit<BooleanRef<'a>, 1>>,
@@ -25,8 +25,8 @@ pub(crate) type IssuingDistributionPointPart1Fields<'a> = (
 impl<'a> FromFields<IssuingDistributionPointPart1Fields<'a>> for IssuingDistributionPointPart1<'a> {
     ghost fields = { λ v. (v.distribution_point, v.only_contains_user_certs) };
 
-    fn from_fields(members: IssuingDistributionPointPart1Fields<'a>) -> Self {
-        let (distribution_point, only_contains_user_certs) = members;
+    fn from_fields(fields: IssuingDistributionPointPart1Fields<'a>) -> Self {
+        let (distribution_point, only_contains_user_certs) = fields;
         IssuingDistributionPointPart1 {
             distribution_point,
             only_contains_user_certs,

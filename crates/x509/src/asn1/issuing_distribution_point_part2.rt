@@ -16,7 +16,7 @@ pub(crate) struct IssuingDistributionPointPart2<'a> {
     pub(crate) only_some_reasons: Optional<Implicit<ReasonFlags<'a>, 3>>,
 }
 
-// The fields in pairs, in the order in which they are encoded.
+// The fields, in the order in which they are encoded.
 pub(crate) type IssuingDistributionPointPart2Fields<'a> = (
     Defaulted<Implicit<BooleanRef<'a>, 2>>,
     Optional<Implicit<ReasonFlags<'a>, 3>>,
@@ -25,8 +25,8 @@ pub(crate) type IssuingDistributionPointPart2Fields<'a> = (
 impl<'a> FromFields<IssuingDistributionPointPart2Fields<'a>> for IssuingDistributionPointPart2<'a> {
     ghost fields = { λ v. (v.only_contains_ca_certs, v.only_some_reasons) };
 
-    fn from_fields(members: IssuingDistributionPointPart2Fields<'a>) -> Self {
-        let (only_contains_ca_certs, only_some_reasons) = members;
+    fn from_fields(fields: IssuingDistributionPointPart2Fields<'a>) -> Self {
+        let (only_contains_ca_certs, only_some_reasons) = fields;
         IssuingDistributionPointPart2 {
             only_contains_ca_certs,
             only_some_reasons,

@@ -15,7 +15,7 @@ pub(crate) struct IssuingDistributionPointPart3<'a> {
     pub(crate) only_contains_attribute_certs: Defaulted<Implicit<BooleanRef<'a>, 5>>,
 }
 
-// The fields in pairs, in the order in which they are encoded.
+// The fields, in the order in which they are encoded.
 pub(crate) type IssuingDistributionPointPart3Fields<'a> = (
     Defaulted<Implicit<BooleanRef<'a>, 4>>,
     Defaulted<Implicit<BooleanRef<'a>, 5>>,
@@ -24,8 +24,8 @@ pub(crate) type IssuingDistributionPointPart3Fields<'a> = (
 impl<'a> FromFields<IssuingDistributionPointPart3Fields<'a>> for IssuingDistributionPointPart3<'a> {
     ghost fields = { λ v. (v.indirect_crl, v.only_contains_attribute_certs) };
 
-    fn from_fields(members: IssuingDistributionPointPart3Fields<'a>) -> Self {
-        let (indirect_crl, only_contains_attribute_certs) = members;
+    fn from_fields(fields: IssuingDistributionPointPart3Fields<'a>) -> Self {
+        let (indirect_crl, only_contains_attribute_certs) = fields;
         IssuingDistributionPointPart3 {
             indirect_crl,
             only_contains_attribute_certs,

@@ -25,7 +25,7 @@ pub struct NameConstraints<'a> {
     pub excluded_subtrees: Optional<Implicit<GeneralSubtrees<'a>, 1>>,
 }
 
-/// The fields of a [`NameConstraints`] in pairs, in the order in which they are encoded.
+/// The fields of a [`NameConstraints`], in the order in which they are encoded.
 pub type NameConstraintsFields<'a> = (
     Optional<Implicit<GeneralSubtrees<'a>, 0>>,
     Optional<Implicit<GeneralSubtrees<'a>, 1>>,
@@ -34,8 +34,8 @@ pub type NameConstraintsFields<'a> = (
 impl<'a> FromFields<NameConstraintsFields<'a>> for NameConstraints<'a> {
     ghost fields = { λ v. (v.permitted_subtrees, v.excluded_subtrees) };
 
-    fn from_fields(members: NameConstraintsFields<'a>) -> Self {
-        let (permitted_subtrees, excluded_subtrees) = members;
+    fn from_fields(fields: NameConstraintsFields<'a>) -> Self {
+        let (permitted_subtrees, excluded_subtrees) = fields;
         NameConstraints {
             permitted_subtrees,
             excluded_subtrees,

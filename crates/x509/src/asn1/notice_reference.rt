@@ -26,14 +26,14 @@ pub struct NoticeReference<'a> {
     pub notice_numbers: SequenceOf<'a, IntRef<'a>>,
 }
 
-/// The fields of a [`NoticeReference`] in pairs, in the order in which they are encoded.
+/// The fields of a [`NoticeReference`], in the order in which they are encoded.
 pub type NoticeReferenceFields<'a> = (DisplayText<'a>, SequenceOf<'a, IntRef<'a>>);
 
 impl<'a> FromFields<NoticeReferenceFields<'a>> for NoticeReference<'a> {
     ghost fields = { λ v. (v.organization, v.notice_numbers) };
 
-    fn from_fields(members: NoticeReferenceFields<'a>) -> Self {
-        let (organization, notice_numbers) = members;
+    fn from_fields(fields: NoticeReferenceFields<'a>) -> Self {
+        let (organization, notice_numbers) = fields;
         NoticeReference {
             organization,
             notice_numbers,

@@ -25,14 +25,14 @@ pub struct OtherName<'a> {
     pub value: ExplicitAny<'a, 0>,
 }
 
-/// The fields of a [`OtherName`] in pairs, in the order in which they are encoded.
+/// The fields of a [`OtherName`], in the order in which they are encoded.
 pub type OtherNameFields<'a> = (ObjectIdentifierRef<'a>, ExplicitAny<'a, 0>);
 
 impl<'a> FromFields<OtherNameFields<'a>> for OtherName<'a> {
     ghost fields = { λ v. (v.type_id, v.value) };
 
-    fn from_fields(members: OtherNameFields<'a>) -> Self {
-        let (type_id, value) = members;
+    fn from_fields(fields: OtherNameFields<'a>) -> Self {
+        let (type_id, value) = fields;
         OtherName { type_id, value }
     }
 }

@@ -25,7 +25,7 @@ pub struct PolicyConstraints<'a> {
     pub inhibit_policy_mapping: Optional<Implicit<SkipCerts<'a>, 1>>,
 }
 
-/// The fields of a [`PolicyConstraints`] in pairs, in the order in which they are encoded.
+/// The fields of a [`PolicyConstraints`], in the order in which they are encoded.
 pub type PolicyConstraintsFields<'a> = (
     Optional<Implicit<SkipCerts<'a>, 0>>,
     Optional<Implicit<SkipCerts<'a>, 1>>,
@@ -34,8 +34,8 @@ pub type PolicyConstraintsFields<'a> = (
 impl<'a> FromFields<PolicyConstraintsFields<'a>> for PolicyConstraints<'a> {
     ghost fields = { λ v. (v.require_explicit_policy, v.inhibit_policy_mapping) };
 
-    fn from_fields(members: PolicyConstraintsFields<'a>) -> Self {
-        let (require_explicit_policy, inhibit_policy_mapping) = members;
+    fn from_fields(fields: PolicyConstraintsFields<'a>) -> Self {
+        let (require_explicit_policy, inhibit_policy_mapping) = fields;
         PolicyConstraints {
             require_explicit_policy,
             inhibit_policy_mapping,

@@ -26,7 +26,7 @@ pub struct PolicyInformation<'a> {
     pub policy_qualifiers: Optional<SequenceOf<'a, PolicyQualifierInfo<'a>>>,
 }
 
-/// The fields of a [`PolicyInformation`] in pairs, in the order in which they are encoded.
+/// The fields of a [`PolicyInformation`], in the order in which they are encoded.
 pub type PolicyInformationFields<'a> = (
     ObjectIdentifierRef<'a>,
     Optional<SequenceOf<'a, PolicyQualifierInfo<'a>>>,
@@ -35,8 +35,8 @@ pub type PolicyInformationFields<'a> = (
 impl<'a> FromFields<PolicyInformationFields<'a>> for PolicyInformation<'a> {
     ghost fields = { λ v. (v.policy_identifier, v.policy_qualifiers) };
 
-    fn from_fields(members: PolicyInformationFields<'a>) -> Self {
-        let (policy_identifier, policy_qualifiers) = members;
+    fn from_fields(fields: PolicyInformationFields<'a>) -> Self {
+        let (policy_identifier, policy_qualifiers) = fields;
         PolicyInformation {
             policy_identifier,
             policy_qualifiers,

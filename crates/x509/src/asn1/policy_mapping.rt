@@ -24,14 +24,14 @@ pub struct PolicyMapping<'a> {
     pub subject_domain_policy: ObjectIdentifierRef<'a>,
 }
 
-/// The fields of a [`PolicyMapping`] in pairs, in the order in which they are encoded.
+/// The fields of a [`PolicyMapping`], in the order in which they are encoded.
 pub type PolicyMappingFields<'a> = (ObjectIdentifierRef<'a>, ObjectIdentifierRef<'a>);
 
 impl<'a> FromFields<PolicyMappingFields<'a>> for PolicyMapping<'a> {
     ghost fields = { λ v. (v.issuer_domain_policy, v.subject_domain_policy) };
 
-    fn from_fields(members: PolicyMappingFields<'a>) -> Self {
-        let (issuer_domain_policy, subject_domain_policy) = members;
+    fn from_fields(fields: PolicyMappingFields<'a>) -> Self {
+        let (issuer_domain_policy, subject_domain_policy) = fields;
         PolicyMapping {
             issuer_domain_policy,
             subject_domain_policy,

@@ -24,14 +24,14 @@ pub struct PolicyQualifierInfo<'a> {
     pub qualifier: AnyRef<'a>,
 }
 
-/// The fields of a [`PolicyQualifierInfo`] in pairs, in the order in which they are encoded.
+/// The fields of a [`PolicyQualifierInfo`], in the order in which they are encoded.
 pub type PolicyQualifierInfoFields<'a> = (ObjectIdentifierRef<'a>, AnyRef<'a>);
 
 impl<'a> FromFields<PolicyQualifierInfoFields<'a>> for PolicyQualifierInfo<'a> {
     ghost fields = { λ v. (v.policy_qualifier_id, v.qualifier) };
 
-    fn from_fields(members: PolicyQualifierInfoFields<'a>) -> Self {
-        let (policy_qualifier_id, qualifier) = members;
+    fn from_fields(fields: PolicyQualifierInfoFields<'a>) -> Self {
+        let (policy_qualifier_id, qualifier) = fields;
         PolicyQualifierInfo {
             policy_qualifier_id,
             qualifier,

@@ -5,7 +5,8 @@ ghost use Rattle.std.specs.Prelude.{◌≡◌};
 ghost use Rattle.std.proofs.Common.{arith, refl};
 ghost use Rattle.der.specs.Prelude.{map_ok};
 ghost use Rattle.der_asn1.specs.Item.{decodes_same};
-ghost use Rattle.der_asn1.specs.Meaning.{alternative, field, optional, sequence, sequence_is_item, sequence_item, two_fields};
+ghost use Rattle.der_asn1.specs.Meaning.{alternative, field, optional, sequence, sequence_is_item, sequence_item};
+ghost use Rattle.der_asn1.specs.TupleFields.{three_fields};
 
 use crate::asn1::certificate_serial_number::CertificateSerialNumber;
 use crate::asn1::extensions::Extensions;
@@ -29,17 +30,18 @@ pub struct RevokedCertificate<'a> {
     pub crl_entry_extensions: Optional<Extensions<'a>>,
 }
 
-/// The fields of a [`RevokedCertificate`] in pairs, in the order in which they are encoded.
+/// The fields of a [`RevokedCertificate`], in the order in which they are encoded.
 pub type RevokedCertificateFields<'a> = (
     CertificateSerialNumber<'a>,
-    (Time, Optional<Extensions<'a>>),
+    Time,
+    Optional<Extensions<'a>>,
 );
 
 impl<'a> FromFields<RevokedCertificateFields<'a>> for RevokedCertificate<'a> {
-    ghost fields = { λ v. (v.user_certificate, (v.revocation_date, v.crl_entry_extensions)) };
+    ghost fields = { λ v. (v.user_certificate, v.revocation_date, v.crl_entry_extensions) };
 
-    fn from_fields(members: RevokedCertificateFields<'a>) -> Self {
-        let (user_certificate, (revocation_date, crl_entry_extensions)) = members;
+    fn from_fields(fields: RevokedCertificateFields<'a>) -> Self {
+        let (user_certificate, revocation_date, crl_entry_extensions) = fields;
         RevokedCertificate {
             user_certificate,
             revocation_date,
@@ -49,10 +51,10 @@ impl<'a> FromFields<RevokedCertificateFields<'a>> for RevokedCertificate<'a> {
 }
 
 impl<'a> Sequence for RevokedCertificate<'a> {
-    ghost meaning = { sequence (two_fields (field (alternative
-        ⟦<CertificateSerialNumber<'a> as Described>⟧.element)) (two_fields (field
+    ghost meaning = { sequence (three_fields (field (alternative
+        ⟦<CertificateSerialNumber<'a> as Described>⟧.element)) (field
         ⟦<Time as DescribedChoice>⟧.alternative) (optional (alternative
-        ⟦<Extensions<'a> as Described>⟧.element))))
+        ⟦<Extensions<'a> as Described>⟧.element)))
         ⟦<RevokedCertificate<'a> as FromFields<RevokedCertificateFields<'a>>>⟧.fields };
 
     ghost fits = { (refl, refl) };
@@ -95,7 +97,7 @@ impl<'a> EncodeValue for RevokedCertificate<'a> {
     fn value_len(&self) -> Result<Length, Error> {
         field_refs!(
             self,
-            (user_certificate, (revocation_date, crl_entry_extensions))
+            (user_certificate, revocation_date, crl_entry_extensions)
         )
         .encoded_len()
     }
@@ -103,7 +105,7 @@ impl<'a> EncodeValue for RevokedCertificate<'a> {
     fn encode_value<W: Writer>(&self, writer: &mut W) -> Result<(), Error> {
         field_refs!(
             self,
-            (user_certificate, (revocation_date, crl_entry_extensions))
+            (user_certificate, revocation_date, crl_entry_extensions)
         )
         .encode(writer)
     }
@@ -111,7 +113,7 @@ impl<'a> EncodeValue for RevokedCertificate<'a> {
     fn value_len_before(&self) -> Option<u32> {
         field_refs!(
             self,
-            (user_certificate, (revocation_date, crl_entry_extensions))
+            (user_certificate, revocation_date, crl_entry_extensions)
         )
         .len_before()
     }
@@ -119,7 +121,7 @@ impl<'a> EncodeValue for RevokedCertificate<'a> {
     fn encode_value_before(&self, buf: &mut [u8], end: u32) -> u32 {
         field_refs!(
             self,
-            (user_certificate, (revocation_date, crl_entry_extensions))
+            (user_certificate, revocation_date, crl_entry_extensions)
         )
         .encode_before(buf, end)
     }

@@ -6,6 +6,7 @@ ghost use Rattle.std.proofs.Common.{arith, refl};
 ghost use Rattle.der.specs.Prelude.{map_ok};
 ghost use Rattle.der_asn1.specs.Item.{decodes_same};
 ghost use Rattle.der_asn1.specs.Meaning.{alternative, field, optional, seen, sequence, sequence_is_item, sequence_item, two_fields};
+ghost use Rattle.der_asn1.specs.TupleFields.{four_fields, three_fields};
 
 use crate::Version;
 use crate::asn1::extensions::Extensions;
@@ -46,7 +47,7 @@ pub struct TbsCertList<'a> {
     pub crl_extensions: Optional<Explicit<Extensions<'a>, 0>>,
 }
 
-/// The fields of a [`TbsCertList`] in pairs, in the order in which they are encoded.
+/// The fields of a [`TbsCertList`], in the order in which they are encoded.
 pub type TbsCertListFields<'a> = (TbsCertListPart1Fields<'a>, TbsCertListPart2Fields<'a>);
 
 impl<'a> FromFields<(TbsCertListPart1<'a>, TbsCertListPart2<'a>)> for TbsCertList<'a> {
@@ -64,8 +65,8 @@ impl<'a> FromFields<(TbsCertListPart1<'a>, TbsCertListPart2<'a>)> for TbsCertLis
       },
     ) };
 
-    fn from_fields(members: (TbsCertListPart1<'a>, TbsCertListPart2<'a>)) -> Self {
-        let (part1, part2) = members;
+    fn from_fields(fields: (TbsCertListPart1<'a>, TbsCertListPart2<'a>)) -> Self {
+        let (part1, part2) = fields;
         TbsCertList {
             version: part1.version,
             signature: part1.signature,
@@ -80,15 +81,14 @@ impl<'a> FromFields<(TbsCertListPart1<'a>, TbsCertListPart2<'a>)> for TbsCertLis
 
 impl<'a> Sequence for TbsCertList<'a> {
     ghost meaning = { sequence (two_fields (seen
-        ⟦<TbsCertListPart1<'a> as FromFields<TbsCertListPart1Fields<'a>>>⟧.fields (two_fields
-        (two_fields (optional (alternative ⟦<Version<'a> as Described>⟧.element)) (field
-        (alternative ⟦<AlgorithmIdentifierRef<'a> as Described>⟧.element))) (two_fields (field
-        (alternative ⟦<Name<'a> as Described>⟧.element)) (field
-        ⟦<Time as DescribedChoice>⟧.alternative)))) (seen
-        ⟦<TbsCertListPart2<'a> as FromFields<TbsCertListPart2Fields<'a>>>⟧.fields (two_fields
-        (optional ⟦<Time as DescribedChoice>⟧.alternative) (two_fields (optional (alternative
+        ⟦<TbsCertListPart1<'a> as FromFields<TbsCertListPart1Fields<'a>>>⟧.fields (four_fields
+        (optional (alternative ⟦<Version<'a> as Described>⟧.element)) (field (alternative
+        ⟦<AlgorithmIdentifierRef<'a> as Described>⟧.element)) (field (alternative
+        ⟦<Name<'a> as Described>⟧.element)) (field ⟦<Time as DescribedChoice>⟧.alternative))) (seen
+        ⟦<TbsCertListPart2<'a> as FromFields<TbsCertListPart2Fields<'a>>>⟧.fields (three_fields
+        (optional ⟦<Time as DescribedChoice>⟧.alternative) (optional (alternative
         ⟦<RevokedCertificates<'a> as Described>⟧.element)) (optional (alternative
-        ⟦<Explicit<Extensions<'a>, 0> as Described>⟧.element))))))
+        ⟦<Explicit<Extensions<'a>, 0> as Described>⟧.element)))))
         ⟦<TbsCertList<'a> as FromFields<(TbsCertListPart1<'a>, TbsCertListPart2<'a>)>>⟧.fields };
 
     ghost fits = { (refl, refl) };
@@ -155,8 +155,8 @@ impl<'a> EncodeValue for TbsCertList<'a> {
         field_refs!(
             self,
             (
-                ((version, signature), (issuer, this_update)),
-                (next_update, (revoked_certificates, crl_extensions))
+                (version, signature, issuer, this_update),
+                (next_update, revoked_certificates, crl_extensions)
             )
         )
         .encoded_len()
@@ -166,8 +166,8 @@ impl<'a> EncodeValue for TbsCertList<'a> {
         field_refs!(
             self,
             (
-                ((version, signature), (issuer, this_update)),
-                (next_update, (revoked_certificates, crl_extensions))
+                (version, signature, issuer, this_update),
+                (next_update, revoked_certificates, crl_extensions)
             )
         )
         .encode(writer)
@@ -177,8 +177,8 @@ impl<'a> EncodeValue for TbsCertList<'a> {
         field_refs!(
             self,
             (
-                ((version, signature), (issuer, this_update)),
-                (next_update, (revoked_certificates, crl_extensions))
+                (version, signature, issuer, this_update),
+                (next_update, revoked_certificates, crl_extensions)
             )
         )
         .len_before()
@@ -188,8 +188,8 @@ impl<'a> EncodeValue for TbsCertList<'a> {
         field_refs!(
             self,
             (
-                ((version, signature), (issuer, this_update)),
-                (next_update, (revoked_certificates, crl_extensions))
+                (version, signature, issuer, this_update),
+                (next_update, revoked_certificates, crl_extensions)
             )
         )
         .encode_before(buf, end)

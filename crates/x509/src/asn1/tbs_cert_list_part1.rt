@@ -21,17 +21,19 @@ pub(crate) struct TbsCertListPart1<'a> {
     pub(crate) this_update: Time,
 }
 
-// The fields in pairs, in the order in which they are encoded.
+// The fields, in the order in which they are encoded.
 pub(crate) type TbsCertListPart1Fields<'a> = (
-    (Optional<Version<'a>>, AlgorithmIdentifierRef<'a>),
-    (Name<'a>, Time),
+    Optional<Version<'a>>,
+    AlgorithmIdentifierRef<'a>,
+    Name<'a>,
+    Time,
 );
 
 impl<'a> FromFields<TbsCertListPart1Fields<'a>> for TbsCertListPart1<'a> {
-    ghost fields = { λ v. ((v.version, v.signature), (v.issuer, v.this_update)) };
+    ghost fields = { λ v. (v.version, v.signature, v.issuer, v.this_update) };
 
-    fn from_fields(members: TbsCertListPart1Fields<'a>) -> Self {
-        let ((version, signature), (issuer, this_update)) = members;
+    fn from_fields(fields: TbsCertListPart1Fields<'a>) -> Self {
+        let (version, signature, issuer, this_update) = fields;
         TbsCertListPart1 {
             version,
             signature,

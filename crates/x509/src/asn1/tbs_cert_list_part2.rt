@@ -19,20 +19,18 @@ pub(crate) struct TbsCertListPart2<'a> {
     pub(crate) crl_extensions: Optional<Explicit<Extensions<'a>, 0>>,
 }
 
-// The fields in pairs, in the order in which they are encoded.
+// The fields, in the order in which they are encoded.
 pub(crate) type TbsCertListPart2Fields<'a> = (
     Optional<Time>,
-    (
-        Optional<RevokedCertificates<'a>>,
-        Optional<Explicit<Extensions<'a>, 0>>,
-    ),
+    Optional<RevokedCertificates<'a>>,
+    Optional<Explicit<Extensions<'a>, 0>>,
 );
 
 impl<'a> FromFields<TbsCertListPart2Fields<'a>> for TbsCertListPart2<'a> {
-    ghost fields = { λ v. (v.next_update, (v.revoked_certificates, v.crl_extensions)) };
+    ghost fields = { λ v. (v.next_update, v.revoked_certificates, v.crl_extensions) };
 
-    fn from_fields(members: TbsCertListPart2Fields<'a>) -> Self {
-        let (next_update, (revoked_certificates, crl_extensions)) = members;
+    fn from_fields(fields: TbsCertListPart2Fields<'a>) -> Self {
+        let (next_update, revoked_certificates, crl_extensions) = fields;
         TbsCertListPart2 {
             next_update,
             revoked_certificates,

@@ -6,6 +6,7 @@ ghost use Rattle.std.proofs.Common.{arith, refl};
 ghost use Rattle.der.specs.Prelude.{map_ok};
 ghost use Rattle.der_asn1.specs.Item.{decodes_same};
 ghost use Rattle.der_asn1.specs.Meaning.{alternative, defaulted, field, optional, seen, sequence, sequence_is_item, sequence_item, two_fields};
+ghost use Rattle.der_asn1.specs.TupleFields.{four_fields, three_fields};
 
 use crate::Version;
 use crate::asn1::certificate_serial_number::CertificateSerialNumber;
@@ -53,16 +54,18 @@ pub struct TbsCertificate<'a> {
     pub extensions: Optional<Explicit<Extensions<'a>, 3>>,
 }
 
-/// The fields of a [`TbsCertificate`] in pairs, in the order in which they are encoded.
+/// The fields of a [`TbsCertificate`], in the order in which they are encoded.
 pub type TbsCertificateFields<'a> = (
     TbsCertificatePart1Fields<'a>,
-    (TbsCertificatePart2Fields<'a>, TbsCertificatePart3Fields<'a>),
+    TbsCertificatePart2Fields<'a>,
+    TbsCertificatePart3Fields<'a>,
 );
 
 impl<'a> FromFields<
     (
         TbsCertificatePart1<'a>,
-        (TbsCertificatePart2<'a>, TbsCertificatePart3<'a>),
+        TbsCertificatePart2<'a>,
+        TbsCertificatePart3<'a>,
     ),
 > for TbsCertificate<'a> {
     ghost fields = { λ v. (
@@ -72,27 +75,26 @@ impl<'a> FromFields<
         signature = v.signature;
         issuer = v.issuer;
       },
-      (
-        record {
-          validity = v.validity;
-          subject = v.subject;
-          subject_public_key_info = v.subject_public_key_info;
-          issuer_unique_id = v.issuer_unique_id;
-        },
-        record {
-          subject_unique_id = v.subject_unique_id;
-          extensions = v.extensions;
-        },
-      ),
+      record {
+        validity = v.validity;
+        subject = v.subject;
+        subject_public_key_info = v.subject_public_key_info;
+        issuer_unique_id = v.issuer_unique_id;
+      },
+      record {
+        subject_unique_id = v.subject_unique_id;
+        extensions = v.extensions;
+      },
     ) };
 
     fn from_fields(
-        members: (
+        fields: (
             TbsCertificatePart1<'a>,
-            (TbsCertificatePart2<'a>, TbsCertificatePart3<'a>),
+            TbsCertificatePart2<'a>,
+            TbsCertificatePart3<'a>,
         ),
     ) -> Self {
-        let (part1, (part2, part3)) = members;
+        let (part1, part2, part3) = fields;
         TbsCertificate {
             version: part1.version,
             serial_number: part1.serial_number,
@@ -109,23 +111,22 @@ impl<'a> FromFields<
 }
 
 impl<'a> Sequence for TbsCertificate<'a> {
-    ghost meaning = { sequence (two_fields (seen
-        ⟦<TbsCertificatePart1<'a> as FromFields<TbsCertificatePart1Fields<'a>>>⟧.fields (two_fields
-        (two_fields (defaulted ⟦<Explicit<Version<'a>, 0> as DefaultValue>⟧.is_default (alternative
+    ghost meaning = { sequence (three_fields (seen
+        ⟦<TbsCertificatePart1<'a> as FromFields<TbsCertificatePart1Fields<'a>>>⟧.fields (four_fields
+        (defaulted ⟦<Explicit<Version<'a>, 0> as DefaultValue>⟧.is_default (alternative
         ⟦<Explicit<Version<'a>, 0> as Described>⟧.element)) (field (alternative
-        ⟦<CertificateSerialNumber<'a> as Described>⟧.element))) (two_fields (field (alternative
+        ⟦<CertificateSerialNumber<'a> as Described>⟧.element)) (field (alternative
         ⟦<AlgorithmIdentifierRef<'a> as Described>⟧.element)) (field (alternative
-        ⟦<Name<'a> as Described>⟧.element))))) (two_fields (seen
-        ⟦<TbsCertificatePart2<'a> as FromFields<TbsCertificatePart2Fields<'a>>>⟧.fields (two_fields
-        (two_fields (field (alternative ⟦<Validity as Described>⟧.element)) (field (alternative
-        ⟦<Name<'a> as Described>⟧.element))) (two_fields (field (alternative
+        ⟦<Name<'a> as Described>⟧.element)))) (seen
+        ⟦<TbsCertificatePart2<'a> as FromFields<TbsCertificatePart2Fields<'a>>>⟧.fields (four_fields
+        (field (alternative ⟦<Validity as Described>⟧.element)) (field (alternative
+        ⟦<Name<'a> as Described>⟧.element)) (field (alternative
         ⟦<SubjectPublicKeyInfoRef<'a> as Described>⟧.element)) (optional (alternative
-        ⟦<Implicit<BitStringRef<'a>, 1> as Described>⟧.element))))) (seen
+        ⟦<Implicit<BitStringRef<'a>, 1> as Described>⟧.element)))) (seen
         ⟦<TbsCertificatePart3<'a> as FromFields<TbsCertificatePart3Fields<'a>>>⟧.fields (two_fields
         (optional (alternative ⟦<Implicit<BitStringRef<'a>, 2> as Described>⟧.element)) (optional
-        (alternative ⟦<Explicit<Extensions<'a>, 3> as Described>⟧.element))))))
-        ⟦<TbsCertificate<'a> as FromFields<(TbsCertificatePart1<'a>,
-        (TbsCertificatePart2<'a>, TbsCertificatePart3<'a>))>>⟧.fields };
+        (alternative ⟦<Explicit<Extensions<'a>, 3> as Described>⟧.element)))))
+        ⟦<TbsCertificate<'a> as FromFields<(TbsCertificatePart1<'a>, TbsCertificatePart2<'a>, TbsCertificatePart3<'a>)>>⟧.fields };
 
     ghost fits = { (refl, refl) };
 }
@@ -135,17 +136,17 @@ impl<'a, R: Reader<Borrowed = &'a [u8]>> DecodeValue<R> for TbsCertificate<'a> {
     type Error = Error;
 
     ghost decode_value_answers = { λ h s result t.
-        ⟦<(TbsCertificatePart1<'a>,
-        (TbsCertificatePart2<'a>, TbsCertificatePart3<'a>)) as Decode<SliceReader<'a>>>⟧.decode_answers s
-        (map_ok ⟦<TbsCertificate<'a> as FromFields<(TbsCertificatePart1<'a>,
-        (TbsCertificatePart2<'a>, TbsCertificatePart3<'a>))>>⟧.fields result) t };
+        ⟦<(TbsCertificatePart1<'a>, TbsCertificatePart2<'a>, TbsCertificatePart3<'a>) as Decode<SliceReader<'a>>>⟧.decode_answers s
+        (map_ok
+        ⟦<TbsCertificate<'a> as FromFields<(TbsCertificatePart1<'a>, TbsCertificatePart2<'a>, TbsCertificatePart3<'a>)>>⟧.fields result) t };
 
     fn decode_value(alloc: Global, reader: &mut R, header: Header) -> Result<Self, Error> {
         decode_sequence::<
             R,
             (
                 TbsCertificatePart1<'a>,
-                (TbsCertificatePart2<'a>, TbsCertificatePart3<'a>),
+                TbsCertificatePart2<'a>,
+                TbsCertificatePart3<'a>,
             ),
             Self,
         >(alloc, reader, header)
@@ -177,44 +178,29 @@ impl<'a> IsValue for TbsCertificate<'a> {
 impl<'a> EncodeValue for TbsCertificate<'a> {
     ghost value_size = { λ v. ⟦<TbsCertificateFields<'a> as Encode>⟧.size (
       ⟦<TbsCertificatePart1<'a> as FromFields<TbsCertificatePart1Fields<'a>>>⟧.fields
-          (⟦<TbsCertificate<'a> as FromFields<(TbsCertificatePart1<'a>,
-        (TbsCertificatePart2<'a>, TbsCertificatePart3<'a>))>>⟧.fields v).0,
-      (
-        ⟦<TbsCertificatePart2<'a> as FromFields<TbsCertificatePart2Fields<'a>>>⟧.fields
-            (⟦<TbsCertificate<'a> as FromFields<(TbsCertificatePart1<'a>,
-        (TbsCertificatePart2<'a>, TbsCertificatePart3<'a>))>>⟧.fields v).1.0,
-        ⟦<TbsCertificatePart3<'a> as FromFields<TbsCertificatePart3Fields<'a>>>⟧.fields
-            (⟦<TbsCertificate<'a> as FromFields<(TbsCertificatePart1<'a>,
-        (TbsCertificatePart2<'a>, TbsCertificatePart3<'a>))>>⟧.fields v).1.1,
-      ),
+          (⟦<TbsCertificate<'a> as FromFields<(TbsCertificatePart1<'a>, TbsCertificatePart2<'a>, TbsCertificatePart3<'a>)>>⟧.fields v).0,
+      ⟦<TbsCertificatePart2<'a> as FromFields<TbsCertificatePart2Fields<'a>>>⟧.fields
+          (⟦<TbsCertificate<'a> as FromFields<(TbsCertificatePart1<'a>, TbsCertificatePart2<'a>, TbsCertificatePart3<'a>)>>⟧.fields v).1,
+      ⟦<TbsCertificatePart3<'a> as FromFields<TbsCertificatePart3Fields<'a>>>⟧.fields
+          (⟦<TbsCertificate<'a> as FromFields<(TbsCertificatePart1<'a>, TbsCertificatePart2<'a>, TbsCertificatePart3<'a>)>>⟧.fields v).2,
     ) };
 
     ghost encode_value_answers = { λ v. ⟦<TbsCertificateFields<'a> as Encode>⟧.encode_answers (
       ⟦<TbsCertificatePart1<'a> as FromFields<TbsCertificatePart1Fields<'a>>>⟧.fields
-          (⟦<TbsCertificate<'a> as FromFields<(TbsCertificatePart1<'a>,
-        (TbsCertificatePart2<'a>, TbsCertificatePart3<'a>))>>⟧.fields v).0,
-      (
-        ⟦<TbsCertificatePart2<'a> as FromFields<TbsCertificatePart2Fields<'a>>>⟧.fields
-            (⟦<TbsCertificate<'a> as FromFields<(TbsCertificatePart1<'a>,
-        (TbsCertificatePart2<'a>, TbsCertificatePart3<'a>))>>⟧.fields v).1.0,
-        ⟦<TbsCertificatePart3<'a> as FromFields<TbsCertificatePart3Fields<'a>>>⟧.fields
-            (⟦<TbsCertificate<'a> as FromFields<(TbsCertificatePart1<'a>,
-        (TbsCertificatePart2<'a>, TbsCertificatePart3<'a>))>>⟧.fields v).1.1,
-      ),
+          (⟦<TbsCertificate<'a> as FromFields<(TbsCertificatePart1<'a>, TbsCertificatePart2<'a>, TbsCertificatePart3<'a>)>>⟧.fields v).0,
+      ⟦<TbsCertificatePart2<'a> as FromFields<TbsCertificatePart2Fields<'a>>>⟧.fields
+          (⟦<TbsCertificate<'a> as FromFields<(TbsCertificatePart1<'a>, TbsCertificatePart2<'a>, TbsCertificatePart3<'a>)>>⟧.fields v).1,
+      ⟦<TbsCertificatePart3<'a> as FromFields<TbsCertificatePart3Fields<'a>>>⟧.fields
+          (⟦<TbsCertificate<'a> as FromFields<(TbsCertificatePart1<'a>, TbsCertificatePart2<'a>, TbsCertificatePart3<'a>)>>⟧.fields v).2,
     ) };
 
     fn value_len(&self) -> Result<Length, Error> {
         field_refs!(
             self,
             (
-                ((version, serial_number), (signature, issuer)),
-                (
-                    (
-                        (validity, subject),
-                        (subject_public_key_info, issuer_unique_id)
-                    ),
-                    (subject_unique_id, extensions)
-                )
+                (version, serial_number, signature, issuer),
+                (validity, subject, subject_public_key_info, issuer_unique_id),
+                (subject_unique_id, extensions)
             )
         )
         .encoded_len()
@@ -224,14 +210,9 @@ impl<'a> EncodeValue for TbsCertificate<'a> {
         field_refs!(
             self,
             (
-                ((version, serial_number), (signature, issuer)),
-                (
-                    (
-                        (validity, subject),
-                        (subject_public_key_info, issuer_unique_id)
-                    ),
-                    (subject_unique_id, extensions)
-                )
+                (version, serial_number, signature, issuer),
+                (validity, subject, subject_public_key_info, issuer_unique_id),
+                (subject_unique_id, extensions)
             )
         )
         .encode(writer)
@@ -241,14 +222,9 @@ impl<'a> EncodeValue for TbsCertificate<'a> {
         field_refs!(
             self,
             (
-                ((version, serial_number), (signature, issuer)),
-                (
-                    (
-                        (validity, subject),
-                        (subject_public_key_info, issuer_unique_id)
-                    ),
-                    (subject_unique_id, extensions)
-                )
+                (version, serial_number, signature, issuer),
+                (validity, subject, subject_public_key_info, issuer_unique_id),
+                (subject_unique_id, extensions)
             )
         )
         .len_before()
@@ -258,14 +234,9 @@ impl<'a> EncodeValue for TbsCertificate<'a> {
         field_refs!(
             self,
             (
-                ((version, serial_number), (signature, issuer)),
-                (
-                    (
-                        (validity, subject),
-                        (subject_public_key_info, issuer_unique_id)
-                    ),
-                    (subject_unique_id, extensions)
-                )
+                (version, serial_number, signature, issuer),
+                (validity, subject, subject_public_key_info, issuer_unique_id),
+                (subject_unique_id, extensions)
             )
         )
         .encode_before(buf, end)

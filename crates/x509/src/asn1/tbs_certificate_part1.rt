@@ -21,20 +21,19 @@ pub(crate) struct TbsCertificatePart1<'a> {
     pub(crate) issuer: Name<'a>,
 }
 
-// The fields in pairs, in the order in which they are encoded.
+// The fields, in the order in which they are encoded.
 pub(crate) type TbsCertificatePart1Fields<'a> = (
-    (
-        Defaulted<Explicit<Version<'a>, 0>>,
-        CertificateSerialNumber<'a>,
-    ),
-    (AlgorithmIdentifierRef<'a>, Name<'a>),
+    Defaulted<Explicit<Version<'a>, 0>>,
+    CertificateSerialNumber<'a>,
+    AlgorithmIdentifierRef<'a>,
+    Name<'a>,
 );
 
 impl<'a> FromFields<TbsCertificatePart1Fields<'a>> for TbsCertificatePart1<'a> {
-    ghost fields = { λ v. ((v.version, v.serial_number), (v.signature, v.issuer)) };
+    ghost fields = { λ v. (v.version, v.serial_number, v.signature, v.issuer) };
 
-    fn from_fields(members: TbsCertificatePart1Fields<'a>) -> Self {
-        let ((version, serial_number), (signature, issuer)) = members;
+    fn from_fields(fields: TbsCertificatePart1Fields<'a>) -> Self {
+        let (version, serial_number, signature, issuer) = fields;
         TbsCertificatePart1 {
             version,
             serial_number,

@@ -20,20 +20,19 @@ pub(crate) struct TbsCertificatePart2<'a> {
     pub(crate) issuer_unique_id: Optional<Implicit<BitStringRef<'a>, 1>>,
 }
 
-// The fields in pairs, in the order in which they are encoded.
+// The fields, in the order in which they are encoded.
 pub(crate) type TbsCertificatePart2Fields<'a> = (
-    (Validity, Name<'a>),
-    (
-        SubjectPublicKeyInfoRef<'a>,
-        Optional<Implicit<BitStringRef<'a>, 1>>,
-    ),
+    Validity,
+    Name<'a>,
+    SubjectPublicKeyInfoRef<'a>,
+    Optional<Implicit<BitStringRef<'a>, 1>>,
 );
 
 impl<'a> FromFields<TbsCertificatePart2Fields<'a>> for TbsCertificatePart2<'a> {
-    ghost fields = { λ v. ((v.validity, v.subject), (v.subject_public_key_info, v.issuer_unique_id)) };
+    ghost fields = { λ v. (v.validity, v.subject, v.subject_public_key_info, v.issuer_unique_id) };
 
-    fn from_fields(members: TbsCertificatePart2Fields<'a>) -> Self {
-        let ((validity, subject), (subject_public_key_info, issuer_unique_id)) = members;
+    fn from_fields(fields: TbsCertificatePart2Fields<'a>) -> Self {
+        let (validity, subject, subject_public_key_info, issuer_unique_id) = fields;
         TbsCertificatePart2 {
             validity,
             subject,

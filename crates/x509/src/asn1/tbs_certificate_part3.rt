@@ -16,7 +16,7 @@ pub(crate) struct TbsCertificatePart3<'a> {
     pub(crate) extensions: Optional<Explicit<Extensions<'a>, 3>>,
 }
 
-// The fields in pairs, in the order in which they are encoded.
+// The fields, in the order in which they are encoded.
 pub(crate) type TbsCertificatePart3Fields<'a> = (
     Optional<Implicit<BitStringRef<'a>, 2>>,
     Optional<Explicit<Extensions<'a>, 3>>,
@@ -25,8 +25,8 @@ pub(crate) type TbsCertificatePart3Fields<'a> = (
 impl<'a> FromFields<TbsCertificatePart3Fields<'a>> for TbsCertificatePart3<'a> {
     ghost fields = { λ v. (v.subject_unique_id, v.extensions) };
 
-    fn from_fields(members: TbsCertificatePart3Fields<'a>) -> Self {
-        let (subject_unique_id, extensions) = members;
+    fn from_fields(fields: TbsCertificatePart3Fields<'a>) -> Self {
+        let (subject_unique_id, extensions) = fields;
         TbsCertificatePart3 {
             subject_unique_id,
             extensions,

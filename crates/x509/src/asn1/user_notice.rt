@@ -25,14 +25,14 @@ pub struct UserNotice<'a> {
     pub explicit_text: Optional<DisplayText<'a>>,
 }
 
-/// The fields of a [`UserNotice`] in pairs, in the order in which they are encoded.
+/// The fields of a [`UserNotice`], in the order in which they are encoded.
 pub type UserNoticeFields<'a> = (Optional<NoticeReference<'a>>, Optional<DisplayText<'a>>);
 
 impl<'a> FromFields<UserNoticeFields<'a>> for UserNotice<'a> {
     ghost fields = { λ v. (v.notice_ref, v.explicit_text) };
 
-    fn from_fields(members: UserNoticeFields<'a>) -> Self {
-        let (notice_ref, explicit_text) = members;
+    fn from_fields(fields: UserNoticeFields<'a>) -> Self {
+        let (notice_ref, explicit_text) = fields;
         UserNotice {
             notice_ref,
             explicit_text,

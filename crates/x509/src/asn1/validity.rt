@@ -25,14 +25,14 @@ pub struct Validity {
     pub not_after: Time,
 }
 
-/// The fields of a [`Validity`] in pairs, in the order in which they are encoded.
+/// The fields of a [`Validity`], in the order in which they are encoded.
 pub type ValidityFields = (Time, Time);
 
 impl FromFields<ValidityFields> for Validity {
     ghost fields = { λ v. (v.not_before, v.not_after) };
 
-    fn from_fields(members: ValidityFields) -> Self {
-        let (not_before, not_after) = members;
+    fn from_fields(fields: ValidityFields) -> Self {
+        let (not_before, not_after) = fields;
         Validity {
             not_before,
             not_after,

@@ -1,17 +1,29 @@
 use Rattle.std.proofs.Common.{refl, sym, subst, ◌∙◌}
 use Rattle.std.proofs.lemmas.Result.{err_from_is_err_and}
-use Rattle.der_asn1.proofs.SequenceOfLemmas.{item_passed, item_lacks, item_working, item_keeps}
+use Rattle.der_asn1.proofs.SequenceOfLemmas.{first_lacks, first_working, item_passed, item_keeps, uncons}
 use Rattle.der_asn1.specs.ListAnswers.{ItemAnswer}
 use Rattle.der_asn1.proofs.item_walk.next_item.Goals as goal
+
+pub returns-in_err-value-clause-first : goal.returns-in_err-value-clause-first
+returns-in_err-value-clause-first g c v others reliable is split =
+    let p = err_from_is_err_and c.from_residual.result c.from_residual.ensures.1 in
+    rw (p.1, p.2) (first_lacks g.met.T.DecodeItem.is_item g.met.T.DecodeItem.decodes_items (g.R.Reader.state c.args.reader.now) (g.met.R.Reader.sound_state c.args.reader.now) c.requires v is others split g.T.Error.DecodeError.out_of_memory (g.R.Reader.state c.decode.new.reader) c.in_err-value.field-0.0 (λ w m. c.in_err-value.ensures.complete w m reliable))
+
+pub returns-then-is_failed-clause-first : goal.returns-then-is_failed-clause-first
+returns-then-is_failed-clause-first g c v others reliable is split =
+    let works = first_working g.met.T.DecodeItem.is_item g.met.T.DecodeItem.decodes_items (g.R.Reader.state c.args.reader.now) (g.met.R.Reader.sound_state c.args.reader.now) c.requires v is others split g.T.Error.DecodeError.out_of_memory (g.R.Reader.state c.decode.new.reader) c.in_ok-value.value (λ w m. c.in_ok-value.ensures.complete w m reliable) in
+    absurd (let failed = c.if-is_failed.true in let is = c.is_failed.ensures in cc)
 
 pub returns-in_err-value-clause-complete : goal.returns-in_err-value-clause-complete
 returns-in_err-value-clause-complete g c reliable l some =
     let p = err_from_is_err_and c.from_residual.result c.from_residual.ensures.1 in
-    rw (p.1, p.2) (item_lacks g.met.T.DecodeItem.is_item g.met.T.DecodeItem.decodes_items (g.R.Reader.state c.args.reader.now) (g.met.R.Reader.sound_state c.args.reader.now) c.requires l some g.T.Error.DecodeError.out_of_memory (g.R.Reader.state c.decode.new.reader) c.in_err-value.field-0.0 (λ v m. c.in_err-value.ensures.complete v m reliable))
+    let f = uncons l some in
+    rw (p.1, p.2) (first_lacks g.met.T.DecodeItem.is_item g.met.T.DecodeItem.decodes_items (g.R.Reader.state c.args.reader.now) (g.met.R.Reader.sound_state c.args.reader.now) c.requires f.first f.is_valid f.others f.split g.T.Error.DecodeError.out_of_memory (g.R.Reader.state c.decode.new.reader) c.in_err-value.field-0.0 (λ w m. c.in_err-value.ensures.complete w m reliable))
 
 pub returns-then-is_failed-clause-complete : goal.returns-then-is_failed-clause-complete
 returns-then-is_failed-clause-complete g c reliable l some =
-    let works = item_working g.met.T.DecodeItem.is_item g.met.T.DecodeItem.decodes_items (g.R.Reader.state c.args.reader.now) (g.met.R.Reader.sound_state c.args.reader.now) c.requires l some g.T.Error.DecodeError.out_of_memory (g.R.Reader.state c.decode.new.reader) c.in_ok-value.value (λ v m. c.in_ok-value.ensures.complete v m reliable) in
+    let f = uncons l some in
+    let works = first_working g.met.T.DecodeItem.is_item g.met.T.DecodeItem.decodes_items (g.R.Reader.state c.args.reader.now) (g.met.R.Reader.sound_state c.args.reader.now) c.requires f.first f.is_valid f.others f.split g.T.Error.DecodeError.out_of_memory (g.R.Reader.state c.decode.new.reader) c.in_ok-value.value (λ w m. c.in_ok-value.ensures.complete w m reliable) in
     absurd (let failed = c.if-is_failed.true in let is = c.is_failed.ensures in cc)
 
 pub returns-clause-ok : goal.returns-clause-ok

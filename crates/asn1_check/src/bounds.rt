@@ -1,0 +1,65 @@
+//! The numbers that a type allows.
+
+use crate::checks::find_type;
+use crate::module::Module;
+use asn1_syntax::{Constraint, Range, TypeForm, TypeNode};
+
+/// The numbers that the type with this index allows: those that are in all ranges behind it, and
+/// behind the types that it names. An extension mark behind the last one allows the numbers of the
+/// type in front of it; those behind others are lost (X.680, 50.8).
+pub fn range_at<'a>(module: &Module<'a>, index: usize) -> Range<'a> {
+    let mut index = index;
+    let mut found = None;
+    for _ in module.nodes.iter() {
+        let Some(node) = module.nodes.get(index) else {
+            break;
+        };
+        found = narrowed(found, node);
+        match &node.form {
+            TypeForm::Tagged(_, of) => index = *of,
+            TypeForm::Reference => match find_type(module, node.item.text) {
+                Some(of) => index = of,
+                None => return with_imported(module, node.item.text, found),
+            },
+            _ => break,
+        }
+    }
+    found.unwrap_or(Range::ALL)
+}
+
+// The numbers of the ranges that come behind, if there are any, that are in those of a type.
+fn narrowed<'a>(found: Option<Range<'a>>, node: &TypeNode<'a>) -> Option<Range<'a>> {
+    let mut found = found;
+    for constraint in node.constraints.iter().rev() {
+        if let Constraint::Range(range) = constraint {
+            found = Some(narrowed_by(found, *range));
+        }
+    }
+    found
+}
+
+fn narrowed_by<'a>(found: Option<Range<'a>>, range: Range<'a>) -> Range<'a> {
+    match found {
+        Some(behind) => behind.and(range),
+        None if range.is_extensible => Range::ALL,
+        None => range,
+    }
+}
+
+fn with_imported<'a>(module: &Module<'a>, name: &str, found: Option<Range<'a>>) -> Range<'a> {
+    match (module.imported.find(name), found) {
+        (Some(external), Some(behind)) => behind.and(external.range),
+        (Some(external), None) => external.range,
+        (None, behind) => behind.unwrap_or(Range::ALL),
+    }
+}
+
+/// The index of the type whose encoding the contents of a string are, if a constraint says one.
+pub fn contained(node: &TypeNode<'_>) -> Option<usize> {
+    for constraint in node.constraints.iter() {
+        if let Constraint::Containing(of) = constraint {
+            return Some(*of);
+        }
+    }
+    None
+}

@@ -1,0 +1,56 @@
+//! What makes a module right beyond its grammar.
+
+mod components;
+mod constraints;
+mod exports;
+mod names;
+mod order;
+mod parts;
+mod seen_numbers;
+mod tags;
+mod unknown;
+
+use crate::checks::constraints::check_constraints;
+use crate::checks::exports::check_exports;
+use crate::checks::names::check_names;
+use crate::checks::order::{add_loops, order_of};
+use crate::checks::tags::tags_in_order;
+use crate::checks::unknown::{add_unknown, check_unknown};
+use crate::module::Module;
+use crate::tag_set::TagSet;
+use asn1_syntax::{Failure, Refusal};
+pub use components::{are_numbered, automatic_number, component_tags};
+pub use names::{find_type, has_value};
+use std::alloc::{AllocError, Global};
+pub use tags::{copy_at, has_no_tag};
+
+/// What the checks of a module find.
+#[derive(Drop)]
+pub struct Checks {
+    /// The indices of its types, each behind those that it is made of.
+    pub order: Vec<usize>,
+    /// The tags that values of each type begin with, by index.
+    pub tags: Vec<TagSet>,
+}
+
+/// Adds the refusals of types that are right, and that the library has no form for.
+pub fn unsupported_types<'a>(
+    alloc: Global,
+    module: &Module<'a>,
+    found: &mut Vec<Refusal<'a>>,
+) -> Result<(), AllocError> {
+    add_unknown(alloc, module, found)?;
+    add_loops(alloc, module, found)
+}
+
+/// Checks that names are defined once, that no type contains itself, that constraints are those of
+/// their types, and that tags are distinct.
+pub fn check_module<'a>(alloc: Global, module: &Module<'a>) -> Result<Checks, Failure<'a>> {
+    check_names(alloc, module)?;
+    check_exports(module)?;
+    let order = order_of(alloc, module)?;
+    check_constraints(module)?;
+    check_unknown(alloc, module)?;
+    let tags = tags_in_order(alloc, module, &order)?;
+    Ok(Checks { order, tags })
+}

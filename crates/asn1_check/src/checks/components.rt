@@ -1,0 +1,131 @@
+//! Tags of components and of alternatives.
+
+use super::tags::copy_at;
+use crate::module::Module;
+use crate::tag_set::TagSet;
+use asn1_syntax::{Component, Failure, Presence, Refusal, Tag, TagClass, TagDefault, TypeForm};
+use std::alloc::{AllocError, Global};
+
+/// The tags of all alternatives; refuses one whose tags an alternative before it has (X.680, 29.3).
+pub fn check_alternatives<'a>(
+    alloc: Global,
+    module: &Module<'a>,
+    table: &Vec<TagSet>,
+    alternatives: &Vec<Component<'a>>,
+) -> Result<TagSet, Failure<'a>> {
+    let are_numbered = are_numbered(module, alternatives);
+    check_additions(module, alternatives, are_numbered)?;
+    let mut before = TagSet::empty(alloc);
+    for (count, alternative) in alternatives.iter().enumerate() {
+        let number = automatic_number(alternatives, count);
+        let tags = component_tags(alloc, table, alternative, are_numbered, number)?;
+        if !before.is_distinct_from(&tags) {
+            let expected = "an alternative whose tag no other one has";
+            return Err(Failure::Refused(Refusal::of(alternative.name, expected)));
+        }
+        before.add(&tags)?;
+    }
+    Ok(before)
+}
+
+/// Checks the tags of components: those of optional ones, and of the one behind these, are distinct
+/// (X.680, 25.6).
+pub fn check_sequence<'a>(
+    alloc: Global,
+    module: &Module<'a>,
+    table: &Vec<TagSet>,
+    components: &Vec<Component<'a>>,
+) -> Result<(), Failure<'a>> {
+    let are_numbered = are_numbered(module, components);
+    check_additions(module, components, are_numbered)?;
+    let mut before = TagSet::empty(alloc);
+    for (count, component) in components.iter().enumerate() {
+        let number = automatic_number(components, count);
+        let tags = component_tags(alloc, table, component, are_numbered, number)?;
+        if !before.is_distinct_from(&tags) {
+            let expected = "a component whose tag no optional one in front of it has";
+            return Err(Failure::Refused(Refusal::of(component.name, expected)));
+        }
+        match component.presence {
+            Presence::Required => before = TagSet::empty(alloc),
+            _ => before.add(&tags)?,
+        }
+    }
+    Ok(())
+}
+
+/// The tags that values of a component begin with.
+pub fn component_tags(
+    alloc: Global,
+    table: &Vec<TagSet>,
+    component: &Component<'_>,
+    is_numbered: bool,
+    number: usize,
+) -> Result<TagSet, AllocError> {
+    if !is_numbered {
+        return copy_at(alloc, table, component.of);
+    }
+    TagSet::of(
+        alloc,
+        Tag {
+            class: TagClass::ContextSpecific,
+            number: number as u64,
+        },
+    )
+}
+
+// Checks that additions have no tags where components get tags by their numbers (X.680, 25).
+fn check_additions<'a>(
+    module: &Module<'a>,
+    components: &Vec<Component<'a>>,
+    are_numbered: bool,
+) -> Result<(), Refusal<'a>> {
+    for component in components.iter() {
+        if are_numbered && is_tagged(module, component.of) {
+            let expected =
+                "an addition without a tag, since the components in front of it have none";
+            return Err(Refusal::of(component.name, expected));
+        }
+    }
+    Ok(())
+}
+
+/// The number of the component with this index, where components get tags by their numbers: those
+/// that are no additions are counted first (X.680, 25.7).
+pub fn automatic_number(components: &Vec<Component<'_>>, index: usize) -> usize {
+    let is_addition = match components.get(index) {
+        Some(component) => component.is_addition,
+        None => false,
+    };
+    let before = components
+        .iter()
+        .take(index)
+        .filter(|other| other.is_addition == is_addition)
+        .count();
+    if !is_addition {
+        return before;
+    }
+    let roots = components.iter().filter(|other| !other.is_addition).count();
+    before.saturating_add(roots)
+}
+
+/// Whether these components get tags by their numbers: the module has AUTOMATIC TAGS, and none of
+/// them is written with a tag, additions aside (X.680, 25.2).
+pub fn are_numbered(module: &Module<'_>, components: &Vec<Component<'_>>) -> bool {
+    if module.tags != TagDefault::Automatic {
+        return false;
+    }
+    for component in components.iter() {
+        if !component.is_addition && is_tagged(module, component.of) {
+            return false;
+        }
+    }
+    true
+}
+
+fn is_tagged(module: &Module<'_>, index: usize) -> bool {
+    match module.nodes.get(index) {
+        Some(node) => matches!(&node.form, TypeForm::Tagged(_, _)),
+        None => false,
+    }
+}

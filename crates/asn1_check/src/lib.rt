@@ -1,0 +1,35 @@
+//! Modules of ASN.1 whose names are looked up, and whose types and values are checked.
+#![tactic(auto)]
+
+mod base;
+mod bounds;
+mod checked;
+mod checks;
+mod constant;
+mod constants;
+mod external;
+mod external_type;
+mod external_types;
+mod link;
+mod module;
+mod rust_type;
+mod selection;
+mod tag_set;
+
+pub use base::{base_form, base_of};
+pub use bounds::{contained, range_at};
+pub use checked::{Selected, checked_module, selected_module};
+pub use checks::{
+    Checks, are_numbered, automatic_number, check_module, component_tags, copy_at, find_type,
+    has_no_tag, has_value,
+};
+pub use constant::{Constant, NamedConstant};
+pub use constants::Constants;
+pub use external::External;
+pub use external_type::{ExternalType, bare_form};
+pub use external_types::ExternalTypes;
+pub use link::link_module;
+pub use module::Module;
+pub use rust_type::{RustKind, RustType};
+pub use selection::{Selection, select};
+pub use tag_set::TagSet;

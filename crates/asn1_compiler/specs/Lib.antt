@@ -1,3 +1,0 @@
-pub mod Lexical
-pub mod Position
-pub mod TagSet

@@ -1,0 +1,270 @@
+//! The text of the types of Rust.
+
+mod abilities;
+mod alternatives;
+mod choice;
+mod choice_line;
+mod choice_part;
+mod counts;
+mod default_place;
+mod defaults;
+mod directive;
+mod docs;
+mod enumeration;
+mod field;
+mod fields;
+mod file;
+mod imports;
+mod integer_octets;
+mod kept;
+mod known;
+mod lists;
+mod naming;
+mod nest;
+mod number_default;
+mod numbers;
+mod oid_octets;
+mod part;
+mod piece;
+mod piece_list;
+mod pieces;
+mod renamed;
+mod root;
+mod rust_names;
+mod sequence;
+mod sources;
+mod summary;
+mod tagged;
+mod taken;
+mod template;
+mod types;
+mod values;
+mod warnings;
+mod words;
+mod wrap;
+
+use crate::compiled::Compiled;
+use crate::output::abilities::add_imported;
+use crate::output::alternatives::left_out;
+use crate::output::counts::add_counts;
+use crate::output::file::file_of;
+use crate::output::kept::kept_of;
+use crate::output::naming::names_of;
+use crate::output::piece::Piece;
+use crate::output::pieces::Written;
+use crate::output::root::{library_of, proof_file, root_of};
+use crate::output::sources::Sources;
+use crate::output::summary::external_of;
+use crate::output::types::types_in_order;
+use crate::output::values::{values_file, values_name};
+use crate::output::warnings::warnings_of;
+use asn1_check::{Checks, External, Module, Selected, check_module, selected_module};
+use asn1_syntax::{Failure, Refusal};
+pub use file::OutputFile;
+pub use rust_names::{pascal_name, snake_name};
+use std::alloc::{AllocError, Global};
+
+/// What other modules may import from a module that the crate `krate` holds. It imports from
+/// modules of other crates, and has another name than they have. What is not supported is left out.
+pub fn read_external<'a>(
+    alloc: Global,
+    externals: &Vec<External<'a>>,
+    text: &'a str,
+    krate: &str,
+) -> Result<External<'a>, Failure<'a>> {
+    let mut known = Vec::new(alloc);
+    for _ in 0..=text.len() {
+        let selected = compilable(alloc, externals, text, &[], &mut known)?;
+        let module = &selected.module;
+        let checks = check_module(alloc, module)?;
+        if is_given(externals, module.name.text) {
+            let expected = "a module that no --with option in front gives";
+            return Err(Failure::Refused(Refusal::of(module.name, expected)));
+        }
+        match summary_of(alloc, &selected, &checks, krate) {
+            Err(Failure::Unsupported(refusal)) => add_known(&mut known, refusal)?,
+            summary => return summary,
+        }
+    }
+    Err(last_of(&known))
+}
+
+fn summary_of<'a>(
+    alloc: Global,
+    selected: &Selected<'a>,
+    checks: &Checks,
+    krate: &str,
+) -> Result<External<'a>, Failure<'a>> {
+    let module = &selected.module;
+    let names = names_of(alloc, module)?;
+    let kept = kept_of(alloc, module, checks)?;
+    let types = types_in_order(alloc, module, &checks.order, &names, &kept)?;
+    let written = Written {
+        module,
+        names: &names,
+        types: &types,
+        kept: &kept,
+    };
+    Ok(external_of(alloc, &written, checks, &selected.left_out, krate)?)
+}
+
+fn is_given(externals: &Vec<External<'_>>, name: &str) -> bool {
+    for external in externals.iter() {
+        if external.module == name {
+            return true;
+        }
+    }
+    false
+}
+
+/// Compiles a module for the crate `krate`: the files to be written beneath its folder `src/`. It
+/// imports from modules of other crates. Compiled are the types `only` and what they name, or all if
+/// `only` is empty. What is not supported is left out, with a warning; it is refused if it is one of
+/// `only`, or if nothing else is there.
+pub fn compile<'a>(
+    alloc: Global,
+    externals: &Vec<External<'a>>,
+    text: &'a str,
+    krate: &str,
+    only: &[&str],
+) -> Result<Compiled<'a>, Failure<'a>> {
+    let mut known = Vec::new(alloc);
+    for _ in 0..=text.len() {
+        let selected = compilable(alloc, externals, text, only, &mut known)?;
+        let checks = check_module(alloc, &selected.module)?;
+        match compiled_of(alloc, &selected, &checks, krate) {
+            Err(Failure::Unsupported(refusal)) => add_known(&mut known, refusal)?,
+            compiled => return compiled,
+        }
+    }
+    Err(last_of(&known))
+}
+
+// Adds a type that is right, and for which no text is written. One that is there was not left out, so
+// it stands outside of all assignments.
+fn add_known<'a>(known: &mut Vec<Refusal<'a>>, refusal: Refusal<'a>) -> Result<(), Failure<'a>> {
+    for before in known.iter() {
+        if before.offset == refusal.offset {
+            return Err(Failure::Refused(refusal));
+        }
+    }
+    Ok(known.push(refusal)?)
+}
+
+fn last_of<'a>(known: &Vec<Refusal<'a>>) -> Failure<'a> {
+    match known.last() {
+        Some(refusal) => Failure::Refused(*refusal),
+        None => Failure::OutOfMemory,
+    }
+}
+
+// What is compiled of a module. What is not supported is added to `known`, and left out.
+fn compilable<'a>(
+    alloc: Global,
+    externals: &Vec<External<'a>>,
+    text: &'a str,
+    only: &[&str],
+    known: &mut Vec<Refusal<'a>>,
+) -> Result<Selected<'a>, Failure<'a>> {
+    let selected = selected_module(alloc, externals, text, only, known)?;
+    let before = known.len();
+    add_counts(&selected.module, known)?;
+    add_imported(&selected.module, known)?;
+    if known.len() == before {
+        return checked(selected);
+    }
+    checked(selected_module(alloc, externals, text, only, known)?)
+}
+
+// Checks that something is left, if anything was there.
+fn checked<'a>(selected: Selected<'a>) -> Result<Selected<'a>, Failure<'a>> {
+    let is_empty = selected.module.types.is_empty() && selected.module.values.is_empty();
+    match selected.left_out.first() {
+        Some(left_out) if is_empty => Err(Failure::Unsupported(left_out.refusal)),
+        _ => Ok(selected),
+    }
+}
+
+fn compiled_of<'a>(
+    alloc: Global,
+    selected: &Selected<'a>,
+    checks: &Checks,
+    krate: &str,
+) -> Result<Compiled<'a>, Failure<'a>> {
+    let module = &selected.module;
+    let names = names_of(alloc, module)?;
+    let kept = kept_of(alloc, module, checks)?;
+    let types = types_in_order(alloc, module, &checks.order, &names, &kept)?;
+    let written = Written {
+        module,
+        names: &names,
+        types: &types,
+        kept: &kept,
+    };
+    Ok(Compiled {
+        files: files_of(alloc, &written, krate)?,
+        left_out: left_out(alloc, module)?,
+        warnings: warnings_of(alloc, &written, &selected.left_out)?,
+    })
+}
+
+fn files_of<'a>(
+    alloc: Global,
+    written: &Written<'_, 'a>,
+    krate: &str,
+) -> Result<Vec<OutputFile>, Failure<'a>> {
+    let module = written.module;
+    let pieces = written.pieces(alloc)?;
+    check_pieces(module, &pieces)?;
+    let sources = Sources::of(alloc, module, &pieces)?;
+    let mut files = vec![in alloc; library_of(alloc, &pieces)?]?;
+    add_root(alloc, &mut files, module, &pieces)?;
+    for piece in pieces.iter() {
+        files.push(file_of(alloc, module, krate, piece, &sources)?)?;
+        add_proofs(alloc, &mut files, krate, piece)?;
+    }
+    Ok(files)
+}
+
+// Checks that no two pieces have the same file, or names that are the same.
+fn check_pieces<'a>(module: &Module<'a>, pieces: &Vec<Piece>) -> Result<(), Refusal<'a>> {
+    let mut before = None;
+    for piece in pieces.iter() {
+        if before == Some(piece.file.as_str()) {
+            let expected = "types whose names in Rust differ: choose one by a comment `Rust name:`";
+            return Err(Refusal::of(module.name, expected));
+        }
+        before = Some(piece.file.as_str());
+    }
+    Ok(())
+}
+
+// Adds the files of the proofs of a piece.
+fn add_proofs(
+    alloc: Global,
+    files: &mut Vec<OutputFile>,
+    krate: &str,
+    piece: &Piece,
+) -> Result<(), AllocError> {
+    for proof in piece.proofs.iter() {
+        files.push(proof_file(alloc, krate, piece, proof)?)?;
+    }
+    Ok(())
+}
+
+// Adds the file that names all others, and that of the values if there is one.
+fn add_root(
+    alloc: Global,
+    files: &mut Vec<OutputFile>,
+    module: &Module<'_>,
+    pieces: &Vec<Piece>,
+) -> Result<(), AllocError> {
+    let name = module.name.text;
+    match values_file(alloc, module, pieces)? {
+        Some(values) => {
+            files.push(root_of(alloc, name, pieces, Some(values_name(pieces)))?)?;
+            Ok(files.push(values)?)
+        }
+        None => Ok(files.push(root_of(alloc, name, pieces, None)?)?),
+    }
+}

@@ -1,0 +1,51 @@
+//! How many components the compiler takes.
+
+use super::directive::own_type;
+use asn1_check::Module;
+use asn1_syntax::{Component, Refusal, TypeForm, TypeNode};
+use std::alloc::AllocError;
+
+/// The most fields of a SEQUENCE: the checker proves no more.
+const MOST_FIELDS: usize = 10;
+
+/// The most alternatives of a CHOICE.
+const MOST_ALTERNATIVES: usize = 25;
+
+/// Adds the refusal of each SEQUENCE and each CHOICE that has too many components, unless its type
+/// of Rust is written by hand.
+pub fn add_counts<'a>(module: &Module<'a>, found: &mut Vec<Refusal<'a>>) -> Result<(), AllocError> {
+    for (index, node) in module.nodes.iter().enumerate() {
+        if own_type(module, index).is_none()
+            && let Err(refusal) = check_node(node)
+        {
+            found.push(refusal)?;
+        }
+    }
+    Ok(())
+}
+
+fn check_node<'a>(node: &TypeNode<'a>) -> Result<(), Refusal<'a>> {
+    match &node.form {
+        TypeForm::Sequence(components) => {
+            let expected = "a SEQUENCE of 1 to 10 components: the checker proves no more";
+            check_count(node, components, MOST_FIELDS, expected)
+        }
+        TypeForm::Choice(components) => {
+            let expected = "a CHOICE of 1 to 25 alternatives";
+            check_count(node, components, MOST_ALTERNATIVES, expected)
+        }
+        _ => Ok(()),
+    }
+}
+
+fn check_count<'a>(
+    node: &TypeNode<'a>,
+    components: &Vec<Component<'a>>,
+    most: usize,
+    expected: &'static str,
+) -> Result<(), Refusal<'a>> {
+    if components.is_empty() || components.len() > most {
+        return Err(Refusal::of(node.item, expected));
+    }
+    Ok(())
+}

@@ -1,0 +1,82 @@
+//! The text of the tags that a type knows at its extension mark.
+
+use super::template::{Places, fill};
+use asn1_check::TagSet;
+use asn1_syntax::{Tag, TagClass};
+use std::alloc::{AllocError, Global};
+use std::fmt::Write;
+
+const KNOWN: &str = "/// The tags that a [`@N`] knows at its extension mark.
+#[derive(Clone, Copy, Debug, PartialEq, Eq)]
+pub struct @NKnown;
+
+impl KnownTags for @NKnown {
+    ghost known = { @G[] };
+
+    fn is_known(tag: Tag) -> bool {
+        is_among(&[@R], tag)
+    }
+}
+";
+
+/// The tags that a type with this name knows at its extension mark.
+#[derive(Clone, Copy)]
+pub struct KnownText<'t> {
+    /// The name.
+    pub name: &'t str,
+    /// The tags.
+    pub tags: &'t TagSet,
+}
+
+impl<'t> KnownText<'t> {
+    /// Adds the text.
+    pub fn push_body(&self, out: &mut String) -> Result<(), AllocError> {
+        fill(out, KNOWN, self)
+    }
+
+    // Adds classes and numbers, with something behind each but the last, and behind the last.
+    fn push_tags(&self, out: &mut String, between: &str, end: &str) -> Result<(), AllocError> {
+        for (count, tag) in self.tags.tags.iter().enumerate() {
+            if count > 0 {
+                out.push_str(between)?;
+            }
+            let (class, number) = (class_of(tag), tag.number);
+            write!(out, "({class}, {number})")?;
+        }
+        if !self.tags.tags.is_empty() {
+            out.push_str(end)?;
+        }
+        Ok(())
+    }
+}
+
+impl<'t> Places for KnownText<'t> {
+    fn push_place(&self, out: &mut String, letter: char) -> Result<(), AllocError> {
+        match letter {
+            'N' => out.push_str(self.name),
+            'G' => self.push_tags(out, " ∷ ", " ∷ "),
+            'R' => self.push_tags(out, ", ", ""),
+            _ => Ok(()),
+        }
+    }
+}
+
+// The number of the class of a tag (X.690, 8.1.2.2).
+fn class_of(tag: &Tag) -> u8 {
+    match tag.class {
+        TagClass::Universal => 0,
+        TagClass::Application => 1,
+        TagClass::ContextSpecific => 2,
+        TagClass::Private => 3,
+    }
+}
+
+/// The type of the field for the components that a SEQUENCE with this name does not name.
+pub fn additions_type(alloc: Global, name: &str) -> Result<String, AllocError> {
+    format!(in alloc; "Additions<'a, {name}Known>")
+}
+
+/// The type of the alternative for those that a CHOICE with this name does not name.
+pub fn unknown_type(alloc: Global, name: &str) -> Result<String, AllocError> {
+    format!(in alloc; "UnknownElement<'a, {name}Known>")
+}

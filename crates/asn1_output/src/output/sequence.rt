@@ -1,0 +1,343 @@
+//! The text of a SEQUENCE.
+ghost use Rattle.std.specs.Prelude.{◌<◌};
+
+use super::field::{Field, FieldPresence, Row, lifetime_of, push_checks, push_fields, push_row};
+use super::part::PartText;
+use super::template::{Items, Places, Tuples, fill, push_tuple};
+use std::alloc::{AllocError, Global};
+use std::fmt::Write;
+
+/// A SEQUENCE.
+#[derive(Drop)]
+pub struct SequenceText {
+    /// The name of the struct.
+    pub name: String,
+    /// Its lifetime, or nothing.
+    pub lifetime: &'static str,
+    /// The lines of its documentation.
+    pub doc: String,
+    /// The fields.
+    pub fields: Vec<Field>,
+}
+
+const STRUCT: &str = "@D#[derive(@K)]
+pub struct @N@L {
+@F}
+
+/// The fields of a [`@N`], in the order in which they are encoded.
+pub type @NFields@L = @T;
+
+impl@L FromFields<@Q> for @N@L {
+    ghost fields = { λ v. @V };
+
+    fn from_fields(fields: @Q) -> Self {
+        let @P = fields;
+        @N { @S }
+    }
+}
+
+impl@L Sequence for @N@L {
+    ghost meaning = { sequence @M @A };
+
+    ghost fits = { (refl, refl) };
+}
+
+";
+
+const DECODE: &str =
+    "/// Decodes the fields one after the other, with the errors of every [`Sequence`].
+impl<'a, R: Reader<Borrowed = &'a [u8]>> DecodeValue<R> for @N@L {
+    type Error = Error;
+
+    ghost decode_value_answers = { λ h s result t.
+        ⟦<@Q as Decode<SliceReader<'a>>>⟧.decode_answers s (map_ok @A result) t };
+
+    fn decode_value(alloc: Global, reader: &mut R, header: Header) -> Result<Self, Error> {
+        decode_sequence::<R, @Q, Self>(alloc, reader, header)
+    }
+}
+
+impl@L IsValue for @N@L {
+    fn is_value(&self) {
+@C    }
+}
+
+/// Writes the fields one after the other, with the errors of every [`Sequence`].
+impl@L EncodeValue for @N@L {
+    ghost value_size = { λ v. ⟦<@NFields@L as Encode>⟧.size @E };
+
+    ghost encode_value_answers = { λ v. ⟦<@NFields@L as Encode>⟧.encode_answers @E };
+
+    fn value_len(&self) -> Result<Length, Error> {
+        field_refs!(self, @R).encoded_len()
+    }
+
+    fn encode_value<W: Writer>(&self, writer: &mut W) -> Result<(), Error> {
+        field_refs!(self, @R).encode(writer)
+    }
+
+    fn value_len_before(&self) -> Option<u32> {
+        field_refs!(self, @R).len_before()
+    }
+
+    fn encode_value_before(&self, buf: &mut [u8], end: u32) -> u32 {
+        field_refs!(self, @R).encode_before(buf, end)
+    }
+}
+";
+
+/// What an item of a list needs.
+pub const ITEM: &str = "
+impl@L Item for @N@L {
+    ghost item = { sequence_item ⟦<@N@L as Described>⟧.element };
+}
+
+impl<'a, R: Reader<Borrowed = &'a [u8]>> DecodeItem<R> for @N@L {
+    ghost is_item = { sequence_is_item ⟦<@N@L as Described>⟧.element refl };
+
+    ghost decodes_items = { decodes_same (sequence_item ⟦<@N@L as Described>⟧.element) };
+}
+
+impl<'a> BorrowedItem for @N@L {
+    ghost borrowed = { refl };
+}
+
+impl@L Nestable for @N@L {
+    ghost nestable = { Prim.omega arith };
+}
+";
+
+// What a part means, and the fields that it takes from a value.
+const SEEN_PART: &str = "(seen ⟦<@N@L as FromFields<@NFields@L>>⟧.fields @M)";
+
+const ENCODED_PART: &str = "⟦<@N@L as FromFields<@NFields@L>>⟧.fields (@Q v).@J";
+
+/// The most fields of a part.
+const PART: usize = 6;
+
+/// The greatest weight of the fields of a part: with more the checker stops at its limit of steps.
+const WEIGHT: usize = 6;
+
+impl SequenceText {
+    /// A SEQUENCE with this name.
+    pub fn new(
+        alloc: Global,
+        name: &str,
+        doc: String,
+        fields: Vec<Field>,
+    ) -> Result<Self, AllocError> {
+        Ok(SequenceText {
+            name: String::from_str(alloc, name)?,
+            lifetime: lifetime_of(&fields),
+            doc,
+            fields,
+        })
+    }
+
+    /// Adds the text of the struct and of its implementations.
+    pub fn push_body(&self, out: &mut String) -> Result<(), AllocError> {
+        fill(out, STRUCT, self)?;
+        fill(out, DECODE, self)?;
+        fill(out, ITEM, self)?;
+        for field in self.fields.iter() {
+            if let Some(own) = &field.own {
+                out.push_str(own.text.as_str())?;
+            }
+        }
+        Ok(())
+    }
+
+    // What the struct derives. A field with a default of its own cannot be copied.
+    fn derived(&self) -> &'static str {
+        for field in self.fields.iter() {
+            if matches!(field.presence, FieldPresence::DefaultedTo(_)) {
+                return "Drop";
+            }
+        }
+        "Clone, Copy, Drop"
+    }
+
+    /// Whether the fields are in parts.
+    pub fn has_parts(&self) -> bool {
+        self.fields.len() > self.part_len()
+    }
+
+    /// The number of fields of each part but the last one: as many as the checker can take at once,
+    /// with at most five parts.
+    pub fn part_len(&self) -> usize
+        ensures { 0 < result }
+    {
+        for parts in 1usize..5 {
+            let len = (self.fields.len().saturating_add(parts - 1) / parts).max(1);
+            if len <= PART && are_light(&self.fields, len) {
+                return len;
+            }
+        }
+        (self.fields.len().saturating_add(4) / 5).max(1)
+    }
+
+    /// The number of parts.
+    pub fn part_count(&self) -> usize {
+        self.fields.chunks(self.part_len()).count()
+    }
+
+    /// The part with this index.
+    pub fn part(&self, index: usize) -> PartText<'_> {
+        let fields = match self.fields.chunks(self.part_len()).nth(index) {
+            Some(fields) => fields,
+            None => &[],
+        };
+        PartText {
+            of: self,
+            index,
+            fields,
+        }
+    }
+
+    // Adds what is written of each field, or of each part, as a tuple.
+    fn push_row(&self, out: &mut String, row: Row, part: &'static str) -> Result<(), AllocError> {
+        if !self.has_parts() {
+            return push_row(out, &self.fields, row);
+        }
+        let items = PartRow {
+            of: self,
+            template: part,
+            row,
+        };
+        push_tuple(out, &items, self.part_count())
+    }
+
+    // Adds the type from which the struct is made.
+    fn push_whole(&self, out: &mut String) -> Result<(), AllocError> {
+        if self.has_parts() {
+            return push_tuple(out, &WholeRow { of: self }, self.part_count());
+        }
+        let (name, lifetime) = (self.name.as_str(), self.lifetime);
+        write!(out, "{name}Fields{lifetime}")
+    }
+
+    // Adds the names of the fields, with the parts in which they are.
+    fn push_members(&self, out: &mut String) -> Result<(), AllocError> {
+        let part_len = self.part_len();
+        for (count, field) in self.fields.iter().enumerate() {
+            if count > 0 {
+                out.push_str(", ")?;
+            }
+            let (name, number) = (field.name.as_str(), count / part_len + 1);
+            if self.has_parts() {
+                write!(out, "{name}: part{number}.{name}")?;
+            } else {
+                out.push_str(name)?;
+            }
+        }
+        Ok(())
+    }
+
+    // Adds the fields, from which each part takes its own.
+    fn push_encoded(&self, out: &mut String) -> Result<(), AllocError> {
+        if self.has_parts() {
+            return self.push_row(out, Row::Types, ENCODED_PART);
+        }
+        out.push_str("(")?;
+        self.push_made(out)?;
+        out.push_str(" v)")
+    }
+
+    /// Adds what takes a value apart, as a term of a clause.
+    pub fn push_made(&self, out: &mut String) -> Result<(), AllocError> {
+        let (name, lifetime) = (self.name.as_str(), self.lifetime);
+        write!(out, "⟦<{name}{lifetime} as FromFields<")?;
+        self.push_whole(out)?;
+        out.push_str(">>⟧.fields")
+    }
+}
+
+impl Places for SequenceText {
+    fn push_place(&self, out: &mut String, letter: char) -> Result<(), AllocError> {
+        match letter {
+            'N' => out.push_str(self.name.as_str()),
+            'L' => out.push_str(self.lifetime),
+            'D' => out.push_str(self.doc.as_str()),
+            'K' => out.push_str(self.derived()),
+            'Q' => self.push_whole(out),
+            'A' => self.push_made(out),
+            'F' => push_fields(out, &self.fields, "@D    pub @N: @W,\n"),
+            'T' => self.push_row(out, Row::Types, "@NFields@L"),
+            'V' => self.push_row(out, Row::Values, "record { @V}"),
+            'P' => self.push_row(out, Row::Names, "part@I"),
+            'S' => self.push_members(out),
+            'M' => self.push_row(out, Row::Meaning, SEEN_PART),
+            'C' => push_checks(out, &self.fields),
+            'E' => self.push_encoded(out),
+            'R' => self.push_row(out, Row::Names, "@P"),
+            _ => Ok(()),
+        }
+    }
+}
+
+// The parts of a SEQUENCE, and what is written of each.
+#[derive(Clone, Copy)]
+struct PartRow<'s> {
+    of: &'s SequenceText,
+    template: &'static str,
+    row: Row,
+}
+
+impl<'s> Items for PartRow<'s> {
+    fn push_item(&self, out: &mut String, index: usize) -> Result<(), AllocError> {
+        fill(out, self.template, &self.of.part(index))
+    }
+}
+
+impl<'s> Tuples for PartRow<'s> {
+    fn open(&self, count: usize) -> &'static str {
+        self.row.open(count)
+    }
+
+    fn between(&self) -> &'static str {
+        self.row.between()
+    }
+}
+
+// The types of the parts of a SEQUENCE.
+#[derive(Clone, Copy)]
+struct WholeRow<'s> {
+    of: &'s SequenceText,
+}
+
+impl<'s> Items for WholeRow<'s> {
+    fn push_item(&self, out: &mut String, index: usize) -> Result<(), AllocError> {
+        self.of.part(index).push_type(out)
+    }
+}
+
+impl<'s> Tuples for WholeRow<'s> {
+    fn open(&self, _count: usize) -> &'static str {
+        "("
+    }
+
+    fn between(&self) -> &'static str {
+        ", "
+    }
+}
+
+// Whether no part of so many fields costs the checker too much.
+fn are_light(fields: &Vec<Field>, len: usize) -> bool
+    requires { 0 < len }
+{
+    for part in fields.chunks(len) {
+        if weight_of(part) > WEIGHT {
+            return false;
+        }
+    }
+    true
+}
+
+// What fields cost the checker.
+fn weight_of(fields: &[Field]) -> usize {
+    let mut weight = 0usize;
+    for field in fields {
+        weight = weight.saturating_add(field.weight());
+    }
+    weight
+}

@@ -1,0 +1,150 @@
+//! Where the files of a module import their types from.
+
+use super::directive::{name_of_type, own_default, own_type};
+use super::imports::push_use;
+use super::piece::Piece;
+use asn1_check::{ExternalType, Module};
+use asn1_syntax::{Component, NameIndex, TypeForm, is_line_of, push_line};
+use std::alloc::{AllocError, Global};
+
+/// Where the files of a module import their types from.
+#[derive(Drop)]
+pub struct Sources<'m> {
+    // The types that are written by hand, each on its line.
+    by_hand: String,
+    pieces: &'m Vec<Piece>,
+    // The piece of each type.
+    places: NameIndex<'m>,
+    // The crates that hold imported types.
+    crates: Vec<OtherCrate<'m>>,
+}
+
+/// A crate that holds imported types.
+#[derive(Drop)]
+struct OtherCrate<'m> {
+    name: &'m str,
+    // The names of the types, each on its line.
+    names: String,
+}
+
+impl<'m> Sources<'m> {
+    /// The sources of the files of these pieces.
+    pub fn of(
+        alloc: Global,
+        module: &'m Module<'_>,
+        pieces: &'m Vec<Piece>,
+    ) -> Result<Self, AllocError> {
+        let mut sources = Sources {
+            by_hand: types_by_hand(alloc, module)?,
+            pieces,
+            places: NameIndex::new(alloc),
+            crates: Vec::new(alloc),
+        };
+        for (place, piece) in pieces.iter().enumerate() {
+            for name in piece.names.lines() {
+                sources.places.add(name, place)?;
+            }
+        }
+        for imported in module.imported.list.iter() {
+            sources.add_imported(alloc, imported)?;
+        }
+        Ok(sources)
+    }
+
+    // Adds a type of another crate.
+    fn add_imported(
+        &mut self,
+        alloc: Global,
+        imported: &'m ExternalType<'_>,
+    ) -> Result<(), AllocError> {
+        let name = imported.krate.as_str();
+        for other in self.crates.iter_mut() {
+            if other.name == name {
+                return push_line(&mut other.names, imported.rust_name.as_str());
+            }
+        }
+        let mut names = String::new(alloc);
+        push_line(&mut names, imported.rust_name.as_str())?;
+        self.crates.push(OtherCrate { name, names })?;
+        Ok(())
+    }
+
+    /// Adds the imports of those types of other pieces, and of those written by hand, that are
+    /// among the words of a piece.
+    pub fn push_own(
+        &self,
+        alloc: Global,
+        out: &mut String,
+        piece: &Piece,
+        words: &NameIndex<'_>,
+    ) -> Result<(), AllocError> {
+        push_use(alloc, out, words, "crate", self.by_hand.as_str())?;
+        for place in self.places_of(alloc, words)?.iter() {
+            if let Some(other) = self.pieces.get(*place)
+                && other.file.as_str() != piece.file.as_str()
+            {
+                let file = other.file.as_str();
+                let path = format!(in alloc; "crate::asn1::{file}")?;
+                push_use(alloc, out, words, path.as_str(), other.names.as_str())?;
+            }
+        }
+        Ok(())
+    }
+
+    // The pieces of types that are among the words, each once, in their order.
+    fn places_of(&self, alloc: Global, words: &NameIndex<'_>) -> Result<Vec<usize>, AllocError> {
+        let mut places = Vec::new(alloc);
+        for word in words.names.iter() {
+            if let Some(place) = self.places.find(word) {
+                places.push(place)?;
+            }
+        }
+        places.sort_unstable();
+        places.dedup();
+        Ok(places)
+    }
+
+    /// Adds the imports of those types of other crates that are among the words.
+    pub fn push_imported(
+        &self,
+        alloc: Global,
+        out: &mut String,
+        words: &NameIndex<'_>,
+    ) -> Result<(), AllocError> {
+        for other in self.crates.iter() {
+            push_use(alloc, out, words, other.name, other.names.as_str())?;
+        }
+        Ok(())
+    }
+}
+
+// The types that are written by hand, each on its line.
+fn types_by_hand(alloc: Global, module: &Module<'_>) -> Result<String, AllocError> {
+    let mut names = String::new(alloc);
+    for assigned in module.types.iter() {
+        if let Some(own) = own_type(module, assigned.of) {
+            push_line(&mut names, name_of_type(own))?;
+        }
+    }
+    for node in module.nodes.iter() {
+        if let TypeForm::Sequence(components) = &node.form {
+            push_own_defaults(&mut names, components)?;
+        }
+    }
+    Ok(names)
+}
+
+// Adds the types that are written by hand and stand for the defaults of these components.
+fn push_own_defaults(
+    names: &mut String,
+    components: &Vec<Component<'_>>,
+) -> Result<(), AllocError> {
+    for component in components.iter() {
+        if let Some(default) = own_default(component.name)
+            && !is_line_of(names.as_str(), default)
+        {
+            push_line(names, default)?;
+        }
+    }
+    Ok(())
+}

@@ -1,0 +1,205 @@
+//! Tags in front of types.
+
+use super::directive::{name_of_type, own_type};
+use super::numbers::bounds;
+use asn1_check::{Module, RustKind, RustType, base_of, find_type};
+use asn1_syntax::{Tag, TagClass, TagDefault, TagPrefix, Tagging, TypeForm};
+use std::alloc::{AllocError, Global};
+
+/// The type of a tag in front of the type with the index `of`.
+pub fn tagged(
+    alloc: Global,
+    module: &Module<'_>,
+    table: &Vec<RustType>,
+    prefix: TagPrefix,
+    of: usize,
+) -> Result<RustType, AllocError> {
+    let Some(found) = table.get(of) else {
+        return RustType::new(alloc, "", RustKind::Element);
+    };
+    match found.kind {
+        RustKind::Choice => tagged_choice(alloc, found, prefix.tag),
+        RustKind::Any => wrapped(alloc, "ExplicitAny", "'a", prefix.tag),
+        RustKind::Element => {
+            let word = word_of(tagging(module, prefix.tagging));
+            wrapped(alloc, word, found.text.as_str(), prefix.tag)
+        }
+    }
+}
+
+// The type of a tag in front of a CHOICE.
+fn tagged_choice(alloc: Global, found: &RustType, tag: Tag) -> Result<RustType, AllocError> {
+    let mut inside = tagged_name(alloc, found)?;
+    if found.has_lifetime {
+        inside.push_str("<'a>")?;
+    }
+    wrapped(alloc, "Implicit", inside.as_str(), tag)
+}
+
+/// The name of the struct that stands for this CHOICE inside an explicit tag.
+pub fn tagged_name(alloc: Global, choice: &RustType) -> Result<String, AllocError> {
+    let name = name_of_type(choice.text.as_str());
+    format!(in alloc; "{name}Tagged")
+}
+
+// How a tag is put in front of a type with a tag.
+fn tagging(module: &Module<'_>, written: Option<Tagging>) -> Tagging {
+    match (written, module.tags) {
+        (Some(tagging), _) => tagging,
+        (None, TagDefault::Explicit) => Tagging::Explicit,
+        (None, TagDefault::Implicit | TagDefault::Automatic) => Tagging::Implicit,
+    }
+}
+
+fn word_of(tagging: Tagging) -> &'static str {
+    match tagging {
+        Tagging::Implicit => "Implicit",
+        Tagging::Explicit => "Explicit",
+    }
+}
+
+fn wrapped(alloc: Global, word: &str, inside: &str, tag: Tag) -> Result<RustType, AllocError> {
+    Ok(RustType::element(alloc, wrapped_text(alloc, word, inside, tag)?))
+}
+
+// The type of a tag in front of the type `inside`.
+fn wrapped_text(alloc: Global, word: &str, inside: &str, tag: Tag) -> Result<String, AllocError> {
+    let number = tag.number;
+    match tag.class {
+        TagClass::Application => format!(in alloc; "Application<{word}<{inside}, {number}>>"),
+        TagClass::Private => format!(in alloc; "Private<{word}<{inside}, {number}>>"),
+        _ => format!(in alloc; "{word}<{inside}, {number}>"),
+    }
+}
+
+/// The tag of a component that the module numbers so.
+pub fn numbered(number: usize) -> TagPrefix {
+    let tag = Tag {
+        class: TagClass::ContextSpecific,
+        number: number as u64,
+    };
+    TagPrefix { tag, tagging: None }
+}
+
+/// The type with this index, if `inside` stands behind all its tags and names; `None` if a type
+/// that is written by hand, or an imported one with a tag of its own, is among them.
+pub fn behind_tags(
+    alloc: Global,
+    module: &Module<'_>,
+    index: usize,
+    inside: String,
+) -> Result<Option<String>, AllocError> {
+    let Some(prefixes) = prefixes_at(alloc, module, index)? else {
+        return Ok(None);
+    };
+    let mut text = inside;
+    for prefix in prefixes.iter().rev() {
+        text = behind_tag(alloc, module, *prefix, text.as_str())?;
+    }
+    Ok(Some(text))
+}
+
+/// The type of this tag in front of the type of an element.
+pub fn behind_tag(
+    alloc: Global,
+    module: &Module<'_>,
+    prefix: TagPrefix,
+    inside: &str,
+) -> Result<String, AllocError> {
+    wrapped_text(
+        alloc,
+        word_of(tagging(module, prefix.tagging)),
+        inside,
+        prefix.tag,
+    )
+}
+
+// The tags of the type with this index, and of those that it names, the first one first.
+fn prefixes_at(
+    alloc: Global,
+    module: &Module<'_>,
+    index: usize,
+) -> Result<Option<Vec<TagPrefix>>, AllocError> {
+    let mut prefixes = Vec::new(alloc);
+    let mut index = index;
+    for _ in module.nodes.iter() {
+        let Some(node) = module.nodes.get(index) else {
+            return Ok(None);
+        };
+        if own_type(module, index).is_some() {
+            return Ok(None);
+        }
+        match &node.form {
+            TypeForm::Tagged(prefix, of) => {
+                prefixes.push(*prefix)?;
+                index = *of;
+            }
+            TypeForm::Reference => match find_type(module, node.item.text) {
+                Some(of) => index = of,
+                None if is_imported_plain(module, node.item.text) => return Ok(Some(prefixes)),
+                None => return Ok(None),
+            },
+            _ => return Ok(Some(prefixes)),
+        }
+    }
+    Ok(None)
+}
+
+/// Whether decoding checks the bounds of the INTEGER with this index: whether there are two that
+/// are 0 or more, and its type of Rust is written for this module.
+pub fn is_checked(module: &Module<'_>, index: usize) -> bool {
+    if bounds(module, index).is_none() {
+        return false;
+    }
+    let end = end_of(module, index);
+    match module.nodes.get(end) {
+        Some(node) => {
+            own_type(module, end).is_none() && matches!(&node.form, TypeForm::Integer(_))
+        }
+        None => false,
+    }
+}
+
+// Whether an imported type has a universal tag alone.
+fn is_imported_plain(module: &Module<'_>, name: &str) -> bool {
+    match module.imported.find(name) {
+        Some(external) => {
+            !external.tags.is_any
+                && external
+                    .tags
+                    .tags
+                    .iter()
+                    .all(|tag| tag.class == TagClass::Universal)
+        }
+        None => false,
+    }
+}
+
+/// The type behind the tags of a type.
+pub fn leaf_of(module: &Module<'_>, index: usize) -> usize {
+    let mut index = index;
+    for _ in module.nodes.iter() {
+        match module.nodes.get(index) {
+            Some(node) => match &node.form {
+                TypeForm::Tagged(_, of) => index = *of,
+                _ => return index,
+            },
+            None => return index,
+        }
+    }
+    index
+}
+
+/// The type behind the tags and the names of a type; the last name, if another crate holds what it
+/// stands for.
+pub fn end_of(module: &Module<'_>, index: usize) -> usize {
+    let mut index = index;
+    for _ in module.nodes.iter() {
+        let behind = leaf_of(module, base_of(module, index));
+        if behind == index {
+            return index;
+        }
+        index = behind;
+    }
+    index
+}

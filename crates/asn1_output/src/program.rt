@@ -1,0 +1,264 @@
+//! The program as a function of its arguments, files and an output.
+
+use crate::command::CompileCommand;
+use crate::compiled::Compiled;
+use crate::output::{OutputFile, compile, read_external};
+use anyhow::{Error, Result};
+use asn1_check::External;
+use asn1_syntax::{Failure, Position, Refusal};
+use clap::error::ErrorKind;
+use std::alloc::{AllocError, Global};
+use std::env::Args;
+use std::io::Write;
+use std::rt::Files;
+use std::{fs, io, str};
+
+const VERSION: &str = "0.2.0";
+
+/// Runs the program with the arguments `given`, of which the first one is the name of the program.
+/// Compiles the module in a file, and writes its types to the folder of a crate. What it imports is
+/// in modules of other crates, each of which may import from those before it. Prints to `errors`
+/// what is wrong, if anything is, and returns the exit status:
+///
+/// - 0 on success, or if the help or the version is printed to `out`;
+/// - 1 if a file cannot be read, if a module is refused, or if a file cannot be written. Nothing is
+///   written for a module that is refused. It is refused if nothing of it is supported, or a type that
+///   `--only` names is not;
+/// - 2 if the arguments after the program's name are not a command.
+///
+/// Fails if `given` is an error, if an allocation fails, or if writing to `out` or `errors` fails.
+pub fn run_compile<R: Files + AllocGlobal, W: Write, E: Write>(
+    rt: &R,
+    given: io::Result<Args>,
+    out: &mut W,
+    errors: &mut E,
+) -> Result<u8> {
+    let words: Vec<String> = given?.collect(rt.alloc())?;
+    let error = match CompileCommand::parse(rt.alloc(), VERSION, &words) {
+        Ok(command) => return run_command(rt, &command, errors),
+        Err(error) => error,
+    };
+    match error.kind() {
+        ErrorKind::OutOfMemory => Err(Error::from(error)),
+        ErrorKind::DisplayHelp | ErrorKind::DisplayVersion => say_error(&error, 0, out),
+        _ => say_error(&error, 2, errors),
+    }
+}
+
+// Prints why there is no command to run, and returns `status`.
+fn say_error<W: Write>(error: &clap::Error, status: u8, out: &mut W) -> Result<u8> {
+    write!(out, "{error}")?;
+    out.flush()?;
+    Ok(status)
+}
+
+// Reads the modules of other crates, and that in the file.
+fn run_command<R: Files + AllocGlobal, W: Write>(
+    rt: &R,
+    command: &CompileCommand<'_>,
+    out: &mut W,
+) -> Result<u8> {
+    let mut texts = Vec::new(rt.alloc());
+    for with in command.with.iter() {
+        match read_text(rt, with.file) {
+            Ok(text) => texts.push(text)?,
+            Err(error) => return say_file(with.file, &error, out),
+        }
+    }
+    match read_text(rt, command.file) {
+        Ok(text) => run_with(rt, command, &texts, text.as_str(), out),
+        Err(error) => say_file(command.file, &error, out),
+    }
+}
+
+// Prints that a file or a folder cannot be read or written, and why.
+fn say_file<W: Write>(path: &str, error: &io::Error, out: &mut W) -> Result<u8> {
+    write!(out, "error: {path}: {error}\n")?;
+    out.flush()?;
+    Ok(1)
+}
+
+// The text in a file.
+fn read_text<R: Files + AllocGlobal>(rt: &R, path: &str) -> io::Result<String> {
+    let octets = fs::read(rt, path)?;
+    match str::from_utf8(octets.as_slice()) {
+        Ok(text) => Ok(String::from_str(rt.alloc(), text)?),
+        Err(_) => Ok(latin_text(rt.alloc(), &octets)?),
+    }
+}
+
+// Octets as characters of ISO 8859-1, which old modules have in comments.
+fn latin_text(alloc: Global, octets: &Vec<u8>) -> Result<String, AllocError> {
+    let mut text = String::new(alloc);
+    for octet in octets.iter() {
+        text.push(char::from(*octet))?;
+    }
+    Ok(text)
+}
+
+fn run_with<'t, R: Files + AllocGlobal, W: Write>(
+    rt: &R,
+    command: &CompileCommand<'_>,
+    others: &'t Vec<String>,
+    text: &'t str,
+    out: &mut W,
+) -> Result<u8> {
+    let mut externals: Vec<External<'t>> = Vec::new(rt.alloc());
+    for (with, other) in command.with.iter().zip(others.iter()) {
+        let other = other.as_str();
+        if let Err(failure) = add_external(rt.alloc(), &mut externals, other, with.krate) {
+            return say_failure(rt, &failure, with.file, other, out);
+        }
+    }
+    run_compiler(rt, command, &externals, text, out)
+}
+
+/// Reads a module that the crate `krate` holds, and adds it to those in front of it.
+fn add_external<'t>(
+    alloc: Global,
+    externals: &mut Vec<External<'t>>,
+    text: &'t str,
+    krate: &str,
+) -> Result<(), Failure<'t>> {
+    let external = read_external(alloc, externals, text, krate)?;
+    externals.push(external)?;
+    Ok(())
+}
+
+/// Compiles the module with this text, and writes its files.
+fn run_compiler<'t, R: Files + AllocGlobal, W: Write>(
+    rt: &R,
+    command: &CompileCommand<'_>,
+    externals: &Vec<External<'t>>,
+    text: &'t str,
+    out: &mut W,
+) -> Result<u8> {
+    match compile(
+        rt.alloc(),
+        externals,
+        text,
+        command.crate_name(),
+        command.only.as_slice(),
+    ) {
+        Ok(compiled) => write_compiled(rt, command, &compiled, text, out),
+        Err(failure) => say_failure(rt, &failure, command.file, text, out),
+    }
+}
+
+fn write_compiled<R: Files + AllocGlobal, W: Write>(
+    rt: &R,
+    command: &CompileCommand<'_>,
+    compiled: &Compiled<'_>,
+    text: &str,
+    out: &mut W,
+) -> Result<u8> {
+    match write_files(rt, command.out, &compiled.files) {
+        Ok(()) => {
+            let warnings = warnings_of(rt.alloc(), compiled, command.file, text)?;
+            say(warnings.as_str(), 0, out)
+        }
+        Err(error) => say_file(command.out, &error, out),
+    }
+}
+
+/// The lines of all warnings.
+fn warnings_of(
+    alloc: Global,
+    compiled: &Compiled<'_>,
+    name: &str,
+    text: &str,
+) -> Result<String, AllocError> {
+    let mut lines = left_out_of(alloc, compiled, name, text)?;
+    let mut offset = 0usize;
+    let mut position = Position::of(text.as_bytes(), offset);
+    for warning in compiled.warnings.iter() {
+        let between = text.as_bytes().get(offset..warning.offset).unwrap_or(&[]);
+        position = position.behind(between);
+        offset = warning.offset;
+        lines.push_str(warning.line(alloc, name, position)?.as_str())?;
+    }
+    Ok(lines)
+}
+
+// A line for each alternative that is left out.
+fn left_out_of(
+    alloc: Global,
+    compiled: &Compiled<'_>,
+    name: &str,
+    text: &str,
+) -> Result<String, AllocError> {
+    let mut lines = String::new(alloc);
+    for left_out in compiled.left_out.iter() {
+        let expected = "a type that the library knows; this alternative is left out";
+        let line = Refusal::of(*left_out, expected).line(alloc, name, text)?;
+        lines.push_str("warning: ")?;
+        lines.push_str(line.as_str())?;
+    }
+    Ok(lines)
+}
+
+/// Prints why the module in the file `name` is refused.
+fn say_failure<R: AllocGlobal, W: Write>(
+    rt: &R,
+    failure: &Failure<'_>,
+    name: &str,
+    text: &str,
+    out: &mut W,
+) -> Result<u8> {
+    match failure {
+        Failure::Refused(refusal) | Failure::Unsupported(refusal) => {
+            let line = refusal.line(rt.alloc(), name, text)?;
+            say(line.as_str(), 1, out)
+        }
+        Failure::OutOfMemory => Err(Error::from(AllocError)),
+    }
+}
+
+/// Writes the files beneath the folder of a crate. Its folders `src/asn1` and `specs/asn1` have no
+/// other files afterwards. Other files of `proofs/asn1` stay, since proofs of a person's own methods
+/// of compiled types are there. The file `src/lib.rt` is written only if there is none.
+fn write_files<R: Files + AllocGlobal>(
+    rt: &R,
+    folder: &str,
+    files: &Vec<OutputFile>,
+) -> io::Result<()> {
+    let has_library = has_library(rt, folder)?;
+    remove_own(rt, folder, "src")?;
+    remove_own(rt, folder, "specs")?;
+    for file in files.iter() {
+        if file.path.as_str() != "src/lib.rt" || !has_library {
+            write_file(rt, folder, file)?;
+        }
+    }
+    Ok(())
+}
+
+fn has_library<R: Files + AllocGlobal>(rt: &R, folder: &str) -> io::Result<bool> {
+    let library = format!(in rt.alloc(); "{folder}/src/lib.rt")?;
+    fs::exists(rt, library.as_str())
+}
+
+/// Removes what the compiler owns in this part of a crate, if it is there.
+fn remove_own<R: Files + AllocGlobal>(rt: &R, folder: &str, part: &str) -> io::Result<()> {
+    let own = format!(in rt.alloc(); "{folder}/{part}/asn1")?;
+    if fs::exists(rt, own.as_str())? {
+        return fs::remove_dir_all(rt, own.as_str());
+    }
+    Ok(())
+}
+
+fn write_file<R: Files + AllocGlobal>(rt: &R, folder: &str, file: &OutputFile) -> io::Result<()> {
+    let beneath = file.path.as_str();
+    let path = format!(in rt.alloc(); "{folder}/{beneath}")?;
+    if let Some((parent, _)) = path.as_str().rsplit_once('/') {
+        fs::create_dir_all(rt, parent)?;
+    }
+    fs::write(rt, path.as_str(), file.text.as_str())
+}
+
+// Prints `text` to `out`, and returns `status`.
+fn say<W: Write>(text: &str, status: u8, out: &mut W) -> Result<u8> {
+    out.write_all(text.as_bytes())?;
+    out.flush()?;
+    Ok(status)
+}

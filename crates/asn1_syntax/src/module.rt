@@ -1,0 +1,80 @@
+//! Modules.
+
+use crate::item::Item;
+use crate::left_out::LeftOut;
+use crate::module_index::ModuleIndex;
+use crate::tagging::TagDefault;
+use crate::type_node::TypeNode;
+use crate::value::Value;
+use crate::warning::Warning;
+use std::alloc::{AllocError, Global};
+
+/// A module as it is written: what its names stand for is not looked up.
+#[derive(Drop)]
+pub struct ParsedModule<'a> {
+    /// The name.
+    pub name: Item<'a>,
+    /// What it says of its tags.
+    pub tags: TagDefault,
+    /// The names that it imports.
+    pub imports: Vec<Import<'a>>,
+    /// The names that it exports.
+    pub exports: Vec<Item<'a>>,
+    /// The types that it names, in their order.
+    pub types: Vec<TypeAssignment<'a>>,
+    /// The values that it names, in their order.
+    pub values: Vec<ValueAssignment<'a>>,
+    /// All types of the module, also those without a name.
+    pub nodes: Vec<TypeNode<'a>>,
+    /// Where it has what it names.
+    pub index: ModuleIndex<'a>,
+    /// The assignments that have a form which is not supported.
+    pub left_out: Vec<LeftOut<'a>>,
+    /// What the parser warns of.
+    pub warnings: Vec<Warning<'a>>,
+}
+
+impl<'a> ParsedModule<'a> {
+    /// Looks up where the module has what it names.
+    pub fn look_up_names(&mut self, alloc: Global) -> Result<(), AllocError> {
+        let mut index = ModuleIndex::new(alloc);
+        index.add_types(&self.types, self.nodes.len())?;
+        index.add_values(&self.values)?;
+        index.add_imports(&self.imports)?;
+        self.index = index;
+        Ok(())
+    }
+}
+
+/// A name that is imported.
+#[derive(Clone, Copy, Debug)]
+pub struct Import<'a> {
+    /// The name.
+    pub name: Item<'a>,
+    /// The name of the module that defines it.
+    pub module: Item<'a>,
+}
+
+/// A type with a name.
+#[derive(Clone, Copy, Debug)]
+pub struct TypeAssignment<'a> {
+    /// The name, with the comments in front of it.
+    pub name: Item<'a>,
+    /// The index of the type.
+    pub of: usize,
+    /// The index of the first one of the types that it is made of.
+    pub first: usize,
+}
+
+/// A value with a name.
+#[derive(Drop)]
+pub struct ValueAssignment<'a> {
+    /// The name, with the comments in front of it.
+    pub name: Item<'a>,
+    /// The index of the type.
+    pub of: usize,
+    /// The index of the first one of the types that this is made of.
+    pub first: usize,
+    /// The value.
+    pub value: Value<'a>,
+}

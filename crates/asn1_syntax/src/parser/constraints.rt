@@ -1,0 +1,132 @@
+//! Constraints.
+
+use super::{Parser, refused};
+use crate::constraint::Constraint;
+use crate::failure::Failure;
+use crate::item::Item;
+use crate::item_kind::ItemKind;
+use crate::range::Range;
+
+impl<'a> Parser<'a> {
+    /// Parses a constraint without a type in it, up to the parenthesis behind it. One that is no
+    /// range and no size is not read.
+    pub(super) fn constraint(&mut self) -> Result<Constraint<'a>, Failure<'a>> {
+        let item = self.peek();
+        if !self.begins_range() {
+            return self.unread(item);
+        }
+        let constraint = if self.takes("SIZE") {
+            self.size()?
+        } else {
+            Constraint::Range(self.range()?)
+        };
+        if self.is_set_operator() {
+            return self.unread(item);
+        }
+        Ok(constraint)
+    }
+
+    /// Parses the size behind the word SIZE.
+    pub(super) fn size(&mut self) -> Result<Constraint<'a>, Failure<'a>> {
+        let item = self.peek();
+        self.expect("(")?;
+        let size = if self.begins_range() {
+            Constraint::Size(self.range()?)
+        } else {
+            Constraint::Unread(item)
+        };
+        if self.is_set_operator() || matches!(size, Constraint::Unread(_)) {
+            self.to_end()?;
+            self.expect(")")?;
+            return Ok(Constraint::Unread(item));
+        }
+        self.expect(")")?;
+        Ok(size)
+    }
+
+    // Whether a range, a single number or name, or a size begins here.
+    fn begins_range(&self) -> bool {
+        let item = self.peek();
+        match item.kind {
+            ItemKind::UpperName => item.is("SIZE") || item.is("MIN") || item.is("MAX"),
+            ItemKind::LowerName => true,
+            ItemKind::BinaryString | ItemKind::HexString | ItemKind::CharacterString => false,
+            ItemKind::Number => !self.peek_second().is("."),
+            _ => !item.is("{") && !item.is("(") && !item.is("-") || self.is_negative(),
+        }
+    }
+
+    // Whether a whole number below 0 begins here.
+    fn is_negative(&self) -> bool {
+        self.peek().is("-") && !self.item_at(self.at.saturating_add(2)).is(".")
+    }
+
+    // Whether what stands here combines the constraint in front with another one (X.680, 50.1).
+    fn is_set_operator(&self) -> bool {
+        let item = self.peek();
+        item.is("|")
+            || item.is("^")
+            || item.is("UNION")
+            || item.is("INTERSECTION")
+            || item.is("EXCEPT")
+            || item.is("<")
+            || item.is(":")
+            || (item.is(",") && self.is_open_end())
+            || item.is("!")
+    }
+
+    // Whether more than the end stands behind a comma and an extension mark.
+    fn is_open_end(&self) -> bool {
+        self.peek_second().is("...") && !self.item_at(self.at.saturating_add(2)).is(")")
+    }
+
+    // Moves to the parenthesis behind the constraint that begins with an item.
+    fn unread(&mut self, item: Item<'a>) -> Result<Constraint<'a>, Failure<'a>> {
+        self.to_end()?;
+        Ok(Constraint::Unread(item))
+    }
+
+    // Moves to the next parenthesis or brace that closes none of those from here on.
+    fn to_end(&mut self) -> Result<(), Failure<'a>> {
+        let mut depth = 0u64;
+        for _ in 0..self.items.len() {
+            let item = self.peek();
+            if item.kind == ItemKind::End {
+                break;
+            }
+            if item.is("(") || item.is("{") {
+                depth = depth.saturating_add(1);
+            } else if item.is(")") || item.is("}") {
+                if depth == 0 {
+                    return Ok(());
+                }
+                depth = depth.saturating_sub(1);
+            }
+            self.at = self.at.saturating_add(1);
+        }
+        Err(refused(self.peek(), ")"))
+    }
+
+    // Parses a range, or a single value, and an extension mark behind it.
+    fn range(&mut self) -> Result<Range<'a>, Failure<'a>> {
+        let item = self.peek();
+        let low = self.endpoint()?;
+        let high = if self.takes("..") {
+            self.endpoint()?
+        } else {
+            low
+        };
+        let is_extensible = self.peek().is(",")
+            && self.peek_second().is("...")
+            && !self.is_open_end();
+        if is_extensible {
+            self.at = self.at.saturating_add(2);
+        }
+        Ok(Range {
+            item,
+            low,
+            high,
+            is_extensible,
+        })
+    }
+}

@@ -1,0 +1,155 @@
+//! The header of a module, and what it exports and imports.
+
+use super::{Parser, refused};
+use crate::failure::Failure;
+use crate::item::Item;
+use crate::item_kind::ItemKind;
+use crate::module::{Import, ParsedModule};
+use crate::module_index::ModuleIndex;
+use crate::tagging::TagDefault;
+
+const NO_MARKS: &str = "types get no extension marks: what they do not name is refused";
+
+impl<'a> Parser<'a> {
+    /// Parses up to the first assignment: a module without types and values.
+    pub(super) fn head(&mut self) -> Result<ParsedModule<'a>, Failure<'a>> {
+        let (name, tags) = self.header()?;
+        let exports = self.exports()?;
+        let imports = self.imports()?;
+        Ok(ParsedModule {
+            name,
+            tags,
+            imports,
+            exports,
+            types: Vec::new(self.alloc),
+            values: Vec::new(self.alloc),
+            nodes: Vec::new(self.alloc),
+            left_out: Vec::new(self.alloc),
+            index: ModuleIndex::new(self.alloc),
+            warnings: Vec::new(self.alloc),
+        })
+    }
+
+    // Parses up to `BEGIN`: the name of the module, and what it says of its tags.
+    fn header(&mut self) -> Result<(Item<'a>, TagDefault), Failure<'a>> {
+        let name = self.module_name()?;
+        self.expect("DEFINITIONS")?;
+        let tags = self.tag_default()?;
+        if self.peek().is("EXTENSIBILITY") {
+            self.mark(NO_MARKS)?;
+            self.expect("IMPLIED")?;
+        }
+        self.expect("::=")?;
+        self.expect("BEGIN")?;
+        Ok((name, tags))
+    }
+
+    fn tag_default(&mut self) -> Result<TagDefault, Failure<'a>> {
+        let tags = if self.takes("EXPLICIT") {
+            TagDefault::Explicit
+        } else if self.takes("IMPLICIT") {
+            TagDefault::Implicit
+        } else if self.takes("AUTOMATIC") {
+            TagDefault::Automatic
+        } else {
+            return Ok(TagDefault::Explicit);
+        };
+        self.expect("TAGS")?;
+        Ok(tags)
+    }
+
+    // Parses `EXPORTS`, and returns the names behind it.
+    fn exports(&mut self) -> Result<Vec<Item<'a>>, Failure<'a>> {
+        let mut names = Vec::new(self.alloc);
+        if !self.takes("EXPORTS") {
+            return Ok(names);
+        }
+        for _ in 0..self.items.len() {
+            if self.takes(";") {
+                return Ok(names);
+            }
+            let item = self.next();
+            match item.kind {
+                ItemKind::UpperName if item.text == "ALL" => {}
+                ItemKind::UpperName | ItemKind::LowerName => names.push(item)?,
+                _ if item.is(",") => {}
+                _ if item.is("{") && self.takes("}") => {}
+                _ => return Err(refused(item, "a name, a comma or ;")),
+            }
+        }
+        Err(refused(self.peek(), ";"))
+    }
+
+    // Parses `IMPORTS`.
+    fn imports(&mut self) -> Result<Vec<Import<'a>>, Failure<'a>> {
+        let mut imports = Vec::new(self.alloc);
+        if !self.takes("IMPORTS") {
+            return Ok(imports);
+        }
+        for _ in 0..self.items.len() {
+            if self.takes(";") {
+                return Ok(imports);
+            }
+            self.imports_of_module(&mut imports)?;
+        }
+        Err(refused(self.peek(), ";"))
+    }
+
+    fn imported_names(&mut self) -> Result<Vec<Item<'a>>, Failure<'a>> {
+        let mut names = Vec::new(self.alloc);
+        for _ in 0..self.items.len() {
+            let name = self.next();
+            match name.kind {
+                ItemKind::UpperName | ItemKind::LowerName => names.push(name)?,
+                _ => return Err(refused(name, "a name that is imported")),
+            }
+            self.empty_braces()?;
+            if !self.takes(",") {
+                break;
+            }
+        }
+        Ok(names)
+    }
+
+    // Moves past the braces behind a name with parameters (X.680, 13.1).
+    fn empty_braces(&mut self) -> Result<(), Failure<'a>> {
+        if self.takes("{") {
+            self.expect("}")?;
+        }
+        Ok(())
+    }
+
+    // Parses the name of a module, and moves past the OBJECT IDENTIFIER behind it.
+    fn module_name(&mut self) -> Result<Item<'a>, Failure<'a>> {
+        let name = self.expect_kind(ItemKind::UpperName, "the name of a module")?;
+        if self.peek().is("{") {
+            self.braces()?;
+        }
+        Ok(name)
+    }
+
+    // Whether the name at this place is one that is imported from the next module.
+    fn begins_import(&self) -> bool {
+        self.peek_second().is(",") || self.peek_second().is("FROM")
+    }
+
+    // Parses the names that one module defines, and its name.
+    fn imports_of_module(&mut self, imports: &mut Vec<Import<'a>>) -> Result<(), Failure<'a>> {
+        let names = self.imported_names()?;
+        self.expect("FROM")?;
+        let module = self.module_name()?;
+        if self.peek().kind == ItemKind::LowerName && !self.begins_import() {
+            self.at = self.at.saturating_add(1);
+        }
+        if self.takes("WITH") {
+            self.next();
+        }
+        for name in names.iter() {
+            imports.push(Import {
+                name: *name,
+                module,
+            })?;
+        }
+        Ok(())
+    }
+}

@@ -1,0 +1,66 @@
+//! Extension marks, versions and commas between components.
+
+use super::{Parser, refused};
+use crate::failure::Failure;
+use crate::item::Item;
+use crate::item_kind::ItemKind;
+
+const VERSION: &str = "that these components come together is not checked";
+
+impl<'a> Parser<'a> {
+    /// Moves past an extension mark behind so many others, and returns it. A CHOICE has an alternative
+    /// in front of its first one.
+    pub(super) fn component_mark(
+        &mut self,
+        marks: usize,
+        is_choice: bool,
+        is_first: bool,
+    ) -> Result<Item<'a>, Failure<'a>> {
+        match (marks, is_choice) {
+            (0, true) if is_first => Err(refused(
+                self.peek(),
+                "an alternative in front of the extension mark",
+            )),
+            (0 | 1, _) => Ok(self.next()),
+            _ => Err(refused(self.peek(), "at most two extension marks")),
+        }
+    }
+
+    /// Moves past the comma behind a component, unless the components end there.
+    pub(super) fn component_end(&mut self) -> Result<(), Failure<'a>> {
+        if self.ends_version() {
+            return match self.versions {
+                0 => Ok(()),
+                _ => Err(refused(self.peek(), "]]")),
+            };
+        }
+        self.expect(",")?;
+        if self.peek().is("}") {
+            return Err(refused(self.peek(), "a component behind the comma"));
+        }
+        Ok(())
+    }
+
+    /// Moves past `[[`, with the number of a version if one stands behind it, where additions stand
+    /// and no brackets are open; whether it stands here (X.680, 25.1). What these brackets are around
+    /// is read like other additions.
+    pub(super) fn takes_version(&mut self, are_additions: bool) -> Result<bool, Failure<'a>> {
+        if !self.peek().is("[[") || !are_additions || self.versions > 0 {
+            return Ok(false);
+        }
+        self.mark(VERSION)?;
+        if self.peek().kind == ItemKind::Number && self.peek_second().is(":") {
+            self.at = self.at.saturating_add(2);
+        }
+        self.versions = 1;
+        Ok(true)
+    }
+
+    // Moves past `]]` if brackets are open; whether `}` stands here then.
+    fn ends_version(&mut self) -> bool {
+        if self.versions > 0 && self.takes("]]") {
+            self.versions = 0;
+        }
+        self.peek().is("}")
+    }
+}

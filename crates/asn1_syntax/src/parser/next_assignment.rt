@@ -1,0 +1,135 @@
+//! Where an assignment begins.
+
+use super::Parser;
+use crate::item::Item;
+use crate::item_kind::ItemKind;
+use crate::reserved::is_reserved;
+use crate::simple_type::SimpleType;
+
+impl<'a> Parser<'a> {
+    /// Moves from an assignment that is not supported, which begins at this index, to the one behind
+    /// it, or to the end of the module.
+    pub(super) fn to_next_assignment(&mut self, start: usize) {
+        let own = self.assign_from(start.saturating_add(1));
+        let from = if self.item_at(own.saturating_sub(1)).is("MACRO") {
+            self.end_of_macro(own)
+        } else {
+            own.saturating_add(1)
+        };
+        let next = self.assign_from(from);
+        self.at = if self.item_at(next).is("::=") {
+            self.name_before(next, from)
+        } else {
+            next
+        };
+    }
+
+    /// Whether a type, and a set of its values behind `::=`, stand here.
+    pub(super) fn is_set_assignment(&self) -> bool {
+        let assign = self.assign_from(self.at);
+        !self.peek().is("::=")
+            && self.item_at(assign.saturating_add(1)).is("{")
+            && self.name_before(assign, self.at.saturating_sub(1)) < self.at
+    }
+
+    // The index behind the END of a macro whose `::=` has this index.
+    fn end_of_macro(&self, assign: usize) -> usize {
+        for at in assign..self.items.len() {
+            if self.item_at(at).is("END") {
+                return at.saturating_add(1);
+            }
+        }
+        assign
+    }
+
+    // The index of the first `::=` from this index on that no braces or brackets are around; of END
+    // or the end of the text, if that comes first.
+    fn assign_from(&self, from: usize) -> usize {
+        let mut depth = 0u64;
+        for at in from..self.items.len() {
+            let item = self.item_at(at);
+            if opens(item) {
+                depth = depth.saturating_add(1);
+            } else if closes(item) {
+                depth = depth.saturating_sub(1);
+            } else if depth == 0 && (item.is("::=") || item.is("END")) {
+                return at;
+            }
+        }
+        self.items.len().saturating_sub(1)
+    }
+
+    // The index of the name of the assignment whose `::=` has the index `assign`; not below `least`.
+    fn name_before(&self, assign: usize, least: usize) -> usize {
+        let is_type = self.begins_type(assign.saturating_add(1));
+        let mut at = assign;
+        for _ in least..assign {
+            if at <= least {
+                break;
+            }
+            at = self.group_before(at, least);
+            if self.is_name(at) && (is_type || self.is_behind_name(at, least)) {
+                return if is_type { at } else { at.saturating_sub(1) };
+            }
+            if self.item_at(at).kind == ItemKind::LowerName && !self.is_field(at) {
+                return at;
+            }
+        }
+        at
+    }
+
+    // The index of the item in front of this one, or of the first item of the braces that end there.
+    fn group_before(&self, at: usize, least: usize) -> usize {
+        let mut depth = 0u64;
+        let mut at = at;
+        for _ in least..at {
+            at = at.saturating_sub(1);
+            if closes(self.item_at(at)) {
+                depth = depth.saturating_add(1);
+            } else if opens(self.item_at(at)) {
+                depth = depth.saturating_sub(1);
+            }
+            if depth == 0 {
+                break;
+            }
+        }
+        at
+    }
+
+    // Whether a type and no value begins at this index.
+    fn begins_type(&self, at: usize) -> bool {
+        let item = self.item_at(at);
+        match item.kind {
+            ItemKind::UpperName => !item.is("TRUE") && !item.is("FALSE"),
+            _ => item.is("["),
+        }
+    }
+
+    // Whether the item with this index is a name that a module gives to a type, a class or a set.
+    fn is_name(&self, at: usize) -> bool {
+        let item = self.item_at(at);
+        item.kind == ItemKind::UpperName
+            && !is_reserved(item.text)
+            && SimpleType::of(item.text).is_none()
+            && !self.is_field(at)
+    }
+
+    // Whether the item in front of this one is the name of a set.
+    fn is_behind_name(&self, at: usize, least: usize) -> bool {
+        at > least && self.is_name(at.saturating_sub(1))
+    }
+
+    // Whether the item with this index is the name of a field of a class.
+    fn is_field(&self, at: usize) -> bool {
+        let before = self.item_at(at.saturating_sub(1));
+        at > 0 && (before.is("&") || before.is("."))
+    }
+}
+
+fn opens(item: Item<'_>) -> bool {
+    item.is("{") || item.is("(") || item.is("[") || item.is("[[")
+}
+
+fn closes(item: Item<'_>) -> bool {
+    item.is("}") || item.is(")") || item.is("]") || item.is("]]")
+}

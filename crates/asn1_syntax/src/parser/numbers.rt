@@ -1,0 +1,100 @@
+//! Numbers, and names of numbers.
+
+use super::{Parser, refused};
+use crate::endpoint::Endpoint;
+use crate::failure::Failure;
+use crate::item::Item;
+use crate::item_kind::ItemKind;
+use crate::named_number::NamedNumber;
+use crate::type_node::Mark;
+
+const TOO_LARGE: &str = "a number below 18446744073709551616";
+
+impl<'a> Parser<'a> {
+    /// Parses a number without a sign.
+    pub(super) fn number(&mut self) -> Result<u64, Failure<'a>> {
+        let item = self.expect_kind(ItemKind::Number, "a number")?;
+        match item.text.parse::<u64>() {
+            Ok(number) => Ok(number),
+            Err(_) => Err(refused(item, TOO_LARGE)),
+        }
+    }
+
+    /// Parses an end of a range, or a number that may have a name.
+    pub(super) fn endpoint(&mut self) -> Result<Endpoint<'a>, Failure<'a>> {
+        if self.takes("MIN") {
+            return Ok(Endpoint::Min);
+        }
+        if self.takes("MAX") {
+            return Ok(Endpoint::Max);
+        }
+        if self.takes("-") {
+            return Ok(Endpoint::Negative(self.number()?));
+        }
+        let item = self.peek();
+        if item.kind == ItemKind::LowerName {
+            self.at = self.at.saturating_add(1);
+            return Ok(Endpoint::Name(item));
+        }
+        if item.kind != ItemKind::Number {
+            return Err(refused(item, "a number, or the name of one"));
+        }
+        Ok(Endpoint::Number(self.number()?))
+    }
+
+    /// Parses names with numbers in braces: named numbers or named bits.
+    pub(super) fn named_numbers(&mut self) -> Result<Vec<NamedNumber<'a>>, Failure<'a>> {
+        self.expect("{")?;
+        let mut numbers = Vec::new(self.alloc);
+        for _ in 0..self.items.len() {
+            numbers.push(self.named_number(false)?)?;
+            if !self.takes(",") {
+                break;
+            }
+        }
+        self.expect("}")?;
+        Ok(numbers)
+    }
+
+    /// Parses the items of an ENUMERATED in braces, with its extension mark if it has one.
+    pub(super) fn enumeration_items(
+        &mut self,
+        mark: &mut Option<Mark<'a>>,
+    ) -> Result<Vec<NamedNumber<'a>>, Failure<'a>> {
+        self.expect("{")?;
+        let mut items = Vec::new(self.alloc);
+        for _ in 0..self.items.len() {
+            if self.peek().is("...") && mark.is_none() && !items.is_empty() {
+                *mark = Some(Mark {
+                    item: self.next(),
+                    insertion: 0,
+                });
+            } else {
+                items.push(self.named_number(mark.is_some())?)?;
+            }
+            if !self.takes(",") {
+                break;
+            }
+        }
+        self.expect("}")?;
+        Ok(items)
+    }
+
+    fn named_number(&mut self, is_addition: bool) -> Result<NamedNumber<'a>, Failure<'a>> {
+        let name = self.expect_kind(ItemKind::LowerName, "the name of a number")?;
+        if !self.takes("(") {
+            return Ok(NamedNumber {
+                name,
+                number: None,
+                is_addition,
+            });
+        }
+        let number = self.endpoint()?;
+        self.expect(")")?;
+        Ok(NamedNumber {
+            name,
+            number: Some(number),
+            is_addition,
+        })
+    }
+}

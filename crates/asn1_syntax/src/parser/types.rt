@@ -1,0 +1,358 @@
+//! Types.
+
+use super::{Parser, refused, unsupported};
+use crate::component::{Component, Presence};
+use crate::constraint::Constraint;
+use crate::failure::Failure;
+use crate::item::Item;
+use crate::item_kind::ItemKind;
+use crate::reserved::is_reserved;
+use crate::simple_type::SimpleType;
+use crate::tag::{Tag, TagPrefix};
+use crate::tag_class::TagClass;
+use crate::tagging::Tagging;
+use crate::type_node::{Mark, TypeForm, TypeNode};
+
+impl<'a> Parser<'a> {
+    /// Parses a type in which types may stand at so many levels, and returns its index.
+    #[cycle(types)]
+    pub(super) fn type_at(&mut self, depth: u32) -> Result<usize, Failure<'a>> {
+        let item = self.next();
+        if depth == 0 {
+            return Err(refused(item, "at most 64 types around a type"));
+        }
+        let mut constraints = Vec::new(self.alloc);
+        let mut mark = None;
+        let form = self.form(item, &mut constraints, &mut mark, depth - 1)?;
+        self.constraint_behind(&mut constraints, depth - 1)?;
+        self.add(TypeNode {
+            item,
+            form,
+            constraints,
+            mark,
+        })
+    }
+
+    // Parses how a type is made. The size of a list, which stands in front of its items, goes to
+    // `constraints`, and the extension mark to `mark`.
+    #[cycle(types)]
+    fn form(
+        &mut self,
+        item: Item<'a>,
+        constraints: &mut Vec<Constraint<'a>>,
+        mark: &mut Option<Mark<'a>>,
+        depth: u32,
+    ) -> Result<TypeForm<'a>, Failure<'a>> {
+        if item.is("[") {
+            let prefix = self.tag_prefix()?;
+            return Ok(TypeForm::Tagged(prefix, self.type_at(depth)?));
+        }
+        if item.is("CHOICE") {
+            return Ok(TypeForm::Choice(self.components(true, mark, depth)?));
+        }
+        if item.is("SET") {
+            return Ok(TypeForm::SetOf(self.list_of(constraints, depth)?));
+        }
+        if !item.is("SEQUENCE") {
+            return self.leaf(item, mark);
+        }
+        if self.takes_unread() {
+            return Ok(TypeForm::Simple(SimpleType::Unread));
+        }
+        if self.peek().is("{") {
+            return Ok(TypeForm::Sequence(self.components(false, mark, depth)?));
+        }
+        Ok(TypeForm::SequenceOf(self.list_of(constraints, depth)?))
+    }
+
+    // Whether `{ ... }` stands here: a SEQUENCE of which no component is known. If so, moves past it.
+    fn takes_unread(&mut self) -> bool {
+        let is_unread = self.peek().is("{")
+            && self.peek_second().is("...")
+            && self.item_at(self.at.saturating_add(2)).is("}");
+        if is_unread {
+            self.at = self.at.saturating_add(3);
+        }
+        is_unread
+    }
+
+    // Parses what follows `SEQUENCE` or `SET` of a list: a size, `OF`, and the type of the items.
+    #[cycle(types)]
+    fn list_of(
+        &mut self,
+        constraints: &mut Vec<Constraint<'a>>,
+        depth: u32,
+    ) -> Result<usize, Failure<'a>> {
+        if let Some(size) = self.list_size()? {
+            constraints.push(size)?;
+        }
+        self.expect("OF")?;
+        if self.peek().kind == ItemKind::LowerName {
+            self.at = self.at.saturating_add(1);
+        }
+        self.type_at(depth)
+    }
+
+    // Parses the size of a list, if there is one.
+    fn list_size(&mut self) -> Result<Option<Constraint<'a>>, Failure<'a>> {
+        if self.peek().is("{") {
+            return Err(unsupported(self.peek(), "OF (a SET with components is not supported)"));
+        }
+        if self.peek().is("SIZE") {
+            return Ok(Some(self.constraint()?));
+        }
+        if !self.takes("(") {
+            return Ok(None);
+        }
+        let size = self.constraint()?;
+        self.expect(")")?;
+        Ok(Some(size))
+    }
+
+    // Parses components or alternatives in braces.
+    #[cycle(types)]
+    fn components(
+        &mut self,
+        is_choice: bool,
+        mark: &mut Option<Mark<'a>>,
+        depth: u32,
+    ) -> Result<Vec<Component<'a>>, Failure<'a>> {
+        self.expect("{")?;
+        let start = self.defined_by.len();
+        let versions = self.versions;
+        self.versions = 0;
+        let mut components = Vec::new(self.alloc);
+        let mut marks = Vec::new(self.alloc);
+        for _ in 0..self.items.len() {
+            if self.takes("}") {
+                break;
+            }
+            if self.takes_version(marks.len() == 1)? {
+                continue;
+            }
+            if self.peek().is("...") {
+                let insertion = components.len();
+                let item = self.component_mark(marks.len(), is_choice, insertion == 0)?;
+                marks.push(Mark { item, insertion })?;
+            } else if is_choice && marks.len() == 2 {
+                return Err(refused(self.peek(), "}"));
+            } else {
+                components.push(self.component(is_choice, marks.len() == 1, depth)?)?;
+            }
+            self.component_end()?;
+        }
+        self.versions = versions;
+        *mark = mark_of(&marks, components.len());
+        if !is_choice {
+            self.check_defined_by(start, &components)?;
+        }
+        Ok(components)
+    }
+
+    // Checks that each name behind `DEFINED BY`, from this index on, is that of a component.
+    fn check_defined_by(
+        &mut self,
+        start: usize,
+        components: &Vec<Component<'a>>,
+    ) -> Result<(), Failure<'a>> {
+        for name in self.defined_by.iter().skip(start) {
+            if !has_component(components, name.text) {
+                return Err(refused(*name, "the name of a component of this SEQUENCE"));
+            }
+        }
+        self.defined_by.truncate(start);
+        Ok(())
+    }
+
+    #[cycle(types)]
+    fn component(
+        &mut self,
+        is_choice: bool,
+        is_addition: bool,
+        depth: u32,
+    ) -> Result<Component<'a>, Failure<'a>> {
+        let name = self.component_name()?;
+        let of = self.type_at(depth)?;
+        let presence = if is_choice {
+            Presence::Required
+        } else {
+            self.presence(is_addition)?
+        };
+        Ok(Component {
+            name,
+            of,
+            presence,
+            is_addition,
+        })
+    }
+
+    fn component_name(&mut self) -> Result<Item<'a>, Failure<'a>> {
+        if self.peek().is("COMPONENTS") {
+            return Err(unsupported(self.peek(), "no COMPONENTS OF, which is not supported"));
+        }
+        self.expect_kind(ItemKind::LowerName, "the name of a component")
+    }
+
+    // Parses whether a component may be absent, as any addition may: senders that know a former
+    // version of the module have none.
+    fn presence(&mut self, is_addition: bool) -> Result<Presence<'a>, Failure<'a>> {
+        if self.takes("OPTIONAL") {
+            return Ok(Presence::Optional);
+        }
+        if self.takes("DEFAULT") {
+            return Ok(Presence::Default(self.value()?));
+        }
+        if is_addition {
+            return Ok(Presence::Optional);
+        }
+        Ok(Presence::Required)
+    }
+
+    // Parses the constraints behind a type.
+    #[cycle(types)]
+    fn constraint_behind(
+        &mut self,
+        constraints: &mut Vec<Constraint<'a>>,
+        depth: u32,
+    ) -> Result<(), Failure<'a>> {
+        for _ in 0..self.items.len() {
+            if !self.takes("(") {
+                break;
+            }
+            if self.takes("CONTAINING") {
+                constraints.push(Constraint::Containing(self.type_at(depth)?))?;
+            } else {
+                constraints.push(self.constraint()?)?;
+            }
+            self.expect(")")?;
+        }
+        Ok(())
+    }
+
+    fn add(&mut self, node: TypeNode<'a>) -> Result<usize, Failure<'a>> {
+        let index = self.nodes.len();
+        self.nodes.push(node)?;
+        Ok(index)
+    }
+
+    // Parses a tag behind `[`.
+    fn tag_prefix(&mut self) -> Result<TagPrefix, Failure<'a>> {
+        let class = if self.takes("APPLICATION") {
+            TagClass::Application
+        } else if self.takes("PRIVATE") {
+            TagClass::Private
+        } else if self.peek().is("UNIVERSAL") {
+            return Err(unsupported(self.peek(), "APPLICATION, PRIVATE or a number"));
+        } else {
+            TagClass::ContextSpecific
+        };
+        let number = self.number()?;
+        self.expect("]")?;
+        let tagging = if self.takes("EXPLICIT") {
+            Some(Tagging::Explicit)
+        } else if self.takes("IMPLICIT") {
+            Some(Tagging::Implicit)
+        } else {
+            None
+        };
+        Ok(TagPrefix {
+            tag: Tag { class, number },
+            tagging,
+        })
+    }
+
+    // Parses a type whose parts are no types.
+    fn leaf(
+        &mut self,
+        item: Item<'a>,
+        mark: &mut Option<Mark<'a>>,
+    ) -> Result<TypeForm<'a>, Failure<'a>> {
+        if item.kind == ItemKind::LowerName && self.peek().is("<") {
+            return Err(unsupported(item, "no alternative of a CHOICE, which is not supported"));
+        }
+        if item.kind != ItemKind::UpperName {
+            return Err(refused(item, "a type"));
+        }
+        match item.text {
+            "INTEGER" if self.peek().is("{") => Ok(TypeForm::Integer(self.named_numbers()?)),
+            "INTEGER" => Ok(TypeForm::Integer(Vec::new(self.alloc))),
+            "ENUMERATED" => Ok(TypeForm::Enumerated(self.enumeration_items(mark)?)),
+            "BIT" => {
+                self.expect("STRING")?;
+                self.bit_string()
+            }
+            "OCTET" => {
+                self.expect("STRING")?;
+                Ok(TypeForm::Simple(SimpleType::OctetString))
+            }
+            "OBJECT" => {
+                self.expect("IDENTIFIER")?;
+                Ok(TypeForm::Simple(SimpleType::ObjectIdentifier))
+            }
+            "ANY" => self.any(),
+            word => match SimpleType::of(word) {
+                Some(simple) => Ok(TypeForm::Simple(simple)),
+                None => self.reference(item),
+            },
+        }
+    }
+
+    fn bit_string(&mut self) -> Result<TypeForm<'a>, Failure<'a>> {
+        if self.peek().is("{") {
+            return Ok(TypeForm::BitString(self.named_numbers()?));
+        }
+        Ok(TypeForm::BitString(Vec::new(self.alloc)))
+    }
+
+    fn any(&mut self) -> Result<TypeForm<'a>, Failure<'a>> {
+        if self.takes("DEFINED") {
+            self.expect("BY")?;
+            let name = self.expect_kind(ItemKind::LowerName, "the name of a component")?;
+            self.defined_by.push(name)?;
+        }
+        Ok(TypeForm::Simple(SimpleType::Any))
+    }
+
+    fn reference(&mut self, item: Item<'a>) -> Result<TypeForm<'a>, Failure<'a>> {
+        match item.text {
+            "CLASS" => Err(unsupported(item, "no class, which is not supported")),
+            "INSTANCE"
+            | "EXTERNAL"
+            | "EMBEDDED"
+            | "CHARACTER"
+            | "RELATIVE-OID"
+            | "ObjectDescriptor" => { Err(unsupported(item, "a type that is supported")) }
+            word if is_reserved(word) => Err(refused(item, "a type")),
+            _ if self.peek().is("{") => {
+                Err(unsupported(self.peek(), "no parameters, which are not supported"))
+            }
+            _ if self.peek().is(".") => {
+                Err(unsupported(self.peek(), "no field of a class, which is not supported"))
+            }
+            _ => Ok(TypeForm::Reference),
+        }
+    }
+}
+
+// Whether one of these components has this name.
+fn has_component(components: &Vec<Component<'_>>, name: &str) -> bool {
+    for component in components.iter() {
+        if component.name.text == name {
+            return true;
+        }
+    }
+    false
+}
+
+// The first one of these marks, with the place in front of the second one, or behind all components.
+fn mark_of<'a>(marks: &Vec<Mark<'a>>, count: usize) -> Option<Mark<'a>> {
+    let first = marks.first()?;
+    let insertion = match marks.get(1) {
+        Some(second) => second.insertion,
+        None => count,
+    };
+    Some(Mark {
+        item: first.item,
+        insertion,
+    })
+}

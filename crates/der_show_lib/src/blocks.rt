@@ -1,0 +1,92 @@
+//! Blocks of PEM.
+
+use crate::json::put_json_encrypted;
+use crate::options::Shown;
+use crate::place::Place;
+use crate::show::{Show, put_plain};
+use crate::values::show_values;
+use der_show_text::{Characters, Style, put_text};
+use pem::{Block, Blocks};
+use std::fmt::Write;
+
+/// Shows each block of a text.
+pub fn show_blocks(show: &mut Show<'_>, place: &Place<'_>, text: &[u8]) {
+    let mut blocks = Blocks::new(text);
+    let mut is_first = true;
+    for _ in 0..text.len() {
+        match blocks.next_block() {
+            Some(Ok(block)) => {
+                if !is_first && show.options.shown == Shown::Text {
+                    show.page.put("\n");
+                }
+                is_first = false;
+                show_block(show, place, &block);
+            }
+            Some(Err(error)) => {
+                show.begin_error(place);
+                let _ = write!(show.errors, "{error}\n");
+                show.errors.flush();
+                return;
+            }
+            None => return,
+        }
+    }
+}
+
+// Shows the block under its label.
+fn show_block(show: &mut Show<'_>, around: &Place<'_>, block: &Block<'_>) {
+    let place = Place {
+        file: around.file,
+        label: Some(block.label()),
+        line: block.begin().line,
+    };
+    if show.options.shown == Shown::Text {
+        put_plain(&mut show.page.out, block.label());
+        show.page.put(" (line ");
+        show.page.number(place.line as u64);
+        show.page.put("):\n");
+    }
+    if block.is_encrypted() {
+        show_encrypted(show, &place, block);
+        return;
+    }
+    let mut octets = Vec::new(show.page.alloc);
+    if octets.resize(block.decoded_len(), 0).is_err() {
+        show.memory_error(&place);
+        return;
+    }
+    match block.decode_into(&mut octets) {
+        Ok(count) => {
+            octets.truncate(count);
+            show_decoded(show, &place, octets.as_slice());
+        }
+        Err(error) => {
+            show.begin_error(&place);
+            let _ = write!(show.errors, "{error}\n");
+            show.errors.flush();
+        }
+    }
+}
+
+fn show_decoded(show: &mut Show<'_>, place: &Place<'_>, octets: &[u8]) {
+    if octets.is_empty() {
+        show.error(place, "the block is empty");
+    } else {
+        show_values(show, place, octets);
+    }
+}
+
+// A block whose octets are encrypted as RFC 1421 says: only how is known.
+fn show_encrypted(show: &mut Show<'_>, place: &Place<'_>, block: &Block<'_>) {
+    let info = block.header(b"DEK-Info").unwrap_or(&[]);
+    match show.options.shown {
+        Shown::Text => {
+            show.page.put("Encrypted (RFC 1421), DEK-Info: ");
+            put_text(&mut show.page.out, info, Characters::Utf8, Style::Line);
+            show.page.end();
+        }
+        Shown::Json => put_json_encrypted(show, place, info),
+        Shown::Departures => {}
+        _ => show.error(place, "the block is encrypted, and cannot be converted"),
+    }
+}

@@ -1,0 +1,71 @@
+//! Files: PEM or DER.
+
+use crate::blocks::show_blocks;
+use crate::departures::put_totals;
+use crate::json::{begin_file, end_file};
+use crate::options::Shown;
+use crate::place::Place;
+use crate::show::Show;
+use crate::values::show_values;
+use der_show_tree::{ANY, is_encoding};
+use pem::Blocks;
+use std::str;
+
+/// Shows the octets of a file.
+pub fn show_octets(show: &mut Show<'_>, file: &str, octets: &[u8]) {
+    let place = Place {
+        file,
+        label: None,
+        line: 0,
+    };
+    if octets.is_empty() {
+        show.error(&place, "the file is empty");
+        return;
+    }
+    show.departures = 0;
+    show.faults = 0;
+    if show.options.shown == Shown::Json {
+        begin_file(show, file);
+    }
+    if is_pem(octets) {
+        show_blocks(show, &place, octets);
+    } else if is_other_text(show, octets) {
+        show.error(&place, "the file is a text without a PEM block");
+    } else {
+        show_values(show, &place, octets);
+    }
+    if show.options.shown == Shown::Json {
+        end_file(show);
+    }
+    put_totals(show);
+}
+
+// Whether the octets are text, and no element.
+fn is_other_text(show: &Show<'_>, octets: &[u8]) -> bool {
+    is_plain(octets)
+        && !matches!(
+            is_encoding(show.page.alloc, show.page.schema, ANY, octets),
+            Ok(true)
+        )
+}
+
+/// Whether the octets are PEM: there is a block, and what is before it is text without control
+/// characters but those of white space.
+fn is_pem(octets: &[u8]) -> bool {
+    match Blocks::new(octets).next_block() {
+        Some(Ok(block)) => is_plain(octets.get(..block.begin().offset).unwrap_or(&[])),
+        Some(Err(error)) => is_plain(octets.get(..error.position.offset).unwrap_or(&[])),
+        None => false,
+    }
+}
+
+// Whether the octets are text without control characters but those of white space.
+fn is_plain(octets: &[u8]) -> bool {
+    match str::from_utf8(octets) {
+        Ok(text) => text.chars().all(|c| !c.is_control()
+            || matches!(c, '\t' | '\n' | '\r' | '\u{c}')),
+        Err(_) => octets
+            .iter()
+            .all(|octet| *octet >= 32 || matches!(*octet, 9 | 10 | 12 | 13)),
+    }
+}

@@ -1,0 +1,179 @@
+//! The command line.
+
+use crate::help::{ABOUT, AFTER};
+use clap::error::ErrorKind;
+use clap::{Arg, ArgAction, Command, Error};
+use der_show_tree::Kind;
+use std::alloc::{AllocError, Global};
+
+/// What is printed.
+#[derive(Clone, Copy, PartialEq, Eq)]
+pub enum Shown {
+    /// Fields or elements, as text.
+    Text,
+    /// JSON.
+    Json,
+    /// The octets.
+    Der,
+    /// PEM.
+    Pem,
+    /// Departures, and nothing else.
+    Departures,
+}
+
+/// The options of the command line: how to read a file, and what to print.
+#[derive(Clone, Copy)]
+pub struct Options {
+    /// Whether each line begins with the offset of its element: the option `--offsets`.
+    pub has_offsets: bool,
+    /// Whether to print one line per element, even of a file whose kind is known: the option `--tree`.
+    pub is_tree: bool,
+    /// Whether to print the rules that a certificate breaks: the option `--lint`.
+    pub is_lint: bool,
+    /// What is printed: the options `--json`, `--der`, `--pem` and `--strict`.
+    pub shown: Shown,
+    /// The kind of the file, if the option `--as` says it.
+    pub kind: Option<Kind>,
+}
+
+impl Options {
+    /// The options of a command line that has none.
+    pub fn new() -> Self {
+        Options {
+            has_offsets: false,
+            is_tree: false,
+            is_lint: false,
+            shown: Shown::Text,
+            kind: None,
+        }
+    }
+}
+
+/// A parsed command line.
+#[derive(Drop)]
+pub struct ShowCommand<'a> {
+    /// How to read and what to print.
+    pub options: Options,
+    /// The paths of the files. Standard input is read if there is none, and for the path `-`.
+    pub files: Vec<&'a str>,
+    /// The path of a table of types, in place of the program's own.
+    pub schema: Option<&'a str>,
+    /// The name of the type of the files in this table.
+    pub type_name: Option<&'a str>,
+}
+
+const NO_KIND: &str = "the value of '--as' is no kind; --help lists them";
+
+const NO_TYPE: &str = "'--schema' needs '--type', the name of a type in the table";
+
+impl<'a> ShowCommand<'a> {
+    /// Parses the words of the command line, of which the first one is the name of the program. The
+    /// error is what is printed instead of running the program, which may be its help or this
+    /// version of it.
+    pub fn parse(alloc: Global, version: &'a str, words: &'a [String]) -> Result<Self, Error> {
+        let mut command = command(alloc, version)?;
+        let matches = command.try_get_matches_from_mut(words)?;
+        let mut options = Options::new();
+        options.has_offsets = matches.get_flag("offsets");
+        options.is_tree = matches.get_flag("tree");
+        options.is_lint = matches.get_flag("lint");
+        for (name, shown) in [
+            ("json", Shown::Json),
+            ("der", Shown::Der),
+            ("pem", Shown::Pem),
+            ("strict", Shown::Departures),
+        ] {
+            if matches.get_flag(name) {
+                options.shown = shown;
+            }
+        }
+        if let Some(word) = matches.get_str("as") {
+            options.kind = Kind::of_word(word);
+            if options.kind.is_none() {
+                return Err(command.error(ErrorKind::ValueValidation, NO_KIND)?);
+            }
+        }
+        let mut files = Vec::new(alloc);
+        for file in matches.get_strs("file").unwrap_or(&[]) {
+            files.push(*file)?;
+        }
+        let (schema, type_name) = (matches.get_str("schema"), matches.get_str("type"));
+        if schema.is_some() != type_name.is_some() {
+            return Err(command.error(ErrorKind::ValueValidation, NO_TYPE)?);
+        }
+        Ok(ShowCommand {
+            options,
+            files,
+            schema,
+            type_name,
+        })
+    }
+}
+
+fn flag<'a>(alloc: Global, name: &'a str, help: &'a str) -> Arg<'a> {
+    Arg::new(alloc, name)
+        .long(name)
+        .action(ArgAction::SetTrue)
+        .help(help)
+}
+
+fn text<'a>(alloc: Global, name: &'a str, value: &'a str, help: &'a str) -> Arg<'a> {
+    Arg::new(alloc, name)
+        .long(name)
+        .value_name(value)
+        .help(help)
+}
+
+// What the program takes.
+fn command<'a>(alloc: Global, version: &'a str) -> Result<Command<'a>, AllocError> {
+    let shown: [&'static str; 4] = ["json", "der", "pem", "strict"];
+    let files = Arg::new(alloc, "file")
+        .value_name("FILE")
+        .action(ArgAction::Append)
+        .num_args(0..)
+        .help("The files; standard input for none, and for -");
+    let kind = text(
+        alloc,
+        "as",
+        "KIND",
+        "Take the files for values of this kind, whatever their tags and labels say",
+    );
+    let command = Command::new(alloc, "der_show")
+        .version(version)
+        .about(ABOUT)
+        .after_help(AFTER)
+        .arg(kind)?
+        .arg(flag(
+            alloc,
+            "tree",
+            "Print a line for each element, even of a known kind",
+        ))?
+        .arg(flag(
+            alloc,
+            "offsets",
+            "Begin each line with the offset of its element",
+        ))?
+        .arg(flag(
+            alloc,
+            "lint",
+            "Print the rules of RFC 5280 that a certificate breaks",
+        ))?;
+    let json = flag(alloc, "json", "Print one object of JSON for each file");
+    let der = flag(alloc, "der", "Print the octets of the values");
+    let pem = flag(alloc, "pem", "Print the values as PEM blocks");
+    let strict = flag(
+        alloc,
+        "strict",
+        "Print the departures from DER, and nothing else",
+    );
+    let ber = flag(alloc, "ber", "Does nothing: BER is always read").hide(true);
+    command
+        .arg(json)?
+        .arg(der.conflicts_with("json")?)?
+        .arg(pem.conflicts_with_all(&shown[..2])?)?
+        .arg(strict.conflicts_with_all(&shown[..3])?)?
+        .arg(text(alloc, "schema", "TABLE", "Read by this table of types"))?
+        .arg(text(alloc, "type", "NAME", "The type of the files in the table"))?
+        .arg(ber)?
+        .arg(files)
+}

@@ -1,0 +1,43 @@
+//! Contents that are not known.
+
+use crate::page::Page;
+use crate::values::put_colons;
+use asn1_cursor::Cursor;
+use der::{EncodingRules, Tag};
+use der_show_text::{Element, Elements, Style, put_arcs, put_octets, put_value_text};
+use std::fmt::Write;
+
+/// Prints the contents of an OCTET STRING in hexadecimal.
+pub fn put_whole_octets(page: &mut Page<'_>, value: Cursor<'_>) {
+    page.at(value);
+    put_colons(page, value.contents());
+    page.end();
+}
+
+/// Prints what an OCTET STRING holds: its tag and its text, if it is a string; or else the octets.
+pub fn put_element_line(page: &mut Page<'_>, value: Cursor<'_>) {
+    let mut inside = Elements::new(value.contents(), 0, EncodingRules::Der);
+    let Some(element) = inside.take_first() else {
+        put_whole_octets(page, value);
+        return;
+    };
+    if element.is_constructed || !inside.is_finished() {
+        put_whole_octets(page, value);
+        return;
+    }
+    page.at_inside(value);
+    let tag = element.tag;
+    let _ = write!(page.out, "{tag}: ");
+    put_read(page, &element);
+    page.end();
+}
+
+fn put_read(page: &mut Page<'_>, element: &Element<'_>) {
+    if element.tag == Tag::ObjectIdentifier {
+        put_arcs(&mut page.out, element.contents);
+        return;
+    }
+    if !put_value_text(&mut page.out, element.tag, element.contents, Style::Line) {
+        put_octets(&mut page.out, element.contents);
+    }
+}

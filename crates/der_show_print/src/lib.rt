@@ -1,0 +1,56 @@
+//! What the program `der_show` prints of values that were read by a table of types: certificates, requests, revocation
+//! lists, keys, OCSP and PKCS #12 in the words of openssl, and any other value by the names of its fields, as lines
+//! or as JSON. What is printed is what the tree has: an element that has not the type of its field is printed as
+//! an element of any type, or left out. Secrets are left out too.
+#![tactic(auto)]
+
+mod access;
+mod algorithm;
+mod certificate;
+mod constraints;
+mod curves;
+mod distribution;
+mod elements;
+mod encryption;
+mod extension;
+mod extensions;
+mod fields;
+mod flags;
+mod form;
+mod frame;
+mod general_name;
+mod inside;
+mod keys;
+mod name;
+mod ocsp;
+mod page;
+mod pkcs12;
+mod policies;
+mod printer;
+mod private_keys;
+mod public_key;
+mod request;
+mod revocation;
+mod scalars;
+mod tags;
+mod timestamps;
+mod title;
+mod values;
+
+pub use certificate::{put_certificate, put_trust};
+pub use encryption::put_encrypted_key;
+pub use fields::print_fields;
+pub use form::Form;
+pub use keys::{put_dh_parameters, put_dsa_parameters, put_ec_parameters, put_rsa_public_key};
+pub use name::put_name;
+pub use ocsp::{put_ocsp_request, put_ocsp_response};
+pub use page::Page;
+pub use pkcs12::put_pfx;
+pub use printer::Printer;
+pub use private_keys::{
+    put_dsa_private_key, put_ec_private_key, put_private_key, put_rsa_private_key,
+};
+pub use public_key::put_public_key;
+pub use request::put_request;
+pub use revocation::put_revocation_list;
+pub use tags::{put_header_tag, tag_of_universal};

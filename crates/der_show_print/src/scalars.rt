@@ -1,0 +1,262 @@
+//! Values without parts.
+
+use crate::form::Form;
+use crate::printer::Printer;
+use crate::tags::{put_header_tag, tag_of_universal};
+use crate::values::tag_of;
+use asn1_cursor::Cursor;
+use ber::read_header;
+use der::Tag;
+use der_show_text::{
+    Characters, Style, is_text, long_name, put_arcs, put_identifier, put_iso_time, put_octets,
+    put_some_octets, put_value_text, small_number,
+};
+
+/// How many octets of a value a line shows.
+const SHOWN: usize = 32;
+
+/// Prints a value of a primitive type, after its name.
+pub fn put_value(printer: &mut Printer, value: Cursor<'_>) {
+    match printer.form {
+        Form::Json => put_json(printer, value),
+        Form::Lines => {
+            printer.out.put(" ");
+            put_plain(printer, value);
+        }
+    }
+    printer.end_value();
+}
+
+fn put_json(printer: &mut Printer, value: Cursor<'_>) {
+    let contents = value.contents();
+    match tag_of(value) {
+        Some(Tag::Boolean | Tag::Null | Tag::Integer | Tag::Enumerated) => {
+            put_json_number(printer, value);
+        }
+        Some(Tag::BitString) => put_json_bits(printer, value),
+        Some(Tag::ObjectIdentifier) => put_json_identifier(printer, contents),
+        tag => {
+            printer.out.put("\"");
+            put_json_text(printer, tag.unwrap_or(Tag::OctetString), contents);
+            printer.out.put("\"");
+        }
+    }
+}
+
+fn put_json_number(printer: &mut Printer, value: Cursor<'_>) {
+    let contents = value.contents();
+    match (tag_of(value), small_number(contents)) {
+        (Some(Tag::Null), _) => printer.out.put("null"),
+        (Some(Tag::Boolean), _) => {
+            let is_true = contents != [0].as_slice();
+            printer.out.put(if is_true { "true" } else { "false" });
+        }
+        (Some(Tag::Enumerated), Some(number)) => match value.number_name() {
+            Some(name) => {
+                printer.out.put("\"");
+                printer.out.put(name);
+                printer.out.put("\"");
+            }
+            None => printer.out.put_number(number),
+        },
+        (_, Some(number)) => printer.out.put_number(number),
+        (_, None) => {
+            printer.out.put("\"");
+            put_octets(&mut printer.out, contents);
+            printer.out.put("\"");
+        }
+    }
+}
+
+fn has_names(value: Cursor<'_>) -> bool {
+    match value.node() {
+        Some(node) => node.parts.count > 0,
+        None => false,
+    }
+}
+
+fn put_json_bits(printer: &mut Printer, value: Cursor<'_>) {
+    if has_names(value) && value.bit_names().is_some() {
+        printer.out.put("[");
+        put_bit_names(printer, value, "\"");
+        printer.out.put("]");
+        return;
+    }
+    let (unused, octets) = match value.contents() {
+        [first, rest @ ..] => (*first, rest),
+        [] => (0, value.contents()),
+    };
+    printer.out.put("{\"unusedBits\": ");
+    printer.out.put_number(u64::from(unused));
+    printer.out.put(", \"octets\": \"");
+    put_octets(&mut printer.out, octets);
+    printer.out.put("\"}");
+}
+
+// The names of the bits that are one, as `a, b`, between quotes.
+fn put_bit_names(printer: &mut Printer, value: Cursor<'_>, quote: &str) {
+    let Some(names) = value.bit_names() else {
+        return;
+    };
+    let mut is_first = true;
+    for name in names {
+        if !is_first {
+            printer.out.put(", ");
+        }
+        is_first = false;
+        printer.out.put(quote);
+        printer.out.put(name);
+        printer.out.put(quote);
+    }
+}
+
+fn put_json_identifier(printer: &mut Printer, contents: &[u8]) {
+    printer.out.put("{\"arcs\": \"");
+    put_arcs(&mut printer.out, contents);
+    printer.out.put("\"");
+    if let Some(name) = long_name(contents) {
+        printer.out.put(", \"name\": \"");
+        printer.out.put(name);
+        printer.out.put("\"");
+    }
+    printer.out.put("}");
+}
+
+// The text between the quotes: that of a time or a string, or else hexadecimal digits.
+fn put_json_text(printer: &mut Printer, tag: Tag, contents: &[u8]) {
+    if put_iso_time(&mut printer.out, tag, contents) {
+        return;
+    }
+    if !put_value_text(&mut printer.out, tag, contents, Style::Json) {
+        put_octets(&mut printer.out, contents);
+    }
+}
+
+fn put_plain(printer: &mut Printer, value: Cursor<'_>) {
+    let contents = value.contents();
+    match (tag_of(value), contents) {
+        (Some(Tag::Integer | Tag::Enumerated), _) => put_plain_number(printer, value),
+        (Some(Tag::BitString), _) if has_names(value) && value.bit_names().is_some() => {
+            put_bit_names(printer, value, "");
+        }
+        (Some(Tag::BitString), [_, bits @ ..]) => put_some_octets(&mut printer.out, bits, SHOWN),
+        (tag, _) => put_plain_text(printer, tag.unwrap_or(Tag::OctetString), contents),
+    }
+}
+
+fn put_plain_number(printer: &mut Printer, value: Cursor<'_>) {
+    match small_number(value.contents()) {
+        Some(number) => {
+            if let Some(name) = value.number_name() {
+                printer.out.put(name);
+                printer.out.put(" (");
+                printer.out.put_number(number);
+                printer.out.put(")");
+            } else {
+                printer.out.put_number(number);
+            }
+        }
+        None => put_some_octets(&mut printer.out, value.contents(), SHOWN),
+    }
+}
+
+// Contents on a line: the names of an identifier, a time, a text, or the first octets.
+fn put_plain_text(printer: &mut Printer, tag: Tag, contents: &[u8]) {
+    match tag {
+        Tag::Null => printer.out.put("NULL"),
+        Tag::Boolean => {
+            let is_true = contents != [0].as_slice();
+            printer.out.put(if is_true { "TRUE" } else { "FALSE" });
+        }
+        Tag::ObjectIdentifier => put_identifier(&mut printer.out, contents),
+        _ => {
+            if !put_iso_time(&mut printer.out, tag, contents)
+                && !put_value_text(&mut printer.out, tag, contents, Style::Line)
+            {
+                put_some_octets(&mut printer.out, contents, SHOWN);
+            }
+        }
+    }
+}
+
+/// Prints the octets of segments, joined.
+pub fn put_joined(printer: &mut Printer, octets: &[u8]) {
+    match printer.form {
+        Form::Json => {
+            printer.out.put("\"");
+            put_octets(&mut printer.out, octets);
+            printer.out.put("\"");
+        }
+        Form::Lines => {
+            printer.out.put(" ");
+            put_some_octets(&mut printer.out, octets, SHOWN);
+        }
+    }
+    printer.end_value();
+}
+
+/// Prints the tag of an element, as its header has it.
+pub fn put_tag(printer: &mut Printer, element: Cursor<'_>) {
+    match read_header(element.octets()) {
+        Ok(header) => put_header_tag(&mut printer.out, header),
+        Err(_) => printer.out.put("unknown"),
+    }
+}
+
+// The universal tag of the header of an element.
+fn own_tag(element: Cursor<'_>) -> Option<Tag> {
+    match read_header(element.octets()) {
+        Ok(header) => tag_of_universal(header.universal()?),
+        Err(_) => None,
+    }
+}
+
+/// Prints a primitive element of no known type, after its name.
+pub fn put_element(printer: &mut Printer, element: Cursor<'_>) {
+    let tag = own_tag(element).unwrap_or(Tag::OctetString);
+    match printer.form {
+        Form::Json => put_json_element(printer, tag, element),
+        Form::Lines => {
+            printer.out.put(" ");
+            put_tag(printer, element);
+            printer.out.put(": ");
+            put_plain_text(printer, tag, element.contents());
+        }
+    }
+    printer.end_value();
+}
+
+// An object with the tag, and with the text of a string or else the octets.
+fn put_json_element(printer: &mut Printer, tag: Tag, element: Cursor<'_>) {
+    let contents = element.contents();
+    printer.out.put("{\"tag\": \"");
+    put_tag(printer, element);
+    printer.out.put("\", ");
+    if tag == Tag::ObjectIdentifier {
+        printer.out.put("\"value\": \"");
+        put_arcs(&mut printer.out, contents);
+    } else if is_shown(tag, contents) {
+        printer.out.put("\"value\": \"");
+        put_json_text(printer, tag, contents);
+    } else {
+        printer.out.put("\"octets\": \"");
+        put_octets(&mut printer.out, contents);
+    }
+    printer.out.put("\"}");
+}
+
+// Whether the contents are the text of a string or a time.
+fn is_shown(tag: Tag, contents: &[u8]) -> bool {
+    match tag {
+        Tag::Utf8String
+        | Tag::NumericString
+        | Tag::PrintableString
+        | Tag::Ia5String
+        | Tag::VisibleString
+        | Tag::UtcTime
+        | Tag::GeneralizedTime => is_text(contents, Characters::Utf8),
+        Tag::TeletexString => is_text(contents, Characters::Latin),
+        Tag::BmpString => is_text(contents, Characters::Wide),
+        _ => false,
+    }
+}

@@ -1,0 +1,30 @@
+//! How much of a value could be read as a value of a type.
+
+use asn1_schema::Schema;
+use asn1_tree::{Entry, Tree};
+
+/// How many octets of the input are elements of a type that the table has: their headers, and contents
+/// without elements.
+pub fn typed_len(schema: &Schema<'_>, tree: &Tree) -> usize {
+    let mut rest = tree.entries.as_slice();
+    let mut count = 0usize;
+    for _ in 0..tree.entries.len() {
+        let [entry, after @ ..] = rest else {
+            break;
+        };
+        if entry.kind < schema.counts().nodes {
+            count = count.saturating_add(own_len(entry, after));
+        }
+        rest = after;
+    }
+    count
+}
+
+// The octets of an element that are of no element inside it.
+fn own_len(entry: &Entry, after: &[Entry]) -> usize {
+    let header = entry.header_len as usize;
+    match after {
+        [next, ..] if next.depth > entry.depth => header,
+        _ => header.saturating_add(entry.contents_len),
+    }
+}

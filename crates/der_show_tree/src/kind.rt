@@ -1,0 +1,175 @@
+//! Kinds of files.
+
+use crate::table;
+
+/// A kind of file that the program knows.
+#[derive(Clone, Copy, Debug, PartialEq, Eq)]
+pub enum Kind {
+    /// A certificate (RFC 5280, 4.1).
+    Certificate,
+    /// A request for a certificate (RFC 2986, 4).
+    Request,
+    /// A revocation list (RFC 5280, 5.1).
+    RevocationList,
+    /// A public key (RFC 5280, 4.1).
+    PublicKey,
+    /// A private key (RFC 5958, 2).
+    PrivateKey,
+    /// An encrypted private key (RFC 5958, 3).
+    EncryptedPrivateKey,
+    /// A private key of RSA (RFC 8017, A.1.2).
+    RsaPrivateKey,
+    /// A public key of RSA (RFC 8017, A.1.1).
+    RsaPublicKey,
+    /// A private key of an elliptic curve (RFC 5915, 3).
+    EcPrivateKey,
+    /// A curve (RFC 5480, 2.1.1).
+    EcParameters,
+    /// A private key of DSA, as openssl writes it.
+    DsaPrivateKey,
+    /// Parameters of DSA (RFC 3279, 2.3.2).
+    DsaParameters,
+    /// Parameters of Diffie-Hellman (PKCS #3, 9).
+    DhParameters,
+    /// A message (RFC 5652, 3), also a timestamp.
+    Message,
+    /// A file of keys and certificates (RFC 7292, 4).
+    Pfx,
+    /// A request to OCSP (RFC 6960, 4.1).
+    OcspRequest,
+    /// A response of OCSP (RFC 6960, 4.2).
+    OcspResponse,
+    /// A request for a timestamp (RFC 3161, 2.4.1).
+    TimestampRequest,
+    /// A response with a timestamp (RFC 3161, 2.4.2).
+    TimestampResponse,
+}
+
+/// All kinds.
+pub static KINDS: [Kind; 19] = [
+    Kind::Certificate,
+    Kind::Request,
+    Kind::RevocationList,
+    Kind::PublicKey,
+    Kind::PrivateKey,
+    Kind::EncryptedPrivateKey,
+    Kind::RsaPrivateKey,
+    Kind::RsaPublicKey,
+    Kind::EcPrivateKey,
+    Kind::EcParameters,
+    Kind::DsaPrivateKey,
+    Kind::DsaParameters,
+    Kind::DhParameters,
+    Kind::Message,
+    Kind::Pfx,
+    Kind::OcspRequest,
+    Kind::OcspResponse,
+    Kind::TimestampRequest,
+    Kind::TimestampResponse,
+];
+
+impl Kind {
+    /// The word for the kind in the option `--as` and in JSON.
+    pub fn word(self) -> &'static str {
+        match self {
+            Kind::Certificate => "certificate",
+            Kind::Request => "request",
+            Kind::RevocationList => "crl",
+            Kind::PublicKey => "public-key",
+            Kind::PrivateKey => "private-key",
+            Kind::EncryptedPrivateKey => "encrypted-private-key",
+            Kind::RsaPrivateKey => "rsa-private-key",
+            Kind::RsaPublicKey => "rsa-public-key",
+            Kind::EcPrivateKey => "ec-private-key",
+            Kind::EcParameters => "ec-parameters",
+            Kind::DsaPrivateKey => "dsa-private-key",
+            Kind::DsaParameters => "dsa-parameters",
+            Kind::DhParameters => "dh-parameters",
+            Kind::Message => "cms",
+            Kind::Pfx => "pkcs12",
+            Kind::OcspRequest => "ocsp-request",
+            Kind::OcspResponse => "ocsp-response",
+            Kind::TimestampRequest => "timestamp-request",
+            Kind::TimestampResponse => "timestamp-response",
+        }
+    }
+
+    /// The kind with this word.
+    pub fn of_word(word: &str) -> Option<Kind> {
+        for kind in KINDS {
+            if kind.word() == word {
+                return Some(kind);
+            }
+        }
+        None
+    }
+
+    /// The label of a PEM block with such a value.
+    pub fn label(self) -> &'static str {
+        match self {
+            Kind::Certificate => "CERTIFICATE",
+            Kind::Request => "CERTIFICATE REQUEST",
+            Kind::RevocationList => "X509 CRL",
+            Kind::PublicKey => "PUBLIC KEY",
+            Kind::PrivateKey => "PRIVATE KEY",
+            Kind::EncryptedPrivateKey => "ENCRYPTED PRIVATE KEY",
+            Kind::RsaPrivateKey => "RSA PRIVATE KEY",
+            Kind::RsaPublicKey => "RSA PUBLIC KEY",
+            Kind::EcPrivateKey => "EC PRIVATE KEY",
+            Kind::EcParameters => "EC PARAMETERS",
+            Kind::DsaPrivateKey => "DSA PRIVATE KEY",
+            Kind::DsaParameters => "DSA PARAMETERS",
+            Kind::DhParameters => "DH PARAMETERS",
+            Kind::Message => "CMS",
+            Kind::Pfx => "PKCS12",
+            Kind::OcspRequest => "OCSP REQUEST",
+            Kind::OcspResponse => "OCSP RESPONSE",
+            Kind::TimestampRequest => "TIMESTAMP REQUEST",
+            Kind::TimestampResponse => "TIMESTAMP RESPONSE",
+        }
+    }
+
+    /// The kind that a label promises. `None` for a label of another kind.
+    pub fn of_label(label: &str) -> Option<Kind> {
+        match label {
+            "X509 CERTIFICATE" | "TRUSTED CERTIFICATE" => Some(Kind::Certificate),
+            "NEW CERTIFICATE REQUEST" => Some(Kind::Request),
+            "PKCS7" | "PKCS #7 SIGNED DATA" => Some(Kind::Message),
+            _ => of_own_label(label),
+        }
+    }
+
+    /// The index of the type of the kind in the table.
+    pub fn node(self) -> u32 {
+        match self {
+            Kind::Certificate => table::CERTIFICATE,
+            Kind::Request => table::REQUEST,
+            Kind::RevocationList => table::REVOCATION_LIST,
+            Kind::PublicKey => table::PUBLIC_KEY,
+            Kind::PrivateKey => table::PRIVATE_KEY,
+            Kind::EncryptedPrivateKey => table::ENCRYPTED_PRIVATE_KEY,
+            Kind::RsaPrivateKey => table::RSA_PRIVATE_KEY,
+            Kind::RsaPublicKey => table::RSA_PUBLIC_KEY,
+            Kind::EcPrivateKey => table::EC_PRIVATE_KEY,
+            Kind::EcParameters => table::EC_PARAMETERS,
+            Kind::DsaPrivateKey => table::DSA_PRIVATE_KEY,
+            Kind::DsaParameters => table::DSA_PARAMETERS,
+            Kind::DhParameters => table::DH_PARAMETERS,
+            Kind::Message => table::MESSAGE,
+            Kind::Pfx => table::PFX,
+            Kind::OcspRequest => table::OCSP_REQUEST,
+            Kind::OcspResponse => table::OCSP_RESPONSE,
+            Kind::TimestampRequest => table::TIMESTAMP_REQUEST,
+            Kind::TimestampResponse => table::TIMESTAMP_RESPONSE,
+        }
+    }
+}
+
+fn of_own_label(label: &str) -> Option<Kind> {
+    for kind in KINDS {
+        if kind.label() == label {
+            return Some(kind);
+        }
+    }
+    None
+}

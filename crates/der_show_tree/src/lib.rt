@@ -1,0 +1,18 @@
+//! What the program `der_show` knows of types: a table of the types of the modules in `asn1/`, the kinds of
+//! files, and the kind of a value, which is found by reading it as each of them.
+#![tactic(auto)]
+
+mod damaged;
+mod digits;
+mod find;
+mod kind;
+mod outline;
+mod plausible;
+mod table;
+
+pub use digits::table_octets;
+pub use find::{find_kind, is_encoding, read_as};
+pub use kind::Kind;
+pub use table::{
+    ANY, CERTIFICATE, DSA_PRIVATE_KEY, EC_PRIVATE_KEY, RSA_PRIVATE_KEY, RSA_PUBLIC_KEY, TRUST,
+};
