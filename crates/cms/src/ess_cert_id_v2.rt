@@ -10,8 +10,8 @@ ghost use Rattle.der_asn1.specs.Meaning.{alternative, field, optional, sequence,
 use crate::asn1::IssuerSerial;
 use crate::sha256_default::Sha256Default;
 use der::{
-    Decode, DecodeValue, Encode, EncodeValue, Error, FromFields, Header, IsValue, Length, Reader,
-    Sequence, SliceReader, Writer, decode_sequence, field_refs,
+    Decode, DecodeValue, Encode, EncodeValue, Error, FromFields, Header, IsValue, Lends, Length,
+    Reader, Sequence, SliceReader, Writer, decode_sequence, field_refs,
 };
 use der_asn1::{
     BorrowedItem, DecodeItem, DefaultOf, DefaultedTo, Described, Item, Nestable, OctetStringRef,
@@ -65,14 +65,17 @@ impl<'a> Sequence for EssCertIdV2<'a> {
 }
 
 /// Decodes the fields one after the other, with the errors of every [`Sequence`].
-impl<'a, R: Reader<Borrowed = &'a [u8]>> DecodeValue<R> for EssCertIdV2<'a> {
+impl<'a, R: Lends<Borrowed = &'a [u8]>> DecodeValue<R> for EssCertIdV2<'a> {
     type Error = Error;
 
     ghost decode_value_answers = { λ h s result t.
         ⟦<EssCertIdV2Fields<'a> as Decode<SliceReader<'a>>>⟧.decode_answers s (map_ok
         ⟦<EssCertIdV2<'a> as FromFields<EssCertIdV2Fields<'a>>>⟧.fields result) t };
 
-    fn decode_value(alloc: Global, reader: &mut R, header: Header) -> Result<Self, Error> {
+    fn decode_value(alloc: Global, reader: &mut R, header: Header) -> Result<Self, Error>
+    where
+        R: Reader,
+    {
         decode_sequence::<R, EssCertIdV2Fields<'a>, Self>(alloc, reader, header)
     }
 }
@@ -116,7 +119,7 @@ impl<'a> Item for EssCertIdV2<'a> {
     ghost item = { sequence_item ⟦<EssCertIdV2<'a> as Described>⟧.element };
 }
 
-impl<'a, R: Reader<Borrowed = &'a [u8]>> DecodeItem<R> for EssCertIdV2<'a> {
+impl<'a, R: Lends<Borrowed = &'a [u8]>> DecodeItem<R> for EssCertIdV2<'a> {
     ghost is_item = { sequence_is_item ⟦<EssCertIdV2<'a> as Described>⟧.element refl };
 
     ghost decodes_items = { decodes_same (sequence_item ⟦<EssCertIdV2<'a> as Described>⟧.element) };

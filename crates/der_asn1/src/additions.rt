@@ -12,7 +12,7 @@ use crate::items::Items;
 use crate::iter::Iter;
 use crate::known_tags::KnownTags;
 use crate::unknown_walk::{left_part, unknown_len_of};
-use der::{Decode, Encode, Error, Length, Reader, Writer, octets_len, place_before};
+use der::{Decode, Encode, Error, Lends, Length, Reader, Writer, octets_len, place_before};
 use std::alloc::{AllocError, Global};
 use std::marker::PhantomData;
 
@@ -59,7 +59,7 @@ pub trait DescribedField: Sized {
 ///   [`decode_element`](crate::decode_element); the reader is unchanged. If the reader reads DER,
 ///   their positions count from the start of the reader's input; if it reads BER, from the first
 ///   element.
-impl<'a, R: Reader<Borrowed = &'a [u8]>, K: KnownTags> Decode<R> for Additions<'a, K> {
+impl<'a, R: Lends<Borrowed = &'a [u8]>, K: KnownTags> Decode<R> for Additions<'a, K> {
     type Error = Error;
 
     ghost is_next = { AdditionsNext K.known (λ v. v.octets.now) };
@@ -70,7 +70,10 @@ impl<'a, R: Reader<Borrowed = &'a [u8]>, K: KnownTags> Decode<R> for Additions<'
 
     ghost decode_answers = { AdditionsRead K.known (λ v. v.octets.now) };
 
-    fn decode(alloc: Global, reader: &mut R) -> Result<Self, Error> {
+    fn decode(alloc: Global, reader: &mut R) -> Result<Self, Error>
+    where
+        R: Reader,
+    {
         let (mut part, rest) = left_part(reader)?;
         let len = unknown_len_of::<R, AnyRef<'a>, K>(alloc, &mut part, rest)?;
         let octets = reader.read_slice(len)?;

@@ -7,8 +7,8 @@ ghost use Rattle.der_asn1.specs.AnyElement.{AnyElementNext, AnyElementRead};
 
 use crate::element::decode_element;
 use der::{
-    Decode, DecodeValue, EncodeValue, Error, Header, IsValue, Length, ReadValue, Reader, Tag,
-    Tagged, Writer, WrittenValue, octets_len, place_before,
+    Decode, DecodeValue, EncodeValue, Error, Header, IsValue, Lends, Length, ReadValue, Reader,
+    Tag, Tagged, Writer, WrittenValue, octets_len, place_before,
 };
 use std::alloc::Global;
 
@@ -50,13 +50,16 @@ impl<'a> ReadValue for AnyRef<'a> {
 /// # Errors
 ///
 /// The errors of [`Reader::read_slice`].
-impl<'a, R: Reader<Borrowed = &'a [u8]>> DecodeValue<R> for AnyRef<'a> {
+impl<'a, R: Lends<Borrowed = &'a [u8]>> DecodeValue<R> for AnyRef<'a> {
     type Error = Error;
 
     ghost decode_value_answers = { AnyRead };
 
     #[inline(always)]
-    fn decode_value(_alloc: Global, reader: &mut R, header: Header) -> Result<Self, Error> {
+    fn decode_value(_alloc: Global, reader: &mut R, header: Header) -> Result<Self, Error>
+    where
+        R: Reader,
+    {
         let contents = reader.read_slice(header.length())?;
         Ok(AnyRef {
             tag: header.tag(),
@@ -76,7 +79,7 @@ impl<'a> IsValue for AnyRef<'a> {
 /// # Errors
 ///
 /// The errors of [`decode_element`].
-impl<'a, R: Reader<Borrowed = &'a [u8]>> Decode<R> for AnyRef<'a> {
+impl<'a, R: Lends<Borrowed = &'a [u8]>> Decode<R> for AnyRef<'a> {
     type Error = Error;
 
     ghost is_next = { AnyElementNext TakesAny };
@@ -88,7 +91,10 @@ impl<'a, R: Reader<Borrowed = &'a [u8]>> Decode<R> for AnyRef<'a> {
     ghost decode_answers = { AnyElementRead (λ e f. f ≡ e) AnyRead };
 
     #[inline(always)]
-    fn decode(alloc: Global, reader: &mut R) -> Result<Self, Error> {
+    fn decode(alloc: Global, reader: &mut R) -> Result<Self, Error>
+    where
+        R: Reader,
+    {
         decode_element::<R, AnyRef<'a>>(alloc, reader)
     }
 }

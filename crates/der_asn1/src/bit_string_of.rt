@@ -14,8 +14,8 @@ use crate::explicit::Nestable;
 use crate::item::{DecodeItem, Item};
 use crate::no_unused_bits::NoUnusedBits;
 use der::{
-    DecodeValue, Encode, EncodeRef, EncodeValue, Error, FixedTag, Header, IsValue, Lawful, Length,
-    ReadValue, Reader, Tag, Writer, WrittenValue, decode_contents,
+    DecodeValue, Encode, EncodeRef, EncodeValue, Error, FixedTag, Header, IsValue, Lawful, Lends,
+    Length, ReadValue, Reader, Tag, Writer, WrittenValue, decode_contents,
 };
 use std::alloc::Global;
 
@@ -60,7 +60,7 @@ impl<T: ReadValue + FixedTag> ReadValue for BitStringOf<T> {
 ///   the reader has failed then.
 /// - The errors of decoding the inner element (the element of the value of type `T`), as by
 ///   [`decode_tlv`](der::decode_tlv).
-impl<R: Reader, T: DecodeValue<R, Error = Error> + FixedTag> DecodeValue<R> for BitStringOf<T> {
+impl<R: Lends, T: DecodeValue<R, Error = Error> + FixedTag> DecodeValue<R> for BitStringOf<T> {
     type Error = Error;
 
     ghost decode_value_answers = { λ h s result t. FieldsRead
@@ -69,7 +69,10 @@ impl<R: Reader, T: DecodeValue<R, Error = Error> + FixedTag> DecodeValue<R> for 
         (map_ok (λ v. (Zero, v.0)) result) t };
 
     #[inline(always)]
-    fn decode_value(alloc: Global, reader: &mut R, header: Header) -> Result<Self, Error> {
+    fn decode_value(alloc: Global, reader: &mut R, header: Header) -> Result<Self, Error>
+    where
+        R: Reader,
+    {
         let (_, value) = decode_contents::<R, (NoUnusedBits, T)>(alloc, reader, header)?;
         Ok(BitStringOf(value))
     }
@@ -137,7 +140,7 @@ impl<T: ReadValue + WrittenValue + FixedTag> Item for BitStringOf<T> {
         (bits_of_levels T.value_levels) T.allocates };
 }
 
-impl<R: Reader, T: Lawful + Nestable + DecodeValue<R, Error = Error>> DecodeItem<R>
+impl<R: Lends, T: Lawful + Nestable + DecodeValue<R, Error = Error>> DecodeItem<R>
     for BitStringOf<T> {
     ghost is_item = { element_is_item (bits_of_lawful (λ v. v.0) T.lawful T.nestable)
         T.allocates };

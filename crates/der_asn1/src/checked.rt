@@ -9,8 +9,8 @@ use crate::described::Described;
 use crate::explicit::Nestable;
 use crate::grammar::ContentsGrammar;
 use der::{
-    DecodeValue, EncodeValue, Error, FixedTag, Header, IsValue, Lawful, Length, ReadValue, Reader,
-    Tag, Writer, WrittenValue, octets_len, place_before,
+    DecodeValue, EncodeValue, Error, FixedTag, Header, IsValue, Lawful, Lends, Length, ReadValue,
+    Reader, Tag, Writer, WrittenValue, octets_len, place_before,
 };
 use std::alloc::{AllocError, Global};
 use std::marker::PhantomData;
@@ -110,13 +110,16 @@ impl<'a, F: ContentsGrammar> ReadValue for Checked<'a, F> {
 /// - The errors of reading the contents, as by [`Reader::read_slice`].
 /// - `Value` with the tag of the type, at the position after the contents, if the contents are not
 ///   valid; the reader has failed then.
-impl<'a, F: ContentsGrammar, R: Reader<Borrowed = &'a [u8]>> DecodeValue<R> for Checked<'a, F> {
+impl<'a, F: ContentsGrammar, R: Lends<Borrowed = &'a [u8]>> DecodeValue<R> for Checked<'a, F> {
     type Error = Error;
 
     ghost decode_value_answers = { CheckedContentsRead F.grammar F.tag_is (λ v. v.octets.now) };
 
     #[inline(always)]
-    fn decode_value(_alloc: Global, reader: &mut R, header: Header) -> Result<Self, Error> {
+    fn decode_value(_alloc: Global, reader: &mut R, header: Header) -> Result<Self, Error>
+    where
+        R: Reader,
+    {
         let octets = reader.read_slice(header.length())?;
         match Checked::new(octets) {
             Some(value) => Ok(value),

@@ -5,14 +5,14 @@ ghost use Rattle.der_asn1.specs.Follow.{TagIn, this_tag, any_tag};
 ghost use Rattle.der_asn1.specs.Begins.{element_begins, any_element_begins};
 
 use crate::any::AnyRef;
-use der::{Decode, DecodeValue, FixedTag, Reader, Tag};
+use der::{Decode, DecodeValue, FixedTag, Lends, Tag};
 
 /// Types whose values are recognized by their tag: from the next tag a reader decides whether a
 /// value of the type comes next.
 ///
 /// Ghost members (for proofs only): `chooses` says with which tags a value may begin; `begins`
 /// proves that every value begins with one of these tags.
-pub trait Choice<R: Reader>: Decode<R> {
+pub trait Choice<R: Lends>: Decode<R> {
     ghost chooses: { ATag → Type 0 };
 
     /// Whether a value of this type may begin with the tag `tag`.
@@ -24,7 +24,7 @@ pub trait Choice<R: Reader>: Decode<R> {
         → Self.is_next v rules octets m → TagIn chooses rules octets };
 }
 
-impl<R: Reader, T: DecodeValue<R> + FixedTag> Choice<R> for T {
+impl<R: Lends, T: DecodeValue<R> + FixedTag> Choice<R> for T {
     ghost chooses = { this_tag T.tag_is };
 
     #[inline(always)]
@@ -35,7 +35,7 @@ impl<R: Reader, T: DecodeValue<R> + FixedTag> Choice<R> for T {
     ghost begins = { λ v rules octets m e. element_begins e };
 }
 
-impl<'a, R: Reader<Borrowed = &'a [u8]>> Choice<R> for AnyRef<'a> {
+impl<'a, R: Lends<Borrowed = &'a [u8]>> Choice<R> for AnyRef<'a> {
     ghost chooses = { any_tag };
 
     #[inline(always)]

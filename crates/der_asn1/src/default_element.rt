@@ -7,7 +7,7 @@ ghost use Rattle.der_asn1.specs.ContextSpecific.{retagged};
 use crate::defaulted::{DefaultValue, HasDefault};
 use crate::explicit::Explicit;
 use crate::implicit::Implicit;
-use der::{DecodeValue, FixedTag, ReadValue, Reader};
+use der::{DecodeValue, FixedTag, Lends, ReadValue};
 
 /// Types with a fixed tag that have a default value. Such a type can be a DEFAULT field.
 ///
@@ -20,7 +20,7 @@ pub trait DefaultElement: ReadValue + DefaultValue {
         → Self.is_default v ≡ Self.is_default w };
 }
 
-impl<R: Reader, T: DecodeValue<R> + FixedTag + DefaultElement> HasDefault<R> for T {
+impl<R: Lends, T: DecodeValue<R> + FixedTag + DefaultElement> HasDefault<R> for T {
     ghost reported = { λ v w rules octets m n one two. one_element T.decided one two };
 }
 

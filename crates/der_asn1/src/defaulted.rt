@@ -5,7 +5,9 @@ ghost use Rattle.der_asn1.specs.Default.{DefaultNext, DefaultRead, IsDefaulted, 
 ghost use Rattle.der_asn1.specs.Default.{default_size, DefaultWritten};
 
 use crate::choice::Choice;
-use der::{Decode, Encode, EncodingRules, Error, ErrorKind, Length, Reader, ReaderExt, Writer};
+use der::{
+    Decode, Encode, EncodingRules, Error, ErrorKind, Lends, Length, Reader, ReaderExt, Writer,
+};
 use std::alloc::Global;
 
 /// Types that have a default value: the value of a DEFAULT field that is absent.
@@ -27,7 +29,7 @@ pub trait DefaultValue: Sized {
 ///
 /// Ghost member (for proofs only): `reported` proves that, if two values can be decoded from the
 /// same octets, both are the default or neither is.
-pub trait HasDefault<R: Reader>: Choice<R> + DefaultValue {
+pub trait HasDefault<R: Lends>: Choice<R> + DefaultValue {
     // If two values can be decoded from the same octets, both are the default or neither is.
     ghost reported: { (v w : Self) (rules : Rules) (octets : List ℕ) (m n : ℕ)
         → Self.is_next v rules octets m → Self.is_next w rules octets n
@@ -36,7 +38,7 @@ pub trait HasDefault<R: Reader>: Choice<R> + DefaultValue {
 
 // Whether a value was encoded although it is the default and the rules are DER.
 #[inline(always)]
-fn is_written_default<R: Reader, T: HasDefault<R>>(rules: EncodingRules, value: &T) -> bool
+fn is_written_default<R: Lends, T: HasDefault<R>>(rules: EncodingRules, value: &T) -> bool
     ensures { IsTrue result ↔ ((rules ≡ Der) × (T.is_default value.now ≡ true)) }
 {
     rules.is_der() && value.has_default()
@@ -58,7 +60,7 @@ pub struct Defaulted<T>(pub T);
 /// - The errors of decoding the value, if a value may begin with the next tag.
 /// - `Noncanonical` with the tag of the value, at the position after the value, if the value is the
 ///   default and the rules are DER; the reader has failed then.
-impl<R: Reader, T: HasDefault<R>> Decode<R> for Defaulted<T> {
+impl<R: Lends, T: HasDefault<R>> Decode<R> for Defaulted<T> {
     type Error = <T as Decode<R>>::Error;
 
     ghost is_next = { λ v. DefaultNext T.chooses T.is_default T.is_next v.0 };
@@ -71,7 +73,10 @@ impl<R: Reader, T: HasDefault<R>> Decode<R> for Defaulted<T> {
         T.decode_answers s (map_ok (λ v. v.0) result) t };
 
     #[inline(always)]
-    fn decode(alloc: Global, reader: &mut R) -> Result<Self, <T as Decode<R>>::Error> {
+    fn decode(alloc: Global, reader: &mut R) -> Result<Self, <T as Decode<R>>::Error>
+    where
+        R: Reader,
+    {
         if reader.is_finished() {
             return Ok(Defaulted(T::default_value()));
         }

@@ -9,8 +9,8 @@ ghost use Rattle.der_asn1.specs.Follow.{this_tag};
 use crate::choice::Choice;
 use crate::with_default::DefaultOf;
 use der::{
-    Decode, DecodeValue, Encode, EncodeValue, EncodingRules, Error, ErrorKind, Lawful, Length,
-    Reader, ReaderExt, Writer, WrittenValue, decode_tlv, encode_value_to_slice,
+    Decode, DecodeValue, Encode, EncodeValue, EncodingRules, Error, ErrorKind, Lawful, Lends,
+    Length, Reader, ReaderExt, Writer, WrittenValue, decode_tlv, encode_value_to_slice,
 };
 use std::alloc::Global;
 use std::marker::PhantomData;
@@ -84,7 +84,7 @@ fn is_written_default<T: WrittenValue, D: DefaultEncoding<T>>(
 /// - The errors of decoding the value, as by [`decode_tlv`], if its tag is next.
 /// - `Noncanonical` with the tag of the value, at the position after the value, if the value is the
 ///   default and the rules are DER; the reader has failed then.
-impl<R: Reader, T: DecodeValue<R> + Lawful, D: DefaultEncoding<T>> Decode<R> for DefaultedTo<T, D> {
+impl<R: Lends, T: DecodeValue<R> + Lawful, D: DefaultEncoding<T>> Decode<R> for DefaultedTo<T, D> {
     type Error = <T as DecodeValue<R>>::Error;
 
     ghost is_next = { λ v. DefaultNext (this_tag T.tag_is)
@@ -100,7 +100,10 @@ impl<R: Reader, T: DecodeValue<R> + Lawful, D: DefaultEncoding<T>> Decode<R> for
         (map_ok (λ v. v.0) result) t };
 
     #[inline(always)]
-    fn decode(alloc: Global, reader: &mut R) -> Result<Self, <T as DecodeValue<R>>::Error> {
+    fn decode(alloc: Global, reader: &mut R) -> Result<Self, <T as DecodeValue<R>>::Error>
+    where
+        R: Reader,
+    {
         if reader.is_finished() {
             return Ok(DefaultedTo(D::default_value(), PhantomData));
         }

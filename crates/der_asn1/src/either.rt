@@ -7,7 +7,7 @@ ghost use Rattle.der_asn1.specs.EitherLaws.{either_begins};
 ghost use Rattle.der_asn1.specs.Follow.{either_tags};
 
 use crate::choice::Choice;
-use der::{Decode, Encode, Error, ErrorKind, Length, Reader, ReaderExt, Tag, Writer};
+use der::{Decode, Encode, Error, ErrorKind, Lends, Length, Reader, ReaderExt, Tag, Writer};
 use std::alloc::Global;
 
 /// A CHOICE of two types, decided by the next tag (X.690 8.13). For more alternatives, nest
@@ -30,7 +30,7 @@ pub enum Either<A, B> {
 /// - `TagUnexpected` without an expected tag, at the reader's position, if no value of either type
 ///   begins with the next tag; the reader has failed then.
 /// - The errors of decoding the value.
-impl<R: Reader, A: Choice<R>, B: Choice<R> + Decode<R, Error = <A as Decode<R>>::Error>> Decode<R>
+impl<R: Lends, A: Choice<R>, B: Choice<R> + Decode<R, Error = <A as Decode<R>>::Error>> Decode<R>
     for Either<A, B> {
     type Error = <A as Decode<R>>::Error;
 
@@ -44,7 +44,10 @@ impl<R: Reader, A: Choice<R>, B: Choice<R> + Decode<R, Error = <A as Decode<R>>:
         B.decode_answers };
 
     #[inline(always)]
-    fn decode(alloc: Global, reader: &mut R) -> Result<Self, <A as Decode<R>>::Error> {
+    fn decode(alloc: Global, reader: &mut R) -> Result<Self, <A as Decode<R>>::Error>
+    where
+        R: Reader,
+    {
         let tag = reader.peek_tag()?;
         if A::can_decode(tag) {
             let first = A::decode(alloc, reader)?;
@@ -109,7 +112,7 @@ impl<A: Encode, B: Encode> Encode for Either<A, B> {
     }
 }
 
-impl<R: Reader, A: Choice<R>, B: Choice<R> + Decode<R, Error = <A as Decode<R>>::Error>> Choice<R>
+impl<R: Lends, A: Choice<R>, B: Choice<R> + Decode<R, Error = <A as Decode<R>>::Error>> Choice<R>
     for Either<A, B> {
     ghost chooses = { either_tags A.chooses B.chooses };
 

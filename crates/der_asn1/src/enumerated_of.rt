@@ -13,8 +13,8 @@ use crate::integer_number::IntegerNumber;
 use crate::item::{DecodeItem, Item};
 use crate::iter::BorrowedItem;
 use der::{
-    DecodeValue, EncodeValue, Error, FixedTag, Header, IsValue, Lawful, Length, ReadValue, Reader,
-    Tag, Writer, WrittenValue, octets_len, place_before,
+    DecodeValue, EncodeValue, Error, FixedTag, Header, IsValue, Lawful, Lends, Length, ReadValue,
+    Reader, Tag, Writer, WrittenValue, octets_len, place_before,
 };
 use std::alloc::Global;
 
@@ -60,12 +60,15 @@ impl<N: IntegerNumber> ReadValue for EnumeratedOf<N> {
 /// - `Value` with the tag ENUMERATED, at the position after the contents, if no number of type `N`
 ///   has these contents: they are empty or not the shortest, or their number is not one of `N`. The
 ///   reader has failed then.
-impl<'a, N: IntegerNumber, R: Reader<Borrowed = &'a [u8]>> DecodeValue<R> for EnumeratedOf<N> {
+impl<'a, N: IntegerNumber, R: Lends<Borrowed = &'a [u8]>> DecodeValue<R> for EnumeratedOf<N> {
     type Error = Error;
 
     ghost decode_value_answers = { CheckedContentsRead N.grammar EnumeratedTag (λ v. N.contents_of v.number) };
 
-    fn decode_value(_alloc: Global, reader: &mut R, header: Header) -> Result<Self, Error> {
+    fn decode_value(_alloc: Global, reader: &mut R, header: Header) -> Result<Self, Error>
+    where
+        R: Reader,
+    {
         let octets = reader.read_slice(header.length())?;
         match N::from_contents(octets) {
             Some(number) => Ok(EnumeratedOf { number }),
@@ -132,7 +135,7 @@ impl<N: IntegerNumber> Item for EnumeratedOf<N> {
         (λ v. N.contents_of v.number)) (λ v. N.contents_of v.number) (λ _. 0) false };
 }
 
-impl<'a, N: IntegerNumber, R: Reader<Borrowed = &'a [u8]>> DecodeItem<R> for EnumeratedOf<N> {
+impl<'a, N: IntegerNumber, R: Lends<Borrowed = &'a [u8]>> DecodeItem<R> for EnumeratedOf<N> {
     ghost is_item = { element_is_item (checked_contents_lawful EnumeratedTag N.grammar
         (λ v. N.contents_of v.number) (Prim.omega arith)) false };
 

@@ -8,8 +8,8 @@ ghost use Rattle.der_asn1.specs.Meaning.{explicit};
 
 use crate::described::Described;
 use der::{
-    DecodeValue, Encode, EncodeValue, Error, FixedTag, Header, IsValue, Lawful, Length, ReadValue,
-    Reader, Tag, TagNumber, Writer, WrittenValue, decode_contents,
+    DecodeValue, Encode, EncodeValue, Error, FixedTag, Header, IsValue, Lawful, Lends, Length,
+    ReadValue, Reader, Tag, TagNumber, Writer, WrittenValue, decode_contents,
 };
 use std::alloc::Global;
 
@@ -67,7 +67,7 @@ impl<T: ReadValue + FixedTag, const N: u32> ReadValue for Explicit<T, N> {
 ///
 /// The errors of decoding the inner element (the element of the value of type `T`), as by
 /// [`decode_tlv`](der::decode_tlv).
-impl<R: Reader, T: DecodeValue<R> + FixedTag, const N: u32> DecodeValue<R> for Explicit<T, N> {
+impl<R: Lends, T: DecodeValue<R> + FixedTag, const N: u32> DecodeValue<R> for Explicit<T, N> {
     type Error = <T as DecodeValue<R>>::Error;
 
     ghost decode_value_answers = { λ h s result t. ElementRead T.tag_is T.Error.from_gives
@@ -78,7 +78,10 @@ impl<R: Reader, T: DecodeValue<R> + FixedTag, const N: u32> DecodeValue<R> for E
         alloc: Global,
         reader: &mut R,
         header: Header,
-    ) -> Result<Self, <T as DecodeValue<R>>::Error> {
+    ) -> Result<Self, <T as DecodeValue<R>>::Error>
+    where
+        R: Reader,
+    {
         let value = decode_contents::<R, T>(alloc, reader, header)?;
         Ok(Explicit(value))
     }

@@ -14,8 +14,8 @@ use crate::described::Described;
 use crate::item::{DecodeItem, Item};
 use crate::iter::BorrowedItem;
 use der::{
-    DecodeValue, Encode, EncodeValue, Error, FixedTag, FromFields, Header, IsValue, Lawful, Length,
-    ReadValue, Reader, Tag, TagNumber, Writer, WrittenValue, decode_sequence,
+    DecodeValue, Encode, EncodeValue, Error, FixedTag, FromFields, Header, IsValue, Lawful, Lends,
+    Length, ReadValue, Reader, Tag, TagNumber, Writer, WrittenValue, decode_sequence,
 };
 use std::alloc::Global;
 
@@ -68,14 +68,17 @@ impl<'a, const N: u32> ReadValue for ExplicitAny<'a, N> {
 /// # Errors
 ///
 /// The errors of decoding an element of any tag, as by [`decode_element`](crate::decode_element).
-impl<'a, R: Reader<Borrowed = &'a [u8]>, const N: u32> DecodeValue<R> for ExplicitAny<'a, N> {
+impl<'a, R: Lends<Borrowed = &'a [u8]>, const N: u32> DecodeValue<R> for ExplicitAny<'a, N> {
     type Error = Error;
 
     ghost decode_value_answers = { λ h s result t. AnyElementRead (λ e f. f ≡ e) AnyRead s
         (map_ok (λ v. v.0) result) t };
 
     #[inline(always)]
-    fn decode_value(alloc: Global, reader: &mut R, header: Header) -> Result<Self, Error> {
+    fn decode_value(alloc: Global, reader: &mut R, header: Header) -> Result<Self, Error>
+    where
+        R: Reader,
+    {
         decode_sequence::<R, AnyRef<'a>, Self>(alloc, reader, header)
     }
 }
@@ -137,7 +140,7 @@ impl<'a, const N: u32> Item for ExplicitAny<'a, N> {
         (element_levels (λ _. 0)) false };
 }
 
-impl<'a, R: Reader<Borrowed = &'a [u8]>, const N: u32> DecodeItem<R> for ExplicitAny<'a, N> {
+impl<'a, R: Lends<Borrowed = &'a [u8]>, const N: u32> DecodeItem<R> for ExplicitAny<'a, N> {
     ghost is_item = { element_is_item (explicit_any_lawful (context_tag true N) (λ v. v.0)
         (Prim.omega arith)) false };
 

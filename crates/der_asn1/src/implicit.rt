@@ -10,8 +10,8 @@ ghost use Rattle.der_asn1.specs.Meaning.{implicit};
 use crate::described::Described;
 use crate::explicit::Nestable;
 use der::{
-    DecodeValue, EncodeValue, Error, FixedTag, Header, IsValue, Lawful, Length, ReadValue, Reader,
-    Tag, TagNumber, Writer, WrittenValue,
+    DecodeValue, EncodeValue, Error, FixedTag, Header, IsValue, Lawful, Lends, Length, ReadValue,
+    Reader, Tag, TagNumber, Writer, WrittenValue,
 };
 use std::alloc::Global;
 
@@ -57,7 +57,7 @@ impl<T: ReadValue + FixedTag, const N: u32> ReadValue for Implicit<T, N> {
 /// # Errors
 ///
 /// The errors of [`DecodeValue::decode_value`] for the type `T`.
-impl<R: Reader, T: DecodeValue<R> + FixedTag, const N: u32> DecodeValue<R> for Implicit<T, N> {
+impl<R: Lends, T: DecodeValue<R> + FixedTag, const N: u32> DecodeValue<R> for Implicit<T, N> {
     type Error = <T as DecodeValue<R>>::Error;
 
     ghost decode_value_answers = { λ h s result t. T.decode_value_answers (retagged T.tag_is h) s
@@ -68,7 +68,10 @@ impl<R: Reader, T: DecodeValue<R> + FixedTag, const N: u32> DecodeValue<R> for I
         alloc: Global,
         reader: &mut R,
         header: Header,
-    ) -> Result<Self, <T as DecodeValue<R>>::Error> {
+    ) -> Result<Self, <T as DecodeValue<R>>::Error>
+    where
+        R: Reader,
+    {
         let own = Header::new(T::fixed_tag(), header.length());
         Ok(Implicit(T::decode_value(alloc, reader, own)?))
     }

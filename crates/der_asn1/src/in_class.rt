@@ -11,8 +11,8 @@ use crate::described::Described;
 use crate::explicit::Nestable;
 use crate::item::{DecodeItem, Item};
 use der::{
-    DecodeValue, EncodeValue, Error, FixedTag, Header, IsValue, Lawful, Length, ReadValue, Reader,
-    Tag, TagNumber, Writer, WrittenValue,
+    DecodeValue, EncodeValue, Error, FixedTag, Header, IsValue, Lawful, Lends, Length, ReadValue,
+    Reader, Tag, TagNumber, Writer, WrittenValue,
 };
 use std::alloc::Global;
 
@@ -74,7 +74,7 @@ impl<T: ReadValue + FixedTag, const PRIVATE: bool> ReadValue for InClass<T, PRIV
 /// # Errors
 ///
 /// The errors of [`DecodeValue::decode_value`] for the type `T`.
-impl<R: Reader, T: DecodeValue<R> + FixedTag, const PRIVATE: bool> DecodeValue<R>
+impl<R: Lends, T: DecodeValue<R> + FixedTag, const PRIVATE: bool> DecodeValue<R>
     for InClass<T, PRIVATE> {
     type Error = <T as DecodeValue<R>>::Error;
 
@@ -86,7 +86,10 @@ impl<R: Reader, T: DecodeValue<R> + FixedTag, const PRIVATE: bool> DecodeValue<R
         alloc: Global,
         reader: &mut R,
         header: Header,
-    ) -> Result<Self, <T as DecodeValue<R>>::Error> {
+    ) -> Result<Self, <T as DecodeValue<R>>::Error>
+    where
+        R: Reader,
+    {
         let own = Header::new(T::fixed_tag(), header.length());
         Ok(InClass(T::decode_value(alloc, reader, own)?))
     }
@@ -171,7 +174,7 @@ impl<T: ReadValue + WrittenValue + FixedTag, const PRIVATE: bool> Item for InCla
         (λ v. v.0)) (λ v. T.valid v.0) (λ v. T.contents v.0) T.value_levels T.allocates };
 }
 
-impl<R: Reader, T: Lawful + DecodeValue<R>, const PRIVATE: bool> DecodeItem<R>
+impl<R: Lends, T: Lawful + DecodeValue<R>, const PRIVATE: bool> DecodeItem<R>
     for InClass<T, PRIVATE> {
     ghost is_item = { element_is_item (reclassed_lawful PRIVATE (λ v. v.0) T.lawful) T.allocates };
 

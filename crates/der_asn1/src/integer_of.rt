@@ -11,8 +11,8 @@ use crate::explicit::Nestable;
 use crate::integer::IntRef;
 use crate::integer_number::IntegerNumber;
 use der::{
-    DecodeValue, EncodeValue, Error, FixedTag, Header, IsValue, Lawful, Length, ReadValue, Reader,
-    Tag, Writer, WrittenValue, octets_len, place_before,
+    DecodeValue, EncodeValue, Error, FixedTag, Header, IsValue, Lawful, Lends, Length, ReadValue,
+    Reader, Tag, Writer, WrittenValue, octets_len, place_before,
 };
 use std::alloc::Global;
 
@@ -67,12 +67,15 @@ impl<N: IntegerNumber> ReadValue for IntegerOf<N> {
 /// - `Value` with the tag INTEGER, at the position after the contents, if no number of type `N` has
 ///   these contents: they are empty or not the shortest, or their number is out of the range of
 ///   `N`. The reader has failed then.
-impl<'a, N: IntegerNumber, R: Reader<Borrowed = &'a [u8]>> DecodeValue<R> for IntegerOf<N> {
+impl<'a, N: IntegerNumber, R: Lends<Borrowed = &'a [u8]>> DecodeValue<R> for IntegerOf<N> {
     type Error = Error;
 
     ghost decode_value_answers = { CheckedContentsRead N.grammar IntegerTag (λ v. N.contents_of v.number) };
 
-    fn decode_value(_alloc: Global, reader: &mut R, header: Header) -> Result<Self, Error> {
+    fn decode_value(_alloc: Global, reader: &mut R, header: Header) -> Result<Self, Error>
+    where
+        R: Reader,
+    {
         let octets = reader.read_slice(header.length())?;
         match N::from_contents(octets) {
             Some(number) => Ok(IntegerOf { number }),

@@ -1,7 +1,7 @@
 //! Types of which lists are made.
 ghost use Rattle.der_asn1.specs.Item.{DecodesItems, IsItem, ItemSpec};
 
-use der::{Decode, Reader};
+use der::{Decode, Lends};
 
 /// Types whose values can be the items of a [`SequenceOf`](crate::SequenceOf) or a
 /// [`SetOf`](crate::SetOf): lawful types, elements of any tag, and CHOICE types. The encoding of
@@ -19,7 +19,7 @@ pub trait Item: Sized {
 /// - `is_item` proves that, under DER, octets begin with an item if and only if they begin with the
 ///   encoding of a valid value, and that this encoding is one element.
 /// - `decodes_items` proves that, under DER, decoding accepts exactly the items.
-pub trait DecodeItem<R: Reader>: Decode<R> + Item {
+pub trait DecodeItem<R: Lends>: Decode<R> + Item {
     // Under DER, items are read as they are written.
     ghost is_item: { IsItem Self.item };
 

@@ -21,13 +21,13 @@ use crate::sequence_of::SequenceOf;
 use crate::set_of::SetOf;
 use crate::time_format::TimeFormat;
 use crate::time_of::TimeOf;
-use der::{DecodeValue, FixedTag, Lawful, ReadValue, Reader, WrittenValue};
+use der::{DecodeValue, FixedTag, Lawful, Lends, ReadValue, WrittenValue};
 
 impl<'a> Item for AnyRef<'a> {
     ghost item = { choice_item any_element };
 }
 
-impl<'a, R: Reader<Borrowed = &'a [u8]>> DecodeItem<R> for AnyRef<'a> {
+impl<'a, R: Lends<Borrowed = &'a [u8]>> DecodeItem<R> for AnyRef<'a> {
     ghost is_item = { choice_is_item any_element refl };
 
     ghost decodes_items = { decodes_same (choice_item any_element) };
@@ -38,7 +38,7 @@ impl<'a, F: ContentsGrammar> Item for Checked<'a, F> {
         (HasCheckedContents F.grammar (λ v. v.octets.now)) (λ v. v.octets.now) (λ _. 0) false };
 }
 
-impl<'a, F: ContentsGrammar, R: Reader<Borrowed = &'a [u8]>> DecodeItem<R> for Checked<'a, F> {
+impl<'a, F: ContentsGrammar, R: Lends<Borrowed = &'a [u8]>> DecodeItem<R> for Checked<'a, F> {
     ghost is_item = { element_is_item (checked_contents_lawful F.tag_is F.grammar
         (λ v. v.octets.now) F.numbered) false };
 
@@ -53,7 +53,7 @@ impl<N: IntegerNumber> Item for IntegerOf<N> {
         (λ v. N.contents_of v.number)) (λ v. N.contents_of v.number) (λ _. 0) false };
 }
 
-impl<'a, N: IntegerNumber, R: Reader<Borrowed = &'a [u8]>> DecodeItem<R> for IntegerOf<N> {
+impl<'a, N: IntegerNumber, R: Lends<Borrowed = &'a [u8]>> DecodeItem<R> for IntegerOf<N> {
     ghost is_item = { element_is_item (checked_contents_lawful IntegerTag N.grammar
         (λ v. N.contents_of v.number) (Prim.omega arith)) false };
 
@@ -68,7 +68,7 @@ impl<F: TimeFormat> Item for TimeOf<F> {
         (λ v. F.contents_of v.time) (λ _. 0) false };
 }
 
-impl<'a, F: TimeFormat, R: Reader<Borrowed = &'a [u8]>> DecodeItem<R> for TimeOf<F> {
+impl<'a, F: TimeFormat, R: Lends<Borrowed = &'a [u8]>> DecodeItem<R> for TimeOf<F> {
     ghost is_item = { element_is_item (checked_contents_lawful F.tag_is F.grammar
         (λ v. F.contents_of v.time) F.numbered) false };
 
@@ -83,7 +83,7 @@ impl<T: ReadValue + WrittenValue + FixedTag, const N: u32> Item for Explicit<T, 
         (element_levels T.value_levels) T.allocates };
 }
 
-impl<R: Reader, T: Lawful + Nestable + DecodeValue<R>, const N: u32> DecodeItem<R>
+impl<R: Lends, T: Lawful + Nestable + DecodeValue<R>, const N: u32> DecodeItem<R>
     for Explicit<T, N> {
     ghost is_item = { element_is_item (explicit_lawful (context_tag true N) (λ v. v.0)
         (Prim.omega arith) T.lawful T.nestable) T.allocates };
@@ -100,7 +100,7 @@ impl<T: ReadValue + WrittenValue + FixedTag, const N: u32> Item for Implicit<T, 
         T.value_levels T.allocates };
 }
 
-impl<R: Reader, T: Lawful + DecodeValue<R>, const N: u32> DecodeItem<R> for Implicit<T, N> {
+impl<R: Lends, T: Lawful + DecodeValue<R>, const N: u32> DecodeItem<R> for Implicit<T, N> {
     ghost is_item = { element_is_item (implicit_lawful (context_tag (label T.tag_is).constructed N)
         (λ v. v.0) (Prim.omega arith) T.lawful) T.allocates };
 

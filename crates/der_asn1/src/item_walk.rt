@@ -11,7 +11,7 @@ ghost use Rattle.der_asn1.specs.ListAnswers.{IsPart, ItemAnswer, ListWalked, Wal
 ghost use Rattle.der_asn1.specs.SequenceOf.{IsAtItem, IsListOf};
 
 use crate::item::DecodeItem;
-use der::{Decode, Error, ErrorKind, Length, Reader, ReaderExt, Resumption, SliceReader};
+use der::{Decode, Error, ErrorKind, Lends, Length, Reader, ReaderExt, Resumption, SliceReader};
 use std::alloc::Global;
 
 // Decodes the next item. Returns the error `Failed` if its type returns a value but leaves the
@@ -87,7 +87,7 @@ pub(crate) fn check_items<'a, T: DecodeItem<SliceReader<'a>>>(
 
 // The encoding of each item is one element, so no encoding begins another one.
 #[inline(always)]
-pub(crate) fn items_are_elements<R: Reader, T: DecodeItem<R>>()
+pub(crate) fn items_are_elements<R: Lends, T: DecodeItem<R>>()
     ensures { (v : T) → T.item.valid v → IsElement (T.item.octets v) }
 {}
 
@@ -107,7 +107,7 @@ pub(crate) fn has_item<R: Reader>(reader: &R) -> bool
 pub(crate) fn read_part<R: Reader>(
     reader: &mut R,
     len: Length,
-) -> Result<(R, <R as Reader>::Borrowed), Error>
+) -> Result<(R, <R as Lends>::Borrowed), Error>
     ensures same { Same (R.state reader.old) (R.state reader.new) }
     ensures exact { Meets R.reliable (read_slice_outcome (number len)) (R.state reader.old)
         (map_ok (λ p. R.Borrowed.octets p.1) result) (R.state reader.new) }

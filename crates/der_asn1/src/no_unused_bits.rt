@@ -3,7 +3,7 @@ ghost use Rattle.std.specs.Prelude.{◌≡◌, ◌∷◌, [], false, Ok as AnOk,
 ghost use Rattle.der.specs.Prelude.{Gives, Writes, definite_length, map_ok, write_outcome};
 ghost use Rattle.der_asn1.specs.ZeroOctet.{ZeroNext, zero_octet_outcome};
 
-use der::{Decode, Encode, Error, Length, Reader, ReaderExt, Tag, Writer, place_before};
+use der::{Decode, Encode, Error, Lends, Length, Reader, ReaderExt, Tag, Writer, place_before};
 use std::alloc::Global;
 
 /// The first contents octet of a BIT STRING without unused bits, which is zero (X.690 8.6.2.2).
@@ -19,7 +19,7 @@ pub enum NoUnusedBits {
 /// - The errors of [`ReaderExt::read_byte`].
 /// - `Value` with the tag BIT STRING, at the position after the octet, if this is not zero; the
 ///   reader has failed then.
-impl<R: Reader> Decode<R> for NoUnusedBits {
+impl<R: Lends> Decode<R> for NoUnusedBits {
     type Error = Error;
 
     ghost is_next = { λ _. ZeroNext };
@@ -32,7 +32,10 @@ impl<R: Reader> Decode<R> for NoUnusedBits {
         (map_ok (λ _. tt) result) t };
 
     #[inline(always)]
-    fn decode(_alloc: Global, reader: &mut R) -> Result<Self, Error> {
+    fn decode(_alloc: Global, reader: &mut R) -> Result<Self, Error>
+    where
+        R: Reader,
+    {
         if reader.read_byte()? != 0 {
             return Err(reader.error(Tag::BitString.value_error()));
         }

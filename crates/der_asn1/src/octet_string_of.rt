@@ -12,8 +12,8 @@ use crate::described::Described;
 use crate::explicit::Nestable;
 use crate::item::{DecodeItem, Item};
 use der::{
-    DecodeValue, Encode, EncodeValue, Error, FixedTag, Header, IsValue, Lawful, Length, ReadValue,
-    Reader, Tag, Writer, WrittenValue, decode_contents,
+    DecodeValue, Encode, EncodeValue, Error, FixedTag, Header, IsValue, Lawful, Lends, Length,
+    ReadValue, Reader, Tag, Writer, WrittenValue, decode_contents,
 };
 use std::alloc::Global;
 
@@ -54,7 +54,7 @@ impl<T: ReadValue + FixedTag> ReadValue for OctetStringOf<T> {
 ///
 /// The errors of decoding the inner element (the element of the value of type `T`), as by
 /// [`decode_tlv`](der::decode_tlv).
-impl<R: Reader, T: DecodeValue<R> + FixedTag> DecodeValue<R> for OctetStringOf<T> {
+impl<R: Lends, T: DecodeValue<R> + FixedTag> DecodeValue<R> for OctetStringOf<T> {
     type Error = <T as DecodeValue<R>>::Error;
 
     ghost decode_value_answers = { λ h s result t. ElementRead T.tag_is T.Error.from_gives
@@ -65,7 +65,10 @@ impl<R: Reader, T: DecodeValue<R> + FixedTag> DecodeValue<R> for OctetStringOf<T
         alloc: Global,
         reader: &mut R,
         header: Header,
-    ) -> Result<Self, <T as DecodeValue<R>>::Error> {
+    ) -> Result<Self, <T as DecodeValue<R>>::Error>
+    where
+        R: Reader,
+    {
         let value = decode_contents::<R, T>(alloc, reader, header)?;
         Ok(OctetStringOf(value))
     }
@@ -130,7 +133,7 @@ impl<T: ReadValue + WrittenValue + FixedTag> Item for OctetStringOf<T> {
         (element_levels T.value_levels) T.allocates };
 }
 
-impl<R: Reader, T: Lawful + Nestable + DecodeValue<R>> DecodeItem<R> for OctetStringOf<T> {
+impl<R: Lends, T: Lawful + Nestable + DecodeValue<R>> DecodeItem<R> for OctetStringOf<T> {
     ghost is_item = { element_is_item (explicit_lawful OctetTag (λ v. v.0) (Prim.omega arith)
         T.lawful T.nestable) T.allocates };
 

@@ -5,7 +5,7 @@ ghost use Rattle.der_asn1.specs.Optional.{OptionNext, OptionRead, IsOptional, op
 ghost use Rattle.der_asn1.specs.Optional.{option_size, OptionWritten};
 
 use crate::choice::Choice;
-use der::{Decode, Encode, Error, Length, Reader, ReaderExt, Writer};
+use der::{Decode, Encode, Error, Lends, Length, Reader, ReaderExt, Writer};
 use std::alloc::Global;
 
 /// An OPTIONAL field (X.690 8.9.3): a value, or `None` if the field is absent. Decoding takes the
@@ -20,7 +20,7 @@ pub struct Optional<T>(pub Option<T>);
 /// - The errors of [`ReaderExt::peek_tag`], if octets are left but the next tag cannot be read; the
 ///   reader is unchanged.
 /// - The errors of decoding the value, if a value may begin with the next tag.
-impl<R: Reader, T: Choice<R>> Decode<R> for Optional<T> {
+impl<R: Lends, T: Choice<R>> Decode<R> for Optional<T> {
     type Error = <T as Decode<R>>::Error;
 
     ghost is_next = { λ v. OptionNext T.chooses T.is_next v.0 };
@@ -33,7 +33,10 @@ impl<R: Reader, T: Choice<R>> Decode<R> for Optional<T> {
         T.decode_answers s (map_ok (λ v. v.0) result) t };
 
     #[inline(always)]
-    fn decode(alloc: Global, reader: &mut R) -> Result<Self, <T as Decode<R>>::Error> {
+    fn decode(alloc: Global, reader: &mut R) -> Result<Self, <T as Decode<R>>::Error>
+    where
+        R: Reader,
+    {
         if reader.is_finished() {
             return Ok(Optional(None));
         }

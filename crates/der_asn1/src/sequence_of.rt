@@ -20,8 +20,8 @@ use crate::item_walk::{check_items, read_items, read_part};
 use crate::items::Items;
 use crate::iter::Iter;
 use der::{
-    Decode, DecodeValue, EncodeValue, Error, FixedTag, Header, IsValue, Lawful, Length, ReadValue,
-    Reader, SliceReader, Tag, Writer, WrittenValue, octets_len, place_before,
+    Decode, DecodeValue, EncodeValue, Error, FixedTag, Header, IsValue, Lawful, Lends, Length,
+    ReadValue, Reader, SliceReader, Tag, Writer, WrittenValue, octets_len, place_before,
 };
 use std::alloc::{AllocError, Global};
 use std::marker::PhantomData;
@@ -85,7 +85,7 @@ impl<'a, T: Item> ReadValue for SequenceOf<'a, T> {
 ///   count from the start of the reader's input; if it reads BER, from the start of the contents.
 impl<
     'a,
-    R: Reader<Borrowed = &'a [u8]>,
+    R: Lends<Borrowed = &'a [u8]>,
     T: DecodeItem<R> + DecodeItem<SliceReader<'a>, Error = <T as Decode<R>>::Error>,
 > DecodeValue<R> for SequenceOf<'a, T> {
     type Error = <T as Decode<R>>::Error;
@@ -98,7 +98,10 @@ impl<
         alloc: Global,
         reader: &mut R,
         header: Header,
-    ) -> Result<Self, <T as Decode<R>>::Error> {
+    ) -> Result<Self, <T as Decode<R>>::Error>
+    where
+        R: Reader,
+    {
         let (mut items, octets) = read_part(reader, header.length())?;
         if !reader.encoding_rules().is_der() {
             return SequenceOf::new(alloc, octets);
@@ -255,7 +258,7 @@ impl<'a, T: Item> Item for SequenceOf<'a, T> {
 
 impl<
     'a,
-    R: Reader<Borrowed = &'a [u8]>,
+    R: Lends<Borrowed = &'a [u8]>,
     T: DecodeItem<R> + DecodeItem<SliceReader<'a>, Error = <T as Decode<R>>::Error>,
 > DecodeItem<R> for SequenceOf<'a, T> {
     ghost is_item = { element_is_item (octets_with_lawful Sequence

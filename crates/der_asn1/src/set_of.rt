@@ -21,8 +21,8 @@ use crate::iter::Iter;
 use crate::sequence_of::SequenceOf;
 use crate::set_walk::{check_set, read_set};
 use der::{
-    Decode, DecodeValue, EncodeValue, Error, FixedTag, Header, IsValue, Lawful, Length, ReadValue,
-    Reader, SliceReader, Tag, Writer, WrittenValue, octets_len, place_before,
+    Decode, DecodeValue, EncodeValue, Error, FixedTag, Header, IsValue, Lawful, Lends, Length,
+    ReadValue, Reader, SliceReader, Tag, Writer, WrittenValue, octets_len, place_before,
 };
 use std::alloc::{AllocError, Global};
 
@@ -88,7 +88,7 @@ impl<'a, T: Item> ReadValue for SetOf<'a, T> {
 ///   count from the start of the reader's input; if it reads BER, from the start of the contents.
 impl<
     'a,
-    R: Reader<Borrowed = &'a [u8]>,
+    R: Lends<Borrowed = &'a [u8]>,
     T: DecodeItem<R> + DecodeItem<SliceReader<'a>, Error = <T as Decode<R>>::Error>,
 > DecodeValue<R> for SetOf<'a, T> {
     type Error = <T as Decode<R>>::Error;
@@ -101,7 +101,10 @@ impl<
         alloc: Global,
         reader: &mut R,
         header: Header,
-    ) -> Result<Self, <T as Decode<R>>::Error> {
+    ) -> Result<Self, <T as Decode<R>>::Error>
+    where
+        R: Reader,
+    {
         let (mut items, octets) = read_part(reader, header.length())?;
         if !reader.encoding_rules().is_der() {
             return SetOf::new(alloc, octets);
@@ -252,7 +255,7 @@ impl<'a, T: Item> Item for SetOf<'a, T> {
 
 impl<
     'a,
-    R: Reader<Borrowed = &'a [u8]>,
+    R: Lends<Borrowed = &'a [u8]>,
     T: DecodeItem<R> + DecodeItem<SliceReader<'a>, Error = <T as Decode<R>>::Error>,
 > DecodeItem<R> for SetOf<'a, T> {
     ghost is_item = { element_is_item (octets_with_lawful SetTag

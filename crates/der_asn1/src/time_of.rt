@@ -10,8 +10,8 @@ use crate::described::Described;
 use crate::explicit::Nestable;
 use crate::time_format::TimeFormat;
 use der::{
-    DecodeValue, EncodeValue, Error, FixedTag, Header, IsValue, Lawful, Length, ReadValue, Reader,
-    Tag, Writer, WrittenValue, octets_len, place_before,
+    DecodeValue, EncodeValue, Error, FixedTag, Header, IsValue, Lawful, Lends, Length, ReadValue,
+    Reader, Tag, Writer, WrittenValue, octets_len, place_before,
 };
 use std::alloc::{AllocError, Global};
 use std::marker::PhantomData;
@@ -95,13 +95,16 @@ impl<F: TimeFormat> ReadValue for TimeOf<F> {
 /// - The errors of reading the contents, as by [`Reader::read_slice`].
 /// - `Value` with the tag of the type, at the position after the contents, if the contents are not
 ///   those of a time in the format `F`; the reader has failed then.
-impl<'a, F: TimeFormat, R: Reader<Borrowed = &'a [u8]>> DecodeValue<R> for TimeOf<F> {
+impl<'a, F: TimeFormat, R: Lends<Borrowed = &'a [u8]>> DecodeValue<R> for TimeOf<F> {
     type Error = Error;
 
     ghost decode_value_answers = { CheckedContentsRead F.grammar F.tag_is (λ v. F.contents_of v.time) };
 
     #[inline(always)]
-    fn decode_value(_alloc: Global, reader: &mut R, header: Header) -> Result<Self, Error> {
+    fn decode_value(_alloc: Global, reader: &mut R, header: Header) -> Result<Self, Error>
+    where
+        R: Reader,
+    {
         let octets = reader.read_slice(header.length())?;
         match F::from_contents(octets) {
             Some(time) => Ok(TimeOf {

@@ -16,7 +16,7 @@ use crate::item::{DecodeItem, Item};
 use crate::iter::BorrowedItem;
 use crate::known_tags::KnownTags;
 use der::{
-    Decode, EncodeValue, Error, ErrorKind, IsValue, Length, Reader, Tag, Tagged, Writer,
+    Decode, EncodeValue, Error, ErrorKind, IsValue, Lends, Length, Reader, Tag, Tagged, Writer,
     WrittenValue,
 };
 use std::alloc::{AllocError, Global};
@@ -85,7 +85,7 @@ impl<'a, K: KnownTags> UnknownElement<'a, K> {
 /// - The errors of decoding an element of any tag, as by [`decode_element`](crate::decode_element).
 /// - `TagUnexpected` without an expected tag, at the position after the element, if its tag is known;
 ///   the reader has failed then.
-impl<'a, R: Reader<Borrowed = &'a [u8]>, K: KnownTags> Decode<R> for UnknownElement<'a, K> {
+impl<'a, R: Lends<Borrowed = &'a [u8]>, K: KnownTags> Decode<R> for UnknownElement<'a, K> {
     type Error = Error;
 
     ghost is_next = { λ v. AnyElementNext TakesAny v.element };
@@ -98,7 +98,10 @@ impl<'a, R: Reader<Borrowed = &'a [u8]>, K: KnownTags> Decode<R> for UnknownElem
         (AnyElementRead (λ e f. f ≡ e) AnyRead) };
 
     #[inline(always)]
-    fn decode(alloc: Global, reader: &mut R) -> Result<Self, Error> {
+    fn decode(alloc: Global, reader: &mut R) -> Result<Self, Error>
+    where
+        R: Reader,
+    {
         let element = AnyRef::decode(alloc, reader)?;
         if K::is_known(element.tag) {
             let kind = ErrorKind::TagUnexpected {
@@ -114,7 +117,7 @@ impl<'a, R: Reader<Borrowed = &'a [u8]>, K: KnownTags> Decode<R> for UnknownElem
     }
 }
 
-impl<'a, R: Reader<Borrowed = &'a [u8]>, K: KnownTags> Choice<R> for UnknownElement<'a, K> {
+impl<'a, R: Lends<Borrowed = &'a [u8]>, K: KnownTags> Choice<R> for UnknownElement<'a, K> {
     ghost chooses = { IsOf (all_but K.known) };
 
     #[inline(always)]
@@ -174,7 +177,7 @@ impl<'a, K: KnownTags> Item for UnknownElement<'a, K> {
     ghost item = { choice_item (unknown_element K.known (λ v. v.element) (λ v. v.unknown)) };
 }
 
-impl<'a, R: Reader<Borrowed = &'a [u8]>, K: KnownTags> DecodeItem<R> for UnknownElement<'a, K> {
+impl<'a, R: Lends<Borrowed = &'a [u8]>, K: KnownTags> DecodeItem<R> for UnknownElement<'a, K> {
     ghost is_item = { choice_is_item (unknown_element K.known (λ v. v.element) (λ v. v.unknown))
         refl };
 

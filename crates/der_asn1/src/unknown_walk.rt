@@ -9,7 +9,7 @@ ghost use Rattle.der_asn1.specs.UnknownWalk.{IsLeft, UnknownCounted, IsUnknownCo
 use crate::item::DecodeItem;
 use crate::item_walk::{next_item, read_part};
 use crate::known_tags::KnownTags;
-use der::{Decode, Error, Length, Reader, ReaderExt, SliceReader};
+use der::{Decode, Error, Lends, Length, Reader, ReaderExt, SliceReader};
 use std::alloc::Global;
 
 // Whether octets are left that do not begin with a known tag.
@@ -107,7 +107,7 @@ pub(crate) fn unknown_len_of<
 }
 
 // A reader of all octets that are left, and these octets. The other reader does not move.
-pub(crate) fn left_part<R: Reader>(reader: &R) -> Result<(R, <R as Reader>::Borrowed), Error>
+pub(crate) fn left_part<R: Reader>(reader: &R) -> Result<(R, <R as Lends>::Borrowed), Error>
     ensures ok { IfOk result (λ p. IsLeft (R.state reader.now) (R.state p.0)
         (R.Borrowed.octets p.1)) }
     ensures exact { R.reliable ≡ true → map_ok (λ p. R.Borrowed.octets p.1) result

@@ -10,8 +10,8 @@ use crate::described::Described;
 use crate::equal_contents::EqualContents;
 use crate::explicit::Nestable;
 use der::{
-    DecodeValue, EncodeValue, Error, FixedTag, Header, IsValue, Lawful, Length, ReadValue, Reader,
-    Tag, Writer, WrittenValue,
+    DecodeValue, EncodeValue, Error, FixedTag, Header, IsValue, Lawful, Lends, Length, ReadValue,
+    Reader, Tag, Writer, WrittenValue,
 };
 use std::alloc::{AllocError, Global};
 use std::marker::PhantomData;
@@ -127,7 +127,7 @@ impl<T: ReadValue + Copy, D> ReadValue for WithDefault<T, D> {
 /// # Errors
 ///
 /// The errors of [`DecodeValue::decode_value`] for the type `T`.
-impl<R: Reader, T: DecodeValue<R> + Copy, D> DecodeValue<R> for WithDefault<T, D> {
+impl<R: Lends, T: DecodeValue<R> + Copy, D> DecodeValue<R> for WithDefault<T, D> {
     type Error = <T as DecodeValue<R>>::Error;
 
     ghost decode_value_answers = { λ h s result t. T.decode_value_answers h s
@@ -138,7 +138,10 @@ impl<R: Reader, T: DecodeValue<R> + Copy, D> DecodeValue<R> for WithDefault<T, D
         alloc: Global,
         reader: &mut R,
         header: Header,
-    ) -> Result<Self, <T as DecodeValue<R>>::Error> {
+    ) -> Result<Self, <T as DecodeValue<R>>::Error>
+    where
+        R: Reader,
+    {
         Ok(WithDefault::new(T::decode_value(alloc, reader, header)?))
     }
 }

@@ -6,7 +6,7 @@ pub mod calls;
 
 use crate::error::{DerError, c_error};
 use der_base::{EncodingRules, Error, ErrorKind, Length};
-use der_core::{Reader, Resumption};
+use der_core::{Lends, Reader, Resumption};
 use std::alloc::Allocator;
 
 // how many octets `drain` consumes in one step
@@ -111,6 +111,10 @@ fn missing_octets(position: usize, count: u32, end: u32) -> Error
     kind.at(Length::new(position as u32))
 }
 
+impl<'a> Lends for DerReader<'a> {
+    type Borrowed = &'a [u8];
+}
+
 /// A reliable reader: its methods fail exactly in the cases that [`Reader`] specifies, with the
 /// errors that [`Reader`] specifies. Once an error has made this reader a failed reader, it stays
 /// failed. [`Reader::read_slice`] returns slices of the reader's input. `SliceReader` does the
@@ -118,8 +122,6 @@ fn missing_octets(position: usize, count: u32, end: u32) -> Error
 impl<'a> Reader for DerReader<'a> {
     ghost use Rattle.std.proofs.Common.{rules};
     ghost use Rattle.der_c_core.specs.CReader.{reader_state};
-
-    type Borrowed = &'a [u8];
 
     ghost state = { reader_state };
 

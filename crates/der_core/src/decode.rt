@@ -18,7 +18,7 @@ mod phantom;
 mod tuples;
 mod value;
 
-use crate::reader::{Reader, SliceReader};
+use crate::reader::{Lends, Reader, SliceReader};
 use der_base::{EncodingRules, Error, ErrorKind};
 pub use fields::decode_contents;
 pub use is_value::IsValue;
@@ -67,7 +67,7 @@ impl DecodeError for Error {
 /// - `allocates` says whether decoding allocates.
 /// - `decode_answers` is the exact outcome on a reliable reader (see [`Reader`]), including each
 ///   error and the state in which it leaves the reader.
-pub trait Decode<R: Reader>: Sized + Drop {
+pub trait Decode<R: Lends>: Sized + Drop {
     /// The error type of decoding.
     type Error: DecodeError;
 
@@ -92,6 +92,8 @@ pub trait Decode<R: Reader>: Sized + Drop {
     /// - The errors of the type: the ghost member `decode_answers` specifies them, their positions,
     ///   and whether the reader is then failed.
     fn decode(alloc: Global, reader: &mut R) -> Result<Self, Self::Error>
+    where
+        R: Reader,
         ensures same { Same (R.state reader.old) (R.state reader.new) }
         ensures ok { IfOk result (λ v. (R.state reader.old).failed ≡ false
             → (R.state reader.new).failed ≡ false

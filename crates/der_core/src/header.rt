@@ -16,7 +16,7 @@ use crate::decode::Decode;
 use crate::encode::Encode;
 use crate::length::{INDEFINITE, decode_length_after};
 use crate::ord::DerOrd;
-use crate::reader::{Octets, Reader, ReaderExt};
+use crate::reader::{Lends, Octets, Reader, ReaderExt};
 use crate::tag::{
     decode_identifier, first_octet_of, guessed_tag, has_constructed_bit, is_identifier,
 };
@@ -196,7 +196,7 @@ fn short_header<R: Reader>(reader: &R) -> Option<(u8, u8)>
     }
 }
 
-impl<R: Reader> Decode<R> for Header {
+impl<R: Lends> Decode<R> for Header {
     type Error = Error;
 
     ghost is_next = { HeaderNext };
@@ -239,6 +239,8 @@ impl<R: Reader> Decode<R> for Header {
     ///   this octet announces more than four others.
     #[inline(always)]
     fn decode(_alloc: Global, reader: &mut R) -> Result<Header, Error>
+    where
+        R: Reader,
         ensures { Decodes HeaderNext (HeaderFault BodyFault) R.reliable (R.state reader.old)
             result (R.state reader.new) }
     {

@@ -19,7 +19,7 @@ use crate::decode::Decode;
 use crate::encode::Encode;
 use crate::length::indefinite::scan_uncounted;
 use crate::ord::DerOrd;
-use crate::reader::{Reader, ReaderExt};
+use crate::reader::{Lends, Reader, ReaderExt};
 use crate::tag::tag_of_identifier;
 use crate::writer::Writer;
 use der_base::{Error, ErrorKind, Length};
@@ -141,7 +141,7 @@ fn least_of(count: u8) -> u32
     }
 }
 
-impl<R: Reader> Decode<R> for Length {
+impl<R: Lends> Decode<R> for Length {
     type Error = Error;
 
     ghost is_next = { LengthNext };
@@ -176,6 +176,8 @@ impl<R: Reader> Decode<R> for Length {
     ///   more than four others.
     #[inline(always)]
     fn decode(_alloc: Global, reader: &mut R) -> Result<Length, Error>
+    where
+        R: Reader,
         ensures { Decodes LengthNext (LengthFault BodyFault Overlength) R.reliable
             (R.state reader.old) result (R.state reader.new) }
     {

@@ -38,7 +38,8 @@ pub use length::indefinite::decode_indefinite_length;
 pub use length::turns::Turns;
 pub use ord::{DerOrd, OrdIsValueOrd, Orderly, ValueOrd, der_cmp_tlv, iter_cmp, iter_cmp_owned};
 pub use reader::{
-    Octets, Position, Reader, ReaderExt, Resumption, SliceReader, close_value, read_eoc, read_value,
+    Lends, Octets, Position, Reader, ReaderExt, Resumption, SliceReader, close_value, read_eoc,
+    read_value,
 };
 pub use sequence::Sequence;
 pub use tag::TagPeek;

@@ -40,6 +40,14 @@ impl<'a> Octets for &'a [u8] {
     }
 }
 
+/// What a reader returns without copying: octets of its input. A trait of its own, so that a bound
+/// which only says what is borrowed has no functions.
+pub trait Lends {
+    /// The type of the octets that [`Reader::read_slice`] and [`Reader::remaining`] return. For a
+    /// [`SliceReader`] this type is a slice of the input.
+    type Borrowed: Octets;
+}
+
 /// A reader of octets: an input, the end up to which it may be read, a position, and whether the
 /// reader has failed.
 ///
@@ -64,11 +72,7 @@ impl<'a> Octets for &'a [u8] {
 ///   octets; the depth is at most 64; and only a reader that keeps a failed state is ever failed.
 /// - `reading_slices` is a property that implementors prove: every reliable reader can return
 ///   slices.
-pub trait Reader: Sized + Drop {
-    /// The type of the octets that [`Reader::read_slice`] and [`Reader::remaining`] return. For a
-    /// [`SliceReader`] this type is a slice of the input.
-    type Borrowed: Octets;
-
+pub trait Reader: Lends + Sized + Drop {
     ghost state: { Self → ReaderState };
 
     ghost reliable: { Bool };

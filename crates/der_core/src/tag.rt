@@ -19,7 +19,7 @@ mod peek;
 use crate::decode::Decode;
 use crate::encode::Encode;
 use crate::ord::DerOrd;
-use crate::reader::{Reader, ReaderExt};
+use crate::reader::{Lends, Reader, ReaderExt};
 use crate::writer::Writer;
 use der_base::{Error, ErrorKind, Length, Tag, TagNumber};
 pub use peek::TagPeek;
@@ -271,7 +271,7 @@ pub(crate) fn decode_tag<R: Reader>(reader: &mut R) -> Result<Tag, Error>
     Ok(tag)
 }
 
-impl<R: Reader> Decode<R> for Tag {
+impl<R: Lends> Decode<R> for Tag {
     type Error = Error;
 
     ghost is_next = { TagNext };
@@ -301,6 +301,8 @@ impl<R: Reader> Decode<R> for Tag {
     ///   octet (X.690 8.1.2.4).
     #[inline(always)]
     fn decode(_alloc: Global, reader: &mut R) -> Result<Tag, Error>
+    where
+        R: Reader,
         ensures { Decodes TagNext IdentifierFault R.reliable (R.state reader.old) result
             (R.state reader.new) }
     {

@@ -7,8 +7,8 @@ ghost use Rattle.der.specs.BytesCow.{cow_octets};
 ghost use Rattle.der.specs.Octets.{IsCounted, TakesOctets, BorrowedOctetsRead, octets_lawful, octets_size, OctetsWritten};
 
 use der::{
-    BytesCow, DecodeValue, EncodeValue, Error, FixedTag, Header, Lawful, Length, ReadValue, Reader,
-    Tag, Writer, WrittenValue,
+    BytesCow, DecodeValue, EncodeValue, Error, FixedTag, Header, Lawful, Lends, Length, ReadValue,
+    Reader, Tag, Writer, WrittenValue,
 };
 use std::alloc::Global;
 
@@ -44,12 +44,15 @@ impl<'a> ReadValue for CowOctets<'a> {
     ghost takes_valid = { λ v rules h octets taken. taken.0 };
 }
 
-impl<'a, R: Reader<Borrowed = &'a [u8]>> DecodeValue<R> for CowOctets<'a> {
+impl<'a, R: Lends<Borrowed = &'a [u8]>> DecodeValue<R> for CowOctets<'a> {
     type Error = Error;
 
     ghost decode_value_answers = { BorrowedOctetsRead (λ v. cow_octets v.octets) };
 
-    fn decode_value(alloc: Global, reader: &mut R, header: Header) -> Result<Self, Error> {
+    fn decode_value(alloc: Global, reader: &mut R, header: Header) -> Result<Self, Error>
+    where
+        R: Reader,
+    {
         let octets = BytesCow::decode_value(alloc, reader, header)?;
         Ok(CowOctets { octets })
     }

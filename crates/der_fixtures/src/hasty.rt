@@ -2,7 +2,9 @@
 ghost use Rattle.std.specs.Prelude.{false};
 ghost use Rattle.der.specs.Prelude.{OctetString};
 
-use der::{DecodeValue, Error, ErrorKind, FixedTag, Header, ReadValue, Reader, ReaderExt, Tag};
+use der::{
+    DecodeValue, Error, ErrorKind, FixedTag, Header, Lends, ReadValue, Reader, ReaderExt, Tag,
+};
 use std::alloc::Global;
 
 /// A careless type: an OCTET STRING of one octet. `decode_value` reads this octet, and then tries
@@ -43,12 +45,15 @@ impl ReadValue for Hasty {
     ghost takes_valid = { λ v rules h octets taken. tt };
 }
 
-impl<R: Reader> DecodeValue<R> for Hasty {
+impl<R: Lends> DecodeValue<R> for Hasty {
     type Error = Error;
 
     ghost decode_value_answers = { λ _ _ _ _. Unit {0} };
 
-    fn decode_value(_alloc: Global, reader: &mut R, _header: Header) -> Result<Self, Error> {
+    fn decode_value(_alloc: Global, reader: &mut R, _header: Header) -> Result<Self, Error>
+    where
+        R: Reader,
+    {
         let octet = reader.read_byte()?;
         let _ = reader.read_byte();
         if !reader.is_failed() {

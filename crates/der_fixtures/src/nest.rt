@@ -2,7 +2,7 @@
 ghost use Rattle.std.specs.Prelude.{false};
 ghost use Rattle.der.specs.Prelude.{OctetString, Same};
 
-use der::{DecodeValue, Error, FixedTag, Header, ReadValue, Reader, ReaderExt, Tag};
+use der::{DecodeValue, Error, FixedTag, Header, Lends, ReadValue, Reader, ReaderExt, Tag};
 use std::alloc::Global;
 
 /// An OCTET STRING whose `decode_value` enters `LEVELS` nested parts of the input, one inside the
@@ -33,12 +33,15 @@ impl<const LEVELS: u8> ReadValue for Nest<LEVELS> {
     ghost takes_valid = { λ v rules h octets taken. tt };
 }
 
-impl<const LEVELS: u8, R: Reader> DecodeValue<R> for Nest<LEVELS> {
+impl<const LEVELS: u8, R: Lends> DecodeValue<R> for Nest<LEVELS> {
     type Error = Error;
 
     ghost decode_value_answers = { λ _ _ _ _. Unit {0} };
 
-    fn decode_value(_alloc: Global, reader: &mut R, _header: Header) -> Result<Self, Error> {
+    fn decode_value(_alloc: Global, reader: &mut R, _header: Header) -> Result<Self, Error>
+    where
+        R: Reader,
+    {
         match pass_inside(reader, LEVELS) {
             Ok(()) => Ok(Nest),
             Err(error) => Err(error),

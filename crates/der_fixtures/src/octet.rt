@@ -4,7 +4,9 @@ ghost use Rattle.std.proofs.Common.{ap};
 ghost use Rattle.der.specs.Prelude.{kind_of, OctetString};
 ghost use Rattle.der.specs.Decode.{is_out_of_memory_kind};
 
-use der::{DecodeError, DecodeValue, Error, FixedTag, Header, ReadValue, Reader, ReaderExt, Tag};
+use der::{
+    DecodeError, DecodeValue, Error, FixedTag, Header, Lends, ReadValue, Reader, ReaderExt, Tag,
+};
 use std::alloc::Global;
 
 /// The error of decoding an [`Octet`]. It wraps an [`Error`].
@@ -61,12 +63,15 @@ impl ReadValue for Octet {
     ghost takes_valid = { λ v rules h octets taken. tt };
 }
 
-impl<R: Reader> DecodeValue<R> for Octet {
+impl<R: Lends> DecodeValue<R> for Octet {
     type Error = OctetError;
 
     ghost decode_value_answers = { λ _ _ _ _. Unit {0} };
 
-    fn decode_value(_alloc: Global, reader: &mut R, _header: Header) -> Result<Self, OctetError> {
+    fn decode_value(_alloc: Global, reader: &mut R, _header: Header) -> Result<Self, OctetError>
+    where
+        R: Reader,
+    {
         let number = reader.read_byte()?;
         Ok(Octet { number })
     }

@@ -2,7 +2,7 @@
 ghost use Rattle.std.specs.Prelude.{◌≡◌, false, true, IfOk};
 ghost use Rattle.der.specs.Prelude.{Ber, slice_state};
 
-use der::{EncodingRules, Error, ErrorKind, Length, Reader, Resumption, SliceReader};
+use der::{EncodingRules, Error, ErrorKind, Lends, Length, Reader, Resumption, SliceReader};
 use std::alloc::Allocator;
 
 /// A reader whose `remaining` returns a slice of the input, but whose `read_slice` and `read_into`
@@ -23,10 +23,12 @@ pub fn ber_slicing(octets: &[u8]) -> Result<SlicingReader<'_>, Error>
     }
 }
 
+impl<'a> Lends for SlicingReader<'a> {
+    type Borrowed = &'a [u8];
+}
+
 impl<'a> Reader for SlicingReader<'a> {
     ghost use Rattle.std.proofs.Common.{rules};
-
-    type Borrowed = &'a [u8];
 
     ghost state = { λ r. slice_state r.inner };
 

@@ -2,7 +2,7 @@
 ghost use Rattle.std.specs.Prelude.{◌≡◌, [], false};
 ghost use Rattle.der.specs.Prelude.{OctetString};
 
-use der::{DecodeValue, Error, FixedTag, Header, ReadValue, Reader, Tag};
+use der::{DecodeValue, Error, FixedTag, Header, Lends, ReadValue, Reader, Tag};
 use std::alloc::Global;
 
 /// A careless type: an OCTET STRING whose `decode_value` reads nothing. So decoding accepts only
@@ -33,12 +33,15 @@ impl ReadValue for Unread {
     ghost takes_valid = { λ v rules h octets taken. tt };
 }
 
-impl<R: Reader> DecodeValue<R> for Unread {
+impl<R: Lends> DecodeValue<R> for Unread {
     type Error = Error;
 
     ghost decode_value_answers = { λ _ _ _ _. Unit {0} };
 
-    fn decode_value(_alloc: Global, _reader: &mut R, _header: Header) -> Result<Self, Error> {
+    fn decode_value(_alloc: Global, _reader: &mut R, _header: Header) -> Result<Self, Error>
+    where
+        R: Reader,
+    {
         Ok(Unread)
     }
 }

@@ -6,7 +6,7 @@ ghost use Rattle.der_asn1.specs.ContextSpecific.{context_tag};
 ghost use Rattle.der_segments.specs.Segmented.{SegmentedRead, TakesSegmented, segmented_levels, segmented_octets};
 
 use crate::segmented::Segmented;
-use der::{DecodeValue, Error, FixedTag, Header, ReadValue, Reader, Tag, TagNumber};
+use der::{DecodeValue, Error, FixedTag, Header, Lends, ReadValue, Reader, Tag, TagNumber};
 use std::alloc::Global;
 
 // An OCTET STRING after the constructed context-specific tag with the number `N`.
@@ -44,14 +44,17 @@ impl<'a, const N: u32> ReadValue for ConstructedSegmented<'a, N> {
     ghost takes_valid = { λ v rules h octets taken. taken.0 };
 }
 
-impl<'a, const N: u32, R: Reader<Borrowed = &'a [u8]>> DecodeValue<R>
+impl<'a, const N: u32, R: Lends<Borrowed = &'a [u8]>> DecodeValue<R>
     for ConstructedSegmented<'a, N> {
     type Error = Error;
 
     ghost decode_value_answers = { λ h s result t. SegmentedRead h s (map_ok (λ v. v.0) result) t };
 
     #[inline(always)]
-    fn decode_value(alloc: Global, reader: &mut R, header: Header) -> Result<Self, Error> {
+    fn decode_value(alloc: Global, reader: &mut R, header: Header) -> Result<Self, Error>
+    where
+        R: Reader,
+    {
         let string = <Segmented<'a> as DecodeValue<R>>::decode_value(alloc, reader, header)?;
         Ok(ConstructedSegmented(string))
     }

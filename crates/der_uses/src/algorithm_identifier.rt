@@ -6,7 +6,7 @@ ghost use Rattle.der_uses.specs.AlgorithmIdentifier.{AlgorithmRead, algorithm_el
 use crate::my_octets::MyOctets;
 use der::example::MyByteMonth;
 use der::{
-    DecodeValue, Encode, EncodeRef, EncodeValue, Error, FromFields, Header, Length, Reader,
+    DecodeValue, Encode, EncodeRef, EncodeValue, Error, FromFields, Header, Lends, Length, Reader,
     Sequence, Writer, decode_sequence,
 };
 use std::alloc::Global;
@@ -34,12 +34,15 @@ impl<'a> Sequence for AlgorithmIdentifier<'a> {
     ghost fits = { (refl, refl) };
 }
 
-impl<'a, R: Reader<Borrowed = &'a [u8]>> DecodeValue<R> for AlgorithmIdentifier<'a> {
+impl<'a, R: Lends<Borrowed = &'a [u8]>> DecodeValue<R> for AlgorithmIdentifier<'a> {
     type Error = Error;
 
     ghost decode_value_answers = { AlgorithmRead };
 
-    fn decode_value(alloc: Global, reader: &mut R, header: Header) -> Result<Self, Error> {
+    fn decode_value(alloc: Global, reader: &mut R, header: Header) -> Result<Self, Error>
+    where
+        R: Reader,
+    {
         decode_sequence::<R, (MyOctets<'a>, MyByteMonth), Self>(alloc, reader, header)
     }
 }

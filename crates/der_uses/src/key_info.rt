@@ -7,8 +7,8 @@ ghost use Rattle.der_uses.specs.KeyInfo.{IsKeyInfo, KeyInfoRead, key_info_conten
 use crate::algorithm_identifier::AlgorithmIdentifier;
 use crate::my_octets::MyOctets;
 use der::{
-    DecodeBytes, DecodeValue, Encode, EncodeRef, EncodeValue, Error, FromFields, Header, Length,
-    Reader, Sequence, Writer, decode_sequence,
+    DecodeBytes, DecodeValue, Encode, EncodeRef, EncodeValue, Error, FromFields, Header, Lends,
+    Length, Reader, Sequence, Writer, decode_sequence,
 };
 use std::alloc::Global;
 
@@ -35,12 +35,15 @@ impl<'a> Sequence for KeyInfo<'a> {
     ghost fits = { (refl, refl) };
 }
 
-impl<'a, R: Reader<Borrowed = &'a [u8]>> DecodeValue<R> for KeyInfo<'a> {
+impl<'a, R: Lends<Borrowed = &'a [u8]>> DecodeValue<R> for KeyInfo<'a> {
     type Error = Error;
 
     ghost decode_value_answers = { KeyInfoRead };
 
-    fn decode_value(alloc: Global, reader: &mut R, header: Header) -> Result<Self, Error> {
+    fn decode_value(alloc: Global, reader: &mut R, header: Header) -> Result<Self, Error>
+    where
+        R: Reader,
+    {
         decode_sequence::<R, (AlgorithmIdentifier<'a>, MyOctets<'a>), Self>(alloc, reader, header)
     }
 }

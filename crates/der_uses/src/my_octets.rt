@@ -5,8 +5,8 @@ ghost use Rattle.der.specs.Prelude.{OctetString};
 ghost use Rattle.der_uses.specs.MyOctets.{IsMyOctets, AcceptsMyOctets, MyOctetsRead, MyOctetsWritten, my_octets_contents, my_octets_size, my_octets_lawful, my_octets_order};
 
 use der::{
-    DecodeValue, EncodeValue, Error, FixedTag, Header, Lawful, Length, Orderly, ReadValue, Reader,
-    Tag, ValueOrd, Writer, WrittenValue, octets_len, place_before,
+    DecodeValue, EncodeValue, Error, FixedTag, Header, Lawful, Lends, Length, Orderly, ReadValue,
+    Reader, Tag, ValueOrd, Writer, WrittenValue, octets_len, place_before,
 };
 use std::alloc::Global;
 use std::cmp::Ordering;
@@ -52,12 +52,15 @@ impl<'a> Lawful for MyOctets<'a> {
     ghost lawful = { my_octets_lawful };
 }
 
-impl<'a, R: Reader<Borrowed = &'a [u8]>> DecodeValue<R> for MyOctets<'a> {
+impl<'a, R: Lends<Borrowed = &'a [u8]>> DecodeValue<R> for MyOctets<'a> {
     type Error = Error;
 
     ghost decode_value_answers = { MyOctetsRead };
 
-    fn decode_value(_alloc: Global, reader: &mut R, header: Header) -> Result<Self, Error> {
+    fn decode_value(_alloc: Global, reader: &mut R, header: Header) -> Result<Self, Error>
+    where
+        R: Reader,
+    {
         let octets = reader.read_slice(header.length())?;
         Ok(MyOctets { octets })
     }

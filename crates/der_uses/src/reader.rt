@@ -4,7 +4,7 @@ ghost use Rattle.std.specs.Prelude.{◌≡◌, false};
 ghost use Rattle.der.specs.Prelude.{error_at, reader_position, slice_state};
 ghost use Rattle.der.specs.ErrorKinds.{Reader as CannotRead};
 
-use der::{EncodingRules, Error, ErrorKind, Length, Reader, Resumption, SliceReader};
+use der::{EncodingRules, Error, ErrorKind, Lends, Length, Reader, Resumption, SliceReader};
 use std::alloc::Allocator;
 
 /// A reader that wraps a [`SliceReader`] and returns no slices of its input. It can read on after
@@ -57,10 +57,12 @@ impl<'a> CopyingReader<'a> {
     }
 }
 
+impl<'a> Lends for CopyingReader<'a> {
+    type Borrowed = &'a [u8];
+}
+
 impl<'a> Reader for CopyingReader<'a> {
     ghost use Rattle.std.proofs.Common.{rules};
-
-    type Borrowed = &'a [u8];
 
     // its state is that of the inner reader
     ghost state = { λ r. slice_state r.inner };

@@ -4,7 +4,7 @@ ghost use Rattle.der.specs.Prelude.{Integer};
 ghost use Rattle.der_uses.specs.VersionOctet.{IsVersion, TakesVersion, VersionRead, VersionWritten, version_contents, version_lawful, octet_of_version, version_size};
 
 use der::{
-    DecodeValue, EncodeValue, Error, FixedTag, Header, Lawful, Length, ReadValue, Reader,
+    DecodeValue, EncodeValue, Error, FixedTag, Header, Lawful, Lends, Length, ReadValue, Reader,
     ReaderExt, Tag, Writer, WrittenValue, place_before,
 };
 use std::alloc::Global;
@@ -72,12 +72,15 @@ impl Lawful for Version {
 /// - `Failed`, `Overflow` and `Incomplete`, as by [`ReaderExt::read_byte`].
 /// - `Value` at the position after the octet, if the octet is no version; the reader has failed
 ///   then.
-impl<R: Reader> DecodeValue<R> for Version {
+impl<R: Lends> DecodeValue<R> for Version {
     type Error = Error;
 
     ghost decode_value_answers = { VersionRead };
 
-    fn decode_value(_alloc: Global, reader: &mut R, _header: Header) -> Result<Self, Error> {
+    fn decode_value(_alloc: Global, reader: &mut R, _header: Header) -> Result<Self, Error>
+    where
+        R: Reader,
+    {
         match reader.read_byte()? {
             0 => Ok(Version::V1),
             1 => Ok(Version::V2),

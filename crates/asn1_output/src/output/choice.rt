@@ -43,7 +43,7 @@ impl@L DescribedChoice for @N@L {
 ";
 
 const DECODE: &str = "/// Decodes the alternative whose tag is next, with the errors of [`Either`].
-impl<'a, R: Reader<Borrowed = &'a [u8]>> Decode<R> for @N@L {
+impl<'a, R: Lends<Borrowed = &'a [u8]>> Decode<R> for @N@L {
     type Error = Error;
 
     ghost is_next = { ⟦<@N@L as DescribedChoice>⟧.alternative.is_next };
@@ -56,12 +56,15 @@ impl<'a, R: Reader<Borrowed = &'a [u8]>> Decode<R> for @N@L {
         ⟦<@NAlternatives@L as Decode<SliceReader<'a>>>⟧.decode_answers s
         (map_ok ⟦<@N@L as FromFields<@NAlternatives@L>>⟧.fields result) t };
 
-    fn decode(alloc: Global, reader: &mut R) -> Result<Self, Error> {
+    fn decode(alloc: Global, reader: &mut R) -> Result<Self, Error>
+    where
+        R: Reader,
+    {
         decode_choice::<R, @NAlternatives@L, Self>(alloc, reader)
     }
 }
 
-impl<'a, R: Reader<Borrowed = &'a [u8]>> Choice<R> for @N@L {
+impl<'a, R: Lends<Borrowed = &'a [u8]>> Choice<R> for @N@L {
     ghost chooses = { ⟦<@N@L as DescribedChoice>⟧.alternative.tags };
 
     fn can_decode(tag: Tag) -> bool {
@@ -112,7 +115,7 @@ impl@L Item for @N@L {
     ghost item = { choice_item ⟦<@N@L as DescribedChoice>⟧.alternative };
 }
 
-impl<'a, R: Reader<Borrowed = &'a [u8]>> DecodeItem<R> for @N@L {
+impl<'a, R: Lends<Borrowed = &'a [u8]>> DecodeItem<R> for @N@L {
     ghost is_item = { choice_is_item ⟦<@N@L as DescribedChoice>⟧.alternative refl };
 
     ghost decodes_items = { decodes_same (choice_item ⟦<@N@L as DescribedChoice>⟧.alternative) };

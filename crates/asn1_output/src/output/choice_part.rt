@@ -28,7 +28,7 @@ impl@L DescribedChoice for @N@L {
     ghost alternative = { choice_of @M (λ v. v.choice) };
 }
 
-impl<'a, R: Reader<Borrowed = &'a [u8]>> Decode<R> for @N@L {
+impl<'a, R: Lends<Borrowed = &'a [u8]>> Decode<R> for @N@L {
     type Error = Error;
 
     ghost is_next = { ⟦<@N@L as DescribedChoice>⟧.alternative.is_next };
@@ -42,12 +42,15 @@ impl<'a, R: Reader<Borrowed = &'a [u8]>> Decode<R> for @N@L {
         (map_ok (λ v. v.choice) result) t };
 
     #[inline(always)]
-    fn decode(alloc: Global, reader: &mut R) -> Result<Self, Error> {
+    fn decode(alloc: Global, reader: &mut R) -> Result<Self, Error>
+    where
+        R: Reader,
+    {
         decode_choice::<R, @NAlternatives@L, Self>(alloc, reader)
     }
 }
 
-impl<'a, R: Reader<Borrowed = &'a [u8]>> Choice<R> for @N@L {
+impl<'a, R: Lends<Borrowed = &'a [u8]>> Choice<R> for @N@L {
     ghost chooses = { ⟦<@N@L as DescribedChoice>⟧.alternative.tags };
 
     #[inline(always)]

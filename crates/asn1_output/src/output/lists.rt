@@ -74,14 +74,17 @@ impl<'a> Lawful for @N<'a> {
 ";
 
 const BOTH: &str = "/// Decodes the list, with the errors of [`@O`].
-impl<'a, R: Reader<Borrowed = &'a [u8]>> DecodeValue<R> for @N<'a> {
+impl<'a, R: Lends<Borrowed = &'a [u8]>> DecodeValue<R> for @N<'a> {
     type Error = Error;
 
     ghost decode_value_answers = { λ h s result t.
         ⟦<Items<'a> as DecodeValue<SliceReader<'a>>>⟧.decode_value_answers h s
         (map_ok (λ v. v.@F) result) t };
 
-    fn decode_value(alloc: Global, reader: &mut R, header: Header) -> Result<Self, Error> {
+    fn decode_value(alloc: Global, reader: &mut R, header: Header) -> Result<Self, Error>
+    where
+        R: Reader,
+    {
         decode_wrapped::<R, Items<'a>, Self>(alloc, reader, header)
     }
 }

@@ -23,7 +23,7 @@ impl@L FromFields<@NFields@L> for @N@L {
     }
 }
 
-impl<'a, R: Reader<Borrowed = &'a [u8]>> Decode<R> for @N@L {
+impl<'a, R: Lends<Borrowed = &'a [u8]>> Decode<R> for @N@L {
     type Error = Error;
 
     ghost is_next = { λ v. ⟦<@NFields@L as Decode<SliceReader<'a>>>⟧.is_next
@@ -37,7 +37,10 @@ impl<'a, R: Reader<Borrowed = &'a [u8]>> Decode<R> for @N@L {
         ⟦<@NFields@L as Decode<SliceReader<'a>>>⟧.decode_answers s
         (map_ok ⟦<@N@L as FromFields<@NFields@L>>⟧.fields result) t };
 
-    fn decode(alloc: Global, reader: &mut R) -> Result<Self, Error> {
+    fn decode(alloc: Global, reader: &mut R) -> Result<Self, Error>
+    where
+        R: Reader,
+    {
         decode_fields::<R, @NFields@L, Self>(alloc, reader)
     }
 }

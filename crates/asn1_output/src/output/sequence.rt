@@ -46,13 +46,16 @@ impl@L Sequence for @N@L {
 
 const DECODE: &str =
     "/// Decodes the fields one after the other, with the errors of every [`Sequence`].
-impl<'a, R: Reader<Borrowed = &'a [u8]>> DecodeValue<R> for @N@L {
+impl<'a, R: Lends<Borrowed = &'a [u8]>> DecodeValue<R> for @N@L {
     type Error = Error;
 
     ghost decode_value_answers = { λ h s result t.
         ⟦<@Q as Decode<SliceReader<'a>>>⟧.decode_answers s (map_ok @A result) t };
 
-    fn decode_value(alloc: Global, reader: &mut R, header: Header) -> Result<Self, Error> {
+    fn decode_value(alloc: Global, reader: &mut R, header: Header) -> Result<Self, Error>
+    where
+        R: Reader,
+    {
         decode_sequence::<R, @Q, Self>(alloc, reader, header)
     }
 }
@@ -92,7 +95,7 @@ impl@L Item for @N@L {
     ghost item = { sequence_item ⟦<@N@L as Described>⟧.element };
 }
 
-impl<'a, R: Reader<Borrowed = &'a [u8]>> DecodeItem<R> for @N@L {
+impl<'a, R: Lends<Borrowed = &'a [u8]>> DecodeItem<R> for @N@L {
     ghost is_item = { sequence_is_item ⟦<@N@L as Described>⟧.element refl };
 
     ghost decodes_items = { decodes_same (sequence_item ⟦<@N@L as Described>⟧.element) };

@@ -14,6 +14,7 @@ Header
 IsValue
 Lawful
 Length
+Lends
 ReadValue
 Reader
 Sequence

@@ -20,8 +20,8 @@ use crate::asn1::encrypted_content_info::EncryptedContentInfo;
 use crate::asn1::originator_info::OriginatorInfo;
 use crate::asn1::recipient_infos::RecipientInfos;
 use der::{
-    Decode, DecodeValue, Encode, EncodeValue, Error, FromFields, Header, IsValue, Length, Reader,
-    Sequence, SliceReader, Writer, decode_sequence, field_refs,
+    Decode, DecodeValue, Encode, EncodeValue, Error, FromFields, Header, IsValue, Lends, Length,
+    Reader, Sequence, SliceReader, Writer, decode_sequence, field_refs,
 };
 use der_asn1::{
     BorrowedItem, DecodeItem, Described, Implicit, Item, Nestable, OctetStringRef, Optional,
@@ -99,7 +99,7 @@ impl<'a> Sequence for AuthEnvelopedData<'a> {
 }
 
 /// Decodes the fields one after the other, with the errors of every [`Sequence`].
-impl<'a, R: Reader<Borrowed = &'a [u8]>> DecodeValue<R> for AuthEnvelopedData<'a> {
+impl<'a, R: Lends<Borrowed = &'a [u8]>> DecodeValue<R> for AuthEnvelopedData<'a> {
     type Error = Error;
 
     ghost decode_value_answers = { λ h s result t.
@@ -107,7 +107,10 @@ impl<'a, R: Reader<Borrowed = &'a [u8]>> DecodeValue<R> for AuthEnvelopedData<'a
         (map_ok
         ⟦<AuthEnvelopedData<'a> as FromFields<(AuthEnvelopedDataPart1<'a>, AuthEnvelopedDataPart2<'a>)>>⟧.fields result) t };
 
-    fn decode_value(alloc: Global, reader: &mut R, header: Header) -> Result<Self, Error> {
+    fn decode_value(alloc: Global, reader: &mut R, header: Header) -> Result<Self, Error>
+    where
+        R: Reader,
+    {
         decode_sequence::<R, (AuthEnvelopedDataPart1<'a>, AuthEnvelopedDataPart2<'a>), Self>(
             alloc, reader, header,
         )
@@ -217,7 +220,7 @@ impl<'a> Item for AuthEnvelopedData<'a> {
     ghost item = { sequence_item ⟦<AuthEnvelopedData<'a> as Described>⟧.element };
 }
 
-impl<'a, R: Reader<Borrowed = &'a [u8]>> DecodeItem<R> for AuthEnvelopedData<'a> {
+impl<'a, R: Lends<Borrowed = &'a [u8]>> DecodeItem<R> for AuthEnvelopedData<'a> {
     ghost is_item = { sequence_is_item ⟦<AuthEnvelopedData<'a> as Described>⟧.element refl };
 
     ghost decodes_items = { decodes_same (sequence_item

@@ -8,7 +8,7 @@ use crate::asn1::cms_version::CmsVersion;
 use crate::asn1::encrypted_content_info::EncryptedContentInfo;
 use crate::asn1::originator_info::OriginatorInfo;
 use crate::asn1::recipient_infos::RecipientInfos;
-use der::{Decode, Error, FromFields, Reader, SliceReader, decode_fields};
+use der::{Decode, Error, FromFields, Lends, Reader, SliceReader, decode_fields};
 use der_asn1::{Implicit, Optional};
 use std::alloc::Global;
 
@@ -48,7 +48,7 @@ impl<'a> FromFields<AuthEnvelopedDataPart1Fields<'a>> for AuthEnvelopedDataPart1
     }
 }
 
-impl<'a, R: Reader<Borrowed = &'a [u8]>> Decode<R> for AuthEnvelopedDataPart1<'a> {
+impl<'a, R: Lends<Borrowed = &'a [u8]>> Decode<R> for AuthEnvelopedDataPart1<'a> {
     type Error = Error;
 
     ghost is_next = { λ v. ⟦<AuthEnvelopedDataPart1Fields<'a> as Decode<SliceReader<'a>>>⟧.is_next
@@ -63,7 +63,10 @@ impl<'a, R: Reader<Borrowed = &'a [u8]>> Decode<R> for AuthEnvelopedDataPart1<'a
         (map_ok
         ⟦<AuthEnvelopedDataPart1<'a> as FromFields<AuthEnvelopedDataPart1Fields<'a>>>⟧.fields result) t };
 
-    fn decode(alloc: Global, reader: &mut R) -> Result<Self, Error> {
+    fn decode(alloc: Global, reader: &mut R) -> Result<Self, Error>
+    where
+        R: Reader,
+    {
         decode_fields::<R, AuthEnvelopedDataPart1Fields<'a>, Self>(alloc, reader)
     }
 }

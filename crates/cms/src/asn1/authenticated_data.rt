@@ -17,8 +17,8 @@ use crate::asn1::encapsulated_content_info::EncapsulatedContentInfo;
 use crate::asn1::originator_info::OriginatorInfo;
 use crate::asn1::recipient_infos::RecipientInfos;
 use der::{
-    Decode, DecodeValue, Encode, EncodeValue, Error, FromFields, Header, IsValue, Length, Reader,
-    Sequence, SliceReader, Writer, decode_sequence, field_refs,
+    Decode, DecodeValue, Encode, EncodeValue, Error, FromFields, Header, IsValue, Lends, Length,
+    Reader, Sequence, SliceReader, Writer, decode_sequence, field_refs,
 };
 use der_asn1::{
     BorrowedItem, DecodeItem, Described, Implicit, Item, Nestable, OctetStringRef, Optional,
@@ -123,7 +123,7 @@ impl<'a> Sequence for AuthenticatedData<'a> {
 }
 
 /// Decodes the fields one after the other, with the errors of every [`Sequence`].
-impl<'a, R: Reader<Borrowed = &'a [u8]>> DecodeValue<R> for AuthenticatedData<'a> {
+impl<'a, R: Lends<Borrowed = &'a [u8]>> DecodeValue<R> for AuthenticatedData<'a> {
     type Error = Error;
 
     ghost decode_value_answers = { λ h s result t.
@@ -131,7 +131,10 @@ impl<'a, R: Reader<Borrowed = &'a [u8]>> DecodeValue<R> for AuthenticatedData<'a
         (map_ok
         ⟦<AuthenticatedData<'a> as FromFields<(AuthenticatedDataPart1<'a>, AuthenticatedDataPart2<'a>, AuthenticatedDataPart3<'a>)>>⟧.fields result) t };
 
-    fn decode_value(alloc: Global, reader: &mut R, header: Header) -> Result<Self, Error> {
+    fn decode_value(alloc: Global, reader: &mut R, header: Header) -> Result<Self, Error>
+    where
+        R: Reader,
+    {
         decode_sequence::<
             R,
             (
@@ -239,7 +242,7 @@ impl<'a> Item for AuthenticatedData<'a> {
     ghost item = { sequence_item ⟦<AuthenticatedData<'a> as Described>⟧.element };
 }
 
-impl<'a, R: Reader<Borrowed = &'a [u8]>> DecodeItem<R> for AuthenticatedData<'a> {
+impl<'a, R: Lends<Borrowed = &'a [u8]>> DecodeItem<R> for AuthenticatedData<'a> {
     ghost is_item = { sequence_is_item ⟦<AuthenticatedData<'a> as Described>⟧.element refl };
 
     ghost decodes_items = { decodes_same (sequence_item

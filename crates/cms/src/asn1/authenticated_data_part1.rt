@@ -7,7 +7,7 @@ ghost use Rattle.der.specs.Prelude.{map_ok};
 use crate::asn1::cms_version::CmsVersion;
 use crate::asn1::originator_info::OriginatorInfo;
 use crate::asn1::recipient_infos::RecipientInfos;
-use der::{Decode, Error, FromFields, Reader, SliceReader, decode_fields};
+use der::{Decode, Error, FromFields, Lends, Reader, SliceReader, decode_fields};
 use der_asn1::{Implicit, Optional};
 use std::alloc::Global;
 
@@ -39,7 +39,7 @@ impl<'a> FromFields<AuthenticatedDataPart1Fields<'a>> for AuthenticatedDataPart1
     }
 }
 
-impl<'a, R: Reader<Borrowed = &'a [u8]>> Decode<R> for AuthenticatedDataPart1<'a> {
+impl<'a, R: Lends<Borrowed = &'a [u8]>> Decode<R> for AuthenticatedDataPart1<'a> {
     type Error = Error;
 
     ghost is_next = { λ v. ⟦<AuthenticatedDataPart1Fields<'a> as Decode<SliceReader<'a>>>⟧.is_next
@@ -54,7 +54,10 @@ impl<'a, R: Reader<Borrowed = &'a [u8]>> Decode<R> for AuthenticatedDataPart1<'a
         (map_ok
         ⟦<AuthenticatedDataPart1<'a> as FromFields<AuthenticatedDataPart1Fields<'a>>>⟧.fields result) t };
 
-    fn decode(alloc: Global, reader: &mut R) -> Result<Self, Error> {
+    fn decode(alloc: Global, reader: &mut R) -> Result<Self, Error>
+    where
+        R: Reader,
+    {
         decode_fields::<R, AuthenticatedDataPart1Fields<'a>, Self>(alloc, reader)
     }
 }

@@ -5,7 +5,7 @@ ghost use Rattle.std.specs.Prelude.{false};
 ghost use Rattle.der.specs.Prelude.{map_ok};
 
 use crate::asn1::encapsulated_content_info::EncapsulatedContentInfo;
-use der::{Decode, Error, FromFields, Reader, SliceReader, decode_fields};
+use der::{Decode, Error, FromFields, Lends, Reader, SliceReader, decode_fields};
 use der_asn1::{Implicit, Optional};
 use spki::AlgorithmIdentifierRef;
 use std::alloc::Global;
@@ -38,7 +38,7 @@ impl<'a> FromFields<AuthenticatedDataPart2Fields<'a>> for AuthenticatedDataPart2
     }
 }
 
-impl<'a, R: Reader<Borrowed = &'a [u8]>> Decode<R> for AuthenticatedDataPart2<'a> {
+impl<'a, R: Lends<Borrowed = &'a [u8]>> Decode<R> for AuthenticatedDataPart2<'a> {
     type Error = Error;
 
     ghost is_next = { λ v. ⟦<AuthenticatedDataPart2Fields<'a> as Decode<SliceReader<'a>>>⟧.is_next
@@ -53,7 +53,10 @@ impl<'a, R: Reader<Borrowed = &'a [u8]>> Decode<R> for AuthenticatedDataPart2<'a
         (map_ok
         ⟦<AuthenticatedDataPart2<'a> as FromFields<AuthenticatedDataPart2Fields<'a>>>⟧.fields result) t };
 
-    fn decode(alloc: Global, reader: &mut R) -> Result<Self, Error> {
+    fn decode(alloc: Global, reader: &mut R) -> Result<Self, Error>
+    where
+        R: Reader,
+    {
         decode_fields::<R, AuthenticatedDataPart2Fields<'a>, Self>(alloc, reader)
     }
 }

@@ -5,7 +5,7 @@ ghost use Rattle.std.specs.Prelude.{false};
 ghost use Rattle.der.specs.Prelude.{map_ok};
 
 use crate::asn1::auth_attributes::AuthAttributes;
-use der::{Decode, Error, FromFields, Reader, SliceReader, decode_fields};
+use der::{Decode, Error, FromFields, Lends, Reader, SliceReader, decode_fields};
 use der_asn1::{Implicit, OctetStringRef, Optional};
 use std::alloc::Global;
 
@@ -37,7 +37,7 @@ impl<'a> FromFields<AuthenticatedDataPart3Fields<'a>> for AuthenticatedDataPart3
     }
 }
 
-impl<'a, R: Reader<Borrowed = &'a [u8]>> Decode<R> for AuthenticatedDataPart3<'a> {
+impl<'a, R: Lends<Borrowed = &'a [u8]>> Decode<R> for AuthenticatedDataPart3<'a> {
     type Error = Error;
 
     ghost is_next = { λ v. ⟦<AuthenticatedDataPart3Fields<'a> as Decode<SliceReader<'a>>>⟧.is_next
@@ -52,7 +52,10 @@ impl<'a, R: Reader<Borrowed = &'a [u8]>> Decode<R> for AuthenticatedDataPart3<'a
         (map_ok
         ⟦<AuthenticatedDataPart3<'a> as FromFields<AuthenticatedDataPart3Fields<'a>>>⟧.fields result) t };
 
-    fn decode(alloc: Global, reader: &mut R) -> Result<Self, Error> {
+    fn decode(alloc: Global, reader: &mut R) -> Result<Self, Error>
+    where
+        R: Reader,
+    {
         decode_fields::<R, AuthenticatedDataPart3Fields<'a>, Self>(alloc, reader)
     }
 }

@@ -13,7 +13,7 @@ use crate::asn1::certificate_choices_part1::CertificateChoicesPart1;
 use crate::asn1::certificate_choices_part2::CertificateChoicesPart2;
 use crate::asn1::certificate_choices_part3::CertificateChoicesPart3;
 use crate::asn1::other_certificate_format::OtherCertificateFormat;
-use der::{Decode, Encode, Error, FromFields, Length, Reader, SliceReader, Tag, Writer};
+use der::{Decode, Encode, Error, FromFields, Lends, Length, Reader, SliceReader, Tag, Writer};
 use der_asn1::{
     BorrowedItem, Choice, DecodeItem, DescribedChoice, Either, Implicit, Item, SequenceRef,
     decode_choice,
@@ -93,7 +93,7 @@ impl<'a> DescribedChoice for CertificateChoices<'a> {
 }
 
 /// Decodes the alternative whose tag is next, with the errors of [`Either`].
-impl<'a, R: Reader<Borrowed = &'a [u8]>> Decode<R> for CertificateChoices<'a> {
+impl<'a, R: Lends<Borrowed = &'a [u8]>> Decode<R> for CertificateChoices<'a> {
     type Error = Error;
 
     ghost is_next = { ⟦<CertificateChoices<'a> as DescribedChoice>⟧.alternative.is_next };
@@ -107,12 +107,15 @@ impl<'a, R: Reader<Borrowed = &'a [u8]>> Decode<R> for CertificateChoices<'a> {
         (map_ok
         ⟦<CertificateChoices<'a> as FromFields<CertificateChoicesAlternatives<'a>>>⟧.fields result) t };
 
-    fn decode(alloc: Global, reader: &mut R) -> Result<Self, Error> {
+    fn decode(alloc: Global, reader: &mut R) -> Result<Self, Error>
+    where
+        R: Reader,
+    {
         decode_choice::<R, CertificateChoicesAlternatives<'a>, Self>(alloc, reader)
     }
 }
 
-impl<'a, R: Reader<Borrowed = &'a [u8]>> Choice<R> for CertificateChoices<'a> {
+impl<'a, R: Lends<Borrowed = &'a [u8]>> Choice<R> for CertificateChoices<'a> {
     ghost chooses = { ⟦<CertificateChoices<'a> as DescribedChoice>⟧.alternative.tags };
 
     fn can_decode(tag: Tag) -> bool {
@@ -181,7 +184,7 @@ impl<'a> Item for CertificateChoices<'a> {
     ghost item = { choice_item ⟦<CertificateChoices<'a> as DescribedChoice>⟧.alternative };
 }
 
-impl<'a, R: Reader<Borrowed = &'a [u8]>> DecodeItem<R> for CertificateChoices<'a> {
+impl<'a, R: Lends<Borrowed = &'a [u8]>> DecodeItem<R> for CertificateChoices<'a> {
     ghost is_item = { choice_is_item
         ⟦<CertificateChoices<'a> as DescribedChoice>⟧.alternative refl };
 

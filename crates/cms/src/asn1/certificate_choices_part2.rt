@@ -5,7 +5,7 @@ ghost use Rattle.std.specs.Prelude.{false};
 ghost use Rattle.der.specs.Prelude.{map_ok};
 ghost use Rattle.der_asn1.specs.Meaning.{alternative, choice_of, either};
 
-use der::{Decode, Encode, Error, FromFields, Length, Reader, SliceReader, Tag, Writer};
+use der::{Decode, Encode, Error, FromFields, Lends, Length, Reader, SliceReader, Tag, Writer};
 use der_asn1::{Choice, Described, DescribedChoice, Either, Implicit, SequenceRef, decode_choice};
 use std::alloc::Global;
 
@@ -35,7 +35,7 @@ impl<'a> DescribedChoice for CertificateChoicesPart2<'a> {
         ⟦<Implicit<SequenceRef<'a>, 2> as Described>⟧.element)) (λ v. v.choice) };
 }
 
-impl<'a, R: Reader<Borrowed = &'a [u8]>> Decode<R> for CertificateChoicesPart2<'a> {
+impl<'a, R: Lends<Borrowed = &'a [u8]>> Decode<R> for CertificateChoicesPart2<'a> {
     type Error = Error;
 
     ghost is_next = { ⟦<CertificateChoicesPart2<'a> as DescribedChoice>⟧.alternative.is_next };
@@ -49,12 +49,15 @@ impl<'a, R: Reader<Borrowed = &'a [u8]>> Decode<R> for CertificateChoicesPart2<'
         (map_ok (λ v. v.choice) result) t };
 
     #[inline(always)]
-    fn decode(alloc: Global, reader: &mut R) -> Result<Self, Error> {
+    fn decode(alloc: Global, reader: &mut R) -> Result<Self, Error>
+    where
+        R: Reader,
+    {
         decode_choice::<R, CertificateChoicesPart2Alternatives<'a>, Self>(alloc, reader)
     }
 }
 
-impl<'a, R: Reader<Borrowed = &'a [u8]>> Choice<R> for CertificateChoicesPart2<'a> {
+impl<'a, R: Lends<Borrowed = &'a [u8]>> Choice<R> for CertificateChoicesPart2<'a> {
     ghost chooses = { ⟦<CertificateChoicesPart2<'a> as DescribedChoice>⟧.alternative.tags };
 
     #[inline(always)]

@@ -11,8 +11,8 @@ ghost use Rattle.der_asn1.specs.TupleFields.{three_fields};
 use crate::asn1::cms_version::CmsVersion;
 use crate::asn1::encapsulated_content_info::EncapsulatedContentInfo;
 use der::{
-    Decode, DecodeValue, Encode, EncodeValue, Error, FromFields, Header, IsValue, Length, Reader,
-    Sequence, SliceReader, Writer, decode_sequence, field_refs,
+    Decode, DecodeValue, Encode, EncodeValue, Error, FromFields, Header, IsValue, Lends, Length,
+    Reader, Sequence, SliceReader, Writer, decode_sequence, field_refs,
 };
 use der_asn1::{BorrowedItem, DecodeItem, Described, Item, Nestable};
 use spki::AlgorithmIdentifierRef;
@@ -60,14 +60,17 @@ impl<'a> Sequence for CompressedData<'a> {
 }
 
 /// Decodes the fields one after the other, with the errors of every [`Sequence`].
-impl<'a, R: Reader<Borrowed = &'a [u8]>> DecodeValue<R> for CompressedData<'a> {
+impl<'a, R: Lends<Borrowed = &'a [u8]>> DecodeValue<R> for CompressedData<'a> {
     type Error = Error;
 
     ghost decode_value_answers = { λ h s result t.
         ⟦<CompressedDataFields<'a> as Decode<SliceReader<'a>>>⟧.decode_answers s (map_ok
         ⟦<CompressedData<'a> as FromFields<CompressedDataFields<'a>>>⟧.fields result) t };
 
-    fn decode_value(alloc: Global, reader: &mut R, header: Header) -> Result<Self, Error> {
+    fn decode_value(alloc: Global, reader: &mut R, header: Header) -> Result<Self, Error>
+    where
+        R: Reader,
+    {
         decode_sequence::<R, CompressedDataFields<'a>, Self>(alloc, reader, header)
     }
 }
@@ -111,7 +114,7 @@ impl<'a> Item for CompressedData<'a> {
     ghost item = { sequence_item ⟦<CompressedData<'a> as Described>⟧.element };
 }
 
-impl<'a, R: Reader<Borrowed = &'a [u8]>> DecodeItem<R> for CompressedData<'a> {
+impl<'a, R: Lends<Borrowed = &'a [u8]>> DecodeItem<R> for CompressedData<'a> {
     ghost is_item = { sequence_is_item ⟦<CompressedData<'a> as Described>⟧.element refl };
 
     ghost decodes_items = { decodes_same (sequence_item

@@ -11,8 +11,8 @@ ghost use Rattle.der_asn1.specs.TupleFields.{four_fields};
 use crate::asn1::cms_version::CmsVersion;
 use crate::asn1::encapsulated_content_info::EncapsulatedContentInfo;
 use der::{
-    Decode, DecodeValue, Encode, EncodeValue, Error, FromFields, Header, IsValue, Length, Reader,
-    Sequence, SliceReader, Writer, decode_sequence, field_refs,
+    Decode, DecodeValue, Encode, EncodeValue, Error, FromFields, Header, IsValue, Lends, Length,
+    Reader, Sequence, SliceReader, Writer, decode_sequence, field_refs,
 };
 use der_asn1::{BorrowedItem, DecodeItem, Described, Item, Nestable, OctetStringRef};
 use spki::AlgorithmIdentifierRef;
@@ -66,14 +66,17 @@ impl<'a> Sequence for DigestedData<'a> {
 }
 
 /// Decodes the fields one after the other, with the errors of every [`Sequence`].
-impl<'a, R: Reader<Borrowed = &'a [u8]>> DecodeValue<R> for DigestedData<'a> {
+impl<'a, R: Lends<Borrowed = &'a [u8]>> DecodeValue<R> for DigestedData<'a> {
     type Error = Error;
 
     ghost decode_value_answers = { λ h s result t.
         ⟦<DigestedDataFields<'a> as Decode<SliceReader<'a>>>⟧.decode_answers s (map_ok
         ⟦<DigestedData<'a> as FromFields<DigestedDataFields<'a>>>⟧.fields result) t };
 
-    fn decode_value(alloc: Global, reader: &mut R, header: Header) -> Result<Self, Error> {
+    fn decode_value(alloc: Global, reader: &mut R, header: Header) -> Result<Self, Error>
+    where
+        R: Reader,
+    {
         decode_sequence::<R, DigestedDataFields<'a>, Self>(alloc, reader, header)
     }
 }
@@ -132,7 +135,7 @@ impl<'a> Item for DigestedData<'a> {
     ghost item = { sequence_item ⟦<DigestedData<'a> as Described>⟧.element };
 }
 
-impl<'a, R: Reader<Borrowed = &'a [u8]>> DecodeItem<R> for DigestedData<'a> {
+impl<'a, R: Lends<Borrowed = &'a [u8]>> DecodeItem<R> for DigestedData<'a> {
     ghost is_item = { sequence_is_item ⟦<DigestedData<'a> as Described>⟧.element refl };
 
     ghost decodes_items = { decodes_same (sequence_item

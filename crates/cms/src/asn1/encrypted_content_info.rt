@@ -11,8 +11,8 @@ ghost use Rattle.der_asn1.specs.TupleFields.{three_fields};
 use crate::EncryptedOctets;
 use crate::asn1::content_type::ContentType;
 use der::{
-    Decode, DecodeValue, Encode, EncodeValue, Error, FromFields, Header, IsValue, Length, Reader,
-    Sequence, SliceReader, Writer, decode_sequence, field_refs,
+    Decode, DecodeValue, Encode, EncodeValue, Error, FromFields, Header, IsValue, Lends, Length,
+    Reader, Sequence, SliceReader, Writer, decode_sequence, field_refs,
 };
 use der_asn1::{BorrowedItem, DecodeItem, Described, DescribedChoice, Item, Nestable, Optional};
 use spki::AlgorithmIdentifierRef;
@@ -60,14 +60,17 @@ impl<'a> Sequence for EncryptedContentInfo<'a> {
 }
 
 /// Decodes the fields one after the other, with the errors of every [`Sequence`].
-impl<'a, R: Reader<Borrowed = &'a [u8]>> DecodeValue<R> for EncryptedContentInfo<'a> {
+impl<'a, R: Lends<Borrowed = &'a [u8]>> DecodeValue<R> for EncryptedContentInfo<'a> {
     type Error = Error;
 
     ghost decode_value_answers = { λ h s result t.
         ⟦<EncryptedContentInfoFields<'a> as Decode<SliceReader<'a>>>⟧.decode_answers s (map_ok
         ⟦<EncryptedContentInfo<'a> as FromFields<EncryptedContentInfoFields<'a>>>⟧.fields result) t };
 
-    fn decode_value(alloc: Global, reader: &mut R, header: Header) -> Result<Self, Error> {
+    fn decode_value(alloc: Global, reader: &mut R, header: Header) -> Result<Self, Error>
+    where
+        R: Reader,
+    {
         decode_sequence::<R, EncryptedContentInfoFields<'a>, Self>(alloc, reader, header)
     }
 }
@@ -143,7 +146,7 @@ impl<'a> Item for EncryptedContentInfo<'a> {
     ghost item = { sequence_item ⟦<EncryptedContentInfo<'a> as Described>⟧.element };
 }
 
-impl<'a, R: Reader<Borrowed = &'a [u8]>> DecodeItem<R> for EncryptedContentInfo<'a> {
+impl<'a, R: Lends<Borrowed = &'a [u8]>> DecodeItem<R> for EncryptedContentInfo<'a> {
     ghost is_item = { sequence_is_item ⟦<EncryptedContentInfo<'a> as Described>⟧.element refl };
 
     ghost decodes_items = { decodes_same (sequence_item

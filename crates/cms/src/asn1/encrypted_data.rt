@@ -11,8 +11,8 @@ ghost use Rattle.der_asn1.specs.TupleFields.{three_fields};
 use crate::asn1::cms_version::CmsVersion;
 use crate::asn1::encrypted_content_info::EncryptedContentInfo;
 use der::{
-    Decode, DecodeValue, Encode, EncodeValue, Error, FromFields, Header, IsValue, Length, Reader,
-    Sequence, SliceReader, Writer, decode_sequence, field_refs,
+    Decode, DecodeValue, Encode, EncodeValue, Error, FromFields, Header, IsValue, Lends, Length,
+    Reader, Sequence, SliceReader, Writer, decode_sequence, field_refs,
 };
 use der_asn1::{BorrowedItem, DecodeItem, Described, Implicit, Item, Nestable, Optional};
 use std::alloc::Global;
@@ -61,14 +61,17 @@ impl<'a> Sequence for EncryptedData<'a> {
 }
 
 /// Decodes the fields one after the other, with the errors of every [`Sequence`].
-impl<'a, R: Reader<Borrowed = &'a [u8]>> DecodeValue<R> for EncryptedData<'a> {
+impl<'a, R: Lends<Borrowed = &'a [u8]>> DecodeValue<R> for EncryptedData<'a> {
     type Error = Error;
 
     ghost decode_value_answers = { λ h s result t.
         ⟦<EncryptedDataFields<'a> as Decode<SliceReader<'a>>>⟧.decode_answers s (map_ok
         ⟦<EncryptedData<'a> as FromFields<EncryptedDataFields<'a>>>⟧.fields result) t };
 
-    fn decode_value(alloc: Global, reader: &mut R, header: Header) -> Result<Self, Error> {
+    fn decode_value(alloc: Global, reader: &mut R, header: Header) -> Result<Self, Error>
+    where
+        R: Reader,
+    {
         decode_sequence::<R, EncryptedDataFields<'a>, Self>(alloc, reader, header)
     }
 }
@@ -114,7 +117,7 @@ impl<'a> Item for EncryptedData<'a> {
     ghost item = { sequence_item ⟦<EncryptedData<'a> as Described>⟧.element };
 }
 
-impl<'a, R: Reader<Borrowed = &'a [u8]>> DecodeItem<R> for EncryptedData<'a> {
+impl<'a, R: Lends<Borrowed = &'a [u8]>> DecodeItem<R> for EncryptedData<'a> {
     ghost is_item = { sequence_is_item ⟦<EncryptedData<'a> as Described>⟧.element refl };
 
     ghost decodes_items = { decodes_same (sequence_item

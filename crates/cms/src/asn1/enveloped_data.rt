@@ -15,8 +15,8 @@ use crate::asn1::enveloped_data_part2::{EnvelopedDataPart2, EnvelopedDataPart2Fi
 use crate::asn1::originator_info::OriginatorInfo;
 use crate::asn1::recipient_infos::RecipientInfos;
 use der::{
-    Decode, DecodeValue, Encode, EncodeValue, Error, FromFields, Header, IsValue, Length, Reader,
-    Sequence, SliceReader, Writer, decode_sequence, field_refs,
+    Decode, DecodeValue, Encode, EncodeValue, Error, FromFields, Header, IsValue, Lends, Length,
+    Reader, Sequence, SliceReader, Writer, decode_sequence, field_refs,
 };
 use der_asn1::{BorrowedItem, DecodeItem, Described, Implicit, Item, Nestable, Optional};
 use std::alloc::Global;
@@ -81,7 +81,7 @@ impl<'a> Sequence for EnvelopedData<'a> {
 }
 
 /// Decodes the fields one after the other, with the errors of every [`Sequence`].
-impl<'a, R: Reader<Borrowed = &'a [u8]>> DecodeValue<R> for EnvelopedData<'a> {
+impl<'a, R: Lends<Borrowed = &'a [u8]>> DecodeValue<R> for EnvelopedData<'a> {
     type Error = Error;
 
     ghost decode_value_answers = { λ h s result t.
@@ -89,7 +89,10 @@ impl<'a, R: Reader<Borrowed = &'a [u8]>> DecodeValue<R> for EnvelopedData<'a> {
         (map_ok
         ⟦<EnvelopedData<'a> as FromFields<(EnvelopedDataPart1<'a>, EnvelopedDataPart2<'a>)>>⟧.fields result) t };
 
-    fn decode_value(alloc: Global, reader: &mut R, header: Header) -> Result<Self, Error> {
+    fn decode_value(alloc: Global, reader: &mut R, header: Header) -> Result<Self, Error>
+    where
+        R: Reader,
+    {
         decode_sequence::<R, (EnvelopedDataPart1<'a>, EnvelopedDataPart2<'a>), Self>(
             alloc, reader, header,
         )
@@ -175,7 +178,7 @@ impl<'a> Item for EnvelopedData<'a> {
     ghost item = { sequence_item ⟦<EnvelopedData<'a> as Described>⟧.element };
 }
 
-impl<'a, R: Reader<Borrowed = &'a [u8]>> DecodeItem<R> for EnvelopedData<'a> {
+impl<'a, R: Lends<Borrowed = &'a [u8]>> DecodeItem<R> for EnvelopedData<'a> {
     ghost is_item = { sequence_is_item ⟦<EnvelopedData<'a> as Described>⟧.element refl };
 
     ghost decodes_items = { decodes_same (sequence_item

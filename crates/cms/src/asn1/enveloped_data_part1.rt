@@ -7,7 +7,7 @@ ghost use Rattle.der.specs.Prelude.{map_ok};
 use crate::asn1::cms_version::CmsVersion;
 use crate::asn1::originator_info::OriginatorInfo;
 use crate::asn1::recipient_infos::RecipientInfos;
-use der::{Decode, Error, FromFields, Reader, SliceReader, decode_fields};
+use der::{Decode, Error, FromFields, Lends, Reader, SliceReader, decode_fields};
 use der_asn1::{Implicit, Optional};
 use std::alloc::Global;
 
@@ -39,7 +39,7 @@ impl<'a> FromFields<EnvelopedDataPart1Fields<'a>> for EnvelopedDataPart1<'a> {
     }
 }
 
-impl<'a, R: Reader<Borrowed = &'a [u8]>> Decode<R> for EnvelopedDataPart1<'a> {
+impl<'a, R: Lends<Borrowed = &'a [u8]>> Decode<R> for EnvelopedDataPart1<'a> {
     type Error = Error;
 
     ghost is_next = { λ v. ⟦<EnvelopedDataPart1Fields<'a> as Decode<SliceReader<'a>>>⟧.is_next
@@ -53,7 +53,10 @@ impl<'a, R: Reader<Borrowed = &'a [u8]>> Decode<R> for EnvelopedDataPart1<'a> {
         ⟦<EnvelopedDataPart1Fields<'a> as Decode<SliceReader<'a>>>⟧.decode_answers s
         (map_ok ⟦<EnvelopedDataPart1<'a> as FromFields<EnvelopedDataPart1Fields<'a>>>⟧.fields result) t };
 
-    fn decode(alloc: Global, reader: &mut R) -> Result<Self, Error> {
+    fn decode(alloc: Global, reader: &mut R) -> Result<Self, Error>
+    where
+        R: Reader,
+    {
         decode_fields::<R, EnvelopedDataPart1Fields<'a>, Self>(alloc, reader)
     }
 }

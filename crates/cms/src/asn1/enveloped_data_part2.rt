@@ -5,7 +5,7 @@ ghost use Rattle.std.specs.Prelude.{false};
 ghost use Rattle.der.specs.Prelude.{map_ok};
 
 use crate::asn1::encrypted_content_info::EncryptedContentInfo;
-use der::{Decode, Error, FromFields, Reader, SliceReader, decode_fields};
+use der::{Decode, Error, FromFields, Lends, Reader, SliceReader, decode_fields};
 use der_asn1::{Implicit, Optional};
 use std::alloc::Global;
 use x509::Attributes;
@@ -35,7 +35,7 @@ impl<'a> FromFields<EnvelopedDataPart2Fields<'a>> for EnvelopedDataPart2<'a> {
     }
 }
 
-impl<'a, R: Reader<Borrowed = &'a [u8]>> Decode<R> for EnvelopedDataPart2<'a> {
+impl<'a, R: Lends<Borrowed = &'a [u8]>> Decode<R> for EnvelopedDataPart2<'a> {
     type Error = Error;
 
     ghost is_next = { λ v. ⟦<EnvelopedDataPart2Fields<'a> as Decode<SliceReader<'a>>>⟧.is_next
@@ -49,7 +49,10 @@ impl<'a, R: Reader<Borrowed = &'a [u8]>> Decode<R> for EnvelopedDataPart2<'a> {
         ⟦<EnvelopedDataPart2Fields<'a> as Decode<SliceReader<'a>>>⟧.decode_answers s
         (map_ok ⟦<EnvelopedDataPart2<'a> as FromFields<EnvelopedDataPart2Fields<'a>>>⟧.fields result) t };
 
-    fn decode(alloc: Global, reader: &mut R) -> Result<Self, Error> {
+    fn decode(alloc: Global, reader: &mut R) -> Result<Self, Error>
+    where
+        R: Reader,
+    {
         decode_fields::<R, EnvelopedDataPart2Fields<'a>, Self>(alloc, reader)
     }
 }

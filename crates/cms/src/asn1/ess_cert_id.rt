@@ -9,8 +9,8 @@ ghost use Rattle.der_asn1.specs.Meaning.{alternative, field, optional, sequence,
 
 use crate::asn1::issuer_serial::IssuerSerial;
 use der::{
-    Decode, DecodeValue, Encode, EncodeValue, Error, FromFields, Header, IsValue, Length, Reader,
-    Sequence, SliceReader, Writer, decode_sequence, field_refs,
+    Decode, DecodeValue, Encode, EncodeValue, Error, FromFields, Header, IsValue, Lends, Length,
+    Reader, Sequence, SliceReader, Writer, decode_sequence, field_refs,
 };
 use der_asn1::{BorrowedItem, DecodeItem, Described, Item, Nestable, OctetStringRef, Optional};
 use std::alloc::Global;
@@ -49,14 +49,17 @@ impl<'a> Sequence for EssCertId<'a> {
 }
 
 /// Decodes the fields one after the other, with the errors of every [`Sequence`].
-impl<'a, R: Reader<Borrowed = &'a [u8]>> DecodeValue<R> for EssCertId<'a> {
+impl<'a, R: Lends<Borrowed = &'a [u8]>> DecodeValue<R> for EssCertId<'a> {
     type Error = Error;
 
     ghost decode_value_answers = { λ h s result t.
         ⟦<EssCertIdFields<'a> as Decode<SliceReader<'a>>>⟧.decode_answers s (map_ok
         ⟦<EssCertId<'a> as FromFields<EssCertIdFields<'a>>>⟧.fields result) t };
 
-    fn decode_value(alloc: Global, reader: &mut R, header: Header) -> Result<Self, Error> {
+    fn decode_value(alloc: Global, reader: &mut R, header: Header) -> Result<Self, Error>
+    where
+        R: Reader,
+    {
         decode_sequence::<R, EssCertIdFields<'a>, Self>(alloc, reader, header)
     }
 }
@@ -99,7 +102,7 @@ impl<'a> Item for EssCertId<'a> {
     ghost item = { sequence_item ⟦<EssCertId<'a> as Described>⟧.element };
 }
 
-impl<'a, R: Reader<Borrowed = &'a [u8]>> DecodeItem<R> for EssCertId<'a> {
+impl<'a, R: Lends<Borrowed = &'a [u8]>> DecodeItem<R> for EssCertId<'a> {
     ghost is_item = { sequence_is_item ⟦<EssCertId<'a> as Described>⟧.element refl };
 
     ghost decodes_items = { decodes_same (sequence_item ⟦<EssCertId<'a> as Described>⟧.element) };

@@ -10,8 +10,8 @@ ghost use Rattle.der_asn1.specs.TupleFields.{three_fields};
 
 use crate::asn1::other_key_attribute::OtherKeyAttribute;
 use der::{
-    Decode, DecodeValue, Encode, EncodeValue, Error, FromFields, Header, IsValue, Length, Reader,
-    Sequence, SliceReader, Writer, decode_sequence, field_refs,
+    Decode, DecodeValue, Encode, EncodeValue, Error, FromFields, Header, IsValue, Lends, Length,
+    Reader, Sequence, SliceReader, Writer, decode_sequence, field_refs,
 };
 use der_asn1::{
     BorrowedItem, DecodeItem, Described, GeneralizedTime, Item, Nestable, OctetStringRef, Optional,
@@ -60,14 +60,17 @@ impl<'a> Sequence for KekIdentifier<'a> {
 }
 
 /// Decodes the fields one after the other, with the errors of every [`Sequence`].
-impl<'a, R: Reader<Borrowed = &'a [u8]>> DecodeValue<R> for KekIdentifier<'a> {
+impl<'a, R: Lends<Borrowed = &'a [u8]>> DecodeValue<R> for KekIdentifier<'a> {
     type Error = Error;
 
     ghost decode_value_answers = { λ h s result t.
         ⟦<KekIdentifierFields<'a> as Decode<SliceReader<'a>>>⟧.decode_answers s (map_ok
         ⟦<KekIdentifier<'a> as FromFields<KekIdentifierFields<'a>>>⟧.fields result) t };
 
-    fn decode_value(alloc: Global, reader: &mut R, header: Header) -> Result<Self, Error> {
+    fn decode_value(alloc: Global, reader: &mut R, header: Header) -> Result<Self, Error>
+    where
+        R: Reader,
+    {
         decode_sequence::<R, KekIdentifierFields<'a>, Self>(alloc, reader, header)
     }
 }
@@ -113,7 +116,7 @@ impl<'a> Item for KekIdentifier<'a> {
     ghost item = { sequence_item ⟦<KekIdentifier<'a> as Described>⟧.element };
 }
 
-impl<'a, R: Reader<Borrowed = &'a [u8]>> DecodeItem<R> for KekIdentifier<'a> {
+impl<'a, R: Lends<Borrowed = &'a [u8]>> DecodeItem<R> for KekIdentifier<'a> {
     ghost is_item = { sequence_is_item ⟦<KekIdentifier<'a> as Described>⟧.element refl };
 
     ghost decodes_items = { decodes_same (sequence_item

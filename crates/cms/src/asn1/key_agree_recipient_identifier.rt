@@ -11,7 +11,7 @@ ghost use Rattle.cms.specs.declared.asn1.key_agree_recipient_identifier.KeyAgree
 
 use crate::asn1::issuer_and_serial_number::IssuerAndSerialNumber;
 use crate::asn1::recipient_key_identifier::RecipientKeyIdentifier;
-use der::{Decode, Encode, Error, FromFields, Length, Reader, SliceReader, Tag, Writer};
+use der::{Decode, Encode, Error, FromFields, Lends, Length, Reader, SliceReader, Tag, Writer};
 use der_asn1::{
     BorrowedItem, Choice, DecodeItem, Described, DescribedChoice, Either, Implicit, Item,
     decode_choice,
@@ -56,7 +56,7 @@ impl<'a> DescribedChoice for KeyAgreeRecipientIdentifier<'a> {
 }
 
 /// Decodes the alternative whose tag is next, with the errors of [`Either`].
-impl<'a, R: Reader<Borrowed = &'a [u8]>> Decode<R> for KeyAgreeRecipientIdentifier<'a> {
+impl<'a, R: Lends<Borrowed = &'a [u8]>> Decode<R> for KeyAgreeRecipientIdentifier<'a> {
     type Error = Error;
 
     ghost is_next = { ⟦<KeyAgreeRecipientIdentifier<'a> as DescribedChoice>⟧.alternative.is_next };
@@ -70,12 +70,15 @@ impl<'a, R: Reader<Borrowed = &'a [u8]>> Decode<R> for KeyAgreeRecipientIdentifi
         (map_ok
         ⟦<KeyAgreeRecipientIdentifier<'a> as FromFields<KeyAgreeRecipientIdentifierAlternatives<'a>>>⟧.fields result) t };
 
-    fn decode(alloc: Global, reader: &mut R) -> Result<Self, Error> {
+    fn decode(alloc: Global, reader: &mut R) -> Result<Self, Error>
+    where
+        R: Reader,
+    {
         decode_choice::<R, KeyAgreeRecipientIdentifierAlternatives<'a>, Self>(alloc, reader)
     }
 }
 
-impl<'a, R: Reader<Borrowed = &'a [u8]>> Choice<R> for KeyAgreeRecipientIdentifier<'a> {
+impl<'a, R: Lends<Borrowed = &'a [u8]>> Choice<R> for KeyAgreeRecipientIdentifier<'a> {
     ghost chooses = { ⟦<KeyAgreeRecipientIdentifier<'a> as DescribedChoice>⟧.alternative.tags };
 
     fn can_decode(tag: Tag) -> bool {
@@ -135,7 +138,7 @@ impl<'a> Item for KeyAgreeRecipientIdentifier<'a> {
     ghost item = { choice_item ⟦<KeyAgreeRecipientIdentifier<'a> as DescribedChoice>⟧.alternative };
 }
 
-impl<'a, R: Reader<Borrowed = &'a [u8]>> DecodeItem<R> for KeyAgreeRecipientIdentifier<'a> {
+impl<'a, R: Lends<Borrowed = &'a [u8]>> DecodeItem<R> for KeyAgreeRecipientIdentifier<'a> {
     ghost is_item = { choice_is_item
         ⟦<KeyAgreeRecipientIdentifier<'a> as DescribedChoice>⟧.alternative refl };
 

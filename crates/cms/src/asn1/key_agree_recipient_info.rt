@@ -12,8 +12,8 @@ use crate::asn1::cms_version::CmsVersion;
 use crate::asn1::originator_identifier_or_key_tagged::OriginatorIdentifierOrKeyTagged;
 use crate::asn1::recipient_encrypted_key::RecipientEncryptedKey;
 use der::{
-    Decode, DecodeValue, Encode, EncodeValue, Error, FromFields, Header, IsValue, Length, Reader,
-    Sequence, SliceReader, Writer, decode_sequence, field_refs,
+    Decode, DecodeValue, Encode, EncodeValue, Error, FromFields, Header, IsValue, Lends, Length,
+    Reader, Sequence, SliceReader, Writer, decode_sequence, field_refs,
 };
 use der_asn1::{
     BorrowedItem, DecodeItem, Described, Explicit, Implicit, Item, Nestable, OctetStringRef,
@@ -81,14 +81,17 @@ impl<'a> Sequence for KeyAgreeRecipientInfo<'a> {
 }
 
 /// Decodes the fields one after the other, with the errors of every [`Sequence`].
-impl<'a, R: Reader<Borrowed = &'a [u8]>> DecodeValue<R> for KeyAgreeRecipientInfo<'a> {
+impl<'a, R: Lends<Borrowed = &'a [u8]>> DecodeValue<R> for KeyAgreeRecipientInfo<'a> {
     type Error = Error;
 
     ghost decode_value_answers = { λ h s result t.
         ⟦<KeyAgreeRecipientInfoFields<'a> as Decode<SliceReader<'a>>>⟧.decode_answers s (map_ok
         ⟦<KeyAgreeRecipientInfo<'a> as FromFields<KeyAgreeRecipientInfoFields<'a>>>⟧.fields result) t };
 
-    fn decode_value(alloc: Global, reader: &mut R, header: Header) -> Result<Self, Error> {
+    fn decode_value(alloc: Global, reader: &mut R, header: Header) -> Result<Self, Error>
+    where
+        R: Reader,
+    {
         decode_sequence::<R, KeyAgreeRecipientInfoFields<'a>, Self>(alloc, reader, header)
     }
 }
@@ -174,7 +177,7 @@ impl<'a> Item for KeyAgreeRecipientInfo<'a> {
     ghost item = { sequence_item ⟦<KeyAgreeRecipientInfo<'a> as Described>⟧.element };
 }
 
-impl<'a, R: Reader<Borrowed = &'a [u8]>> DecodeItem<R> for KeyAgreeRecipientInfo<'a> {
+impl<'a, R: Lends<Borrowed = &'a [u8]>> DecodeItem<R> for KeyAgreeRecipientInfo<'a> {
     ghost is_item = { sequence_is_item ⟦<KeyAgreeRecipientInfo<'a> as Described>⟧.element refl };
 
     ghost decodes_items = { decodes_same (sequence_item

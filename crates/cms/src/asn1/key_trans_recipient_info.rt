@@ -12,8 +12,8 @@ use crate::asn1::cms_version::CmsVersion;
 use crate::asn1::recipient_identifier::RecipientIdentifier;
 use crate::asn1::signer_identifier::SignerIdentifier;
 use der::{
-    Decode, DecodeValue, Encode, EncodeValue, Error, FromFields, Header, IsValue, Length, Reader,
-    Sequence, SliceReader, Writer, decode_sequence, field_refs,
+    Decode, DecodeValue, Encode, EncodeValue, Error, FromFields, Header, IsValue, Lends, Length,
+    Reader, Sequence, SliceReader, Writer, decode_sequence, field_refs,
 };
 use der_asn1::{
     BorrowedItem, DecodeItem, Described, DescribedChoice, Item, Nestable, OctetStringRef,
@@ -70,14 +70,17 @@ impl<'a> Sequence for KeyTransRecipientInfo<'a> {
 }
 
 /// Decodes the fields one after the other, with the errors of every [`Sequence`].
-impl<'a, R: Reader<Borrowed = &'a [u8]>> DecodeValue<R> for KeyTransRecipientInfo<'a> {
+impl<'a, R: Lends<Borrowed = &'a [u8]>> DecodeValue<R> for KeyTransRecipientInfo<'a> {
     type Error = Error;
 
     ghost decode_value_answers = { λ h s result t.
         ⟦<KeyTransRecipientInfoFields<'a> as Decode<SliceReader<'a>>>⟧.decode_answers s (map_ok
         ⟦<KeyTransRecipientInfo<'a> as FromFields<KeyTransRecipientInfoFields<'a>>>⟧.fields result) t };
 
-    fn decode_value(alloc: Global, reader: &mut R, header: Header) -> Result<Self, Error> {
+    fn decode_value(alloc: Global, reader: &mut R, header: Header) -> Result<Self, Error>
+    where
+        R: Reader,
+    {
         decode_sequence::<R, KeyTransRecipientInfoFields<'a>, Self>(alloc, reader, header)
     }
 }
@@ -139,7 +142,7 @@ impl<'a> Item for KeyTransRecipientInfo<'a> {
     ghost item = { sequence_item ⟦<KeyTransRecipientInfo<'a> as Described>⟧.element };
 }
 
-impl<'a, R: Reader<Borrowed = &'a [u8]>> DecodeItem<R> for KeyTransRecipientInfo<'a> {
+impl<'a, R: Lends<Borrowed = &'a [u8]>> DecodeItem<R> for KeyTransRecipientInfo<'a> {
     ghost is_item = { sequence_is_item ⟦<KeyTransRecipientInfo<'a> as Described>⟧.element refl };
 
     ghost decodes_items = { decodes_same (sequence_item

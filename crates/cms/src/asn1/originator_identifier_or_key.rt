@@ -13,7 +13,7 @@ use crate::asn1::issuer_and_serial_number::IssuerAndSerialNumber;
 use crate::asn1::originator_identifier_or_key_part1::OriginatorIdentifierOrKeyPart1;
 use crate::asn1::originator_identifier_or_key_part2::OriginatorIdentifierOrKeyPart2;
 use crate::asn1::originator_public_key::OriginatorPublicKey;
-use der::{Decode, Encode, Error, FromFields, Length, Reader, SliceReader, Tag, Writer};
+use der::{Decode, Encode, Error, FromFields, Lends, Length, Reader, SliceReader, Tag, Writer};
 use der_asn1::{
     BorrowedItem, Choice, DecodeItem, DescribedChoice, Either, Implicit, Item, decode_choice,
 };
@@ -70,7 +70,7 @@ impl<'a> DescribedChoice for OriginatorIdentifierOrKey<'a> {
 }
 
 /// Decodes the alternative whose tag is next, with the errors of [`Either`].
-impl<'a, R: Reader<Borrowed = &'a [u8]>> Decode<R> for OriginatorIdentifierOrKey<'a> {
+impl<'a, R: Lends<Borrowed = &'a [u8]>> Decode<R> for OriginatorIdentifierOrKey<'a> {
     type Error = Error;
 
     ghost is_next = { ⟦<OriginatorIdentifierOrKey<'a> as DescribedChoice>⟧.alternative.is_next };
@@ -84,12 +84,15 @@ impl<'a, R: Reader<Borrowed = &'a [u8]>> Decode<R> for OriginatorIdentifierOrKey
         (map_ok
         ⟦<OriginatorIdentifierOrKey<'a> as FromFields<OriginatorIdentifierOrKeyAlternatives<'a>>>⟧.fields result) t };
 
-    fn decode(alloc: Global, reader: &mut R) -> Result<Self, Error> {
+    fn decode(alloc: Global, reader: &mut R) -> Result<Self, Error>
+    where
+        R: Reader,
+    {
         decode_choice::<R, OriginatorIdentifierOrKeyAlternatives<'a>, Self>(alloc, reader)
     }
 }
 
-impl<'a, R: Reader<Borrowed = &'a [u8]>> Choice<R> for OriginatorIdentifierOrKey<'a> {
+impl<'a, R: Lends<Borrowed = &'a [u8]>> Choice<R> for OriginatorIdentifierOrKey<'a> {
     ghost chooses = { ⟦<OriginatorIdentifierOrKey<'a> as DescribedChoice>⟧.alternative.tags };
 
     fn can_decode(tag: Tag) -> bool {
@@ -153,7 +156,7 @@ impl<'a> Item for OriginatorIdentifierOrKey<'a> {
     ghost item = { choice_item ⟦<OriginatorIdentifierOrKey<'a> as DescribedChoice>⟧.alternative };
 }
 
-impl<'a, R: Reader<Borrowed = &'a [u8]>> DecodeItem<R> for OriginatorIdentifierOrKey<'a> {
+impl<'a, R: Lends<Borrowed = &'a [u8]>> DecodeItem<R> for OriginatorIdentifierOrKey<'a> {
     ghost is_item = { choice_is_item
         ⟦<OriginatorIdentifierOrKey<'a> as DescribedChoice>⟧.alternative refl };
 

@@ -6,7 +6,7 @@ ghost use Rattle.der.specs.Prelude.{map_ok};
 ghost use Rattle.der_asn1.specs.Meaning.{alternative, choice_of, either};
 
 use crate::asn1::issuer_and_serial_number::IssuerAndSerialNumber;
-use der::{Decode, Encode, Error, FromFields, Length, Reader, SliceReader, Tag, Writer};
+use der::{Decode, Encode, Error, FromFields, Lends, Length, Reader, SliceReader, Tag, Writer};
 use der_asn1::{Choice, Described, DescribedChoice, Either, Implicit, decode_choice};
 use std::alloc::Global;
 use x509::SubjectKeyIdentifier;
@@ -38,7 +38,7 @@ impl<'a> DescribedChoice for OriginatorIdentifierOrKeyPart1<'a> {
         ⟦<Implicit<SubjectKeyIdentifier<'a>, 0> as Described>⟧.element)) (λ v. v.choice) };
 }
 
-impl<'a, R: Reader<Borrowed = &'a [u8]>> Decode<R> for OriginatorIdentifierOrKeyPart1<'a> {
+impl<'a, R: Lends<Borrowed = &'a [u8]>> Decode<R> for OriginatorIdentifierOrKeyPart1<'a> {
     type Error = Error;
 
     ghost is_next = { ⟦<OriginatorIdentifierOrKeyPart1<'a> as DescribedChoice>⟧.alternative.is_next };
@@ -52,12 +52,15 @@ impl<'a, R: Reader<Borrowed = &'a [u8]>> Decode<R> for OriginatorIdentifierOrKey
         (map_ok (λ v. v.choice) result) t };
 
     #[inline(always)]
-    fn decode(alloc: Global, reader: &mut R) -> Result<Self, Error> {
+    fn decode(alloc: Global, reader: &mut R) -> Result<Self, Error>
+    where
+        R: Reader,
+    {
         decode_choice::<R, OriginatorIdentifierOrKeyPart1Alternatives<'a>, Self>(alloc, reader)
     }
 }
 
-impl<'a, R: Reader<Borrowed = &'a [u8]>> Choice<R> for OriginatorIdentifierOrKeyPart1<'a> {
+impl<'a, R: Lends<Borrowed = &'a [u8]>> Choice<R> for OriginatorIdentifierOrKeyPart1<'a> {
     ghost chooses = { ⟦<OriginatorIdentifierOrKeyPart1<'a> as DescribedChoice>⟧.alternative.tags };
 
     #[inline(always)]

@@ -6,7 +6,7 @@ ghost use Rattle.der.specs.Prelude.{map_ok};
 ghost use Rattle.der_asn1.specs.Meaning.{alternative, choice_of};
 
 use crate::asn1::originator_public_key::OriginatorPublicKey;
-use der::{Decode, Encode, Error, FromFields, Length, Reader, SliceReader, Tag, Writer};
+use der::{Decode, Encode, Error, FromFields, Lends, Length, Reader, SliceReader, Tag, Writer};
 use der_asn1::{Choice, Described, DescribedChoice, Implicit, decode_choice};
 use std::alloc::Global;
 
@@ -36,7 +36,7 @@ impl<'a> DescribedChoice for OriginatorIdentifierOrKeyPart2<'a> {
         ⟦<Implicit<OriginatorPublicKey<'a>, 1> as Described>⟧.element) (λ v. v.choice) };
 }
 
-impl<'a, R: Reader<Borrowed = &'a [u8]>> Decode<R> for OriginatorIdentifierOrKeyPart2<'a> {
+impl<'a, R: Lends<Borrowed = &'a [u8]>> Decode<R> for OriginatorIdentifierOrKeyPart2<'a> {
     type Error = Error;
 
     ghost is_next = { ⟦<OriginatorIdentifierOrKeyPart2<'a> as DescribedChoice>⟧.alternative.is_next };
@@ -50,12 +50,15 @@ impl<'a, R: Reader<Borrowed = &'a [u8]>> Decode<R> for OriginatorIdentifierOrKey
         (map_ok (λ v. v.choice) result) t };
 
     #[inline(always)]
-    fn decode(alloc: Global, reader: &mut R) -> Result<Self, Error> {
+    fn decode(alloc: Global, reader: &mut R) -> Result<Self, Error>
+    where
+        R: Reader,
+    {
         decode_choice::<R, OriginatorIdentifierOrKeyPart2Alternatives<'a>, Self>(alloc, reader)
     }
 }
 
-impl<'a, R: Reader<Borrowed = &'a [u8]>> Choice<R> for OriginatorIdentifierOrKeyPart2<'a> {
+impl<'a, R: Lends<Borrowed = &'a [u8]>> Choice<R> for OriginatorIdentifierOrKeyPart2<'a> {
     ghost chooses = { ⟦<OriginatorIdentifierOrKeyPart2<'a> as DescribedChoice>⟧.alternative.tags };
 
     #[inline(always)]

@@ -9,8 +9,8 @@ ghost use Rattle.der_asn1.specs.Meaning.{alternative, field, sequence, sequence_
 
 use crate::asn1::originator_identifier_or_key::OriginatorIdentifierOrKey;
 use der::{
-    Decode, DecodeValue, Encode, EncodeValue, Error, FromFields, Header, IsValue, Length, Reader,
-    Sequence, SliceReader, Writer, decode_sequence, field_refs,
+    Decode, DecodeValue, Encode, EncodeValue, Error, FromFields, Header, IsValue, Lends, Length,
+    Reader, Sequence, SliceReader, Writer, decode_sequence, field_refs,
 };
 use der_asn1::{BorrowedItem, DecodeItem, Described, DescribedChoice, Item, Nestable};
 use std::alloc::Global;
@@ -44,14 +44,17 @@ impl<'a> Sequence for OriginatorIdentifierOrKeyTagged<'a> {
 }
 
 /// Decodes the fields one after the other, with the errors of every [`Sequence`].
-impl<'a, R: Reader<Borrowed = &'a [u8]>> DecodeValue<R> for OriginatorIdentifierOrKeyTagged<'a> {
+impl<'a, R: Lends<Borrowed = &'a [u8]>> DecodeValue<R> for OriginatorIdentifierOrKeyTagged<'a> {
     type Error = Error;
 
     ghost decode_value_answers = { λ h s result t.
         ⟦<OriginatorIdentifierOrKeyTaggedFields<'a> as Decode<SliceReader<'a>>>⟧.decode_answers s (map_ok
         ⟦<OriginatorIdentifierOrKeyTagged<'a> as FromFields<OriginatorIdentifierOrKeyTaggedFields<'a>>>⟧.fields result) t };
 
-    fn decode_value(alloc: Global, reader: &mut R, header: Header) -> Result<Self, Error> {
+    fn decode_value(alloc: Global, reader: &mut R, header: Header) -> Result<Self, Error>
+    where
+        R: Reader,
+    {
         decode_sequence::<R, OriginatorIdentifierOrKeyTaggedFields<'a>, Self>(alloc, reader, header)
     }
 }
@@ -96,7 +99,7 @@ impl<'a> Item for OriginatorIdentifierOrKeyTagged<'a> {
     ghost item = { sequence_item ⟦<OriginatorIdentifierOrKeyTagged<'a> as Described>⟧.element };
 }
 
-impl<'a, R: Reader<Borrowed = &'a [u8]>> DecodeItem<R> for OriginatorIdentifierOrKeyTagged<'a> {
+impl<'a, R: Lends<Borrowed = &'a [u8]>> DecodeItem<R> for OriginatorIdentifierOrKeyTagged<'a> {
     ghost is_item = { sequence_is_item
         ⟦<OriginatorIdentifierOrKeyTagged<'a> as Described>⟧.element refl };
 

@@ -10,8 +10,8 @@ ghost use Rattle.der_asn1.specs.Meaning.{alternative, optional, sequence, sequen
 use crate::asn1::certificate_set::CertificateSet;
 use crate::asn1::revocation_info_choices::RevocationInfoChoices;
 use der::{
-    Decode, DecodeValue, Encode, EncodeValue, Error, FromFields, Header, IsValue, Length, Reader,
-    Sequence, SliceReader, Writer, decode_sequence, field_refs,
+    Decode, DecodeValue, Encode, EncodeValue, Error, FromFields, Header, IsValue, Lends, Length,
+    Reader, Sequence, SliceReader, Writer, decode_sequence, field_refs,
 };
 use der_asn1::{BorrowedItem, DecodeItem, Described, Implicit, Item, Nestable, Optional};
 use std::alloc::Global;
@@ -51,14 +51,17 @@ impl<'a> Sequence for OriginatorInfo<'a> {
 }
 
 /// Decodes the fields one after the other, with the errors of every [`Sequence`].
-impl<'a, R: Reader<Borrowed = &'a [u8]>> DecodeValue<R> for OriginatorInfo<'a> {
+impl<'a, R: Lends<Borrowed = &'a [u8]>> DecodeValue<R> for OriginatorInfo<'a> {
     type Error = Error;
 
     ghost decode_value_answers = { λ h s result t.
         ⟦<OriginatorInfoFields<'a> as Decode<SliceReader<'a>>>⟧.decode_answers s (map_ok
         ⟦<OriginatorInfo<'a> as FromFields<OriginatorInfoFields<'a>>>⟧.fields result) t };
 
-    fn decode_value(alloc: Global, reader: &mut R, header: Header) -> Result<Self, Error> {
+    fn decode_value(alloc: Global, reader: &mut R, header: Header) -> Result<Self, Error>
+    where
+        R: Reader,
+    {
         decode_sequence::<R, OriginatorInfoFields<'a>, Self>(alloc, reader, header)
     }
 }
@@ -103,7 +106,7 @@ impl<'a> Item for OriginatorInfo<'a> {
     ghost item = { sequence_item ⟦<OriginatorInfo<'a> as Described>⟧.element };
 }
 
-impl<'a, R: Reader<Borrowed = &'a [u8]>> DecodeItem<R> for OriginatorInfo<'a> {
+impl<'a, R: Lends<Borrowed = &'a [u8]>> DecodeItem<R> for OriginatorInfo<'a> {
     ghost is_item = { sequence_is_item ⟦<OriginatorInfo<'a> as Described>⟧.element refl };
 
     ghost decodes_items = { decodes_same (sequence_item

@@ -9,8 +9,8 @@ ghost use Rattle.der_asn1.specs.Meaning.{alternative, field, optional, sequence,
 
 use crate::asn1::content_type::ContentType;
 use der::{
-    Decode, DecodeValue, Encode, EncodeValue, Error, FromFields, Header, IsValue, Length, Reader,
-    Sequence, SliceReader, Writer, decode_sequence, field_refs,
+    Decode, DecodeValue, Encode, EncodeValue, Error, FromFields, Header, IsValue, Lends, Length,
+    Reader, Sequence, SliceReader, Writer, decode_sequence, field_refs,
 };
 use der_asn1::{BorrowedItem, DecodeItem, Described, ExplicitAny, Item, Nestable, Optional};
 use std::alloc::Global;
@@ -50,14 +50,17 @@ impl<'a> Sequence for Pkcs7ContentInfo<'a> {
 }
 
 /// Decodes the fields one after the other, with the errors of every [`Sequence`].
-impl<'a, R: Reader<Borrowed = &'a [u8]>> DecodeValue<R> for Pkcs7ContentInfo<'a> {
+impl<'a, R: Lends<Borrowed = &'a [u8]>> DecodeValue<R> for Pkcs7ContentInfo<'a> {
     type Error = Error;
 
     ghost decode_value_answers = { λ h s result t.
         ⟦<Pkcs7ContentInfoFields<'a> as Decode<SliceReader<'a>>>⟧.decode_answers s (map_ok
         ⟦<Pkcs7ContentInfo<'a> as FromFields<Pkcs7ContentInfoFields<'a>>>⟧.fields result) t };
 
-    fn decode_value(alloc: Global, reader: &mut R, header: Header) -> Result<Self, Error> {
+    fn decode_value(alloc: Global, reader: &mut R, header: Header) -> Result<Self, Error>
+    where
+        R: Reader,
+    {
         decode_sequence::<R, Pkcs7ContentInfoFields<'a>, Self>(alloc, reader, header)
     }
 }
@@ -100,7 +103,7 @@ impl<'a> Item for Pkcs7ContentInfo<'a> {
     ghost item = { sequence_item ⟦<Pkcs7ContentInfo<'a> as Described>⟧.element };
 }
 
-impl<'a, R: Reader<Borrowed = &'a [u8]>> DecodeItem<R> for Pkcs7ContentInfo<'a> {
+impl<'a, R: Lends<Borrowed = &'a [u8]>> DecodeItem<R> for Pkcs7ContentInfo<'a> {
     ghost is_item = { sequence_is_item ⟦<Pkcs7ContentInfo<'a> as Described>⟧.element refl };
 
     ghost decodes_items = { decodes_same (sequence_item

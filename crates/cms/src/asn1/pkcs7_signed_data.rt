@@ -16,8 +16,8 @@ use crate::asn1::pkcs7_signed_data_part2::{Pkcs7SignedDataPart2, Pkcs7SignedData
 use crate::asn1::revocation_info_choices::RevocationInfoChoices;
 use crate::asn1::signer_info::SignerInfo;
 use der::{
-    Decode, DecodeValue, Encode, EncodeValue, Error, FromFields, Header, IsValue, Length, Reader,
-    Sequence, SliceReader, Writer, decode_sequence, field_refs,
+    Decode, DecodeValue, Encode, EncodeValue, Error, FromFields, Header, IsValue, Lends, Length,
+    Reader, Sequence, SliceReader, Writer, decode_sequence, field_refs,
 };
 use der_asn1::{BorrowedItem, DecodeItem, Described, Implicit, Item, Nestable, Optional, SetOf};
 use spki::AlgorithmIdentifierRef;
@@ -91,7 +91,7 @@ impl<'a> Sequence for Pkcs7SignedData<'a> {
 }
 
 /// Decodes the fields one after the other, with the errors of every [`Sequence`].
-impl<'a, R: Reader<Borrowed = &'a [u8]>> DecodeValue<R> for Pkcs7SignedData<'a> {
+impl<'a, R: Lends<Borrowed = &'a [u8]>> DecodeValue<R> for Pkcs7SignedData<'a> {
     type Error = Error;
 
     ghost decode_value_answers = { λ h s result t.
@@ -99,7 +99,10 @@ impl<'a, R: Reader<Borrowed = &'a [u8]>> DecodeValue<R> for Pkcs7SignedData<'a> 
         (map_ok
         ⟦<Pkcs7SignedData<'a> as FromFields<(Pkcs7SignedDataPart1<'a>, Pkcs7SignedDataPart2<'a>)>>⟧.fields result) t };
 
-    fn decode_value(alloc: Global, reader: &mut R, header: Header) -> Result<Self, Error> {
+    fn decode_value(alloc: Global, reader: &mut R, header: Header) -> Result<Self, Error>
+    where
+        R: Reader,
+    {
         decode_sequence::<R, (Pkcs7SignedDataPart1<'a>, Pkcs7SignedDataPart2<'a>), Self>(
             alloc, reader, header,
         )
@@ -186,7 +189,7 @@ impl<'a> Item for Pkcs7SignedData<'a> {
     ghost item = { sequence_item ⟦<Pkcs7SignedData<'a> as Described>⟧.element };
 }
 
-impl<'a, R: Reader<Borrowed = &'a [u8]>> DecodeItem<R> for Pkcs7SignedData<'a> {
+impl<'a, R: Lends<Borrowed = &'a [u8]>> DecodeItem<R> for Pkcs7SignedData<'a> {
     ghost is_item = { sequence_is_item ⟦<Pkcs7SignedData<'a> as Described>⟧.element refl };
 
     ghost decodes_items = { decodes_same (sequence_item

@@ -7,7 +7,7 @@ ghost use Rattle.der.specs.Prelude.{map_ok};
 use crate::asn1::certificate_set::CertificateSet;
 use crate::asn1::revocation_info_choices::RevocationInfoChoices;
 use crate::asn1::signer_info::SignerInfo;
-use der::{Decode, Error, FromFields, Reader, SliceReader, decode_fields};
+use der::{Decode, Error, FromFields, Lends, Reader, SliceReader, decode_fields};
 use der_asn1::{Implicit, Optional, SetOf};
 use std::alloc::Global;
 
@@ -39,7 +39,7 @@ impl<'a> FromFields<Pkcs7SignedDataPart2Fields<'a>> for Pkcs7SignedDataPart2<'a>
     }
 }
 
-impl<'a, R: Reader<Borrowed = &'a [u8]>> Decode<R> for Pkcs7SignedDataPart2<'a> {
+impl<'a, R: Lends<Borrowed = &'a [u8]>> Decode<R> for Pkcs7SignedDataPart2<'a> {
     type Error = Error;
 
     ghost is_next = { λ v. ⟦<Pkcs7SignedDataPart2Fields<'a> as Decode<SliceReader<'a>>>⟧.is_next
@@ -54,7 +54,10 @@ impl<'a, R: Reader<Borrowed = &'a [u8]>> Decode<R> for Pkcs7SignedDataPart2<'a> 
         (map_ok
         ⟦<Pkcs7SignedDataPart2<'a> as FromFields<Pkcs7SignedDataPart2Fields<'a>>>⟧.fields result) t };
 
-    fn decode(alloc: Global, reader: &mut R) -> Result<Self, Error> {
+    fn decode(alloc: Global, reader: &mut R) -> Result<Self, Error>
+    where
+        R: Reader,
+    {
         decode_fields::<R, Pkcs7SignedDataPart2Fields<'a>, Self>(alloc, reader)
     }
 }

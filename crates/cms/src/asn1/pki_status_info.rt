@@ -11,8 +11,8 @@ ghost use Rattle.der_asn1.specs.TupleFields.{three_fields};
 use crate::asn1::pki_failure_info::PkiFailureInfo;
 use crate::asn1::pki_status::PkiStatus;
 use der::{
-    Decode, DecodeValue, Encode, EncodeValue, Error, FromFields, Header, IsValue, Length, Reader,
-    Sequence, SliceReader, Writer, decode_sequence, field_refs,
+    Decode, DecodeValue, Encode, EncodeValue, Error, FromFields, Header, IsValue, Lends, Length,
+    Reader, Sequence, SliceReader, Writer, decode_sequence, field_refs,
 };
 use der_asn1::{
     BorrowedItem, DecodeItem, Described, Item, NamedInteger, Nestable, Optional, SequenceOf,
@@ -62,14 +62,17 @@ impl<'a> Sequence for PkiStatusInfo<'a> {
 }
 
 /// Decodes the fields one after the other, with the errors of every [`Sequence`].
-impl<'a, R: Reader<Borrowed = &'a [u8]>> DecodeValue<R> for PkiStatusInfo<'a> {
+impl<'a, R: Lends<Borrowed = &'a [u8]>> DecodeValue<R> for PkiStatusInfo<'a> {
     type Error = Error;
 
     ghost decode_value_answers = { λ h s result t.
         ⟦<PkiStatusInfoFields<'a> as Decode<SliceReader<'a>>>⟧.decode_answers s (map_ok
         ⟦<PkiStatusInfo<'a> as FromFields<PkiStatusInfoFields<'a>>>⟧.fields result) t };
 
-    fn decode_value(alloc: Global, reader: &mut R, header: Header) -> Result<Self, Error> {
+    fn decode_value(alloc: Global, reader: &mut R, header: Header) -> Result<Self, Error>
+    where
+        R: Reader,
+    {
         decode_sequence::<R, PkiStatusInfoFields<'a>, Self>(alloc, reader, header)
     }
 }
@@ -115,7 +118,7 @@ impl<'a> Item for PkiStatusInfo<'a> {
     ghost item = { sequence_item ⟦<PkiStatusInfo<'a> as Described>⟧.element };
 }
 
-impl<'a, R: Reader<Borrowed = &'a [u8]>> DecodeItem<R> for PkiStatusInfo<'a> {
+impl<'a, R: Lends<Borrowed = &'a [u8]>> DecodeItem<R> for PkiStatusInfo<'a> {
     ghost is_item = { sequence_is_item ⟦<PkiStatusInfo<'a> as Described>⟧.element refl };
 
     ghost decodes_items = { decodes_same (sequence_item

@@ -9,8 +9,8 @@ ghost use Rattle.der_asn1.specs.Meaning.{alternative, field, sequence, sequence_
 
 use crate::asn1::key_agree_recipient_identifier::KeyAgreeRecipientIdentifier;
 use der::{
-    Decode, DecodeValue, Encode, EncodeValue, Error, FromFields, Header, IsValue, Length, Reader,
-    Sequence, SliceReader, Writer, decode_sequence, field_refs,
+    Decode, DecodeValue, Encode, EncodeValue, Error, FromFields, Header, IsValue, Lends, Length,
+    Reader, Sequence, SliceReader, Writer, decode_sequence, field_refs,
 };
 use der_asn1::{
     BorrowedItem, DecodeItem, Described, DescribedChoice, Item, Nestable, OctetStringRef,
@@ -48,14 +48,17 @@ impl<'a> Sequence for RecipientEncryptedKey<'a> {
 }
 
 /// Decodes the fields one after the other, with the errors of every [`Sequence`].
-impl<'a, R: Reader<Borrowed = &'a [u8]>> DecodeValue<R> for RecipientEncryptedKey<'a> {
+impl<'a, R: Lends<Borrowed = &'a [u8]>> DecodeValue<R> for RecipientEncryptedKey<'a> {
     type Error = Error;
 
     ghost decode_value_answers = { λ h s result t.
         ⟦<RecipientEncryptedKeyFields<'a> as Decode<SliceReader<'a>>>⟧.decode_answers s (map_ok
         ⟦<RecipientEncryptedKey<'a> as FromFields<RecipientEncryptedKeyFields<'a>>>⟧.fields result) t };
 
-    fn decode_value(alloc: Global, reader: &mut R, header: Header) -> Result<Self, Error> {
+    fn decode_value(alloc: Global, reader: &mut R, header: Header) -> Result<Self, Error>
+    where
+        R: Reader,
+    {
         decode_sequence::<R, RecipientEncryptedKeyFields<'a>, Self>(alloc, reader, header)
     }
 }
@@ -99,7 +102,7 @@ impl<'a> Item for RecipientEncryptedKey<'a> {
     ghost item = { sequence_item ⟦<RecipientEncryptedKey<'a> as Described>⟧.element };
 }
 
-impl<'a, R: Reader<Borrowed = &'a [u8]>> DecodeItem<R> for RecipientEncryptedKey<'a> {
+impl<'a, R: Lends<Borrowed = &'a [u8]>> DecodeItem<R> for RecipientEncryptedKey<'a> {
     ghost is_item = { sequence_is_item ⟦<RecipientEncryptedKey<'a> as Described>⟧.element refl };
 
     ghost decodes_items = { decodes_same (sequence_item

@@ -17,7 +17,7 @@ use crate::asn1::password_recipient_info::PasswordRecipientInfo;
 use crate::asn1::recipient_info_part1::RecipientInfoPart1;
 use crate::asn1::recipient_info_part2::RecipientInfoPart2;
 use crate::asn1::recipient_info_part3::RecipientInfoPart3;
-use der::{Decode, Encode, Error, FromFields, Length, Reader, SliceReader, Tag, Writer};
+use der::{Decode, Encode, Error, FromFields, Lends, Length, Reader, SliceReader, Tag, Writer};
 use der_asn1::{
     BorrowedItem, Choice, DecodeItem, DescribedChoice, Either, Implicit, Item, decode_choice,
 };
@@ -95,7 +95,7 @@ impl<'a> DescribedChoice for RecipientInfo<'a> {
 }
 
 /// Decodes the alternative whose tag is next, with the errors of [`Either`].
-impl<'a, R: Reader<Borrowed = &'a [u8]>> Decode<R> for RecipientInfo<'a> {
+impl<'a, R: Lends<Borrowed = &'a [u8]>> Decode<R> for RecipientInfo<'a> {
     type Error = Error;
 
     ghost is_next = { ⟦<RecipientInfo<'a> as DescribedChoice>⟧.alternative.is_next };
@@ -108,12 +108,15 @@ impl<'a, R: Reader<Borrowed = &'a [u8]>> Decode<R> for RecipientInfo<'a> {
         ⟦<RecipientInfoAlternatives<'a> as Decode<SliceReader<'a>>>⟧.decode_answers s
         (map_ok ⟦<RecipientInfo<'a> as FromFields<RecipientInfoAlternatives<'a>>>⟧.fields result) t };
 
-    fn decode(alloc: Global, reader: &mut R) -> Result<Self, Error> {
+    fn decode(alloc: Global, reader: &mut R) -> Result<Self, Error>
+    where
+        R: Reader,
+    {
         decode_choice::<R, RecipientInfoAlternatives<'a>, Self>(alloc, reader)
     }
 }
 
-impl<'a, R: Reader<Borrowed = &'a [u8]>> Choice<R> for RecipientInfo<'a> {
+impl<'a, R: Lends<Borrowed = &'a [u8]>> Choice<R> for RecipientInfo<'a> {
     ghost chooses = { ⟦<RecipientInfo<'a> as DescribedChoice>⟧.alternative.tags };
 
     fn can_decode(tag: Tag) -> bool {
@@ -182,7 +185,7 @@ impl<'a> Item for RecipientInfo<'a> {
     ghost item = { choice_item ⟦<RecipientInfo<'a> as DescribedChoice>⟧.alternative };
 }
 
-impl<'a, R: Reader<Borrowed = &'a [u8]>> DecodeItem<R> for RecipientInfo<'a> {
+impl<'a, R: Lends<Borrowed = &'a [u8]>> DecodeItem<R> for RecipientInfo<'a> {
     ghost is_item = { choice_is_item ⟦<RecipientInfo<'a> as DescribedChoice>⟧.alternative refl };
 
     ghost decodes_items = { decodes_same (choice_item

@@ -7,7 +7,7 @@ ghost use Rattle.der_asn1.specs.Meaning.{alternative, choice_of, either};
 
 use crate::asn1::key_agree_recipient_info::KeyAgreeRecipientInfo;
 use crate::asn1::key_trans_recipient_info::KeyTransRecipientInfo;
-use der::{Decode, Encode, Error, FromFields, Length, Reader, SliceReader, Tag, Writer};
+use der::{Decode, Encode, Error, FromFields, Lends, Length, Reader, SliceReader, Tag, Writer};
 use der_asn1::{Choice, Described, DescribedChoice, Either, Implicit, decode_choice};
 use std::alloc::Global;
 
@@ -37,7 +37,7 @@ impl<'a> DescribedChoice for RecipientInfoPart1<'a> {
         ⟦<Implicit<KeyAgreeRecipientInfo<'a>, 1> as Described>⟧.element)) (λ v. v.choice) };
 }
 
-impl<'a, R: Reader<Borrowed = &'a [u8]>> Decode<R> for RecipientInfoPart1<'a> {
+impl<'a, R: Lends<Borrowed = &'a [u8]>> Decode<R> for RecipientInfoPart1<'a> {
     type Error = Error;
 
     ghost is_next = { ⟦<RecipientInfoPart1<'a> as DescribedChoice>⟧.alternative.is_next };
@@ -51,12 +51,15 @@ impl<'a, R: Reader<Borrowed = &'a [u8]>> Decode<R> for RecipientInfoPart1<'a> {
         (map_ok (λ v. v.choice) result) t };
 
     #[inline(always)]
-    fn decode(alloc: Global, reader: &mut R) -> Result<Self, Error> {
+    fn decode(alloc: Global, reader: &mut R) -> Result<Self, Error>
+    where
+        R: Reader,
+    {
         decode_choice::<R, RecipientInfoPart1Alternatives<'a>, Self>(alloc, reader)
     }
 }
 
-impl<'a, R: Reader<Borrowed = &'a [u8]>> Choice<R> for RecipientInfoPart1<'a> {
+impl<'a, R: Lends<Borrowed = &'a [u8]>> Choice<R> for RecipientInfoPart1<'a> {
     ghost chooses = { ⟦<RecipientInfoPart1<'a> as DescribedChoice>⟧.alternative.tags };
 
     #[inline(always)]

@@ -7,7 +7,7 @@ ghost use Rattle.der_asn1.specs.Meaning.{alternative, choice_of, either};
 
 use crate::asn1::kek_recipient_info::KekRecipientInfo;
 use crate::asn1::password_recipient_info::PasswordRecipientInfo;
-use der::{Decode, Encode, Error, FromFields, Length, Reader, SliceReader, Tag, Writer};
+use der::{Decode, Encode, Error, FromFields, Lends, Length, Reader, SliceReader, Tag, Writer};
 use der_asn1::{Choice, Described, DescribedChoice, Either, Implicit, decode_choice};
 use std::alloc::Global;
 
@@ -37,7 +37,7 @@ impl<'a> DescribedChoice for RecipientInfoPart2<'a> {
         ⟦<Implicit<PasswordRecipientInfo<'a>, 3> as Described>⟧.element)) (λ v. v.choice) };
 }
 
-impl<'a, R: Reader<Borrowed = &'a [u8]>> Decode<R> for RecipientInfoPart2<'a> {
+impl<'a, R: Lends<Borrowed = &'a [u8]>> Decode<R> for RecipientInfoPart2<'a> {
     type Error = Error;
 
     ghost is_next = { ⟦<RecipientInfoPart2<'a> as DescribedChoice>⟧.alternative.is_next };
@@ -51,12 +51,15 @@ impl<'a, R: Reader<Borrowed = &'a [u8]>> Decode<R> for RecipientInfoPart2<'a> {
         (map_ok (λ v. v.choice) result) t };
 
     #[inline(always)]
-    fn decode(alloc: Global, reader: &mut R) -> Result<Self, Error> {
+    fn decode(alloc: Global, reader: &mut R) -> Result<Self, Error>
+    where
+        R: Reader,
+    {
         decode_choice::<R, RecipientInfoPart2Alternatives<'a>, Self>(alloc, reader)
     }
 }
 
-impl<'a, R: Reader<Borrowed = &'a [u8]>> Choice<R> for RecipientInfoPart2<'a> {
+impl<'a, R: Lends<Borrowed = &'a [u8]>> Choice<R> for RecipientInfoPart2<'a> {
     ghost chooses = { ⟦<RecipientInfoPart2<'a> as DescribedChoice>⟧.alternative.tags };
 
     #[inline(always)]

@@ -6,7 +6,7 @@ ghost use Rattle.der.specs.Prelude.{map_ok};
 ghost use Rattle.der_asn1.specs.Meaning.{alternative, choice_of};
 
 use crate::asn1::other_recipient_info::OtherRecipientInfo;
-use der::{Decode, Encode, Error, FromFields, Length, Reader, SliceReader, Tag, Writer};
+use der::{Decode, Encode, Error, FromFields, Lends, Length, Reader, SliceReader, Tag, Writer};
 use der_asn1::{Choice, Described, DescribedChoice, Implicit, decode_choice};
 use std::alloc::Global;
 
@@ -32,7 +32,7 @@ impl<'a> DescribedChoice for RecipientInfoPart3<'a> {
         ⟦<Implicit<OtherRecipientInfo<'a>, 4> as Described>⟧.element) (λ v. v.choice) };
 }
 
-impl<'a, R: Reader<Borrowed = &'a [u8]>> Decode<R> for RecipientInfoPart3<'a> {
+impl<'a, R: Lends<Borrowed = &'a [u8]>> Decode<R> for RecipientInfoPart3<'a> {
     type Error = Error;
 
     ghost is_next = { ⟦<RecipientInfoPart3<'a> as DescribedChoice>⟧.alternative.is_next };
@@ -46,12 +46,15 @@ impl<'a, R: Reader<Borrowed = &'a [u8]>> Decode<R> for RecipientInfoPart3<'a> {
         (map_ok (λ v. v.choice) result) t };
 
     #[inline(always)]
-    fn decode(alloc: Global, reader: &mut R) -> Result<Self, Error> {
+    fn decode(alloc: Global, reader: &mut R) -> Result<Self, Error>
+    where
+        R: Reader,
+    {
         decode_choice::<R, RecipientInfoPart3Alternatives<'a>, Self>(alloc, reader)
     }
 }
 
-impl<'a, R: Reader<Borrowed = &'a [u8]>> Choice<R> for RecipientInfoPart3<'a> {
+impl<'a, R: Lends<Borrowed = &'a [u8]>> Choice<R> for RecipientInfoPart3<'a> {
     ghost chooses = { ⟦<RecipientInfoPart3<'a> as DescribedChoice>⟧.alternative.tags };
 
     #[inline(always)]

@@ -10,7 +10,7 @@ ghost use Rattle.der_asn1.specs.declared.either.Either.TheVariants.{First, Secon
 ghost use Rattle.cms.specs.declared.asn1.revocation_info_choice.RevocationInfoChoice.TheVariants as variant;
 
 use crate::asn1::other_revocation_info_format::OtherRevocationInfoFormat;
-use der::{Decode, Encode, Error, FromFields, Length, Reader, SliceReader, Tag, Writer};
+use der::{Decode, Encode, Error, FromFields, Lends, Length, Reader, SliceReader, Tag, Writer};
 use der_asn1::{
     BorrowedItem, Choice, DecodeItem, Described, DescribedChoice, Either, Implicit, Item,
     decode_choice,
@@ -55,7 +55,7 @@ impl<'a> DescribedChoice for RevocationInfoChoice<'a> {
 }
 
 /// Decodes the alternative whose tag is next, with the errors of [`Either`].
-impl<'a, R: Reader<Borrowed = &'a [u8]>> Decode<R> for RevocationInfoChoice<'a> {
+impl<'a, R: Lends<Borrowed = &'a [u8]>> Decode<R> for RevocationInfoChoice<'a> {
     type Error = Error;
 
     ghost is_next = { ⟦<RevocationInfoChoice<'a> as DescribedChoice>⟧.alternative.is_next };
@@ -69,12 +69,15 @@ impl<'a, R: Reader<Borrowed = &'a [u8]>> Decode<R> for RevocationInfoChoice<'a> 
         (map_ok
         ⟦<RevocationInfoChoice<'a> as FromFields<RevocationInfoChoiceAlternatives<'a>>>⟧.fields result) t };
 
-    fn decode(alloc: Global, reader: &mut R) -> Result<Self, Error> {
+    fn decode(alloc: Global, reader: &mut R) -> Result<Self, Error>
+    where
+        R: Reader,
+    {
         decode_choice::<R, RevocationInfoChoiceAlternatives<'a>, Self>(alloc, reader)
     }
 }
 
-impl<'a, R: Reader<Borrowed = &'a [u8]>> Choice<R> for RevocationInfoChoice<'a> {
+impl<'a, R: Lends<Borrowed = &'a [u8]>> Choice<R> for RevocationInfoChoice<'a> {
     ghost chooses = { ⟦<RevocationInfoChoice<'a> as DescribedChoice>⟧.alternative.tags };
 
     fn can_decode(tag: Tag) -> bool {
@@ -131,7 +134,7 @@ impl<'a> Item for RevocationInfoChoice<'a> {
     ghost item = { choice_item ⟦<RevocationInfoChoice<'a> as DescribedChoice>⟧.alternative };
 }
 
-impl<'a, R: Reader<Borrowed = &'a [u8]>> DecodeItem<R> for RevocationInfoChoice<'a> {
+impl<'a, R: Lends<Borrowed = &'a [u8]>> DecodeItem<R> for RevocationInfoChoice<'a> {
     ghost is_item = { choice_is_item
         ⟦<RevocationInfoChoice<'a> as DescribedChoice>⟧.alternative refl };
 

@@ -9,7 +9,7 @@ ghost use Rattle.der_asn1.specs.Meaning.{renamed, sequence_is_item, sequence_ite
 
 use crate::asn1::revocation_info_choice::RevocationInfoChoice;
 use der::{
-    DecodeValue, EncodeValue, Error, FixedTag, FromFields, Header, IsValue, Lawful, Length,
+    DecodeValue, EncodeValue, Error, FixedTag, FromFields, Header, IsValue, Lawful, Lends, Length,
     ReadValue, Reader, SliceReader, Tag, Writer, WrittenValue, decode_wrapped,
 };
 use der_asn1::{BorrowedItem, DecodeItem, Described, Item, Nestable, SetOf};
@@ -72,14 +72,17 @@ impl<'a> Lawful for RevocationInfoChoices<'a> {
 }
 
 /// Decodes the list, with the errors of [`SetOf`].
-impl<'a, R: Reader<Borrowed = &'a [u8]>> DecodeValue<R> for RevocationInfoChoices<'a> {
+impl<'a, R: Lends<Borrowed = &'a [u8]>> DecodeValue<R> for RevocationInfoChoices<'a> {
     type Error = Error;
 
     ghost decode_value_answers = { λ h s result t.
         ⟦<Items<'a> as DecodeValue<SliceReader<'a>>>⟧.decode_value_answers h s
         (map_ok (λ v. v.items) result) t };
 
-    fn decode_value(alloc: Global, reader: &mut R, header: Header) -> Result<Self, Error> {
+    fn decode_value(alloc: Global, reader: &mut R, header: Header) -> Result<Self, Error>
+    where
+        R: Reader,
+    {
         decode_wrapped::<R, Items<'a>, Self>(alloc, reader, header)
     }
 }
@@ -117,7 +120,7 @@ impl<'a> Item for RevocationInfoChoices<'a> {
     ghost item = { sequence_item ⟦<RevocationInfoChoices<'a> as Described>⟧.element };
 }
 
-impl<'a, R: Reader<Borrowed = &'a [u8]>> DecodeItem<R> for RevocationInfoChoices<'a> {
+impl<'a, R: Lends<Borrowed = &'a [u8]>> DecodeItem<R> for RevocationInfoChoices<'a> {
     ghost is_item = { sequence_is_item ⟦<RevocationInfoChoices<'a> as Described>⟧.element refl };
 
     ghost decodes_items = { decodes_same (sequence_item

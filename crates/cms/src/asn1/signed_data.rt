@@ -16,8 +16,8 @@ use crate::asn1::signed_data_part1::{SignedDataPart1, SignedDataPart1Fields};
 use crate::asn1::signed_data_part2::{SignedDataPart2, SignedDataPart2Fields};
 use crate::asn1::signer_info::SignerInfo;
 use der::{
-    Decode, DecodeValue, Encode, EncodeValue, Error, FromFields, Header, IsValue, Length, Reader,
-    Sequence, SliceReader, Writer, decode_sequence, field_refs,
+    Decode, DecodeValue, Encode, EncodeValue, Error, FromFields, Header, IsValue, Lends, Length,
+    Reader, Sequence, SliceReader, Writer, decode_sequence, field_refs,
 };
 use der_asn1::{BorrowedItem, DecodeItem, Described, Implicit, Item, Nestable, Optional, SetOf};
 use spki::AlgorithmIdentifierRef;
@@ -86,14 +86,17 @@ impl<'a> Sequence for SignedData<'a> {
 }
 
 /// Decodes the fields one after the other, with the errors of every [`Sequence`].
-impl<'a, R: Reader<Borrowed = &'a [u8]>> DecodeValue<R> for SignedData<'a> {
+impl<'a, R: Lends<Borrowed = &'a [u8]>> DecodeValue<R> for SignedData<'a> {
     type Error = Error;
 
     ghost decode_value_answers = { λ h s result t.
         ⟦<(SignedDataPart1<'a>, SignedDataPart2<'a>) as Decode<SliceReader<'a>>>⟧.decode_answers s (map_ok
         ⟦<SignedData<'a> as FromFields<(SignedDataPart1<'a>, SignedDataPart2<'a>)>>⟧.fields result) t };
 
-    fn decode_value(alloc: Global, reader: &mut R, header: Header) -> Result<Self, Error> {
+    fn decode_value(alloc: Global, reader: &mut R, header: Header) -> Result<Self, Error>
+    where
+        R: Reader,
+    {
         decode_sequence::<R, (SignedDataPart1<'a>, SignedDataPart2<'a>), Self>(
             alloc, reader, header,
         )
@@ -180,7 +183,7 @@ impl<'a> Item for SignedData<'a> {
     ghost item = { sequence_item ⟦<SignedData<'a> as Described>⟧.element };
 }
 
-impl<'a, R: Reader<Borrowed = &'a [u8]>> DecodeItem<R> for SignedData<'a> {
+impl<'a, R: Lends<Borrowed = &'a [u8]>> DecodeItem<R> for SignedData<'a> {
     ghost is_item = { sequence_is_item ⟦<SignedData<'a> as Described>⟧.element refl };
 
     ghost decodes_items = { decodes_same (sequence_item ⟦<SignedData<'a> as Described>⟧.element) };

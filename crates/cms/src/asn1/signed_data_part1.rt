@@ -6,7 +6,7 @@ ghost use Rattle.der.specs.Prelude.{map_ok};
 
 use crate::asn1::cms_version::CmsVersion;
 use crate::asn1::encapsulated_content_info::EncapsulatedContentInfo;
-use der::{Decode, Error, FromFields, Reader, SliceReader, decode_fields};
+use der::{Decode, Error, FromFields, Lends, Reader, SliceReader, decode_fields};
 use der_asn1::SetOf;
 use spki::AlgorithmIdentifierRef;
 use std::alloc::Global;
@@ -39,7 +39,7 @@ impl<'a> FromFields<SignedDataPart1Fields<'a>> for SignedDataPart1<'a> {
     }
 }
 
-impl<'a, R: Reader<Borrowed = &'a [u8]>> Decode<R> for SignedDataPart1<'a> {
+impl<'a, R: Lends<Borrowed = &'a [u8]>> Decode<R> for SignedDataPart1<'a> {
     type Error = Error;
 
     ghost is_next = { λ v. ⟦<SignedDataPart1Fields<'a> as Decode<SliceReader<'a>>>⟧.is_next
@@ -53,7 +53,10 @@ impl<'a, R: Reader<Borrowed = &'a [u8]>> Decode<R> for SignedDataPart1<'a> {
         ⟦<SignedDataPart1Fields<'a> as Decode<SliceReader<'a>>>⟧.decode_answers s
         (map_ok ⟦<SignedDataPart1<'a> as FromFields<SignedDataPart1Fields<'a>>>⟧.fields result) t };
 
-    fn decode(alloc: Global, reader: &mut R) -> Result<Self, Error> {
+    fn decode(alloc: Global, reader: &mut R) -> Result<Self, Error>
+    where
+        R: Reader,
+    {
         decode_fields::<R, SignedDataPart1Fields<'a>, Self>(alloc, reader)
     }
 }

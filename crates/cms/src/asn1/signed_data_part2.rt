@@ -7,7 +7,7 @@ ghost use Rattle.der.specs.Prelude.{map_ok};
 use crate::asn1::certificate_set::CertificateSet;
 use crate::asn1::revocation_info_choices::RevocationInfoChoices;
 use crate::asn1::signer_info::SignerInfo;
-use der::{Decode, Error, FromFields, Reader, SliceReader, decode_fields};
+use der::{Decode, Error, FromFields, Lends, Reader, SliceReader, decode_fields};
 use der_asn1::{Implicit, Optional, SetOf};
 use std::alloc::Global;
 
@@ -39,7 +39,7 @@ impl<'a> FromFields<SignedDataPart2Fields<'a>> for SignedDataPart2<'a> {
     }
 }
 
-impl<'a, R: Reader<Borrowed = &'a [u8]>> Decode<R> for SignedDataPart2<'a> {
+impl<'a, R: Lends<Borrowed = &'a [u8]>> Decode<R> for SignedDataPart2<'a> {
     type Error = Error;
 
     ghost is_next = { λ v. ⟦<SignedDataPart2Fields<'a> as Decode<SliceReader<'a>>>⟧.is_next
@@ -53,7 +53,10 @@ impl<'a, R: Reader<Borrowed = &'a [u8]>> Decode<R> for SignedDataPart2<'a> {
         ⟦<SignedDataPart2Fields<'a> as Decode<SliceReader<'a>>>⟧.decode_answers s
         (map_ok ⟦<SignedDataPart2<'a> as FromFields<SignedDataPart2Fields<'a>>>⟧.fields result) t };
 
-    fn decode(alloc: Global, reader: &mut R) -> Result<Self, Error> {
+    fn decode(alloc: Global, reader: &mut R) -> Result<Self, Error>
+    where
+        R: Reader,
+    {
         decode_fields::<R, SignedDataPart2Fields<'a>, Self>(alloc, reader)
     }
 }

@@ -10,8 +10,8 @@ ghost use Rattle.der_asn1.specs.Meaning.{alternative, field, sequence, sequence_
 use crate::asn1::content_type::ContentType;
 use crate::asn1::signed_data::SignedData;
 use der::{
-    Decode, DecodeValue, Encode, EncodeValue, Error, FromFields, Header, IsValue, Length, Reader,
-    Sequence, SliceReader, Writer, decode_sequence, field_refs,
+    Decode, DecodeValue, Encode, EncodeValue, Error, FromFields, Header, IsValue, Lends, Length,
+    Reader, Sequence, SliceReader, Writer, decode_sequence, field_refs,
 };
 use der_asn1::{BorrowedItem, DecodeItem, Described, Explicit, Item, Nestable};
 use std::alloc::Global;
@@ -50,14 +50,17 @@ impl<'a> Sequence for SignedMessage<'a> {
 }
 
 /// Decodes the fields one after the other, with the errors of every [`Sequence`].
-impl<'a, R: Reader<Borrowed = &'a [u8]>> DecodeValue<R> for SignedMessage<'a> {
+impl<'a, R: Lends<Borrowed = &'a [u8]>> DecodeValue<R> for SignedMessage<'a> {
     type Error = Error;
 
     ghost decode_value_answers = { λ h s result t.
         ⟦<SignedMessageFields<'a> as Decode<SliceReader<'a>>>⟧.decode_answers s (map_ok
         ⟦<SignedMessage<'a> as FromFields<SignedMessageFields<'a>>>⟧.fields result) t };
 
-    fn decode_value(alloc: Global, reader: &mut R, header: Header) -> Result<Self, Error> {
+    fn decode_value(alloc: Global, reader: &mut R, header: Header) -> Result<Self, Error>
+    where
+        R: Reader,
+    {
         decode_sequence::<R, SignedMessageFields<'a>, Self>(alloc, reader, header)
     }
 }
@@ -98,7 +101,7 @@ impl<'a> Item for SignedMessage<'a> {
     ghost item = { sequence_item ⟦<SignedMessage<'a> as Described>⟧.element };
 }
 
-impl<'a, R: Reader<Borrowed = &'a [u8]>> DecodeItem<R> for SignedMessage<'a> {
+impl<'a, R: Lends<Borrowed = &'a [u8]>> DecodeItem<R> for SignedMessage<'a> {
     ghost is_item = { sequence_is_item ⟦<SignedMessage<'a> as Described>⟧.element refl };
 
     ghost decodes_items = { decodes_same (sequence_item

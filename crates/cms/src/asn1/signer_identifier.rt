@@ -10,7 +10,7 @@ ghost use Rattle.der_asn1.specs.declared.either.Either.TheVariants.{First, Secon
 ghost use Rattle.cms.specs.declared.asn1.signer_identifier.SignerIdentifier.TheVariants as variant;
 
 use crate::asn1::issuer_and_serial_number::IssuerAndSerialNumber;
-use der::{Decode, Encode, Error, FromFields, Length, Reader, SliceReader, Tag, Writer};
+use der::{Decode, Encode, Error, FromFields, Lends, Length, Reader, SliceReader, Tag, Writer};
 use der_asn1::{
     BorrowedItem, Choice, DecodeItem, Described, DescribedChoice, Either, Implicit, Item,
     decode_choice,
@@ -55,7 +55,7 @@ impl<'a> DescribedChoice for SignerIdentifier<'a> {
 }
 
 /// Decodes the alternative whose tag is next, with the errors of [`Either`].
-impl<'a, R: Reader<Borrowed = &'a [u8]>> Decode<R> for SignerIdentifier<'a> {
+impl<'a, R: Lends<Borrowed = &'a [u8]>> Decode<R> for SignerIdentifier<'a> {
     type Error = Error;
 
     ghost is_next = { ⟦<SignerIdentifier<'a> as DescribedChoice>⟧.alternative.is_next };
@@ -68,12 +68,15 @@ impl<'a, R: Reader<Borrowed = &'a [u8]>> Decode<R> for SignerIdentifier<'a> {
         ⟦<SignerIdentifierAlternatives<'a> as Decode<SliceReader<'a>>>⟧.decode_answers s
         (map_ok ⟦<SignerIdentifier<'a> as FromFields<SignerIdentifierAlternatives<'a>>>⟧.fields result) t };
 
-    fn decode(alloc: Global, reader: &mut R) -> Result<Self, Error> {
+    fn decode(alloc: Global, reader: &mut R) -> Result<Self, Error>
+    where
+        R: Reader,
+    {
         decode_choice::<R, SignerIdentifierAlternatives<'a>, Self>(alloc, reader)
     }
 }
 
-impl<'a, R: Reader<Borrowed = &'a [u8]>> Choice<R> for SignerIdentifier<'a> {
+impl<'a, R: Lends<Borrowed = &'a [u8]>> Choice<R> for SignerIdentifier<'a> {
     ghost chooses = { ⟦<SignerIdentifier<'a> as DescribedChoice>⟧.alternative.tags };
 
     fn can_decode(tag: Tag) -> bool {
@@ -130,7 +133,7 @@ impl<'a> Item for SignerIdentifier<'a> {
     ghost item = { choice_item ⟦<SignerIdentifier<'a> as DescribedChoice>⟧.alternative };
 }
 
-impl<'a, R: Reader<Borrowed = &'a [u8]>> DecodeItem<R> for SignerIdentifier<'a> {
+impl<'a, R: Lends<Borrowed = &'a [u8]>> DecodeItem<R> for SignerIdentifier<'a> {
     ghost is_item = { choice_is_item ⟦<SignerIdentifier<'a> as DescribedChoice>⟧.alternative refl };
 
     ghost decodes_items = { decodes_same (choice_item

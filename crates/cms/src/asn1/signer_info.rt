@@ -13,8 +13,8 @@ use crate::asn1::signer_identifier::SignerIdentifier;
 use crate::asn1::signer_info_part1::{SignerInfoPart1, SignerInfoPart1Fields};
 use crate::asn1::signer_info_part2::{SignerInfoPart2, SignerInfoPart2Fields};
 use der::{
-    Decode, DecodeValue, Encode, EncodeValue, Error, FromFields, Header, IsValue, Length, Reader,
-    Sequence, SliceReader, Writer, decode_sequence, field_refs,
+    Decode, DecodeValue, Encode, EncodeValue, Error, FromFields, Header, IsValue, Lends, Length,
+    Reader, Sequence, SliceReader, Writer, decode_sequence, field_refs,
 };
 use der_asn1::{
     BorrowedItem, DecodeItem, Described, DescribedChoice, Implicit, Item, Nestable, OctetStringRef,
@@ -94,14 +94,17 @@ impl<'a> Sequence for SignerInfo<'a> {
 }
 
 /// Decodes the fields one after the other, with the errors of every [`Sequence`].
-impl<'a, R: Reader<Borrowed = &'a [u8]>> DecodeValue<R> for SignerInfo<'a> {
+impl<'a, R: Lends<Borrowed = &'a [u8]>> DecodeValue<R> for SignerInfo<'a> {
     type Error = Error;
 
     ghost decode_value_answers = { λ h s result t.
         ⟦<(SignerInfoPart1<'a>, SignerInfoPart2<'a>) as Decode<SliceReader<'a>>>⟧.decode_answers s (map_ok
         ⟦<SignerInfo<'a> as FromFields<(SignerInfoPart1<'a>, SignerInfoPart2<'a>)>>⟧.fields result) t };
 
-    fn decode_value(alloc: Global, reader: &mut R, header: Header) -> Result<Self, Error> {
+    fn decode_value(alloc: Global, reader: &mut R, header: Header) -> Result<Self, Error>
+    where
+        R: Reader,
+    {
         decode_sequence::<R, (SignerInfoPart1<'a>, SignerInfoPart2<'a>), Self>(
             alloc, reader, header,
         )
@@ -192,7 +195,7 @@ impl<'a> Item for SignerInfo<'a> {
     ghost item = { sequence_item ⟦<SignerInfo<'a> as Described>⟧.element };
 }
 
-impl<'a, R: Reader<Borrowed = &'a [u8]>> DecodeItem<R> for SignerInfo<'a> {
+impl<'a, R: Lends<Borrowed = &'a [u8]>> DecodeItem<R> for SignerInfo<'a> {
     ghost is_item = { sequence_is_item ⟦<SignerInfo<'a> as Described>⟧.element refl };
 
     ghost decodes_items = { decodes_same (sequence_item ⟦<SignerInfo<'a> as Described>⟧.element) };

@@ -6,7 +6,7 @@ ghost use Rattle.der.specs.Prelude.{map_ok};
 
 use crate::asn1::cms_version::CmsVersion;
 use crate::asn1::signer_identifier::SignerIdentifier;
-use der::{Decode, Error, FromFields, Reader, SliceReader, decode_fields};
+use der::{Decode, Error, FromFields, Lends, Reader, SliceReader, decode_fields};
 use der_asn1::{Implicit, Optional};
 use spki::AlgorithmIdentifierRef;
 use std::alloc::Global;
@@ -43,7 +43,7 @@ impl<'a> FromFields<SignerInfoPart1Fields<'a>> for SignerInfoPart1<'a> {
     }
 }
 
-impl<'a, R: Reader<Borrowed = &'a [u8]>> Decode<R> for SignerInfoPart1<'a> {
+impl<'a, R: Lends<Borrowed = &'a [u8]>> Decode<R> for SignerInfoPart1<'a> {
     type Error = Error;
 
     ghost is_next = { λ v. ⟦<SignerInfoPart1Fields<'a> as Decode<SliceReader<'a>>>⟧.is_next
@@ -57,7 +57,10 @@ impl<'a, R: Reader<Borrowed = &'a [u8]>> Decode<R> for SignerInfoPart1<'a> {
         ⟦<SignerInfoPart1Fields<'a> as Decode<SliceReader<'a>>>⟧.decode_answers s
         (map_ok ⟦<SignerInfoPart1<'a> as FromFields<SignerInfoPart1Fields<'a>>>⟧.fields result) t };
 
-    fn decode(alloc: Global, reader: &mut R) -> Result<Self, Error> {
+    fn decode(alloc: Global, reader: &mut R) -> Result<Self, Error>
+    where
+        R: Reader,
+    {
         decode_fields::<R, SignerInfoPart1Fields<'a>, Self>(alloc, reader)
     }
 }

@@ -4,7 +4,7 @@
 ghost use Rattle.std.specs.Prelude.{false};
 ghost use Rattle.der.specs.Prelude.{map_ok};
 
-use der::{Decode, Error, FromFields, Reader, SliceReader, decode_fields};
+use der::{Decode, Error, FromFields, Lends, Reader, SliceReader, decode_fields};
 use der_asn1::{Implicit, OctetStringRef, Optional};
 use spki::AlgorithmIdentifierRef;
 use std::alloc::Global;
@@ -38,7 +38,7 @@ impl<'a> FromFields<SignerInfoPart2Fields<'a>> for SignerInfoPart2<'a> {
     }
 }
 
-impl<'a, R: Reader<Borrowed = &'a [u8]>> Decode<R> for SignerInfoPart2<'a> {
+impl<'a, R: Lends<Borrowed = &'a [u8]>> Decode<R> for SignerInfoPart2<'a> {
     type Error = Error;
 
     ghost is_next = { λ v. ⟦<SignerInfoPart2Fields<'a> as Decode<SliceReader<'a>>>⟧.is_next
@@ -52,7 +52,10 @@ impl<'a, R: Reader<Borrowed = &'a [u8]>> Decode<R> for SignerInfoPart2<'a> {
         ⟦<SignerInfoPart2Fields<'a> as Decode<SliceReader<'a>>>⟧.decode_answers s
         (map_ok ⟦<SignerInfoPart2<'a> as FromFields<SignerInfoPart2Fields<'a>>>⟧.fields result) t };
 
-    fn decode(alloc: Global, reader: &mut R) -> Result<Self, Error> {
+    fn decode(alloc: Global, reader: &mut R) -> Result<Self, Error>
+    where
+        R: Reader,
+    {
         decode_fields::<R, SignerInfoPart2Fields<'a>, Self>(alloc, reader)
     }
 }

@@ -9,8 +9,8 @@ ghost use Rattle.der_asn1.specs.Meaning.{alternative, field, optional, sequence,
 
 use crate::asn1::ess_cert_id::EssCertId;
 use der::{
-    Decode, DecodeValue, Encode, EncodeValue, Error, FromFields, Header, IsValue, Length, Reader,
-    Sequence, SliceReader, Writer, decode_sequence, field_refs,
+    Decode, DecodeValue, Encode, EncodeValue, Error, FromFields, Header, IsValue, Lends, Length,
+    Reader, Sequence, SliceReader, Writer, decode_sequence, field_refs,
 };
 use der_asn1::{BorrowedItem, DecodeItem, Described, Item, Nestable, Optional, SequenceOf};
 use std::alloc::Global;
@@ -52,14 +52,17 @@ impl<'a> Sequence for SigningCertificate<'a> {
 }
 
 /// Decodes the fields one after the other, with the errors of every [`Sequence`].
-impl<'a, R: Reader<Borrowed = &'a [u8]>> DecodeValue<R> for SigningCertificate<'a> {
+impl<'a, R: Lends<Borrowed = &'a [u8]>> DecodeValue<R> for SigningCertificate<'a> {
     type Error = Error;
 
     ghost decode_value_answers = { λ h s result t.
         ⟦<SigningCertificateFields<'a> as Decode<SliceReader<'a>>>⟧.decode_answers s (map_ok
         ⟦<SigningCertificate<'a> as FromFields<SigningCertificateFields<'a>>>⟧.fields result) t };
 
-    fn decode_value(alloc: Global, reader: &mut R, header: Header) -> Result<Self, Error> {
+    fn decode_value(alloc: Global, reader: &mut R, header: Header) -> Result<Self, Error>
+    where
+        R: Reader,
+    {
         decode_sequence::<R, SigningCertificateFields<'a>, Self>(alloc, reader, header)
     }
 }
@@ -102,7 +105,7 @@ impl<'a> Item for SigningCertificate<'a> {
     ghost item = { sequence_item ⟦<SigningCertificate<'a> as Described>⟧.element };
 }
 
-impl<'a, R: Reader<Borrowed = &'a [u8]>> DecodeItem<R> for SigningCertificate<'a> {
+impl<'a, R: Lends<Borrowed = &'a [u8]>> DecodeItem<R> for SigningCertificate<'a> {
     ghost is_item = { sequence_is_item ⟦<SigningCertificate<'a> as Described>⟧.element refl };
 
     ghost decodes_items = { decodes_same (sequence_item

@@ -9,8 +9,8 @@ ghost use Rattle.der_asn1.specs.Meaning.{alternative, field, optional, sequence,
 
 use crate::EssCertIdV2;
 use der::{
-    Decode, DecodeValue, Encode, EncodeValue, Error, FromFields, Header, IsValue, Length, Reader,
-    Sequence, SliceReader, Writer, decode_sequence, field_refs,
+    Decode, DecodeValue, Encode, EncodeValue, Error, FromFields, Header, IsValue, Lends, Length,
+    Reader, Sequence, SliceReader, Writer, decode_sequence, field_refs,
 };
 use der_asn1::{BorrowedItem, DecodeItem, Described, Item, Nestable, Optional, SequenceOf};
 use std::alloc::Global;
@@ -52,14 +52,17 @@ impl<'a> Sequence for SigningCertificateV2<'a> {
 }
 
 /// Decodes the fields one after the other, with the errors of every [`Sequence`].
-impl<'a, R: Reader<Borrowed = &'a [u8]>> DecodeValue<R> for SigningCertificateV2<'a> {
+impl<'a, R: Lends<Borrowed = &'a [u8]>> DecodeValue<R> for SigningCertificateV2<'a> {
     type Error = Error;
 
     ghost decode_value_answers = { λ h s result t.
         ⟦<SigningCertificateV2Fields<'a> as Decode<SliceReader<'a>>>⟧.decode_answers s (map_ok
         ⟦<SigningCertificateV2<'a> as FromFields<SigningCertificateV2Fields<'a>>>⟧.fields result) t };
 
-    fn decode_value(alloc: Global, reader: &mut R, header: Header) -> Result<Self, Error> {
+    fn decode_value(alloc: Global, reader: &mut R, header: Header) -> Result<Self, Error>
+    where
+        R: Reader,
+    {
         decode_sequence::<R, SigningCertificateV2Fields<'a>, Self>(alloc, reader, header)
     }
 }
@@ -102,7 +105,7 @@ impl<'a> Item for SigningCertificateV2<'a> {
     ghost item = { sequence_item ⟦<SigningCertificateV2<'a> as Described>⟧.element };
 }
 
-impl<'a, R: Reader<Borrowed = &'a [u8]>> DecodeItem<R> for SigningCertificateV2<'a> {
+impl<'a, R: Lends<Borrowed = &'a [u8]>> DecodeItem<R> for SigningCertificateV2<'a> {
     ghost is_item = { sequence_is_item ⟦<SigningCertificateV2<'a> as Described>⟧.element refl };
 
     ghost decodes_items = { decodes_same (sequence_item

@@ -14,8 +14,8 @@ use crate::asn1::time_stamp_req_part2::{TimeStampReqPart2, TimeStampReqPart2Fiel
 use crate::asn1::time_stamp_req_part3::{TimeStampReqPart3, TimeStampReqPart3Fields};
 use crate::asn1::tsa_policy_id::TsaPolicyId;
 use der::{
-    Decode, DecodeValue, Encode, EncodeValue, Error, FromFields, Header, IsValue, Length, Reader,
-    Sequence, SliceReader, Writer, decode_sequence, field_refs,
+    Decode, DecodeValue, Encode, EncodeValue, Error, FromFields, Header, IsValue, Lends, Length,
+    Reader, Sequence, SliceReader, Writer, decode_sequence, field_refs,
 };
 use der_asn1::{
     BooleanRef, BorrowedItem, DecodeItem, DefaultValue, Defaulted, Described, Implicit, IntRef,
@@ -101,7 +101,7 @@ impl<'a> Sequence for TimeStampReq<'a> {
 }
 
 /// Decodes the fields one after the other, with the errors of every [`Sequence`].
-impl<'a, R: Reader<Borrowed = &'a [u8]>> DecodeValue<R> for TimeStampReq<'a> {
+impl<'a, R: Lends<Borrowed = &'a [u8]>> DecodeValue<R> for TimeStampReq<'a> {
     type Error = Error;
 
     ghost decode_value_answers = { λ h s result t.
@@ -109,7 +109,10 @@ impl<'a, R: Reader<Borrowed = &'a [u8]>> DecodeValue<R> for TimeStampReq<'a> {
         (map_ok
         ⟦<TimeStampReq<'a> as FromFields<(TimeStampReqPart1<'a>, TimeStampReqPart2<'a>, TimeStampReqPart3<'a>)>>⟧.fields result) t };
 
-    fn decode_value(alloc: Global, reader: &mut R, header: Header) -> Result<Self, Error> {
+    fn decode_value(alloc: Global, reader: &mut R, header: Header) -> Result<Self, Error>
+    where
+        R: Reader,
+    {
         decode_sequence::<
             R,
             (
@@ -212,7 +215,7 @@ impl<'a> Item for TimeStampReq<'a> {
     ghost item = { sequence_item ⟦<TimeStampReq<'a> as Described>⟧.element };
 }
 
-impl<'a, R: Reader<Borrowed = &'a [u8]>> DecodeItem<R> for TimeStampReq<'a> {
+impl<'a, R: Lends<Borrowed = &'a [u8]>> DecodeItem<R> for TimeStampReq<'a> {
     ghost is_item = { sequence_is_item ⟦<TimeStampReq<'a> as Described>⟧.element refl };
 
     ghost decodes_items = { decodes_same (sequence_item

@@ -5,7 +5,7 @@ ghost use Rattle.std.specs.Prelude.{false};
 ghost use Rattle.der.specs.Prelude.{map_ok};
 
 use crate::asn1::tsa_policy_id::TsaPolicyId;
-use der::{Decode, Error, FromFields, Reader, SliceReader, decode_fields};
+use der::{Decode, Error, FromFields, Lends, Reader, SliceReader, decode_fields};
 use der_asn1::{IntRef, Optional};
 use std::alloc::Global;
 
@@ -28,7 +28,7 @@ impl<'a> FromFields<TimeStampReqPart2Fields<'a>> for TimeStampReqPart2<'a> {
     }
 }
 
-impl<'a, R: Reader<Borrowed = &'a [u8]>> Decode<R> for TimeStampReqPart2<'a> {
+impl<'a, R: Lends<Borrowed = &'a [u8]>> Decode<R> for TimeStampReqPart2<'a> {
     type Error = Error;
 
     ghost is_next = { λ v. ⟦<TimeStampReqPart2Fields<'a> as Decode<SliceReader<'a>>>⟧.is_next
@@ -42,7 +42,10 @@ impl<'a, R: Reader<Borrowed = &'a [u8]>> Decode<R> for TimeStampReqPart2<'a> {
         ⟦<TimeStampReqPart2Fields<'a> as Decode<SliceReader<'a>>>⟧.decode_answers s
         (map_ok ⟦<TimeStampReqPart2<'a> as FromFields<TimeStampReqPart2Fields<'a>>>⟧.fields result) t };
 
-    fn decode(alloc: Global, reader: &mut R) -> Result<Self, Error> {
+    fn decode(alloc: Global, reader: &mut R) -> Result<Self, Error>
+    where
+        R: Reader,
+    {
         decode_fields::<R, TimeStampReqPart2Fields<'a>, Self>(alloc, reader)
     }
 }

@@ -4,7 +4,7 @@
 ghost use Rattle.std.specs.Prelude.{false};
 ghost use Rattle.der.specs.Prelude.{map_ok};
 
-use der::{Decode, Error, FromFields, Reader, SliceReader, decode_fields};
+use der::{Decode, Error, FromFields, Lends, Reader, SliceReader, decode_fields};
 use der_asn1::{BooleanRef, Defaulted, Implicit, Optional};
 use std::alloc::Global;
 use x509::Extensions;
@@ -34,7 +34,7 @@ impl<'a> FromFields<TimeStampReqPart3Fields<'a>> for TimeStampReqPart3<'a> {
     }
 }
 
-impl<'a, R: Reader<Borrowed = &'a [u8]>> Decode<R> for TimeStampReqPart3<'a> {
+impl<'a, R: Lends<Borrowed = &'a [u8]>> Decode<R> for TimeStampReqPart3<'a> {
     type Error = Error;
 
     ghost is_next = { λ v. ⟦<TimeStampReqPart3Fields<'a> as Decode<SliceReader<'a>>>⟧.is_next
@@ -48,7 +48,10 @@ impl<'a, R: Reader<Borrowed = &'a [u8]>> Decode<R> for TimeStampReqPart3<'a> {
         ⟦<TimeStampReqPart3Fields<'a> as Decode<SliceReader<'a>>>⟧.decode_answers s
         (map_ok ⟦<TimeStampReqPart3<'a> as FromFields<TimeStampReqPart3Fields<'a>>>⟧.fields result) t };
 
-    fn decode(alloc: Global, reader: &mut R) -> Result<Self, Error> {
+    fn decode(alloc: Global, reader: &mut R) -> Result<Self, Error>
+    where
+        R: Reader,
+    {
         decode_fields::<R, TimeStampReqPart3Fields<'a>, Self>(alloc, reader)
     }
 }

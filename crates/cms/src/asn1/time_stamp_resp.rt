@@ -10,8 +10,8 @@ ghost use Rattle.der_asn1.specs.Meaning.{alternative, field, optional, sequence,
 use crate::asn1::pki_status_info::PkiStatusInfo;
 use crate::asn1::time_stamp_token::TimeStampToken;
 use der::{
-    Decode, DecodeValue, Encode, EncodeValue, Error, FromFields, Header, IsValue, Length, Reader,
-    Sequence, SliceReader, Writer, decode_sequence, field_refs,
+    Decode, DecodeValue, Encode, EncodeValue, Error, FromFields, Header, IsValue, Lends, Length,
+    Reader, Sequence, SliceReader, Writer, decode_sequence, field_refs,
 };
 use der_asn1::{BorrowedItem, DecodeItem, Described, Item, Nestable, Optional};
 use std::alloc::Global;
@@ -51,14 +51,17 @@ impl<'a> Sequence for TimeStampResp<'a> {
 }
 
 /// Decodes the fields one after the other, with the errors of every [`Sequence`].
-impl<'a, R: Reader<Borrowed = &'a [u8]>> DecodeValue<R> for TimeStampResp<'a> {
+impl<'a, R: Lends<Borrowed = &'a [u8]>> DecodeValue<R> for TimeStampResp<'a> {
     type Error = Error;
 
     ghost decode_value_answers = { λ h s result t.
         ⟦<TimeStampRespFields<'a> as Decode<SliceReader<'a>>>⟧.decode_answers s (map_ok
         ⟦<TimeStampResp<'a> as FromFields<TimeStampRespFields<'a>>>⟧.fields result) t };
 
-    fn decode_value(alloc: Global, reader: &mut R, header: Header) -> Result<Self, Error> {
+    fn decode_value(alloc: Global, reader: &mut R, header: Header) -> Result<Self, Error>
+    where
+        R: Reader,
+    {
         decode_sequence::<R, TimeStampRespFields<'a>, Self>(alloc, reader, header)
     }
 }
@@ -101,7 +104,7 @@ impl<'a> Item for TimeStampResp<'a> {
     ghost item = { sequence_item ⟦<TimeStampResp<'a> as Described>⟧.element };
 }
 
-impl<'a, R: Reader<Borrowed = &'a [u8]>> DecodeItem<R> for TimeStampResp<'a> {
+impl<'a, R: Lends<Borrowed = &'a [u8]>> DecodeItem<R> for TimeStampResp<'a> {
     ghost is_item = { sequence_is_item ⟦<TimeStampResp<'a> as Described>⟧.element refl };
 
     ghost decodes_items = { decodes_same (sequence_item

@@ -18,8 +18,8 @@ use crate::asn1::tst_info_part3::{TstInfoPart3, TstInfoPart3Fields};
 use crate::asn1::tst_info_part4::{TstInfoPart4, TstInfoPart4Fields};
 use crate::asn1::tst_info_part5::{TstInfoPart5, TstInfoPart5Fields};
 use der::{
-    Decode, DecodeValue, Encode, EncodeValue, Error, FromFields, Header, IsValue, Length, Reader,
-    Sequence, SliceReader, Writer, decode_sequence, field_refs,
+    Decode, DecodeValue, Encode, EncodeValue, Error, FromFields, Header, IsValue, Lends, Length,
+    Reader, Sequence, SliceReader, Writer, decode_sequence, field_refs,
 };
 use der_asn1::{
     BooleanRef, BorrowedItem, DecodeItem, DefaultValue, Defaulted, Described, GeneralizedTime,
@@ -132,7 +132,7 @@ impl<'a> Sequence for TstInfo<'a> {
 }
 
 /// Decodes the fields one after the other, with the errors of every [`Sequence`].
-impl<'a, R: Reader<Borrowed = &'a [u8]>> DecodeValue<R> for TstInfo<'a> {
+impl<'a, R: Lends<Borrowed = &'a [u8]>> DecodeValue<R> for TstInfo<'a> {
     type Error = Error;
 
     ghost decode_value_answers = { λ h s result t.
@@ -140,7 +140,10 @@ impl<'a, R: Reader<Borrowed = &'a [u8]>> DecodeValue<R> for TstInfo<'a> {
         (map_ok
         ⟦<TstInfo<'a> as FromFields<(TstInfoPart1<'a>, TstInfoPart2<'a>, TstInfoPart3<'a>, TstInfoPart4<'a>, TstInfoPart5<'a>)>>⟧.fields result) t };
 
-    fn decode_value(alloc: Global, reader: &mut R, header: Header) -> Result<Self, Error> {
+    fn decode_value(alloc: Global, reader: &mut R, header: Header) -> Result<Self, Error>
+    where
+        R: Reader,
+    {
         decode_sequence::<
             R,
             (
@@ -267,7 +270,7 @@ impl<'a> Item for TstInfo<'a> {
     ghost item = { sequence_item ⟦<TstInfo<'a> as Described>⟧.element };
 }
 
-impl<'a, R: Reader<Borrowed = &'a [u8]>> DecodeItem<R> for TstInfo<'a> {
+impl<'a, R: Lends<Borrowed = &'a [u8]>> DecodeItem<R> for TstInfo<'a> {
     ghost is_item = { sequence_is_item ⟦<TstInfo<'a> as Described>⟧.element refl };
 
     ghost decodes_items = { decodes_same (sequence_item ⟦<TstInfo<'a> as Described>⟧.element) };

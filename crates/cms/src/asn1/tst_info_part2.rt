@@ -5,7 +5,7 @@ ghost use Rattle.std.specs.Prelude.{false};
 ghost use Rattle.der.specs.Prelude.{map_ok};
 
 use crate::asn1::message_imprint::MessageImprint;
-use der::{Decode, Error, FromFields, Reader, SliceReader, decode_fields};
+use der::{Decode, Error, FromFields, Lends, Reader, SliceReader, decode_fields};
 use der_asn1::IntRef;
 use std::alloc::Global;
 
@@ -31,7 +31,7 @@ impl<'a> FromFields<TstInfoPart2Fields<'a>> for TstInfoPart2<'a> {
     }
 }
 
-impl<'a, R: Reader<Borrowed = &'a [u8]>> Decode<R> for TstInfoPart2<'a> {
+impl<'a, R: Lends<Borrowed = &'a [u8]>> Decode<R> for TstInfoPart2<'a> {
     type Error = Error;
 
     ghost is_next = { λ v. ⟦<TstInfoPart2Fields<'a> as Decode<SliceReader<'a>>>⟧.is_next
@@ -45,7 +45,10 @@ impl<'a, R: Reader<Borrowed = &'a [u8]>> Decode<R> for TstInfoPart2<'a> {
         ⟦<TstInfoPart2Fields<'a> as Decode<SliceReader<'a>>>⟧.decode_answers s
         (map_ok ⟦<TstInfoPart2<'a> as FromFields<TstInfoPart2Fields<'a>>>⟧.fields result) t };
 
-    fn decode(alloc: Global, reader: &mut R) -> Result<Self, Error> {
+    fn decode(alloc: Global, reader: &mut R) -> Result<Self, Error>
+    where
+        R: Reader,
+    {
         decode_fields::<R, TstInfoPart2Fields<'a>, Self>(alloc, reader)
     }
 }

@@ -5,7 +5,7 @@ ghost use Rattle.std.specs.Prelude.{false};
 ghost use Rattle.der.specs.Prelude.{map_ok};
 
 use crate::asn1::accuracy::Accuracy;
-use der::{Decode, Error, FromFields, Reader, SliceReader, decode_fields};
+use der::{Decode, Error, FromFields, Lends, Reader, SliceReader, decode_fields};
 use der_asn1::{GeneralizedTime, Optional};
 use std::alloc::Global;
 
@@ -28,7 +28,7 @@ impl<'a> FromFields<TstInfoPart3Fields<'a>> for TstInfoPart3<'a> {
     }
 }
 
-impl<'a, R: Reader<Borrowed = &'a [u8]>> Decode<R> for TstInfoPart3<'a> {
+impl<'a, R: Lends<Borrowed = &'a [u8]>> Decode<R> for TstInfoPart3<'a> {
     type Error = Error;
 
     ghost is_next = { λ v. ⟦<TstInfoPart3Fields<'a> as Decode<SliceReader<'a>>>⟧.is_next
@@ -42,7 +42,10 @@ impl<'a, R: Reader<Borrowed = &'a [u8]>> Decode<R> for TstInfoPart3<'a> {
         ⟦<TstInfoPart3Fields<'a> as Decode<SliceReader<'a>>>⟧.decode_answers s
         (map_ok ⟦<TstInfoPart3<'a> as FromFields<TstInfoPart3Fields<'a>>>⟧.fields result) t };
 
-    fn decode(alloc: Global, reader: &mut R) -> Result<Self, Error> {
+    fn decode(alloc: Global, reader: &mut R) -> Result<Self, Error>
+    where
+        R: Reader,
+    {
         decode_fields::<R, TstInfoPart3Fields<'a>, Self>(alloc, reader)
     }
 }

@@ -4,7 +4,7 @@
 ghost use Rattle.std.specs.Prelude.{false};
 ghost use Rattle.der.specs.Prelude.{map_ok};
 
-use der::{Decode, Error, FromFields, Reader, SliceReader, decode_fields};
+use der::{Decode, Error, FromFields, Lends, Reader, SliceReader, decode_fields};
 use der_asn1::{BooleanRef, Defaulted, IntRef, Optional};
 use std::alloc::Global;
 
@@ -27,7 +27,7 @@ impl<'a> FromFields<TstInfoPart4Fields<'a>> for TstInfoPart4<'a> {
     }
 }
 
-impl<'a, R: Reader<Borrowed = &'a [u8]>> Decode<R> for TstInfoPart4<'a> {
+impl<'a, R: Lends<Borrowed = &'a [u8]>> Decode<R> for TstInfoPart4<'a> {
     type Error = Error;
 
     ghost is_next = { λ v. ⟦<TstInfoPart4Fields<'a> as Decode<SliceReader<'a>>>⟧.is_next
@@ -41,7 +41,10 @@ impl<'a, R: Reader<Borrowed = &'a [u8]>> Decode<R> for TstInfoPart4<'a> {
         ⟦<TstInfoPart4Fields<'a> as Decode<SliceReader<'a>>>⟧.decode_answers s
         (map_ok ⟦<TstInfoPart4<'a> as FromFields<TstInfoPart4Fields<'a>>>⟧.fields result) t };
 
-    fn decode(alloc: Global, reader: &mut R) -> Result<Self, Error> {
+    fn decode(alloc: Global, reader: &mut R) -> Result<Self, Error>
+    where
+        R: Reader,
+    {
         decode_fields::<R, TstInfoPart4Fields<'a>, Self>(alloc, reader)
     }
 }

@@ -5,7 +5,7 @@ ghost use Rattle.std.specs.Prelude.{false};
 ghost use Rattle.der.specs.Prelude.{map_ok};
 
 use crate::asn1::general_name_tagged::GeneralNameTagged;
-use der::{Decode, Error, FromFields, Reader, SliceReader, decode_fields};
+use der::{Decode, Error, FromFields, Lends, Reader, SliceReader, decode_fields};
 use der_asn1::{Implicit, Optional};
 use std::alloc::Global;
 use x509::Extensions;
@@ -32,7 +32,7 @@ impl<'a> FromFields<TstInfoPart5Fields<'a>> for TstInfoPart5<'a> {
     }
 }
 
-impl<'a, R: Reader<Borrowed = &'a [u8]>> Decode<R> for TstInfoPart5<'a> {
+impl<'a, R: Lends<Borrowed = &'a [u8]>> Decode<R> for TstInfoPart5<'a> {
     type Error = Error;
 
     ghost is_next = { λ v. ⟦<TstInfoPart5Fields<'a> as Decode<SliceReader<'a>>>⟧.is_next
@@ -46,7 +46,10 @@ impl<'a, R: Reader<Borrowed = &'a [u8]>> Decode<R> for TstInfoPart5<'a> {
         ⟦<TstInfoPart5Fields<'a> as Decode<SliceReader<'a>>>⟧.decode_answers s
         (map_ok ⟦<TstInfoPart5<'a> as FromFields<TstInfoPart5Fields<'a>>>⟧.fields result) t };
 
-    fn decode(alloc: Global, reader: &mut R) -> Result<Self, Error> {
+    fn decode(alloc: Global, reader: &mut R) -> Result<Self, Error>
+    where
+        R: Reader,
+    {
         decode_fields::<R, TstInfoPart5Fields<'a>, Self>(alloc, reader)
     }
 }

@@ -10,7 +10,7 @@ ghost use Rattle.der.specs.BytesCow.{cow_octets, IsBorrowedOctets};
 use crate::bytes::{BytesOwned, BytesRef};
 use der_base::{Error, Length};
 use der_core::{
-    DecodeValue, EncodeValue, Header, IsValue, ReadValue, Reader, Writer, WrittenValue,
+    DecodeValue, EncodeValue, Header, IsValue, Lends, ReadValue, Reader, Writer, WrittenValue,
 };
 use std::alloc::Global;
 
@@ -57,12 +57,14 @@ impl<'a> ReadValue for BytesCow<'a> {
 /// - If the reader can return slices: `Failed`, `Overflow` and `Incomplete`, as by
 ///   [`Reader::read_slice`].
 /// - If the reader cannot return slices: the errors of [`Reader::read_vec`].
-impl<'a, R: Reader<Borrowed = &'a [u8]>> DecodeValue<R> for BytesCow<'a> {
+impl<'a, R: Lends<Borrowed = &'a [u8]>> DecodeValue<R> for BytesCow<'a> {
     type Error = Error;
 
     ghost decode_value_answers = { BorrowedOctetsRead cow_octets };
 
     fn decode_value(alloc: Global, reader: &mut R, header: Header) -> Result<Self, Error>
+    where
+        R: Reader,
         ensures same { Same (R.state reader.old) (R.state reader.new) }
         ensures sound { TakesContents (TakesOctets IsCounted cow_octets) (head_of header)
             (R.state reader.old) result (R.state reader.new) }

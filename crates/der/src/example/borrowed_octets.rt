@@ -9,7 +9,7 @@ ghost use Rattle.der.specs.BorrowedOctets.{borrowed_octets, borrowed_lawful};
 use crate::bytes::BytesRef;
 use der_base::{Error, Length, Tag};
 use der_core::{
-    DecodeValue, DerOrd, EncodeValue, FixedTag, Header, IsValue, Lawful, Orderly, ReadValue,
+    DecodeValue, DerOrd, EncodeValue, FixedTag, Header, IsValue, Lawful, Lends, Orderly, ReadValue,
     Reader, ValueOrd, Writer, WrittenValue,
 };
 use std::alloc::Global;
@@ -52,12 +52,15 @@ impl<'a> ReadValue for BorrowedOctets<'a> {
 /// # Errors
 ///
 /// The errors of decoding a [`BytesRef`].
-impl<'a, R: Reader<Borrowed = &'a [u8]>> DecodeValue<R> for BorrowedOctets<'a> {
+impl<'a, R: Lends<Borrowed = &'a [u8]>> DecodeValue<R> for BorrowedOctets<'a> {
     type Error = Error;
 
     ghost decode_value_answers = { BorrowedOctetsRead borrowed_octets };
 
-    fn decode_value(alloc: Global, reader: &mut R, header: Header) -> Result<Self, Error> {
+    fn decode_value(alloc: Global, reader: &mut R, header: Header) -> Result<Self, Error>
+    where
+        R: Reader,
+    {
         let octets = BytesRef::decode_value(alloc, reader, header)?;
         Ok(BorrowedOctets { octets })
     }

@@ -9,7 +9,7 @@ ghost use Rattle.der.specs.JoinedOctets.{joined_octets, joined_levels, TakesJoin
 use crate::bytes::BytesOwned;
 use der_base::{Error, Length, Tag};
 use der_core::{
-    DecodeValue, DerOrd, EncodeValue, FixedTag, Header, IsValue, Lawful, Orderly, ReadValue,
+    DecodeValue, DerOrd, EncodeValue, FixedTag, Header, IsValue, Lawful, Lends, Orderly, ReadValue,
     Reader, ValueOrd, Writer, WrittenValue,
 };
 use std::alloc::Global;
@@ -53,12 +53,15 @@ impl ReadValue for JoinedOctets {
 /// # Errors
 ///
 /// The errors of [`BytesOwned::decode_value_parts`], with the inner tag OCTET STRING.
-impl<R: Reader> DecodeValue<R> for JoinedOctets {
+impl<R: Lends> DecodeValue<R> for JoinedOctets {
     type Error = Error;
 
     ghost decode_value_answers = { JoinedRead };
 
-    fn decode_value(alloc: Global, reader: &mut R, header: Header) -> Result<Self, Error> {
+    fn decode_value(alloc: Global, reader: &mut R, header: Header) -> Result<Self, Error>
+    where
+        R: Reader,
+    {
         let octets = BytesOwned::decode_value_parts(alloc, reader, header, Tag::OctetString)?;
         Ok(JoinedOctets { octets })
     }

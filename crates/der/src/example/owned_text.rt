@@ -9,7 +9,7 @@ ghost use Rattle.der.specs.OwnedText.{owned_text_octets, owned_text_lawful};
 use crate::string::StringOwned;
 use der_base::{Error, Length, Tag};
 use der_core::{
-    DecodeValue, EncodeValue, FixedTag, Header, IsValue, Lawful, Orderly, ReadValue, Reader,
+    DecodeValue, EncodeValue, FixedTag, Header, IsValue, Lawful, Lends, Orderly, ReadValue, Reader,
     ValueOrd, Writer, WrittenValue,
 };
 use std::alloc::Global;
@@ -50,12 +50,15 @@ impl ReadValue for OwnedText {
 /// # Errors
 ///
 /// The errors of decoding a [`StringOwned`].
-impl<R: Reader> DecodeValue<R> for OwnedText {
+impl<R: Lends> DecodeValue<R> for OwnedText {
     type Error = Error;
 
     ghost decode_value_answers = { OwnedTextRead owned_text_octets };
 
-    fn decode_value(alloc: Global, reader: &mut R, header: Header) -> Result<Self, Error> {
+    fn decode_value(alloc: Global, reader: &mut R, header: Header) -> Result<Self, Error>
+    where
+        R: Reader,
+    {
         let text = StringOwned::decode_value(alloc, reader, header)?;
         Ok(OwnedText { text })
     }

@@ -10,7 +10,7 @@ ghost use Rattle.der.specs.StringCow.{cow_text, IsBorrowedText};
 use crate::string::{StringOwned, StringRef};
 use der_base::{Error, Length};
 use der_core::{
-    DecodeValue, EncodeValue, Header, IsValue, ReadValue, Reader, Writer, WrittenValue,
+    DecodeValue, EncodeValue, Header, IsValue, Lends, ReadValue, Reader, Writer, WrittenValue,
 };
 use std::alloc::Global;
 
@@ -59,12 +59,14 @@ impl<'a> ReadValue for StringCow<'a> {
 ///   is unchanged.
 /// - `Utf8` without a position, if the contents are not UTF-8; the reader is after the contents and
 ///   has not failed.
-impl<'a, R: Reader<Borrowed = &'a [u8]>> DecodeValue<R> for StringCow<'a> {
+impl<'a, R: Lends<Borrowed = &'a [u8]>> DecodeValue<R> for StringCow<'a> {
     type Error = Error;
 
     ghost decode_value_answers = { BorrowedTextRead cow_text };
 
     fn decode_value(alloc: Global, reader: &mut R, header: Header) -> Result<Self, Error>
+    where
+        R: Reader,
         ensures same { Same (R.state reader.old) (R.state reader.new) }
         ensures sound { TakesContents (TakesOctets IsText cow_text) (head_of header)
             (R.state reader.old) result (R.state reader.new) }

@@ -4,7 +4,7 @@ ghost use Rattle.der_core.specs.Boxed.{BoxedRead};
 
 use crate::decode::{DecodeValue, IsValue, Lawful, ReadValue};
 use crate::header::Header;
-use crate::reader::Reader;
+use crate::reader::{Lends, Reader};
 use der_base::ErrorKind;
 use std::alloc::Global;
 
@@ -27,7 +27,7 @@ impl<T: ReadValue> ReadValue for Box<T> {
 /// - The errors of [`DecodeValue::decode_value`] of the value.
 /// - `OutOfMemory` without a position, if the allocation fails; the reader is in the state in which
 ///   decoding the value leaves it.
-impl<R: Reader, T: DecodeValue<R>> DecodeValue<R> for Box<T> {
+impl<R: Lends, T: DecodeValue<R>> DecodeValue<R> for Box<T> {
     type Error = <T as DecodeValue<R>>::Error;
 
     ghost decode_value_answers = { λ h. BoxedRead (λ b. b.value) (T.decode_value_answers h)
@@ -37,7 +37,10 @@ impl<R: Reader, T: DecodeValue<R>> DecodeValue<R> for Box<T> {
         alloc: Global,
         reader: &mut R,
         header: Header,
-    ) -> Result<Self, <T as DecodeValue<R>>::Error> {
+    ) -> Result<Self, <T as DecodeValue<R>>::Error>
+    where
+        R: Reader,
+    {
         let value = T::decode_value(alloc, reader, header)?;
         match Box::new(alloc, value) {
             Ok(boxed) => Ok(boxed),

@@ -8,7 +8,7 @@ ghost use Rattle.der_core.specs.Header.{head_of};
 
 use crate::decode::Decode;
 use crate::header::Header;
-use crate::reader::Reader;
+use crate::reader::{Lends, Reader};
 use std::alloc::Global;
 
 /// Decodes the first member of the pair, and then the second. To decode three fields, nest the
@@ -18,7 +18,7 @@ use std::alloc::Global;
 ///
 /// Those of decoding the first member. If the first member is decoded, those of decoding the
 /// second.
-impl<R: Reader, A: Decode<R>, B: Decode<R, Error = <A as Decode<R>>::Error>> Decode<R> for (A, B) {
+impl<R: Lends, A: Decode<R>, B: Decode<R, Error = <A as Decode<R>>::Error>> Decode<R> for (A, B) {
     type Error = <A as Decode<R>>::Error;
 
     ghost is_next = { FieldsNext A.is_next B.is_next };
@@ -30,7 +30,10 @@ impl<R: Reader, A: Decode<R>, B: Decode<R, Error = <A as Decode<R>>::Error>> Dec
     ghost decode_answers = { FieldsRead A.decode_answers B.decode_answers };
 
     #[inline(always)]
-    fn decode(alloc: Global, reader: &mut R) -> Result<(A, B), <A as Decode<R>>::Error> {
+    fn decode(alloc: Global, reader: &mut R) -> Result<(A, B), <A as Decode<R>>::Error>
+    where
+        R: Reader,
+    {
         let first = A::decode(alloc, reader)?;
         let second = B::decode(alloc, reader)?;
         Ok((first, second))

@@ -13,7 +13,7 @@ ghost use Rattle.der_core.specs.Outcome.{map_ok};
 
 use crate::decode::Decode;
 use crate::from_fields::{FromFields, decode_fields};
-use crate::reader::Reader;
+use crate::reader::{Lends, Reader};
 use der_base::Error;
 use std::alloc::Global;
 
@@ -35,7 +35,7 @@ impl<A: Drop, B: Drop, C: Drop, D: Drop, E: Drop, F: Drop, G: Drop> FromFields<
 ///
 /// Those of the first member that fails to decode.
 impl<
-    R: Reader,
+    R: Lends,
     A: Decode<R, Error = Error>,
     B: Decode<R, Error = Error>,
     C: Decode<R, Error = Error>,
@@ -59,7 +59,10 @@ impl<
         ⟦<(E, F, G) as Decode<R>>⟧.decode_answers s (map_ok halves_seven result) t };
 
     #[inline(always)]
-    fn decode(alloc: Global, reader: &mut R) -> Result<Self, Error> {
+    fn decode(alloc: Global, reader: &mut R) -> Result<Self, Error>
+    where
+        R: Reader,
+    {
         decode_fields::<R, ((A, B, C, D), (E, F, G)), Self>(alloc, reader)
     }
 }
@@ -82,7 +85,7 @@ impl<A: Drop, B: Drop, C: Drop, D: Drop, E: Drop, F: Drop, G: Drop, H: Drop> Fro
 ///
 /// Those of the first member that fails to decode.
 impl<
-    R: Reader,
+    R: Lends,
     A: Decode<R, Error = Error>,
     B: Decode<R, Error = Error>,
     C: Decode<R, Error = Error>,
@@ -107,7 +110,10 @@ impl<
         ⟦<(E, F, G, H) as Decode<R>>⟧.decode_answers s (map_ok halves_eight result) t };
 
     #[inline(always)]
-    fn decode(alloc: Global, reader: &mut R) -> Result<Self, Error> {
+    fn decode(alloc: Global, reader: &mut R) -> Result<Self, Error>
+    where
+        R: Reader,
+    {
         decode_fields::<R, ((A, B, C, D), (E, F, G, H)), Self>(alloc, reader)
     }
 }
@@ -130,7 +136,7 @@ impl<A: Drop, B: Drop, C: Drop, D: Drop, E: Drop, F: Drop, G: Drop, H: Drop, I: 
 ///
 /// Those of the first member that fails to decode.
 impl<
-    R: Reader,
+    R: Lends,
     A: Decode<R, Error = Error>,
     B: Decode<R, Error = Error>,
     C: Decode<R, Error = Error>,
@@ -157,7 +163,10 @@ impl<
         s (map_ok halves_nine result) t };
 
     #[inline(always)]
-    fn decode(alloc: Global, reader: &mut R) -> Result<Self, Error> {
+    fn decode(alloc: Global, reader: &mut R) -> Result<Self, Error>
+    where
+        R: Reader,
+    {
         decode_fields::<R, ((A, B, C, D, E), (F, G, H, I)), Self>(alloc, reader)
     }
 }
@@ -189,7 +198,7 @@ impl<
 ///
 /// Those of the first member that fails to decode.
 impl<
-    R: Reader,
+    R: Lends,
     A: Decode<R, Error = Error>,
     B: Decode<R, Error = Error>,
     C: Decode<R, Error = Error>,
@@ -217,7 +226,10 @@ impl<
         ⟦<(F, G, H, I, J) as Decode<R>>⟧.decode_answers s (map_ok halves_ten result) t };
 
     #[inline(always)]
-    fn decode(alloc: Global, reader: &mut R) -> Result<Self, Error> {
+    fn decode(alloc: Global, reader: &mut R) -> Result<Self, Error>
+    where
+        R: Reader,
+    {
         decode_fields::<R, ((A, B, C, D, E), (F, G, H, I, J)), Self>(alloc, reader)
     }
 }
@@ -250,7 +262,7 @@ impl<
 ///
 /// Those of the first member that fails to decode.
 impl<
-    R: Reader,
+    R: Lends,
     A: Decode<R, Error = Error>,
     B: Decode<R, Error = Error>,
     C: Decode<R, Error = Error>,
@@ -279,7 +291,10 @@ impl<
         ⟦<(G, H, I, J, K) as Decode<R>>⟧.decode_answers s (map_ok halves_eleven result) t };
 
     #[inline(always)]
-    fn decode(alloc: Global, reader: &mut R) -> Result<Self, Error> {
+    fn decode(alloc: Global, reader: &mut R) -> Result<Self, Error>
+    where
+        R: Reader,
+    {
         decode_fields::<R, ((A, B, C, D, E, F), (G, H, I, J, K)), Self>(alloc, reader)
     }
 }
@@ -313,7 +328,7 @@ impl<
 ///
 /// Those of the first member that fails to decode.
 impl<
-    R: Reader,
+    R: Lends,
     A: Decode<R, Error = Error>,
     B: Decode<R, Error = Error>,
     C: Decode<R, Error = Error>,
@@ -343,7 +358,10 @@ impl<
         ⟦<(G, H, I, J, K, L) as Decode<R>>⟧.decode_answers s (map_ok halves_twelve result) t };
 
     #[inline(always)]
-    fn decode(alloc: Global, reader: &mut R) -> Result<Self, Error> {
+    fn decode(alloc: Global, reader: &mut R) -> Result<Self, Error>
+    where
+        R: Reader,
+    {
         decode_fields::<R, ((A, B, C, D, E, F), (G, H, I, J, K, L)), Self>(alloc, reader)
     }
 }

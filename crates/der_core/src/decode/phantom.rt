@@ -2,13 +2,13 @@
 ghost use Rattle.std.specs.Prelude.{◌≡◌, false, IsOk};
 
 use crate::decode::Decode;
-use crate::reader::Reader;
+use crate::reader::{Lends, Reader};
 use der_base::Error;
 use std::alloc::Global;
 use std::marker::PhantomData;
 
 /// Decodes a `PhantomData` from zero octets, without a tag. Never fails.
-impl<R: Reader, T> Decode<R> for PhantomData<T> {
+impl<R: Lends, T> Decode<R> for PhantomData<T> {
     type Error = Error;
 
     ghost is_next = { λ _ _ _ m. m ≡ 0 };
@@ -19,7 +19,10 @@ impl<R: Reader, T> Decode<R> for PhantomData<T> {
 
     ghost decode_answers = { λ s result t. IsOk result × (t ≡ s) };
 
-    fn decode(_alloc: Global, _reader: &mut R) -> Result<Self, Error> {
+    fn decode(_alloc: Global, _reader: &mut R) -> Result<Self, Error>
+    where
+        R: Reader,
+    {
         Ok(PhantomData)
     }
 }

@@ -6,7 +6,7 @@ ghost use Rattle.der_core.specs.Outcome.{map_ok};
 
 use crate::decode::Decode;
 use crate::from_fields::{FromFields, decode_fields};
-use crate::reader::Reader;
+use crate::reader::{Lends, Reader};
 use der_base::Error;
 use std::alloc::Global;
 
@@ -26,7 +26,7 @@ impl<A: Drop, B: Drop, C: Drop> FromFields<(A, (B, C))> for (A, B, C) {
 ///
 /// Those of the first member that fails to decode.
 impl<
-    R: Reader,
+    R: Lends,
     A: Decode<R, Error = Error>,
     B: Decode<R, Error = Error>,
     C: Decode<R, Error = Error>,
@@ -44,7 +44,10 @@ impl<
         C.decode_answers) s (map_ok nested_three result) t };
 
     #[inline(always)]
-    fn decode(alloc: Global, reader: &mut R) -> Result<Self, Error> {
+    fn decode(alloc: Global, reader: &mut R) -> Result<Self, Error>
+    where
+        R: Reader,
+    {
         decode_fields::<R, (A, (B, C)), Self>(alloc, reader)
     }
 }
@@ -65,7 +68,7 @@ impl<A: Drop, B: Drop, C: Drop, D: Drop> FromFields<(A, (B, (C, D)))> for (A, B,
 ///
 /// Those of the first member that fails to decode.
 impl<
-    R: Reader,
+    R: Lends,
     A: Decode<R, Error = Error>,
     B: Decode<R, Error = Error>,
     C: Decode<R, Error = Error>,
@@ -85,7 +88,10 @@ impl<
         (FieldsRead C.decode_answers D.decode_answers)) s (map_ok nested_four result) t };
 
     #[inline(always)]
-    fn decode(alloc: Global, reader: &mut R) -> Result<Self, Error> {
+    fn decode(alloc: Global, reader: &mut R) -> Result<Self, Error>
+    where
+        R: Reader,
+    {
         decode_fields::<R, (A, (B, (C, D))), Self>(alloc, reader)
     }
 }
@@ -107,7 +113,7 @@ impl<A: Drop, B: Drop, C: Drop, D: Drop, E: Drop> FromFields<(A, (B, (C, (D, E))
 ///
 /// Those of the first member that fails to decode.
 impl<
-    R: Reader,
+    R: Lends,
     A: Decode<R, Error = Error>,
     B: Decode<R, Error = Error>,
     C: Decode<R, Error = Error>,
@@ -130,7 +136,10 @@ impl<
         nested_five result) t };
 
     #[inline(always)]
-    fn decode(alloc: Global, reader: &mut R) -> Result<Self, Error> {
+    fn decode(alloc: Global, reader: &mut R) -> Result<Self, Error>
+    where
+        R: Reader,
+    {
         decode_fields::<R, (A, (B, (C, (D, E)))), Self>(alloc, reader)
     }
 }
@@ -152,7 +161,7 @@ impl<A: Drop, B: Drop, C: Drop, D: Drop, E: Drop, F: Drop> FromFields<(A, (B, (C
 ///
 /// Those of the first member that fails to decode.
 impl<
-    R: Reader,
+    R: Lends,
     A: Decode<R, Error = Error>,
     B: Decode<R, Error = Error>,
     C: Decode<R, Error = Error>,
@@ -177,7 +186,10 @@ impl<
         F.decode_answers)))) s (map_ok nested_six result) t };
 
     #[inline(always)]
-    fn decode(alloc: Global, reader: &mut R) -> Result<Self, Error> {
+    fn decode(alloc: Global, reader: &mut R) -> Result<Self, Error>
+    where
+        R: Reader,
+    {
         decode_fields::<R, (A, (B, (C, (D, (E, F))))), Self>(alloc, reader)
     }
 }

@@ -10,7 +10,7 @@ ghost use Rattle.der_core.specs.Header.{head_of};
 
 use crate::decode::{Decode, DecodeError};
 use crate::header::{Header, decode_guessed_header};
-use crate::reader::{Reader, read_value};
+use crate::reader::{Lends, Reader, read_value};
 use crate::tag::fixed::FixedTag;
 use crate::tag::guess;
 use std::alloc::Global;
@@ -48,7 +48,7 @@ pub trait ReadValue: Sized {
 /// Ghost member (for proofs only): `decode_value_answers` is the exact outcome on a reliable reader
 /// (see [`Reader`]), including each error and the state in which it leaves the reader. Its
 /// arguments are the header, the reader before, the result, and the reader after.
-pub trait DecodeValue<R: Reader>: ReadValue + Drop {
+pub trait DecodeValue<R: Lends>: ReadValue + Drop {
     /// The error type of decoding.
     type Error: DecodeError;
 
@@ -75,6 +75,8 @@ pub trait DecodeValue<R: Reader>: ReadValue + Drop {
     /// - The errors of the type: the ghost member `decode_value_answers` specifies them, their
     ///   positions, and whether the reader is then failed.
     fn decode_value(alloc: Global, reader: &mut R, header: Header) -> Result<Self, Self::Error>
+    where
+        R: Reader,
         ensures same { Same (R.state reader.old) (R.state reader.new) }
         ensures sound { TakesContents Self.takes (head_of header) (R.state reader.old) result
             (R.state reader.new) }
@@ -140,7 +142,7 @@ pub fn decode_tlv<R: Reader, T: DecodeValue<R> + FixedTag>(
     )
 }
 
-impl<R: Reader, T: DecodeValue<R> + FixedTag> Decode<R> for T {
+impl<R: Lends, T: DecodeValue<R> + FixedTag> Decode<R> for T {
     type Error = <T as DecodeValue<R>>::Error;
 
     ghost is_next = { ElementNext T.tag_is T.takes };
@@ -152,7 +154,10 @@ impl<R: Reader, T: DecodeValue<R> + FixedTag> Decode<R> for T {
     ghost decode_answers = { ElementRead T.tag_is T.Error.from_gives T.decode_value_answers };
 
     #[inline(always)]
-    fn decode(alloc: Global, reader: &mut R) -> Result<T, <T as DecodeValue<R>>::Error> {
+    fn decode(alloc: Global, reader: &mut R) -> Result<T, <T as DecodeValue<R>>::Error>
+    where
+        R: Reader,
+    {
         decode_tlv(alloc, reader)
     }
 }

@@ -2,7 +2,7 @@
 ghost use Rattle.std.specs.Prelude.{◌≡◌, ◌+◌, ◌^◌, ◌<◌, ◌≤◌, ◌↔◌, true, length, IfOk, IfErr, IsOk};
 
 use crate::reader::position::MAX_DEPTH;
-use crate::reader::{Position, Reader, Resumption};
+use crate::reader::{Lends, Position, Reader, Resumption};
 use der_base::{EncodingRules, Error, ErrorKind, Length};
 use std::alloc::Allocator;
 
@@ -98,14 +98,16 @@ impl<'a> SliceReader<'a> {
     }
 }
 
+impl<'a> Lends for SliceReader<'a> {
+    type Borrowed = &'a [u8];
+}
+
 /// A reliable reader: its functions fail exactly as the trait [`Reader`] specifies. It remembers
 /// that it has failed. It can return slices, so it never fails with the error kind
 /// [`ErrorKind::Reader`] (operation not supported).
 impl<'a> Reader for SliceReader<'a> {
     ghost use Rattle.std.proofs.Common.{rules};
     ghost use Rattle.der_core.specs.SliceReader.{slice_state};
-
-    type Borrowed = &'a [u8];
 
     ghost state = { slice_state };
 

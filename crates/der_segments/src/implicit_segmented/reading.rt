@@ -5,7 +5,7 @@ ghost use Rattle.der_segments.specs.ImplicitSegmented.{ReadsAs, string_of_form};
 use crate::constructed_segmented::ConstructedSegmented;
 use crate::implicit_segmented::ImplicitSegmented;
 use crate::segmented::Segmented;
-use der::{Decode, Error, Reader, SliceReader, Tag};
+use der::{Decode, Error, Lends, Reader, SliceReader, Tag};
 use der_asn1::{Choice, DescribedChoice, Either, Implicit};
 use std::alloc::Global;
 
@@ -19,7 +19,7 @@ type Forms<'a, const N: u32> = Either<Implicit<Segmented<'a>, N>, ConstructedSeg
 /// - The errors of [`Either`]: the next tag cannot be read, or is none of the two tags.
 /// - The errors of decoding a [`Segmented`] with this tag. Under the Distinguished Encoding Rules, the
 ///   constructed tag is an error: `Noncanonical` with this tag, at the last octet of the header.
-impl<'a, const N: u32, R: Reader<Borrowed = &'a [u8]>> Decode<R> for ImplicitSegmented<'a, N> {
+impl<'a, const N: u32, R: Lends<Borrowed = &'a [u8]>> Decode<R> for ImplicitSegmented<'a, N> {
     type Error = Error;
 
     ghost is_next = { ⟦<ImplicitSegmented<'a, N> as DescribedChoice>⟧.alternative.is_next };
@@ -31,7 +31,10 @@ impl<'a, const N: u32, R: Reader<Borrowed = &'a [u8]>> Decode<R> for ImplicitSeg
     ghost decode_answers = { ReadsAs ⟦<Forms<'a, N> as Decode<SliceReader<'a>>>⟧.decode_answers
         string_of_form (λ v. v.0) };
 
-    fn decode(alloc: Global, reader: &mut R) -> Result<Self, Error> {
+    fn decode(alloc: Global, reader: &mut R) -> Result<Self, Error>
+    where
+        R: Reader,
+    {
         match <Forms<'a, N> as Decode<R>>::decode(alloc, reader) {
             Ok(Either::First(string)) => Ok(ImplicitSegmented(string.0)),
             Ok(Either::Second(string)) => Ok(ImplicitSegmented(string.0)),
@@ -40,7 +43,7 @@ impl<'a, const N: u32, R: Reader<Borrowed = &'a [u8]>> Decode<R> for ImplicitSeg
     }
 }
 
-impl<'a, const N: u32, R: Reader<Borrowed = &'a [u8]>> Choice<R> for ImplicitSegmented<'a, N> {
+impl<'a, const N: u32, R: Lends<Borrowed = &'a [u8]>> Choice<R> for ImplicitSegmented<'a, N> {
     ghost chooses = { ⟦<ImplicitSegmented<'a, N> as DescribedChoice>⟧.alternative.tags };
 
     #[inline(always)]

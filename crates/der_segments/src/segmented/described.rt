@@ -6,7 +6,7 @@ ghost use Rattle.der_asn1.specs.Meaning.{sequence_item};
 ghost use Rattle.der_segments.specs.Segmented.{segmented_element, segmented_lawful};
 
 use crate::segmented::Segmented;
-use der::Reader;
+use der::Lends;
 use der_asn1::{BorrowedItem, DecodeItem, Described, Item, Nestable};
 
 impl<'a> Described for Segmented<'a> {
@@ -22,7 +22,7 @@ impl<'a> Item for Segmented<'a> {
 }
 
 /// Items of lists must be DER, also under BER, so that no item of a list is in segments.
-impl<'a, R: Reader<Borrowed = &'a [u8]>> DecodeItem<R> for Segmented<'a> {
+impl<'a, R: Lends<Borrowed = &'a [u8]>> DecodeItem<R> for Segmented<'a> {
     ghost is_item = { element_is_item segmented_lawful false };
 
     ghost decodes_items = { decodes_same (sequence_item segmented_element) };

@@ -7,7 +7,7 @@ ghost use Rattle.der_segments.specs.Segmented.{SegmentedRead, TakesSegmented, se
 
 use crate::measure::measure_segments;
 use crate::segmented::Segmented;
-use der::{DecodeValue, Error, FixedTag, Header, IsValue, Length, ReadValue, Reader, Tag};
+use der::{DecodeValue, Error, FixedTag, Header, IsValue, Lends, Length, ReadValue, Reader, Tag};
 use std::alloc::Global;
 
 impl<'a> FixedTag for Segmented<'a> {
@@ -48,12 +48,15 @@ impl<'a> ReadValue for Segmented<'a> {
 /// - After a constructed header, under the Basic Encoding Rules, `Failed` at the reader's position,
 ///   if the reader had already failed; otherwise the errors of a segment, as by
 ///   [`read_constructed_vec`](der::read_constructed_vec), but never `OutOfMemory`.
-impl<'a, R: Reader<Borrowed = &'a [u8]>> DecodeValue<R> for Segmented<'a> {
+impl<'a, R: Lends<Borrowed = &'a [u8]>> DecodeValue<R> for Segmented<'a> {
     type Error = Error;
 
     ghost decode_value_answers = { SegmentedRead };
 
-    fn decode_value(_alloc: Global, reader: &mut R, header: Header) -> Result<Self, Error> {
+    fn decode_value(_alloc: Global, reader: &mut R, header: Header) -> Result<Self, Error>
+    where
+        R: Reader,
+    {
         reader_is_sound(reader);
         if !header.is_constructed() {
             let octets = reader.read_slice(header.length())?;

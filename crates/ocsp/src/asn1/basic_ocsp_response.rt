@@ -11,8 +11,8 @@ ghost use Rattle.der_asn1.specs.TupleFields.{four_fields};
 use crate::asn1::certificates::Certificates;
 use crate::asn1::response_data::ResponseData;
 use der::{
-    Decode, DecodeValue, Encode, EncodeValue, Error, FromFields, Header, IsValue, Length, Reader,
-    Sequence, SliceReader, Writer, decode_sequence, field_refs,
+    Decode, DecodeValue, Encode, EncodeValue, Error, FromFields, Header, IsValue, Lends, Length,
+    Reader, Sequence, SliceReader, Writer, decode_sequence, field_refs,
 };
 use der_asn1::{
     BitStringRef, BorrowedItem, DecodeItem, Described, Explicit, Item, Nestable, Optional,
@@ -67,14 +67,17 @@ impl<'a> Sequence for BasicOcspResponse<'a> {
 }
 
 /// Decodes the fields one after the other, with the errors of every [`Sequence`].
-impl<'a, R: Reader<Borrowed = &'a [u8]>> DecodeValue<R> for BasicOcspResponse<'a> {
+impl<'a, R: Lends<Borrowed = &'a [u8]>> DecodeValue<R> for BasicOcspResponse<'a> {
     type Error = Error;
 
     ghost decode_value_answers = { λ h s result t.
         ⟦<BasicOcspResponseFields<'a> as Decode<SliceReader<'a>>>⟧.decode_answers s (map_ok
         ⟦<BasicOcspResponse<'a> as FromFields<BasicOcspResponseFields<'a>>>⟧.fields result) t };
 
-    fn decode_value(alloc: Global, reader: &mut R, header: Header) -> Result<Self, Error> {
+    fn decode_value(alloc: Global, reader: &mut R, header: Header) -> Result<Self, Error>
+    where
+        R: Reader,
+    {
         decode_sequence::<R, BasicOcspResponseFields<'a>, Self>(alloc, reader, header)
     }
 }
@@ -135,7 +138,7 @@ impl<'a> Item for BasicOcspResponse<'a> {
     ghost item = { sequence_item ⟦<BasicOcspResponse<'a> as Described>⟧.element };
 }
 
-impl<'a, R: Reader<Borrowed = &'a [u8]>> DecodeItem<R> for BasicOcspResponse<'a> {
+impl<'a, R: Lends<Borrowed = &'a [u8]>> DecodeItem<R> for BasicOcspResponse<'a> {
     ghost is_item = { sequence_is_item ⟦<BasicOcspResponse<'a> as Described>⟧.element refl };
 
     ghost decodes_items = { decodes_same (sequence_item

@@ -13,7 +13,7 @@ use crate::asn1::cert_status_part1::CertStatusPart1;
 use crate::asn1::cert_status_part2::CertStatusPart2;
 use crate::asn1::revoked_info::RevokedInfo;
 use crate::asn1::unknown_info::UnknownInfo;
-use der::{Decode, Encode, Error, FromFields, Length, Reader, SliceReader, Tag, Writer};
+use der::{Decode, Encode, Error, FromFields, Lends, Length, Reader, SliceReader, Tag, Writer};
 use der_asn1::{
     BorrowedItem, Choice, DecodeItem, DescribedChoice, Either, Implicit, Item, Null, decode_choice,
 };
@@ -64,7 +64,7 @@ impl<'a> DescribedChoice for CertStatus<'a> {
 }
 
 /// Decodes the alternative whose tag is next, with the errors of [`Either`].
-impl<'a, R: Reader<Borrowed = &'a [u8]>> Decode<R> for CertStatus<'a> {
+impl<'a, R: Lends<Borrowed = &'a [u8]>> Decode<R> for CertStatus<'a> {
     type Error = Error;
 
     ghost is_next = { ⟦<CertStatus<'a> as DescribedChoice>⟧.alternative.is_next };
@@ -77,12 +77,15 @@ impl<'a, R: Reader<Borrowed = &'a [u8]>> Decode<R> for CertStatus<'a> {
         ⟦<CertStatusAlternatives<'a> as Decode<SliceReader<'a>>>⟧.decode_answers s
         (map_ok ⟦<CertStatus<'a> as FromFields<CertStatusAlternatives<'a>>>⟧.fields result) t };
 
-    fn decode(alloc: Global, reader: &mut R) -> Result<Self, Error> {
+    fn decode(alloc: Global, reader: &mut R) -> Result<Self, Error>
+    where
+        R: Reader,
+    {
         decode_choice::<R, CertStatusAlternatives<'a>, Self>(alloc, reader)
     }
 }
 
-impl<'a, R: Reader<Borrowed = &'a [u8]>> Choice<R> for CertStatus<'a> {
+impl<'a, R: Lends<Borrowed = &'a [u8]>> Choice<R> for CertStatus<'a> {
     ghost chooses = { ⟦<CertStatus<'a> as DescribedChoice>⟧.alternative.tags };
 
     fn can_decode(tag: Tag) -> bool {
@@ -143,7 +146,7 @@ impl<'a> Item for CertStatus<'a> {
     ghost item = { choice_item ⟦<CertStatus<'a> as DescribedChoice>⟧.alternative };
 }
 
-impl<'a, R: Reader<Borrowed = &'a [u8]>> DecodeItem<R> for CertStatus<'a> {
+impl<'a, R: Lends<Borrowed = &'a [u8]>> DecodeItem<R> for CertStatus<'a> {
     ghost is_item = { choice_is_item ⟦<CertStatus<'a> as DescribedChoice>⟧.alternative refl };
 
     ghost decodes_items = { decodes_same (choice_item

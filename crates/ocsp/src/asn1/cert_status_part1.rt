@@ -6,7 +6,7 @@ ghost use Rattle.der.specs.Prelude.{map_ok};
 ghost use Rattle.der_asn1.specs.Meaning.{alternative, choice_of, either};
 
 use crate::asn1::revoked_info::RevokedInfo;
-use der::{Decode, Encode, Error, FromFields, Length, Reader, SliceReader, Tag, Writer};
+use der::{Decode, Encode, Error, FromFields, Lends, Length, Reader, SliceReader, Tag, Writer};
 use der_asn1::{Choice, Described, DescribedChoice, Either, Implicit, Null, decode_choice};
 use std::alloc::Global;
 
@@ -36,7 +36,7 @@ impl<'a> DescribedChoice for CertStatusPart1<'a> {
         ⟦<Implicit<RevokedInfo, 1> as Described>⟧.element)) (λ v. v.choice) };
 }
 
-impl<'a, R: Reader<Borrowed = &'a [u8]>> Decode<R> for CertStatusPart1<'a> {
+impl<'a, R: Lends<Borrowed = &'a [u8]>> Decode<R> for CertStatusPart1<'a> {
     type Error = Error;
 
     ghost is_next = { ⟦<CertStatusPart1<'a> as DescribedChoice>⟧.alternative.is_next };
@@ -50,12 +50,15 @@ impl<'a, R: Reader<Borrowed = &'a [u8]>> Decode<R> for CertStatusPart1<'a> {
         (map_ok (λ v. v.choice) result) t };
 
     #[inline(always)]
-    fn decode(alloc: Global, reader: &mut R) -> Result<Self, Error> {
+    fn decode(alloc: Global, reader: &mut R) -> Result<Self, Error>
+    where
+        R: Reader,
+    {
         decode_choice::<R, CertStatusPart1Alternatives<'a>, Self>(alloc, reader)
     }
 }
 
-impl<'a, R: Reader<Borrowed = &'a [u8]>> Choice<R> for CertStatusPart1<'a> {
+impl<'a, R: Lends<Borrowed = &'a [u8]>> Choice<R> for CertStatusPart1<'a> {
     ghost chooses = { ⟦<CertStatusPart1<'a> as DescribedChoice>⟧.alternative.tags };
 
     #[inline(always)]

@@ -8,7 +8,7 @@ ghost use Rattle.der_asn1.specs.Item.{decodes_same};
 ghost use Rattle.der_asn1.specs.Meaning.{renamed, sequence_is_item, sequence_item};
 
 use der::{
-    DecodeValue, EncodeValue, Error, FromFields, Header, IsValue, Length, Reader, Sequence,
+    DecodeValue, EncodeValue, Error, FromFields, Header, IsValue, Lends, Length, Reader, Sequence,
     SliceReader, Writer, decode_wrapped,
 };
 use der_asn1::{BorrowedItem, DecodeItem, Described, Item, Nestable, SequenceOf};
@@ -40,14 +40,17 @@ impl<'a> Sequence for Certificates<'a> {
 }
 
 /// Decodes the list, with the errors of [`SequenceOf`].
-impl<'a, R: Reader<Borrowed = &'a [u8]>> DecodeValue<R> for Certificates<'a> {
+impl<'a, R: Lends<Borrowed = &'a [u8]>> DecodeValue<R> for Certificates<'a> {
     type Error = Error;
 
     ghost decode_value_answers = { λ h s result t.
         ⟦<Items<'a> as DecodeValue<SliceReader<'a>>>⟧.decode_value_answers h s
         (map_ok (λ v. v.items) result) t };
 
-    fn decode_value(alloc: Global, reader: &mut R, header: Header) -> Result<Self, Error> {
+    fn decode_value(alloc: Global, reader: &mut R, header: Header) -> Result<Self, Error>
+    where
+        R: Reader,
+    {
         decode_wrapped::<R, Items<'a>, Self>(alloc, reader, header)
     }
 }
@@ -85,7 +88,7 @@ impl<'a> Item for Certificates<'a> {
     ghost item = { sequence_item ⟦<Certificates<'a> as Described>⟧.element };
 }
 
-impl<'a, R: Reader<Borrowed = &'a [u8]>> DecodeItem<R> for Certificates<'a> {
+impl<'a, R: Lends<Borrowed = &'a [u8]>> DecodeItem<R> for Certificates<'a> {
     ghost is_item = { sequence_is_item ⟦<Certificates<'a> as Described>⟧.element refl };
 
     ghost decodes_items = { decodes_same (sequence_item

@@ -9,8 +9,8 @@ ghost use Rattle.der_asn1.specs.Meaning.{alternative, optional, sequence, sequen
 ghost use Rattle.der_asn1.specs.TupleFields.{three_fields};
 
 use der::{
-    Decode, DecodeValue, Encode, EncodeValue, Error, FromFields, Header, IsValue, Length, Reader,
-    Sequence, SliceReader, Writer, decode_sequence, field_refs,
+    Decode, DecodeValue, Encode, EncodeValue, Error, FromFields, Header, IsValue, Lends, Length,
+    Reader, Sequence, SliceReader, Writer, decode_sequence, field_refs,
 };
 use der_asn1::{
     BorrowedItem, DecodeItem, Described, Explicit, GeneralizedTime, Ia5StringRef, IntRef, Item,
@@ -60,14 +60,17 @@ impl<'a> Sequence for CrlId<'a> {
 }
 
 /// Decodes the fields one after the other, with the errors of every [`Sequence`].
-impl<'a, R: Reader<Borrowed = &'a [u8]>> DecodeValue<R> for CrlId<'a> {
+impl<'a, R: Lends<Borrowed = &'a [u8]>> DecodeValue<R> for CrlId<'a> {
     type Error = Error;
 
     ghost decode_value_answers = { λ h s result t.
         ⟦<CrlIdFields<'a> as Decode<SliceReader<'a>>>⟧.decode_answers s (map_ok
         ⟦<CrlId<'a> as FromFields<CrlIdFields<'a>>>⟧.fields result) t };
 
-    fn decode_value(alloc: Global, reader: &mut R, header: Header) -> Result<Self, Error> {
+    fn decode_value(alloc: Global, reader: &mut R, header: Header) -> Result<Self, Error>
+    where
+        R: Reader,
+    {
         decode_sequence::<R, CrlIdFields<'a>, Self>(alloc, reader, header)
     }
 }
@@ -115,7 +118,7 @@ impl<'a> Item for CrlId<'a> {
     ghost item = { sequence_item ⟦<CrlId<'a> as Described>⟧.element };
 }
 
-impl<'a, R: Reader<Borrowed = &'a [u8]>> DecodeItem<R> for CrlId<'a> {
+impl<'a, R: Lends<Borrowed = &'a [u8]>> DecodeItem<R> for CrlId<'a> {
     ghost is_item = { sequence_is_item ⟦<CrlId<'a> as Described>⟧.element refl };
 
     ghost decodes_items = { decodes_same (sequence_item ⟦<CrlId<'a> as Described>⟧.element) };

@@ -8,8 +8,8 @@ ghost use Rattle.der_asn1.specs.Item.{decodes_same};
 ghost use Rattle.der_asn1.specs.Meaning.{alternative, field, sequence, sequence_is_item, sequence_item};
 
 use der::{
-    Decode, DecodeValue, Encode, EncodeValue, Error, FromFields, Header, IsValue, Length, Reader,
-    Sequence, SliceReader, Writer, decode_sequence, field_refs,
+    Decode, DecodeValue, Encode, EncodeValue, Error, FromFields, Header, IsValue, Lends, Length,
+    Reader, Sequence, SliceReader, Writer, decode_sequence, field_refs,
 };
 use der_asn1::{BorrowedItem, DecodeItem, Described, DescribedChoice, Item, Nestable};
 use std::alloc::Global;
@@ -42,14 +42,17 @@ impl<'a> Sequence for GeneralNameTagged<'a> {
 }
 
 /// Decodes the fields one after the other, with the errors of every [`Sequence`].
-impl<'a, R: Reader<Borrowed = &'a [u8]>> DecodeValue<R> for GeneralNameTagged<'a> {
+impl<'a, R: Lends<Borrowed = &'a [u8]>> DecodeValue<R> for GeneralNameTagged<'a> {
     type Error = Error;
 
     ghost decode_value_answers = { λ h s result t.
         ⟦<GeneralNameTaggedFields<'a> as Decode<SliceReader<'a>>>⟧.decode_answers s (map_ok
         ⟦<GeneralNameTagged<'a> as FromFields<GeneralNameTaggedFields<'a>>>⟧.fields result) t };
 
-    fn decode_value(alloc: Global, reader: &mut R, header: Header) -> Result<Self, Error> {
+    fn decode_value(alloc: Global, reader: &mut R, header: Header) -> Result<Self, Error>
+    where
+        R: Reader,
+    {
         decode_sequence::<R, GeneralNameTaggedFields<'a>, Self>(alloc, reader, header)
     }
 }
@@ -99,7 +102,7 @@ impl<'a> Item for GeneralNameTagged<'a> {
     ghost item = { sequence_item ⟦<GeneralNameTagged<'a> as Described>⟧.element };
 }
 
-impl<'a, R: Reader<Borrowed = &'a [u8]>> DecodeItem<R> for GeneralNameTagged<'a> {
+impl<'a, R: Lends<Borrowed = &'a [u8]>> DecodeItem<R> for GeneralNameTagged<'a> {
     ghost is_item = { sequence_is_item ⟦<GeneralNameTagged<'a> as Described>⟧.element refl };
 
     ghost decodes_items = { decodes_same (sequence_item

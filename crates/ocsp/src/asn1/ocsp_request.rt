@@ -10,8 +10,8 @@ ghost use Rattle.der_asn1.specs.Meaning.{alternative, field, optional, sequence,
 use crate::asn1::signature::Signature;
 use crate::asn1::tbs_request::TbsRequest;
 use der::{
-    Decode, DecodeValue, Encode, EncodeValue, Error, FromFields, Header, IsValue, Length, Reader,
-    Sequence, SliceReader, Writer, decode_sequence, field_refs,
+    Decode, DecodeValue, Encode, EncodeValue, Error, FromFields, Header, IsValue, Lends, Length,
+    Reader, Sequence, SliceReader, Writer, decode_sequence, field_refs,
 };
 use der_asn1::{BorrowedItem, DecodeItem, Described, Explicit, Item, Nestable, Optional};
 use std::alloc::Global;
@@ -50,14 +50,17 @@ impl<'a> Sequence for OcspRequest<'a> {
 }
 
 /// Decodes the fields one after the other, with the errors of every [`Sequence`].
-impl<'a, R: Reader<Borrowed = &'a [u8]>> DecodeValue<R> for OcspRequest<'a> {
+impl<'a, R: Lends<Borrowed = &'a [u8]>> DecodeValue<R> for OcspRequest<'a> {
     type Error = Error;
 
     ghost decode_value_answers = { λ h s result t.
         ⟦<OcspRequestFields<'a> as Decode<SliceReader<'a>>>⟧.decode_answers s (map_ok
         ⟦<OcspRequest<'a> as FromFields<OcspRequestFields<'a>>>⟧.fields result) t };
 
-    fn decode_value(alloc: Global, reader: &mut R, header: Header) -> Result<Self, Error> {
+    fn decode_value(alloc: Global, reader: &mut R, header: Header) -> Result<Self, Error>
+    where
+        R: Reader,
+    {
         decode_sequence::<R, OcspRequestFields<'a>, Self>(alloc, reader, header)
     }
 }
@@ -100,7 +103,7 @@ impl<'a> Item for OcspRequest<'a> {
     ghost item = { sequence_item ⟦<OcspRequest<'a> as Described>⟧.element };
 }
 
-impl<'a, R: Reader<Borrowed = &'a [u8]>> DecodeItem<R> for OcspRequest<'a> {
+impl<'a, R: Lends<Borrowed = &'a [u8]>> DecodeItem<R> for OcspRequest<'a> {
     ghost is_item = { sequence_is_item ⟦<OcspRequest<'a> as Described>⟧.element refl };
 
     ghost decodes_items = { decodes_same (sequence_item ⟦<OcspRequest<'a> as Described>⟧.element) };

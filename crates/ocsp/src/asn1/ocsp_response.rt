@@ -10,8 +10,8 @@ ghost use Rattle.der_asn1.specs.Meaning.{alternative, field, optional, sequence,
 use crate::asn1::ocsp_response_status::OcspResponseStatus;
 use crate::asn1::response_bytes::ResponseBytes;
 use der::{
-    Decode, DecodeValue, Encode, EncodeValue, Error, FromFields, Header, IsValue, Length, Reader,
-    Sequence, SliceReader, Writer, decode_sequence, field_refs,
+    Decode, DecodeValue, Encode, EncodeValue, Error, FromFields, Header, IsValue, Lends, Length,
+    Reader, Sequence, SliceReader, Writer, decode_sequence, field_refs,
 };
 use der_asn1::{
     BorrowedItem, DecodeItem, Described, Enumerated, Explicit, Item, Nestable, Optional,
@@ -56,14 +56,17 @@ impl<'a> Sequence for OcspResponse<'a> {
 }
 
 /// Decodes the fields one after the other, with the errors of every [`Sequence`].
-impl<'a, R: Reader<Borrowed = &'a [u8]>> DecodeValue<R> for OcspResponse<'a> {
+impl<'a, R: Lends<Borrowed = &'a [u8]>> DecodeValue<R> for OcspResponse<'a> {
     type Error = Error;
 
     ghost decode_value_answers = { λ h s result t.
         ⟦<OcspResponseFields<'a> as Decode<SliceReader<'a>>>⟧.decode_answers s (map_ok
         ⟦<OcspResponse<'a> as FromFields<OcspResponseFields<'a>>>⟧.fields result) t };
 
-    fn decode_value(alloc: Global, reader: &mut R, header: Header) -> Result<Self, Error> {
+    fn decode_value(alloc: Global, reader: &mut R, header: Header) -> Result<Self, Error>
+    where
+        R: Reader,
+    {
         decode_sequence::<R, OcspResponseFields<'a>, Self>(alloc, reader, header)
     }
 }
@@ -106,7 +109,7 @@ impl<'a> Item for OcspResponse<'a> {
     ghost item = { sequence_item ⟦<OcspResponse<'a> as Described>⟧.element };
 }
 
-impl<'a, R: Reader<Borrowed = &'a [u8]>> DecodeItem<R> for OcspResponse<'a> {
+impl<'a, R: Lends<Borrowed = &'a [u8]>> DecodeItem<R> for OcspResponse<'a> {
     ghost is_item = { sequence_is_item ⟦<OcspResponse<'a> as Described>⟧.element refl };
 
     ghost decodes_items = { decodes_same (sequence_item

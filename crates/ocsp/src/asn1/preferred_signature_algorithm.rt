@@ -8,8 +8,8 @@ ghost use Rattle.der_asn1.specs.Item.{decodes_same};
 ghost use Rattle.der_asn1.specs.Meaning.{alternative, field, optional, sequence, sequence_is_item, sequence_item, two_fields};
 
 use der::{
-    Decode, DecodeValue, Encode, EncodeValue, Error, FromFields, Header, IsValue, Length, Reader,
-    Sequence, SliceReader, Writer, decode_sequence, field_refs,
+    Decode, DecodeValue, Encode, EncodeValue, Error, FromFields, Header, IsValue, Lends, Length,
+    Reader, Sequence, SliceReader, Writer, decode_sequence, field_refs,
 };
 use der_asn1::{BorrowedItem, DecodeItem, Described, Item, Nestable, Optional};
 use spki::AlgorithmIdentifierRef;
@@ -53,14 +53,17 @@ impl<'a> Sequence for PreferredSignatureAlgorithm<'a> {
 }
 
 /// Decodes the fields one after the other, with the errors of every [`Sequence`].
-impl<'a, R: Reader<Borrowed = &'a [u8]>> DecodeValue<R> for PreferredSignatureAlgorithm<'a> {
+impl<'a, R: Lends<Borrowed = &'a [u8]>> DecodeValue<R> for PreferredSignatureAlgorithm<'a> {
     type Error = Error;
 
     ghost decode_value_answers = { λ h s result t.
         ⟦<PreferredSignatureAlgorithmFields<'a> as Decode<SliceReader<'a>>>⟧.decode_answers s (map_ok
         ⟦<PreferredSignatureAlgorithm<'a> as FromFields<PreferredSignatureAlgorithmFields<'a>>>⟧.fields result) t };
 
-    fn decode_value(alloc: Global, reader: &mut R, header: Header) -> Result<Self, Error> {
+    fn decode_value(alloc: Global, reader: &mut R, header: Header) -> Result<Self, Error>
+    where
+        R: Reader,
+    {
         decode_sequence::<R, PreferredSignatureAlgorithmFields<'a>, Self>(alloc, reader, header)
     }
 }
@@ -104,7 +107,7 @@ impl<'a> Item for PreferredSignatureAlgorithm<'a> {
     ghost item = { sequence_item ⟦<PreferredSignatureAlgorithm<'a> as Described>⟧.element };
 }
 
-impl<'a, R: Reader<Borrowed = &'a [u8]>> DecodeItem<R> for PreferredSignatureAlgorithm<'a> {
+impl<'a, R: Lends<Borrowed = &'a [u8]>> DecodeItem<R> for PreferredSignatureAlgorithm<'a> {
     ghost is_item = { sequence_is_item
         ⟦<PreferredSignatureAlgorithm<'a> as Described>⟧.element refl };
 

@@ -10,7 +10,7 @@ ghost use Rattle.der_asn1.specs.declared.either.Either.TheVariants.{First, Secon
 ghost use Rattle.ocsp.specs.declared.asn1.responder_id.ResponderId.TheVariants as variant;
 
 use crate::asn1::key_hash::KeyHash;
-use der::{Decode, Encode, Error, FromFields, Length, Reader, SliceReader, Tag, Writer};
+use der::{Decode, Encode, Error, FromFields, Lends, Length, Reader, SliceReader, Tag, Writer};
 use der_asn1::{
     BorrowedItem, Choice, DecodeItem, Described, DescribedChoice, Either, Explicit, Item,
     decode_choice,
@@ -52,7 +52,7 @@ impl<'a> DescribedChoice for ResponderId<'a> {
 }
 
 /// Decodes the alternative whose tag is next, with the errors of [`Either`].
-impl<'a, R: Reader<Borrowed = &'a [u8]>> Decode<R> for ResponderId<'a> {
+impl<'a, R: Lends<Borrowed = &'a [u8]>> Decode<R> for ResponderId<'a> {
     type Error = Error;
 
     ghost is_next = { ⟦<ResponderId<'a> as DescribedChoice>⟧.alternative.is_next };
@@ -65,12 +65,15 @@ impl<'a, R: Reader<Borrowed = &'a [u8]>> Decode<R> for ResponderId<'a> {
         ⟦<ResponderIdAlternatives<'a> as Decode<SliceReader<'a>>>⟧.decode_answers s
         (map_ok ⟦<ResponderId<'a> as FromFields<ResponderIdAlternatives<'a>>>⟧.fields result) t };
 
-    fn decode(alloc: Global, reader: &mut R) -> Result<Self, Error> {
+    fn decode(alloc: Global, reader: &mut R) -> Result<Self, Error>
+    where
+        R: Reader,
+    {
         decode_choice::<R, ResponderIdAlternatives<'a>, Self>(alloc, reader)
     }
 }
 
-impl<'a, R: Reader<Borrowed = &'a [u8]>> Choice<R> for ResponderId<'a> {
+impl<'a, R: Lends<Borrowed = &'a [u8]>> Choice<R> for ResponderId<'a> {
     ghost chooses = { ⟦<ResponderId<'a> as DescribedChoice>⟧.alternative.tags };
 
     fn can_decode(tag: Tag) -> bool {
@@ -127,7 +130,7 @@ impl<'a> Item for ResponderId<'a> {
     ghost item = { choice_item ⟦<ResponderId<'a> as DescribedChoice>⟧.alternative };
 }
 
-impl<'a, R: Reader<Borrowed = &'a [u8]>> DecodeItem<R> for ResponderId<'a> {
+impl<'a, R: Lends<Borrowed = &'a [u8]>> DecodeItem<R> for ResponderId<'a> {
     ghost is_item = { choice_is_item ⟦<ResponderId<'a> as DescribedChoice>⟧.alternative refl };
 
     ghost decodes_items = { decodes_same (choice_item

@@ -14,8 +14,8 @@ use crate::asn1::response_data_part2::{ResponseDataPart2, ResponseDataPart2Field
 use crate::asn1::response_data_part3::{ResponseDataPart3, ResponseDataPart3Fields};
 use crate::asn1::single_response::SingleResponse;
 use der::{
-    Decode, DecodeValue, Encode, EncodeValue, Error, FromFields, Header, IsValue, Length, Reader,
-    Sequence, SliceReader, Writer, decode_sequence, field_refs,
+    Decode, DecodeValue, Encode, EncodeValue, Error, FromFields, Header, IsValue, Lends, Length,
+    Reader, Sequence, SliceReader, Writer, decode_sequence, field_refs,
 };
 use der_asn1::{
     BorrowedItem, DecodeItem, DefaultU64, DefaultValue, Defaulted, Described, DescribedChoice,
@@ -97,7 +97,7 @@ impl<'a> Sequence for ResponseData<'a> {
 }
 
 /// Decodes the fields one after the other, with the errors of every [`Sequence`].
-impl<'a, R: Reader<Borrowed = &'a [u8]>> DecodeValue<R> for ResponseData<'a> {
+impl<'a, R: Lends<Borrowed = &'a [u8]>> DecodeValue<R> for ResponseData<'a> {
     type Error = Error;
 
     ghost decode_value_answers = { λ h s result t.
@@ -105,7 +105,10 @@ impl<'a, R: Reader<Borrowed = &'a [u8]>> DecodeValue<R> for ResponseData<'a> {
         (map_ok
         ⟦<ResponseData<'a> as FromFields<(ResponseDataPart1<'a>, ResponseDataPart2<'a>, ResponseDataPart3<'a>)>>⟧.fields result) t };
 
-    fn decode_value(alloc: Global, reader: &mut R, header: Header) -> Result<Self, Error> {
+    fn decode_value(alloc: Global, reader: &mut R, header: Header) -> Result<Self, Error>
+    where
+        R: Reader,
+    {
         decode_sequence::<
             R,
             (
@@ -206,7 +209,7 @@ impl<'a> Item for ResponseData<'a> {
     ghost item = { sequence_item ⟦<ResponseData<'a> as Described>⟧.element };
 }
 
-impl<'a, R: Reader<Borrowed = &'a [u8]>> DecodeItem<R> for ResponseData<'a> {
+impl<'a, R: Lends<Borrowed = &'a [u8]>> DecodeItem<R> for ResponseData<'a> {
     ghost is_item = { sequence_is_item ⟦<ResponseData<'a> as Described>⟧.element refl };
 
     ghost decodes_items = { decodes_same (sequence_item

@@ -5,7 +5,7 @@ ghost use Rattle.std.specs.Prelude.{false};
 ghost use Rattle.der.specs.Prelude.{map_ok};
 
 use crate::asn1::responder_id::ResponderId;
-use der::{Decode, Error, FromFields, Reader, SliceReader, decode_fields};
+use der::{Decode, Error, FromFields, Lends, Reader, SliceReader, decode_fields};
 use der_asn1::{DefaultU64, Defaulted, Explicit, IntegerOf, WithDefault};
 use std::alloc::Global;
 
@@ -34,7 +34,7 @@ impl<'a> FromFields<ResponseDataPart1Fields<'a>> for ResponseDataPart1<'a> {
     }
 }
 
-impl<'a, R: Reader<Borrowed = &'a [u8]>> Decode<R> for ResponseDataPart1<'a> {
+impl<'a, R: Lends<Borrowed = &'a [u8]>> Decode<R> for ResponseDataPart1<'a> {
     type Error = Error;
 
     ghost is_next = { λ v. ⟦<ResponseDataPart1Fields<'a> as Decode<SliceReader<'a>>>⟧.is_next
@@ -48,7 +48,10 @@ impl<'a, R: Reader<Borrowed = &'a [u8]>> Decode<R> for ResponseDataPart1<'a> {
         ⟦<ResponseDataPart1Fields<'a> as Decode<SliceReader<'a>>>⟧.decode_answers s
         (map_ok ⟦<ResponseDataPart1<'a> as FromFields<ResponseDataPart1Fields<'a>>>⟧.fields result) t };
 
-    fn decode(alloc: Global, reader: &mut R) -> Result<Self, Error> {
+    fn decode(alloc: Global, reader: &mut R) -> Result<Self, Error>
+    where
+        R: Reader,
+    {
         decode_fields::<R, ResponseDataPart1Fields<'a>, Self>(alloc, reader)
     }
 }

@@ -4,7 +4,7 @@
 ghost use Rattle.std.specs.Prelude.{false};
 ghost use Rattle.der.specs.Prelude.{map_ok};
 
-use der::{Decode, Error, FromFields, Reader, SliceReader, decode_fields};
+use der::{Decode, Error, FromFields, Lends, Reader, SliceReader, decode_fields};
 use der_asn1::{Explicit, Optional};
 use std::alloc::Global;
 use x509::Extensions;
@@ -29,7 +29,7 @@ impl<'a> FromFields<ResponseDataPart3Fields<'a>> for ResponseDataPart3<'a> {
     }
 }
 
-impl<'a, R: Reader<Borrowed = &'a [u8]>> Decode<R> for ResponseDataPart3<'a> {
+impl<'a, R: Lends<Borrowed = &'a [u8]>> Decode<R> for ResponseDataPart3<'a> {
     type Error = Error;
 
     ghost is_next = { λ v. ⟦<ResponseDataPart3Fields<'a> as Decode<SliceReader<'a>>>⟧.is_next
@@ -43,7 +43,10 @@ impl<'a, R: Reader<Borrowed = &'a [u8]>> Decode<R> for ResponseDataPart3<'a> {
         ⟦<ResponseDataPart3Fields<'a> as Decode<SliceReader<'a>>>⟧.decode_answers s
         (map_ok ⟦<ResponseDataPart3<'a> as FromFields<ResponseDataPart3Fields<'a>>>⟧.fields result) t };
 
-    fn decode(alloc: Global, reader: &mut R) -> Result<Self, Error> {
+    fn decode(alloc: Global, reader: &mut R) -> Result<Self, Error>
+    where
+        R: Reader,
+    {
         decode_fields::<R, ResponseDataPart3Fields<'a>, Self>(alloc, reader)
     }
 }

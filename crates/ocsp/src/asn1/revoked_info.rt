@@ -8,8 +8,8 @@ ghost use Rattle.der_asn1.specs.Item.{decodes_same};
 ghost use Rattle.der_asn1.specs.Meaning.{alternative, field, optional, sequence, sequence_is_item, sequence_item, two_fields};
 
 use der::{
-    Decode, DecodeValue, Encode, EncodeValue, Error, FromFields, Header, IsValue, Length, Reader,
-    Sequence, SliceReader, Writer, decode_sequence, field_refs,
+    Decode, DecodeValue, Encode, EncodeValue, Error, FromFields, Header, IsValue, Lends, Length,
+    Reader, Sequence, SliceReader, Writer, decode_sequence, field_refs,
 };
 use der_asn1::{
     BorrowedItem, DecodeItem, Described, Enumerated, Explicit, GeneralizedTime, Item, Nestable,
@@ -55,14 +55,17 @@ impl Sequence for RevokedInfo {
 }
 
 /// Decodes the fields one after the other, with the errors of every [`Sequence`].
-impl<'a, R: Reader<Borrowed = &'a [u8]>> DecodeValue<R> for RevokedInfo {
+impl<'a, R: Lends<Borrowed = &'a [u8]>> DecodeValue<R> for RevokedInfo {
     type Error = Error;
 
     ghost decode_value_answers = { λ h s result t.
         ⟦<RevokedInfoFields as Decode<SliceReader<'a>>>⟧.decode_answers s (map_ok
         ⟦<RevokedInfo as FromFields<RevokedInfoFields>>⟧.fields result) t };
 
-    fn decode_value(alloc: Global, reader: &mut R, header: Header) -> Result<Self, Error> {
+    fn decode_value(alloc: Global, reader: &mut R, header: Header) -> Result<Self, Error>
+    where
+        R: Reader,
+    {
         decode_sequence::<R, RevokedInfoFields, Self>(alloc, reader, header)
     }
 }
@@ -105,7 +108,7 @@ impl Item for RevokedInfo {
     ghost item = { sequence_item ⟦<RevokedInfo as Described>⟧.element };
 }
 
-impl<'a, R: Reader<Borrowed = &'a [u8]>> DecodeItem<R> for RevokedInfo {
+impl<'a, R: Lends<Borrowed = &'a [u8]>> DecodeItem<R> for RevokedInfo {
     ghost is_item = { sequence_is_item ⟦<RevokedInfo as Described>⟧.element refl };
 
     ghost decodes_items = { decodes_same (sequence_item ⟦<RevokedInfo as Described>⟧.element) };

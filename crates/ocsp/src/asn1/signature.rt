@@ -10,8 +10,8 @@ ghost use Rattle.der_asn1.specs.TupleFields.{three_fields};
 
 use crate::asn1::certificates::Certificates;
 use der::{
-    Decode, DecodeValue, Encode, EncodeValue, Error, FromFields, Header, IsValue, Length, Reader,
-    Sequence, SliceReader, Writer, decode_sequence, field_refs,
+    Decode, DecodeValue, Encode, EncodeValue, Error, FromFields, Header, IsValue, Lends, Length,
+    Reader, Sequence, SliceReader, Writer, decode_sequence, field_refs,
 };
 use der_asn1::{
     BitStringRef, BorrowedItem, DecodeItem, Described, Explicit, Item, Nestable, Optional,
@@ -61,14 +61,17 @@ impl<'a> Sequence for Signature<'a> {
 }
 
 /// Decodes the fields one after the other, with the errors of every [`Sequence`].
-impl<'a, R: Reader<Borrowed = &'a [u8]>> DecodeValue<R> for Signature<'a> {
+impl<'a, R: Lends<Borrowed = &'a [u8]>> DecodeValue<R> for Signature<'a> {
     type Error = Error;
 
     ghost decode_value_answers = { λ h s result t.
         ⟦<SignatureFields<'a> as Decode<SliceReader<'a>>>⟧.decode_answers s (map_ok
         ⟦<Signature<'a> as FromFields<SignatureFields<'a>>>⟧.fields result) t };
 
-    fn decode_value(alloc: Global, reader: &mut R, header: Header) -> Result<Self, Error> {
+    fn decode_value(alloc: Global, reader: &mut R, header: Header) -> Result<Self, Error>
+    where
+        R: Reader,
+    {
         decode_sequence::<R, SignatureFields<'a>, Self>(alloc, reader, header)
     }
 }
@@ -112,7 +115,7 @@ impl<'a> Item for Signature<'a> {
     ghost item = { sequence_item ⟦<Signature<'a> as Described>⟧.element };
 }
 
-impl<'a, R: Reader<Borrowed = &'a [u8]>> DecodeItem<R> for Signature<'a> {
+impl<'a, R: Lends<Borrowed = &'a [u8]>> DecodeItem<R> for Signature<'a> {
     ghost is_item = { sequence_is_item ⟦<Signature<'a> as Described>⟧.element refl };
 
     ghost decodes_items = { decodes_same (sequence_item ⟦<Signature<'a> as Described>⟧.element) };

@@ -13,8 +13,8 @@ use crate::asn1::cert_status::CertStatus;
 use crate::asn1::single_response_part1::{SingleResponsePart1, SingleResponsePart1Fields};
 use crate::asn1::single_response_part2::{SingleResponsePart2, SingleResponsePart2Fields};
 use der::{
-    Decode, DecodeValue, Encode, EncodeValue, Error, FromFields, Header, IsValue, Length, Reader,
-    Sequence, SliceReader, Writer, decode_sequence, field_refs,
+    Decode, DecodeValue, Encode, EncodeValue, Error, FromFields, Header, IsValue, Lends, Length,
+    Reader, Sequence, SliceReader, Writer, decode_sequence, field_refs,
 };
 use der_asn1::{
     BorrowedItem, DecodeItem, Described, DescribedChoice, Explicit, GeneralizedTime, Item,
@@ -81,7 +81,7 @@ impl<'a> Sequence for SingleResponse<'a> {
 }
 
 /// Decodes the fields one after the other, with the errors of every [`Sequence`].
-impl<'a, R: Reader<Borrowed = &'a [u8]>> DecodeValue<R> for SingleResponse<'a> {
+impl<'a, R: Lends<Borrowed = &'a [u8]>> DecodeValue<R> for SingleResponse<'a> {
     type Error = Error;
 
     ghost decode_value_answers = { λ h s result t.
@@ -89,7 +89,10 @@ impl<'a, R: Reader<Borrowed = &'a [u8]>> DecodeValue<R> for SingleResponse<'a> {
         (map_ok
         ⟦<SingleResponse<'a> as FromFields<(SingleResponsePart1<'a>, SingleResponsePart2<'a>)>>⟧.fields result) t };
 
-    fn decode_value(alloc: Global, reader: &mut R, header: Header) -> Result<Self, Error> {
+    fn decode_value(alloc: Global, reader: &mut R, header: Header) -> Result<Self, Error>
+    where
+        R: Reader,
+    {
         decode_sequence::<R, (SingleResponsePart1<'a>, SingleResponsePart2<'a>), Self>(
             alloc, reader, header,
         )
@@ -179,7 +182,7 @@ impl<'a> Item for SingleResponse<'a> {
     ghost item = { sequence_item ⟦<SingleResponse<'a> as Described>⟧.element };
 }
 
-impl<'a, R: Reader<Borrowed = &'a [u8]>> DecodeItem<R> for SingleResponse<'a> {
+impl<'a, R: Lends<Borrowed = &'a [u8]>> DecodeItem<R> for SingleResponse<'a> {
     ghost is_item = { sequence_is_item ⟦<SingleResponse<'a> as Described>⟧.element refl };
 
     ghost decodes_items = { decodes_same (sequence_item

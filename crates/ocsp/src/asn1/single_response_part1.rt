@@ -6,7 +6,7 @@ ghost use Rattle.der.specs.Prelude.{map_ok};
 
 use crate::asn1::cert_id::CertId;
 use crate::asn1::cert_status::CertStatus;
-use der::{Decode, Error, FromFields, Reader, SliceReader, decode_fields};
+use der::{Decode, Error, FromFields, Lends, Reader, SliceReader, decode_fields};
 use der_asn1::GeneralizedTime;
 use std::alloc::Global;
 
@@ -34,7 +34,7 @@ impl<'a> FromFields<SingleResponsePart1Fields<'a>> for SingleResponsePart1<'a> {
     }
 }
 
-impl<'a, R: Reader<Borrowed = &'a [u8]>> Decode<R> for SingleResponsePart1<'a> {
+impl<'a, R: Lends<Borrowed = &'a [u8]>> Decode<R> for SingleResponsePart1<'a> {
     type Error = Error;
 
     ghost is_next = { λ v. ⟦<SingleResponsePart1Fields<'a> as Decode<SliceReader<'a>>>⟧.is_next
@@ -48,7 +48,10 @@ impl<'a, R: Reader<Borrowed = &'a [u8]>> Decode<R> for SingleResponsePart1<'a> {
         ⟦<SingleResponsePart1Fields<'a> as Decode<SliceReader<'a>>>⟧.decode_answers s
         (map_ok ⟦<SingleResponsePart1<'a> as FromFields<SingleResponsePart1Fields<'a>>>⟧.fields result) t };
 
-    fn decode(alloc: Global, reader: &mut R) -> Result<Self, Error> {
+    fn decode(alloc: Global, reader: &mut R) -> Result<Self, Error>
+    where
+        R: Reader,
+    {
         decode_fields::<R, SingleResponsePart1Fields<'a>, Self>(alloc, reader)
     }
 }

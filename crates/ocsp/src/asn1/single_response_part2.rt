@@ -4,7 +4,7 @@
 ghost use Rattle.std.specs.Prelude.{false};
 ghost use Rattle.der.specs.Prelude.{map_ok};
 
-use der::{Decode, Error, FromFields, Reader, SliceReader, decode_fields};
+use der::{Decode, Error, FromFields, Lends, Reader, SliceReader, decode_fields};
 use der_asn1::{Explicit, GeneralizedTime, Optional};
 use std::alloc::Global;
 use x509::Extensions;
@@ -34,7 +34,7 @@ impl<'a> FromFields<SingleResponsePart2Fields<'a>> for SingleResponsePart2<'a> {
     }
 }
 
-impl<'a, R: Reader<Borrowed = &'a [u8]>> Decode<R> for SingleResponsePart2<'a> {
+impl<'a, R: Lends<Borrowed = &'a [u8]>> Decode<R> for SingleResponsePart2<'a> {
     type Error = Error;
 
     ghost is_next = { λ v. ⟦<SingleResponsePart2Fields<'a> as Decode<SliceReader<'a>>>⟧.is_next
@@ -48,7 +48,10 @@ impl<'a, R: Reader<Borrowed = &'a [u8]>> Decode<R> for SingleResponsePart2<'a> {
         ⟦<SingleResponsePart2Fields<'a> as Decode<SliceReader<'a>>>⟧.decode_answers s
         (map_ok ⟦<SingleResponsePart2<'a> as FromFields<SingleResponsePart2Fields<'a>>>⟧.fields result) t };
 
-    fn decode(alloc: Global, reader: &mut R) -> Result<Self, Error> {
+    fn decode(alloc: Global, reader: &mut R) -> Result<Self, Error>
+    where
+        R: Reader,
+    {
         decode_fields::<R, SingleResponsePart2Fields<'a>, Self>(alloc, reader)
     }
 }

@@ -15,8 +15,8 @@ use crate::asn1::tbs_request_part2::{TbsRequestPart2, TbsRequestPart2Fields};
 use crate::asn1::tbs_request_part3::{TbsRequestPart3, TbsRequestPart3Fields};
 use crate::asn1::tbs_request_part4::{TbsRequestPart4, TbsRequestPart4Fields};
 use der::{
-    Decode, DecodeValue, Encode, EncodeValue, Error, FromFields, Header, IsValue, Length, Reader,
-    Sequence, SliceReader, Writer, decode_sequence, field_refs,
+    Decode, DecodeValue, Encode, EncodeValue, Error, FromFields, Header, IsValue, Lends, Length,
+    Reader, Sequence, SliceReader, Writer, decode_sequence, field_refs,
 };
 use der_asn1::{
     BorrowedItem, DecodeItem, DefaultU64, DefaultValue, Defaulted, Described, Explicit, Implicit,
@@ -98,7 +98,7 @@ impl<'a> Sequence for TbsRequest<'a> {
 }
 
 /// Decodes the fields one after the other, with the errors of every [`Sequence`].
-impl<'a, R: Reader<Borrowed = &'a [u8]>> DecodeValue<R> for TbsRequest<'a> {
+impl<'a, R: Lends<Borrowed = &'a [u8]>> DecodeValue<R> for TbsRequest<'a> {
     type Error = Error;
 
     ghost decode_value_answers = { λ h s result t.
@@ -106,7 +106,10 @@ impl<'a, R: Reader<Borrowed = &'a [u8]>> DecodeValue<R> for TbsRequest<'a> {
         (map_ok
         ⟦<TbsRequest<'a> as FromFields<(TbsRequestPart1, TbsRequestPart2<'a>, TbsRequestPart3<'a>, TbsRequestPart4<'a>)>>⟧.fields result) t };
 
-    fn decode_value(alloc: Global, reader: &mut R, header: Header) -> Result<Self, Error> {
+    fn decode_value(alloc: Global, reader: &mut R, header: Header) -> Result<Self, Error>
+    where
+        R: Reader,
+    {
         decode_sequence::<
             R,
             (
@@ -194,7 +197,7 @@ impl<'a> Item for TbsRequest<'a> {
     ghost item = { sequence_item ⟦<TbsRequest<'a> as Described>⟧.element };
 }
 
-impl<'a, R: Reader<Borrowed = &'a [u8]>> DecodeItem<R> for TbsRequest<'a> {
+impl<'a, R: Lends<Borrowed = &'a [u8]>> DecodeItem<R> for TbsRequest<'a> {
     ghost is_item = { sequence_is_item ⟦<TbsRequest<'a> as Described>⟧.element refl };
 
     ghost decodes_items = { decodes_same (sequence_item ⟦<TbsRequest<'a> as Described>⟧.element) };

@@ -5,7 +5,7 @@ ghost use Rattle.std.specs.Prelude.{false};
 ghost use Rattle.der.specs.Prelude.{map_ok};
 
 use crate::asn1::request::Request;
-use der::{Decode, Error, FromFields, Reader, SliceReader, decode_fields};
+use der::{Decode, Error, FromFields, Lends, Reader, SliceReader, decode_fields};
 use der_asn1::SequenceOf;
 use std::alloc::Global;
 
@@ -27,7 +27,7 @@ impl<'a> FromFields<TbsRequestPart3Fields<'a>> for TbsRequestPart3<'a> {
     }
 }
 
-impl<'a, R: Reader<Borrowed = &'a [u8]>> Decode<R> for TbsRequestPart3<'a> {
+impl<'a, R: Lends<Borrowed = &'a [u8]>> Decode<R> for TbsRequestPart3<'a> {
     type Error = Error;
 
     ghost is_next = { λ v. ⟦<TbsRequestPart3Fields<'a> as Decode<SliceReader<'a>>>⟧.is_next
@@ -41,7 +41,10 @@ impl<'a, R: Reader<Borrowed = &'a [u8]>> Decode<R> for TbsRequestPart3<'a> {
         ⟦<TbsRequestPart3Fields<'a> as Decode<SliceReader<'a>>>⟧.decode_answers s
         (map_ok ⟦<TbsRequestPart3<'a> as FromFields<TbsRequestPart3Fields<'a>>>⟧.fields result) t };
 
-    fn decode(alloc: Global, reader: &mut R) -> Result<Self, Error> {
+    fn decode(alloc: Global, reader: &mut R) -> Result<Self, Error>
+    where
+        R: Reader,
+    {
         decode_fields::<R, TbsRequestPart3Fields<'a>, Self>(alloc, reader)
     }
 }

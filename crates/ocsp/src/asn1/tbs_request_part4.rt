@@ -4,7 +4,7 @@
 ghost use Rattle.std.specs.Prelude.{false};
 ghost use Rattle.der.specs.Prelude.{map_ok};
 
-use der::{Decode, Error, FromFields, Reader, SliceReader, decode_fields};
+use der::{Decode, Error, FromFields, Lends, Reader, SliceReader, decode_fields};
 use der_asn1::{Explicit, Optional};
 use std::alloc::Global;
 use x509::Extensions;
@@ -27,7 +27,7 @@ impl<'a> FromFields<TbsRequestPart4Fields<'a>> for TbsRequestPart4<'a> {
     }
 }
 
-impl<'a, R: Reader<Borrowed = &'a [u8]>> Decode<R> for TbsRequestPart4<'a> {
+impl<'a, R: Lends<Borrowed = &'a [u8]>> Decode<R> for TbsRequestPart4<'a> {
     type Error = Error;
 
     ghost is_next = { λ v. ⟦<TbsRequestPart4Fields<'a> as Decode<SliceReader<'a>>>⟧.is_next
@@ -41,7 +41,10 @@ impl<'a, R: Reader<Borrowed = &'a [u8]>> Decode<R> for TbsRequestPart4<'a> {
         ⟦<TbsRequestPart4Fields<'a> as Decode<SliceReader<'a>>>⟧.decode_answers s
         (map_ok ⟦<TbsRequestPart4<'a> as FromFields<TbsRequestPart4Fields<'a>>>⟧.fields result) t };
 
-    fn decode(alloc: Global, reader: &mut R) -> Result<Self, Error> {
+    fn decode(alloc: Global, reader: &mut R) -> Result<Self, Error>
+    where
+        R: Reader,
+    {
         decode_fields::<R, TbsRequestPart4Fields<'a>, Self>(alloc, reader)
     }
 }

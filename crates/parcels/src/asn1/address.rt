@@ -11,8 +11,8 @@ ghost use Rattle.der_asn1.specs.TupleFields.{three_fields};
 use crate::asn1::address_part1::{AddressPart1, AddressPart1Fields};
 use crate::asn1::address_part2::{AddressPart2, AddressPart2Fields};
 use der::{
-    Decode, DecodeValue, Encode, EncodeValue, Error, FromFields, Header, IsValue, Length, Reader,
-    Sequence, SliceReader, Writer, decode_sequence, field_refs,
+    Decode, DecodeValue, Encode, EncodeValue, Error, FromFields, Header, IsValue, Lends, Length,
+    Reader, Sequence, SliceReader, Writer, decode_sequence, field_refs,
 };
 use der_asn1::{
     Application, BmpStringRef, BorrowedItem, DecodeItem, Described, Ia5StringRef, Implicit, Item,
@@ -71,14 +71,17 @@ impl<'a> Sequence for Address<'a> {
 }
 
 /// Decodes the fields one after the other, with the errors of every [`Sequence`].
-impl<'a, R: Reader<Borrowed = &'a [u8]>> DecodeValue<R> for Address<'a> {
+impl<'a, R: Lends<Borrowed = &'a [u8]>> DecodeValue<R> for Address<'a> {
     type Error = Error;
 
     ghost decode_value_answers = { λ h s result t.
         ⟦<(AddressPart1<'a>, AddressPart2<'a>) as Decode<SliceReader<'a>>>⟧.decode_answers s (map_ok
         ⟦<Address<'a> as FromFields<(AddressPart1<'a>, AddressPart2<'a>)>>⟧.fields result) t };
 
-    fn decode_value(alloc: Global, reader: &mut R, header: Header) -> Result<Self, Error> {
+    fn decode_value(alloc: Global, reader: &mut R, header: Header) -> Result<Self, Error>
+    where
+        R: Reader,
+    {
         decode_sequence::<R, (AddressPart1<'a>, AddressPart2<'a>), Self>(alloc, reader, header)
     }
 }
@@ -136,7 +139,7 @@ impl<'a> Item for Address<'a> {
     ghost item = { sequence_item ⟦<Address<'a> as Described>⟧.element };
 }
 
-impl<'a, R: Reader<Borrowed = &'a [u8]>> DecodeItem<R> for Address<'a> {
+impl<'a, R: Lends<Borrowed = &'a [u8]>> DecodeItem<R> for Address<'a> {
     ghost is_item = { sequence_is_item ⟦<Address<'a> as Described>⟧.element refl };
 
     ghost decodes_items = { decodes_same (sequence_item ⟦<Address<'a> as Described>⟧.element) };

@@ -4,7 +4,7 @@
 ghost use Rattle.std.specs.Prelude.{false};
 ghost use Rattle.der.specs.Prelude.{map_ok};
 
-use der::{Decode, Error, FromFields, Reader, SliceReader, decode_fields};
+use der::{Decode, Error, FromFields, Lends, Reader, SliceReader, decode_fields};
 use der_asn1::{
     Application, Implicit, NumericStringRef, Optional, PrintableStringRef, Utf8StringRef,
 };
@@ -34,7 +34,7 @@ impl<'a> FromFields<AddressPart1Fields<'a>> for AddressPart1<'a> {
     }
 }
 
-impl<'a, R: Reader<Borrowed = &'a [u8]>> Decode<R> for AddressPart1<'a> {
+impl<'a, R: Lends<Borrowed = &'a [u8]>> Decode<R> for AddressPart1<'a> {
     type Error = Error;
 
     ghost is_next = { λ v. ⟦<AddressPart1Fields<'a> as Decode<SliceReader<'a>>>⟧.is_next
@@ -48,7 +48,10 @@ impl<'a, R: Reader<Borrowed = &'a [u8]>> Decode<R> for AddressPart1<'a> {
         ⟦<AddressPart1Fields<'a> as Decode<SliceReader<'a>>>⟧.decode_answers s
         (map_ok ⟦<AddressPart1<'a> as FromFields<AddressPart1Fields<'a>>>⟧.fields result) t };
 
-    fn decode(alloc: Global, reader: &mut R) -> Result<Self, Error> {
+    fn decode(alloc: Global, reader: &mut R) -> Result<Self, Error>
+    where
+        R: Reader,
+    {
         decode_fields::<R, AddressPart1Fields<'a>, Self>(alloc, reader)
     }
 }

@@ -4,7 +4,7 @@
 ghost use Rattle.std.specs.Prelude.{false};
 ghost use Rattle.der.specs.Prelude.{map_ok};
 
-use der::{Decode, Error, FromFields, Reader, SliceReader, decode_fields};
+use der::{Decode, Error, FromFields, Lends, Reader, SliceReader, decode_fields};
 use der_asn1::{BmpStringRef, Ia5StringRef, Optional};
 use std::alloc::Global;
 
@@ -27,7 +27,7 @@ impl<'a> FromFields<AddressPart2Fields<'a>> for AddressPart2<'a> {
     }
 }
 
-impl<'a, R: Reader<Borrowed = &'a [u8]>> Decode<R> for AddressPart2<'a> {
+impl<'a, R: Lends<Borrowed = &'a [u8]>> Decode<R> for AddressPart2<'a> {
     type Error = Error;
 
     ghost is_next = { λ v. ⟦<AddressPart2Fields<'a> as Decode<SliceReader<'a>>>⟧.is_next
@@ -41,7 +41,10 @@ impl<'a, R: Reader<Borrowed = &'a [u8]>> Decode<R> for AddressPart2<'a> {
         ⟦<AddressPart2Fields<'a> as Decode<SliceReader<'a>>>⟧.decode_answers s
         (map_ok ⟦<AddressPart2<'a> as FromFields<AddressPart2Fields<'a>>>⟧.fields result) t };
 
-    fn decode(alloc: Global, reader: &mut R) -> Result<Self, Error> {
+    fn decode(alloc: Global, reader: &mut R) -> Result<Self, Error>
+    where
+        R: Reader,
+    {
         decode_fields::<R, AddressPart2Fields<'a>, Self>(alloc, reader)
     }
 }

@@ -15,8 +15,8 @@ use crate::asn1::journey_part3::{JourneyPart3, JourneyPart3Fields};
 use crate::asn1::property::Property;
 use crate::asn1::stop::Stop;
 use der::{
-    Decode, DecodeValue, Encode, EncodeValue, Error, FromFields, Header, IsValue, Length, Reader,
-    Sequence, SliceReader, Writer, decode_sequence, field_refs,
+    Decode, DecodeValue, Encode, EncodeValue, Error, FromFields, Header, IsValue, Lends, Length,
+    Reader, Sequence, SliceReader, Writer, decode_sequence, field_refs,
 };
 use der_asn1::{
     BorrowedItem, DecodeItem, DefaultU64, DefaultValue, Defaulted, Described, Implicit, IntegerOf,
@@ -85,7 +85,7 @@ impl<'a> Sequence for Journey<'a> {
 }
 
 /// Decodes the fields one after the other, with the errors of every [`Sequence`].
-impl<'a, R: Reader<Borrowed = &'a [u8]>> DecodeValue<R> for Journey<'a> {
+impl<'a, R: Lends<Borrowed = &'a [u8]>> DecodeValue<R> for Journey<'a> {
     type Error = Error;
 
     ghost decode_value_answers = { λ h s result t.
@@ -93,7 +93,10 @@ impl<'a, R: Reader<Borrowed = &'a [u8]>> DecodeValue<R> for Journey<'a> {
         (map_ok
         ⟦<Journey<'a> as FromFields<(JourneyPart1<'a>, JourneyPart2<'a>, JourneyPart3)>>⟧.fields result) t };
 
-    fn decode_value(alloc: Global, reader: &mut R, header: Header) -> Result<Self, Error> {
+    fn decode_value(alloc: Global, reader: &mut R, header: Header) -> Result<Self, Error>
+    where
+        R: Reader,
+    {
         decode_sequence::<R, (JourneyPart1<'a>, JourneyPart2<'a>, JourneyPart3), Self>(
             alloc, reader, header,
         )
@@ -157,7 +160,7 @@ impl<'a> Item for Journey<'a> {
     ghost item = { sequence_item ⟦<Journey<'a> as Described>⟧.element };
 }
 
-impl<'a, R: Reader<Borrowed = &'a [u8]>> DecodeItem<R> for Journey<'a> {
+impl<'a, R: Lends<Borrowed = &'a [u8]>> DecodeItem<R> for Journey<'a> {
     ghost is_item = { sequence_is_item ⟦<Journey<'a> as Described>⟧.element refl };
 
     ghost decodes_items = { decodes_same (sequence_item ⟦<Journey<'a> as Described>⟧.element) };

@@ -6,7 +6,7 @@ ghost use Rattle.der.specs.Prelude.{map_ok};
 
 use crate::asn1::property::Property;
 use crate::asn1::stop::Stop;
-use der::{Decode, Error, FromFields, Reader, SliceReader, decode_fields};
+use der::{Decode, Error, FromFields, Lends, Reader, SliceReader, decode_fields};
 use der_asn1::{Implicit, Optional, SequenceOf, SetOf};
 use std::alloc::Global;
 
@@ -32,7 +32,7 @@ impl<'a> FromFields<JourneyPart2Fields<'a>> for JourneyPart2<'a> {
     }
 }
 
-impl<'a, R: Reader<Borrowed = &'a [u8]>> Decode<R> for JourneyPart2<'a> {
+impl<'a, R: Lends<Borrowed = &'a [u8]>> Decode<R> for JourneyPart2<'a> {
     type Error = Error;
 
     ghost is_next = { λ v. ⟦<JourneyPart2Fields<'a> as Decode<SliceReader<'a>>>⟧.is_next
@@ -46,7 +46,10 @@ impl<'a, R: Reader<Borrowed = &'a [u8]>> Decode<R> for JourneyPart2<'a> {
         ⟦<JourneyPart2Fields<'a> as Decode<SliceReader<'a>>>⟧.decode_answers s
         (map_ok ⟦<JourneyPart2<'a> as FromFields<JourneyPart2Fields<'a>>>⟧.fields result) t };
 
-    fn decode(alloc: Global, reader: &mut R) -> Result<Self, Error> {
+    fn decode(alloc: Global, reader: &mut R) -> Result<Self, Error>
+    where
+        R: Reader,
+    {
         decode_fields::<R, JourneyPart2Fields<'a>, Self>(alloc, reader)
     }
 }

@@ -4,7 +4,7 @@
 ghost use Rattle.std.specs.Prelude.{false};
 ghost use Rattle.der.specs.Prelude.{map_ok};
 
-use der::{Decode, Error, FromFields, Reader, SliceReader, decode_fields};
+use der::{Decode, Error, FromFields, Lends, Reader, SliceReader, decode_fields};
 use der_asn1::{DefaultU64, Defaulted, Implicit, IntegerOf, WithDefault};
 use std::alloc::Global;
 
@@ -28,7 +28,7 @@ impl FromFields<JourneyPart3Fields> for JourneyPart3 {
     }
 }
 
-impl<'a, R: Reader<Borrowed = &'a [u8]>> Decode<R> for JourneyPart3 {
+impl<'a, R: Lends<Borrowed = &'a [u8]>> Decode<R> for JourneyPart3 {
     type Error = Error;
 
     ghost is_next = { λ v. ⟦<JourneyPart3Fields as Decode<SliceReader<'a>>>⟧.is_next
@@ -42,7 +42,10 @@ impl<'a, R: Reader<Borrowed = &'a [u8]>> Decode<R> for JourneyPart3 {
         ⟦<JourneyPart3Fields as Decode<SliceReader<'a>>>⟧.decode_answers s
         (map_ok ⟦<JourneyPart3 as FromFields<JourneyPart3Fields>>⟧.fields result) t };
 
-    fn decode(alloc: Global, reader: &mut R) -> Result<Self, Error> {
+    fn decode(alloc: Global, reader: &mut R) -> Result<Self, Error>
+    where
+        R: Reader,
+    {
         decode_fields::<R, JourneyPart3Fields, Self>(alloc, reader)
     }
 }

@@ -19,8 +19,8 @@ use crate::asn1::parcel_part3::{ParcelPart3, ParcelPart3Fields};
 use crate::asn1::parcel_part4::{ParcelPart4, ParcelPart4Fields};
 use crate::asn1::version::Version;
 use der::{
-    Decode, DecodeValue, Encode, EncodeValue, Error, FromFields, Header, IsValue, Length, Reader,
-    Sequence, SliceReader, Writer, decode_sequence, field_refs,
+    Decode, DecodeValue, Encode, EncodeValue, Error, FromFields, Header, IsValue, Lends, Length,
+    Reader, Sequence, SliceReader, Writer, decode_sequence, field_refs,
 };
 use der_asn1::{
     BooleanRef, BorrowedItem, DecodeItem, DefaultOf, DefaultValue, Defaulted, Described,
@@ -123,7 +123,7 @@ impl<'a> Sequence for Parcel<'a> {
 }
 
 /// Decodes the fields one after the other, with the errors of every [`Sequence`].
-impl<'a, R: Reader<Borrowed = &'a [u8]>> DecodeValue<R> for Parcel<'a> {
+impl<'a, R: Lends<Borrowed = &'a [u8]>> DecodeValue<R> for Parcel<'a> {
     type Error = Error;
 
     ghost decode_value_answers = { λ h s result t.
@@ -131,7 +131,10 @@ impl<'a, R: Reader<Borrowed = &'a [u8]>> DecodeValue<R> for Parcel<'a> {
         (map_ok
         ⟦<Parcel<'a> as FromFields<(ParcelPart1<'a>, ParcelPart2, ParcelPart3<'a>, ParcelPart4<'a>)>>⟧.fields result) t };
 
-    fn decode_value(alloc: Global, reader: &mut R, header: Header) -> Result<Self, Error> {
+    fn decode_value(alloc: Global, reader: &mut R, header: Header) -> Result<Self, Error>
+    where
+        R: Reader,
+    {
         decode_sequence::<
             R,
             (
@@ -243,7 +246,7 @@ impl<'a> Item for Parcel<'a> {
     ghost item = { sequence_item ⟦<Parcel<'a> as Described>⟧.element };
 }
 
-impl<'a, R: Reader<Borrowed = &'a [u8]>> DecodeItem<R> for Parcel<'a> {
+impl<'a, R: Lends<Borrowed = &'a [u8]>> DecodeItem<R> for Parcel<'a> {
     ghost is_item = { sequence_is_item ⟦<Parcel<'a> as Described>⟧.element refl };
 
     ghost decodes_items = { decodes_same (sequence_item ⟦<Parcel<'a> as Described>⟧.element) };

@@ -6,7 +6,7 @@ ghost use Rattle.der.specs.Prelude.{map_ok};
 
 use crate::asn1::parcel::ParcelVersionDefault;
 use crate::asn1::version::Version;
-use der::{Decode, Error, FromFields, Reader, SliceReader, decode_fields};
+use der::{Decode, Error, FromFields, Lends, Reader, SliceReader, decode_fields};
 use der_asn1::{Defaulted, Explicit, IntRef, NamedInteger, WithDefault};
 use std::alloc::Global;
 
@@ -34,7 +34,7 @@ impl<'a> FromFields<ParcelPart1Fields<'a>> for ParcelPart1<'a> {
     }
 }
 
-impl<'a, R: Reader<Borrowed = &'a [u8]>> Decode<R> for ParcelPart1<'a> {
+impl<'a, R: Lends<Borrowed = &'a [u8]>> Decode<R> for ParcelPart1<'a> {
     type Error = Error;
 
     ghost is_next = { λ v. ⟦<ParcelPart1Fields<'a> as Decode<SliceReader<'a>>>⟧.is_next
@@ -48,7 +48,10 @@ impl<'a, R: Reader<Borrowed = &'a [u8]>> Decode<R> for ParcelPart1<'a> {
         ⟦<ParcelPart1Fields<'a> as Decode<SliceReader<'a>>>⟧.decode_answers s
         (map_ok ⟦<ParcelPart1<'a> as FromFields<ParcelPart1Fields<'a>>>⟧.fields result) t };
 
-    fn decode(alloc: Global, reader: &mut R) -> Result<Self, Error> {
+    fn decode(alloc: Global, reader: &mut R) -> Result<Self, Error>
+    where
+        R: Reader,
+    {
         decode_fields::<R, ParcelPart1Fields<'a>, Self>(alloc, reader)
     }
 }

@@ -6,7 +6,7 @@ ghost use Rattle.der.specs.Prelude.{map_ok};
 
 use crate::asn1::packing::Packing;
 use crate::asn1::parcel::ParcelPackingDefault;
-use der::{Decode, Error, FromFields, Reader, SliceReader, decode_fields};
+use der::{Decode, Error, FromFields, Lends, Reader, SliceReader, decode_fields};
 use der_asn1::{Defaulted, Enumerated, IntegerIn, WithDefault};
 use std::alloc::Global;
 
@@ -32,7 +32,7 @@ impl FromFields<ParcelPart2Fields> for ParcelPart2 {
     }
 }
 
-impl<'a, R: Reader<Borrowed = &'a [u8]>> Decode<R> for ParcelPart2 {
+impl<'a, R: Lends<Borrowed = &'a [u8]>> Decode<R> for ParcelPart2 {
     type Error = Error;
 
     ghost is_next = { λ v. ⟦<ParcelPart2Fields as Decode<SliceReader<'a>>>⟧.is_next
@@ -46,7 +46,10 @@ impl<'a, R: Reader<Borrowed = &'a [u8]>> Decode<R> for ParcelPart2 {
         ⟦<ParcelPart2Fields as Decode<SliceReader<'a>>>⟧.decode_answers s
         (map_ok ⟦<ParcelPart2 as FromFields<ParcelPart2Fields>>⟧.fields result) t };
 
-    fn decode(alloc: Global, reader: &mut R) -> Result<Self, Error> {
+    fn decode(alloc: Global, reader: &mut R) -> Result<Self, Error>
+    where
+        R: Reader,
+    {
         decode_fields::<R, ParcelPart2Fields, Self>(alloc, reader)
     }
 }

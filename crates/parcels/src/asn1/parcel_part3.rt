@@ -5,7 +5,7 @@ ghost use Rattle.std.specs.Prelude.{false};
 ghost use Rattle.der.specs.Prelude.{map_ok};
 
 use crate::asn1::handling::Handling;
-use der::{Decode, Error, FromFields, Reader, SliceReader, decode_fields};
+use der::{Decode, Error, FromFields, Lends, Reader, SliceReader, decode_fields};
 use der_asn1::{BooleanRef, Defaulted, Optional};
 use std::alloc::Global;
 
@@ -28,7 +28,7 @@ impl<'a> FromFields<ParcelPart3Fields<'a>> for ParcelPart3<'a> {
     }
 }
 
-impl<'a, R: Reader<Borrowed = &'a [u8]>> Decode<R> for ParcelPart3<'a> {
+impl<'a, R: Lends<Borrowed = &'a [u8]>> Decode<R> for ParcelPart3<'a> {
     type Error = Error;
 
     ghost is_next = { λ v. ⟦<ParcelPart3Fields<'a> as Decode<SliceReader<'a>>>⟧.is_next
@@ -42,7 +42,10 @@ impl<'a, R: Reader<Borrowed = &'a [u8]>> Decode<R> for ParcelPart3<'a> {
         ⟦<ParcelPart3Fields<'a> as Decode<SliceReader<'a>>>⟧.decode_answers s
         (map_ok ⟦<ParcelPart3<'a> as FromFields<ParcelPart3Fields<'a>>>⟧.fields result) t };
 
-    fn decode(alloc: Global, reader: &mut R) -> Result<Self, Error> {
+    fn decode(alloc: Global, reader: &mut R) -> Result<Self, Error>
+    where
+        R: Reader,
+    {
         decode_fields::<R, ParcelPart3Fields<'a>, Self>(alloc, reader)
     }
 }

@@ -6,7 +6,7 @@ ghost use Rattle.der.specs.Prelude.{map_ok};
 
 use crate::asn1::journey::Journey;
 use crate::asn1::label::Label;
-use der::{Decode, Error, FromFields, Reader, SliceReader, decode_fields};
+use der::{Decode, Error, FromFields, Lends, Reader, SliceReader, decode_fields};
 use der_asn1::{Implicit, Optional};
 use std::alloc::Global;
 
@@ -29,7 +29,7 @@ impl<'a> FromFields<ParcelPart4Fields<'a>> for ParcelPart4<'a> {
     }
 }
 
-impl<'a, R: Reader<Borrowed = &'a [u8]>> Decode<R> for ParcelPart4<'a> {
+impl<'a, R: Lends<Borrowed = &'a [u8]>> Decode<R> for ParcelPart4<'a> {
     type Error = Error;
 
     ghost is_next = { λ v. ⟦<ParcelPart4Fields<'a> as Decode<SliceReader<'a>>>⟧.is_next
@@ -43,7 +43,10 @@ impl<'a, R: Reader<Borrowed = &'a [u8]>> Decode<R> for ParcelPart4<'a> {
         ⟦<ParcelPart4Fields<'a> as Decode<SliceReader<'a>>>⟧.decode_answers s
         (map_ok ⟦<ParcelPart4<'a> as FromFields<ParcelPart4Fields<'a>>>⟧.fields result) t };
 
-    fn decode(alloc: Global, reader: &mut R) -> Result<Self, Error> {
+    fn decode(alloc: Global, reader: &mut R) -> Result<Self, Error>
+    where
+        R: Reader,
+    {
         decode_fields::<R, ParcelPart4Fields<'a>, Self>(alloc, reader)
     }
 }

@@ -10,8 +10,8 @@ ghost use Rattle.der_asn1.specs.TupleFields.{three_fields};
 
 use crate::asn1::text_tagged::TextTagged;
 use der::{
-    Decode, DecodeValue, Encode, EncodeValue, Error, FromFields, Header, IsValue, Length, Reader,
-    Sequence, SliceReader, Writer, decode_sequence, field_refs,
+    Decode, DecodeValue, Encode, EncodeValue, Error, FromFields, Header, IsValue, Lends, Length,
+    Reader, Sequence, SliceReader, Writer, decode_sequence, field_refs,
 };
 use der_asn1::{AnyRef, BorrowedItem, DecodeItem, Described, Implicit, Item, Nestable, Optional};
 use spki::AlgorithmIdentifierRef;
@@ -58,14 +58,17 @@ impl<'a> Sequence for Seal<'a> {
 }
 
 /// Decodes the fields one after the other, with the errors of every [`Sequence`].
-impl<'a, R: Reader<Borrowed = &'a [u8]>> DecodeValue<R> for Seal<'a> {
+impl<'a, R: Lends<Borrowed = &'a [u8]>> DecodeValue<R> for Seal<'a> {
     type Error = Error;
 
     ghost decode_value_answers = { λ h s result t.
         ⟦<SealFields<'a> as Decode<SliceReader<'a>>>⟧.decode_answers s (map_ok
         ⟦<Seal<'a> as FromFields<SealFields<'a>>>⟧.fields result) t };
 
-    fn decode_value(alloc: Global, reader: &mut R, header: Header) -> Result<Self, Error> {
+    fn decode_value(alloc: Global, reader: &mut R, header: Header) -> Result<Self, Error>
+    where
+        R: Reader,
+    {
         decode_sequence::<R, SealFields<'a>, Self>(alloc, reader, header)
     }
 }
@@ -109,7 +112,7 @@ impl<'a> Item for Seal<'a> {
     ghost item = { sequence_item ⟦<Seal<'a> as Described>⟧.element };
 }
 
-impl<'a, R: Reader<Borrowed = &'a [u8]>> DecodeItem<R> for Seal<'a> {
+impl<'a, R: Lends<Borrowed = &'a [u8]>> DecodeItem<R> for Seal<'a> {
     ghost is_item = { sequence_is_item ⟦<Seal<'a> as Described>⟧.element refl };
 
     ghost decodes_items = { decodes_same (sequence_item ⟦<Seal<'a> as Described>⟧.element) };

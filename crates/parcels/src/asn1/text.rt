@@ -11,7 +11,7 @@ ghost use Rattle.parcels.specs.declared.asn1.text.Text.TheVariants as variant;
 
 use crate::asn1::text_part1::TextPart1;
 use crate::asn1::text_part2::TextPart2;
-use der::{Decode, Encode, Error, FromFields, Length, Reader, SliceReader, Tag, Writer};
+use der::{Decode, Encode, Error, FromFields, Lends, Length, Reader, SliceReader, Tag, Writer};
 use der_asn1::{
     BorrowedItem, Choice, DecodeItem, DescribedChoice, Either, Item, PrintableStringRef,
     TeletexStringRef, Utf8StringRef, VisibleStringRef, decode_choice,
@@ -75,7 +75,7 @@ impl<'a> DescribedChoice for Text<'a> {
 }
 
 /// Decodes the alternative whose tag is next, with the errors of [`Either`].
-impl<'a, R: Reader<Borrowed = &'a [u8]>> Decode<R> for Text<'a> {
+impl<'a, R: Lends<Borrowed = &'a [u8]>> Decode<R> for Text<'a> {
     type Error = Error;
 
     ghost is_next = { ⟦<Text<'a> as DescribedChoice>⟧.alternative.is_next };
@@ -88,12 +88,15 @@ impl<'a, R: Reader<Borrowed = &'a [u8]>> Decode<R> for Text<'a> {
         ⟦<TextAlternatives<'a> as Decode<SliceReader<'a>>>⟧.decode_answers s
         (map_ok ⟦<Text<'a> as FromFields<TextAlternatives<'a>>>⟧.fields result) t };
 
-    fn decode(alloc: Global, reader: &mut R) -> Result<Self, Error> {
+    fn decode(alloc: Global, reader: &mut R) -> Result<Self, Error>
+    where
+        R: Reader,
+    {
         decode_choice::<R, TextAlternatives<'a>, Self>(alloc, reader)
     }
 }
 
-impl<'a, R: Reader<Borrowed = &'a [u8]>> Choice<R> for Text<'a> {
+impl<'a, R: Lends<Borrowed = &'a [u8]>> Choice<R> for Text<'a> {
     ghost chooses = { ⟦<Text<'a> as DescribedChoice>⟧.alternative.tags };
 
     fn can_decode(tag: Tag) -> bool {
@@ -158,7 +161,7 @@ impl<'a> Item for Text<'a> {
     ghost item = { choice_item ⟦<Text<'a> as DescribedChoice>⟧.alternative };
 }
 
-impl<'a, R: Reader<Borrowed = &'a [u8]>> DecodeItem<R> for Text<'a> {
+impl<'a, R: Lends<Borrowed = &'a [u8]>> DecodeItem<R> for Text<'a> {
     ghost is_item = { choice_is_item ⟦<Text<'a> as DescribedChoice>⟧.alternative refl };
 
     ghost decodes_items = { decodes_same (choice_item

@@ -11,7 +11,7 @@ ghost use Rattle.parcels.specs.declared.asn1.time.Time.TheVariants as variant;
 
 use crate::asn1::time_part1::TimePart1;
 use crate::asn1::time_part2::TimePart2;
-use der::{Decode, Encode, Error, FromFields, Length, Reader, SliceReader, Tag, Writer};
+use der::{Decode, Encode, Error, FromFields, Lends, Length, Reader, SliceReader, Tag, Writer};
 use der_asn1::{
     BorrowedItem, Choice, DecodeItem, DescribedChoice, Either, GeneralizedTime, Item, Null,
     UtcTime, decode_choice,
@@ -63,7 +63,7 @@ impl<'a> DescribedChoice for Time<'a> {
 }
 
 /// Decodes the alternative whose tag is next, with the errors of [`Either`].
-impl<'a, R: Reader<Borrowed = &'a [u8]>> Decode<R> for Time<'a> {
+impl<'a, R: Lends<Borrowed = &'a [u8]>> Decode<R> for Time<'a> {
     type Error = Error;
 
     ghost is_next = { ⟦<Time<'a> as DescribedChoice>⟧.alternative.is_next };
@@ -76,12 +76,15 @@ impl<'a, R: Reader<Borrowed = &'a [u8]>> Decode<R> for Time<'a> {
         ⟦<TimeAlternatives<'a> as Decode<SliceReader<'a>>>⟧.decode_answers s
         (map_ok ⟦<Time<'a> as FromFields<TimeAlternatives<'a>>>⟧.fields result) t };
 
-    fn decode(alloc: Global, reader: &mut R) -> Result<Self, Error> {
+    fn decode(alloc: Global, reader: &mut R) -> Result<Self, Error>
+    where
+        R: Reader,
+    {
         decode_choice::<R, TimeAlternatives<'a>, Self>(alloc, reader)
     }
 }
 
-impl<'a, R: Reader<Borrowed = &'a [u8]>> Choice<R> for Time<'a> {
+impl<'a, R: Lends<Borrowed = &'a [u8]>> Choice<R> for Time<'a> {
     ghost chooses = { ⟦<Time<'a> as DescribedChoice>⟧.alternative.tags };
 
     fn can_decode(tag: Tag) -> bool {
@@ -142,7 +145,7 @@ impl<'a> Item for Time<'a> {
     ghost item = { choice_item ⟦<Time<'a> as DescribedChoice>⟧.alternative };
 }
 
-impl<'a, R: Reader<Borrowed = &'a [u8]>> DecodeItem<R> for Time<'a> {
+impl<'a, R: Lends<Borrowed = &'a [u8]>> DecodeItem<R> for Time<'a> {
     ghost is_item = { choice_is_item ⟦<Time<'a> as DescribedChoice>⟧.alternative refl };
 
     ghost decodes_items = { decodes_same (choice_item

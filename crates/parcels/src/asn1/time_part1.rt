@@ -5,7 +5,7 @@ ghost use Rattle.std.specs.Prelude.{false};
 ghost use Rattle.der.specs.Prelude.{map_ok};
 ghost use Rattle.der_asn1.specs.Meaning.{alternative, choice_of, either};
 
-use der::{Decode, Encode, Error, FromFields, Length, Reader, SliceReader, Tag, Writer};
+use der::{Decode, Encode, Error, FromFields, Lends, Length, Reader, SliceReader, Tag, Writer};
 use der_asn1::{
     Choice, Described, DescribedChoice, Either, GeneralizedTime, UtcTime, decode_choice,
 };
@@ -33,7 +33,7 @@ impl DescribedChoice for TimePart1 {
         (alternative ⟦<GeneralizedTime as Described>⟧.element)) (λ v. v.choice) };
 }
 
-impl<'a, R: Reader<Borrowed = &'a [u8]>> Decode<R> for TimePart1 {
+impl<'a, R: Lends<Borrowed = &'a [u8]>> Decode<R> for TimePart1 {
     type Error = Error;
 
     ghost is_next = { ⟦<TimePart1 as DescribedChoice>⟧.alternative.is_next };
@@ -47,12 +47,15 @@ impl<'a, R: Reader<Borrowed = &'a [u8]>> Decode<R> for TimePart1 {
         (map_ok (λ v. v.choice) result) t };
 
     #[inline(always)]
-    fn decode(alloc: Global, reader: &mut R) -> Result<Self, Error> {
+    fn decode(alloc: Global, reader: &mut R) -> Result<Self, Error>
+    where
+        R: Reader,
+    {
         decode_choice::<R, TimePart1Alternatives, Self>(alloc, reader)
     }
 }
 
-impl<'a, R: Reader<Borrowed = &'a [u8]>> Choice<R> for TimePart1 {
+impl<'a, R: Lends<Borrowed = &'a [u8]>> Choice<R> for TimePart1 {
     ghost chooses = { ⟦<TimePart1 as DescribedChoice>⟧.alternative.tags };
 
     #[inline(always)]

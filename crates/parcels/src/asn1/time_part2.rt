@@ -5,7 +5,7 @@ ghost use Rattle.std.specs.Prelude.{false};
 ghost use Rattle.der.specs.Prelude.{map_ok};
 ghost use Rattle.der_asn1.specs.Meaning.{alternative, choice_of};
 
-use der::{Decode, Encode, Error, FromFields, Length, Reader, SliceReader, Tag, Writer};
+use der::{Decode, Encode, Error, FromFields, Lends, Length, Reader, SliceReader, Tag, Writer};
 use der_asn1::{Choice, Described, DescribedChoice, Null, decode_choice};
 use std::alloc::Global;
 
@@ -31,7 +31,7 @@ impl<'a> DescribedChoice for TimePart2<'a> {
         (λ v. v.choice) };
 }
 
-impl<'a, R: Reader<Borrowed = &'a [u8]>> Decode<R> for TimePart2<'a> {
+impl<'a, R: Lends<Borrowed = &'a [u8]>> Decode<R> for TimePart2<'a> {
     type Error = Error;
 
     ghost is_next = { ⟦<TimePart2<'a> as DescribedChoice>⟧.alternative.is_next };
@@ -45,12 +45,15 @@ impl<'a, R: Reader<Borrowed = &'a [u8]>> Decode<R> for TimePart2<'a> {
         (map_ok (λ v. v.choice) result) t };
 
     #[inline(always)]
-    fn decode(alloc: Global, reader: &mut R) -> Result<Self, Error> {
+    fn decode(alloc: Global, reader: &mut R) -> Result<Self, Error>
+    where
+        R: Reader,
+    {
         decode_choice::<R, TimePart2Alternatives<'a>, Self>(alloc, reader)
     }
 }
 
-impl<'a, R: Reader<Borrowed = &'a [u8]>> Choice<R> for TimePart2<'a> {
+impl<'a, R: Lends<Borrowed = &'a [u8]>> Choice<R> for TimePart2<'a> {
     ghost chooses = { ⟦<TimePart2<'a> as DescribedChoice>⟧.alternative.tags };
 
     #[inline(always)]

@@ -8,8 +8,8 @@ ghost use Rattle.der_asn1.specs.Item.{decodes_same};
 ghost use Rattle.der_asn1.specs.Meaning.{alternative, field, sequence, sequence_is_item, sequence_item, two_fields};
 
 use der::{
-    Decode, DecodeValue, Encode, EncodeValue, Error, FromFields, Header, IsValue, Length, Reader,
-    Sequence, SliceReader, Writer, decode_sequence, field_refs,
+    Decode, DecodeValue, Encode, EncodeValue, Error, FromFields, Header, IsValue, Lends, Length,
+    Reader, Sequence, SliceReader, Writer, decode_sequence, field_refs,
 };
 use der_asn1::{BorrowedItem, DecodeItem, Described, Item, Nestable, OctetStringRef};
 use spki::AlgorithmIdentifierRef;
@@ -50,14 +50,17 @@ impl<'a> Sequence for DigestInfo<'a> {
 }
 
 /// Decodes the fields one after the other, with the errors of every [`Sequence`].
-impl<'a, R: Reader<Borrowed = &'a [u8]>> DecodeValue<R> for DigestInfo<'a> {
+impl<'a, R: Lends<Borrowed = &'a [u8]>> DecodeValue<R> for DigestInfo<'a> {
     type Error = Error;
 
     ghost decode_value_answers = { λ h s result t.
         ⟦<DigestInfoFields<'a> as Decode<SliceReader<'a>>>⟧.decode_answers s (map_ok
         ⟦<DigestInfo<'a> as FromFields<DigestInfoFields<'a>>>⟧.fields result) t };
 
-    fn decode_value(alloc: Global, reader: &mut R, header: Header) -> Result<Self, Error> {
+    fn decode_value(alloc: Global, reader: &mut R, header: Header) -> Result<Self, Error>
+    where
+        R: Reader,
+    {
         decode_sequence::<R, DigestInfoFields<'a>, Self>(alloc, reader, header)
     }
 }
@@ -98,7 +101,7 @@ impl<'a> Item for DigestInfo<'a> {
     ghost item = { sequence_item ⟦<DigestInfo<'a> as Described>⟧.element };
 }
 
-impl<'a, R: Reader<Borrowed = &'a [u8]>> DecodeItem<R> for DigestInfo<'a> {
+impl<'a, R: Lends<Borrowed = &'a [u8]>> DecodeItem<R> for DigestInfo<'a> {
     ghost is_item = { sequence_is_item ⟦<DigestInfo<'a> as Described>⟧.element refl };
 
     ghost decodes_items = { decodes_same (sequence_item ⟦<DigestInfo<'a> as Described>⟧.element) };

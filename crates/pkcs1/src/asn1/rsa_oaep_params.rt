@@ -12,8 +12,8 @@ use crate::asn1::rsa_oaep_params_part1::{RsaOaepParamsPart1, RsaOaepParamsPart1F
 use crate::asn1::rsa_oaep_params_part2::{RsaOaepParamsPart2, RsaOaepParamsPart2Fields};
 use crate::{EmptyLabelDefault, Mgf1Sha1Default, Sha1Default};
 use der::{
-    Decode, DecodeValue, Encode, EncodeValue, Error, FromFields, Header, IsValue, Length, Reader,
-    Sequence, SliceReader, Writer, decode_sequence, field_refs,
+    Decode, DecodeValue, Encode, EncodeValue, Error, FromFields, Header, IsValue, Lends, Length,
+    Reader, Sequence, SliceReader, Writer, decode_sequence, field_refs,
 };
 use der_asn1::{
     BorrowedItem, DecodeItem, DefaultOf, DefaultedTo, Described, Explicit, Item, Nestable,
@@ -68,7 +68,7 @@ impl<'a> Sequence for RsaOaepParams<'a> {
 }
 
 /// Decodes the fields one after the other, with the errors of every [`Sequence`].
-impl<'a, R: Reader<Borrowed = &'a [u8]>> DecodeValue<R> for RsaOaepParams<'a> {
+impl<'a, R: Lends<Borrowed = &'a [u8]>> DecodeValue<R> for RsaOaepParams<'a> {
     type Error = Error;
 
     ghost decode_value_answers = { λ h s result t.
@@ -76,7 +76,10 @@ impl<'a, R: Reader<Borrowed = &'a [u8]>> DecodeValue<R> for RsaOaepParams<'a> {
         (map_ok
         ⟦<RsaOaepParams<'a> as FromFields<(RsaOaepParamsPart1<'a>, RsaOaepParamsPart2<'a>)>>⟧.fields result) t };
 
-    fn decode_value(alloc: Global, reader: &mut R, header: Header) -> Result<Self, Error> {
+    fn decode_value(alloc: Global, reader: &mut R, header: Header) -> Result<Self, Error>
+    where
+        R: Reader,
+    {
         decode_sequence::<R, (RsaOaepParamsPart1<'a>, RsaOaepParamsPart2<'a>), Self>(
             alloc, reader, header,
         )
@@ -128,7 +131,7 @@ impl<'a> Item for RsaOaepParams<'a> {
     ghost item = { sequence_item ⟦<RsaOaepParams<'a> as Described>⟧.element };
 }
 
-impl<'a, R: Reader<Borrowed = &'a [u8]>> DecodeItem<R> for RsaOaepParams<'a> {
+impl<'a, R: Lends<Borrowed = &'a [u8]>> DecodeItem<R> for RsaOaepParams<'a> {
     ghost is_item = { sequence_is_item ⟦<RsaOaepParams<'a> as Described>⟧.element refl };
 
     ghost decodes_items = { decodes_same (sequence_item

@@ -5,7 +5,7 @@ ghost use Rattle.std.specs.Prelude.{false};
 ghost use Rattle.der.specs.Prelude.{map_ok};
 
 use crate::{Mgf1Sha1Default, Sha1Default};
-use der::{Decode, Error, FromFields, Reader, SliceReader, decode_fields};
+use der::{Decode, Error, FromFields, Lends, Reader, SliceReader, decode_fields};
 use der_asn1::{DefaultedTo, Explicit};
 use spki::AlgorithmIdentifierRef;
 use std::alloc::Global;
@@ -32,7 +32,7 @@ impl<'a> FromFields<RsaOaepParamsPart1Fields<'a>> for RsaOaepParamsPart1<'a> {
     }
 }
 
-impl<'a, R: Reader<Borrowed = &'a [u8]>> Decode<R> for RsaOaepParamsPart1<'a> {
+impl<'a, R: Lends<Borrowed = &'a [u8]>> Decode<R> for RsaOaepParamsPart1<'a> {
     type Error = Error;
 
     ghost is_next = { λ v. ⟦<RsaOaepParamsPart1Fields<'a> as Decode<SliceReader<'a>>>⟧.is_next
@@ -46,7 +46,10 @@ impl<'a, R: Reader<Borrowed = &'a [u8]>> Decode<R> for RsaOaepParamsPart1<'a> {
         ⟦<RsaOaepParamsPart1Fields<'a> as Decode<SliceReader<'a>>>⟧.decode_answers s
         (map_ok ⟦<RsaOaepParamsPart1<'a> as FromFields<RsaOaepParamsPart1Fields<'a>>>⟧.fields result) t };
 
-    fn decode(alloc: Global, reader: &mut R) -> Result<Self, Error> {
+    fn decode(alloc: Global, reader: &mut R) -> Result<Self, Error>
+    where
+        R: Reader,
+    {
         decode_fields::<R, RsaOaepParamsPart1Fields<'a>, Self>(alloc, reader)
     }
 }

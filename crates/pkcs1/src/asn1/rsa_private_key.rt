@@ -12,8 +12,8 @@ use crate::asn1::other_prime_infos::OtherPrimeInfos;
 use crate::asn1::rsa_private_key_part1::{RsaPrivateKeyPart1, RsaPrivateKeyPart1Fields};
 use crate::asn1::rsa_private_key_part2::{RsaPrivateKeyPart2, RsaPrivateKeyPart2Fields};
 use der::{
-    Decode, DecodeValue, Encode, EncodeValue, Error, FromFields, Header, IsValue, Length, Reader,
-    Sequence, SliceReader, Writer, decode_sequence, field_refs,
+    Decode, DecodeValue, Encode, EncodeValue, Error, FromFields, Header, IsValue, Lends, Length,
+    Reader, Sequence, SliceReader, Writer, decode_sequence, field_refs,
 };
 use der_asn1::{BorrowedItem, DecodeItem, Described, IntRef, Item, Nestable, Optional};
 use std::alloc::Global;
@@ -102,7 +102,7 @@ impl<'a> Sequence for RsaPrivateKey<'a> {
 }
 
 /// Decodes the fields one after the other, with the errors of every [`Sequence`].
-impl<'a, R: Reader<Borrowed = &'a [u8]>> DecodeValue<R> for RsaPrivateKey<'a> {
+impl<'a, R: Lends<Borrowed = &'a [u8]>> DecodeValue<R> for RsaPrivateKey<'a> {
     type Error = Error;
 
     ghost decode_value_answers = { λ h s result t.
@@ -110,7 +110,10 @@ impl<'a, R: Reader<Borrowed = &'a [u8]>> DecodeValue<R> for RsaPrivateKey<'a> {
         (map_ok
         ⟦<RsaPrivateKey<'a> as FromFields<(RsaPrivateKeyPart1<'a>, RsaPrivateKeyPart2<'a>)>>⟧.fields result) t };
 
-    fn decode_value(alloc: Global, reader: &mut R, header: Header) -> Result<Self, Error> {
+    fn decode_value(alloc: Global, reader: &mut R, header: Header) -> Result<Self, Error>
+    where
+        R: Reader,
+    {
         decode_sequence::<R, (RsaPrivateKeyPart1<'a>, RsaPrivateKeyPart2<'a>), Self>(
             alloc, reader, header,
         )
@@ -199,7 +202,7 @@ impl<'a> Item for RsaPrivateKey<'a> {
     ghost item = { sequence_item ⟦<RsaPrivateKey<'a> as Described>⟧.element };
 }
 
-impl<'a, R: Reader<Borrowed = &'a [u8]>> DecodeItem<R> for RsaPrivateKey<'a> {
+impl<'a, R: Lends<Borrowed = &'a [u8]>> DecodeItem<R> for RsaPrivateKey<'a> {
     ghost is_item = { sequence_is_item ⟦<RsaPrivateKey<'a> as Described>⟧.element refl };
 
     ghost decodes_items = { decodes_same (sequence_item

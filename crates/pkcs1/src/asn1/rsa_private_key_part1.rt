@@ -4,7 +4,7 @@
 ghost use Rattle.std.specs.Prelude.{false};
 ghost use Rattle.der.specs.Prelude.{map_ok};
 
-use der::{Decode, Error, FromFields, Reader, SliceReader, decode_fields};
+use der::{Decode, Error, FromFields, Lends, Reader, SliceReader, decode_fields};
 use der_asn1::IntRef;
 use std::alloc::Global;
 
@@ -42,7 +42,7 @@ impl<'a> FromFields<RsaPrivateKeyPart1Fields<'a>> for RsaPrivateKeyPart1<'a> {
     }
 }
 
-impl<'a, R: Reader<Borrowed = &'a [u8]>> Decode<R> for RsaPrivateKeyPart1<'a> {
+impl<'a, R: Lends<Borrowed = &'a [u8]>> Decode<R> for RsaPrivateKeyPart1<'a> {
     type Error = Error;
 
     ghost is_next = { λ v. ⟦<RsaPrivateKeyPart1Fields<'a> as Decode<SliceReader<'a>>>⟧.is_next
@@ -56,7 +56,10 @@ impl<'a, R: Reader<Borrowed = &'a [u8]>> Decode<R> for RsaPrivateKeyPart1<'a> {
         ⟦<RsaPrivateKeyPart1Fields<'a> as Decode<SliceReader<'a>>>⟧.decode_answers s
         (map_ok ⟦<RsaPrivateKeyPart1<'a> as FromFields<RsaPrivateKeyPart1Fields<'a>>>⟧.fields result) t };
 
-    fn decode(alloc: Global, reader: &mut R) -> Result<Self, Error> {
+    fn decode(alloc: Global, reader: &mut R) -> Result<Self, Error>
+    where
+        R: Reader,
+    {
         decode_fields::<R, RsaPrivateKeyPart1Fields<'a>, Self>(alloc, reader)
     }
 }

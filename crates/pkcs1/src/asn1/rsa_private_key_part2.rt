@@ -5,7 +5,7 @@ ghost use Rattle.std.specs.Prelude.{false};
 ghost use Rattle.der.specs.Prelude.{map_ok};
 
 use crate::asn1::other_prime_infos::OtherPrimeInfos;
-use der::{Decode, Error, FromFields, Reader, SliceReader, decode_fields};
+use der::{Decode, Error, FromFields, Lends, Reader, SliceReader, decode_fields};
 use der_asn1::{IntRef, Optional};
 use std::alloc::Global;
 
@@ -49,7 +49,7 @@ impl<'a> FromFields<RsaPrivateKeyPart2Fields<'a>> for RsaPrivateKeyPart2<'a> {
     }
 }
 
-impl<'a, R: Reader<Borrowed = &'a [u8]>> Decode<R> for RsaPrivateKeyPart2<'a> {
+impl<'a, R: Lends<Borrowed = &'a [u8]>> Decode<R> for RsaPrivateKeyPart2<'a> {
     type Error = Error;
 
     ghost is_next = { λ v. ⟦<RsaPrivateKeyPart2Fields<'a> as Decode<SliceReader<'a>>>⟧.is_next
@@ -63,7 +63,10 @@ impl<'a, R: Reader<Borrowed = &'a [u8]>> Decode<R> for RsaPrivateKeyPart2<'a> {
         ⟦<RsaPrivateKeyPart2Fields<'a> as Decode<SliceReader<'a>>>⟧.decode_answers s
         (map_ok ⟦<RsaPrivateKeyPart2<'a> as FromFields<RsaPrivateKeyPart2Fields<'a>>>⟧.fields result) t };
 
-    fn decode(alloc: Global, reader: &mut R) -> Result<Self, Error> {
+    fn decode(alloc: Global, reader: &mut R) -> Result<Self, Error>
+    where
+        R: Reader,
+    {
         decode_fields::<R, RsaPrivateKeyPart2Fields<'a>, Self>(alloc, reader)
     }
 }

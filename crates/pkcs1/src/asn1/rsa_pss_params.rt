@@ -15,8 +15,8 @@ use crate::asn1::rsa_pss_params_part3::{RsaPssParamsPart3, RsaPssParamsPart3Fiel
 use crate::asn1::rsa_pss_params_part4::{RsaPssParamsPart4, RsaPssParamsPart4Fields};
 use crate::{Mgf1Sha1Default, Sha1Default};
 use der::{
-    Decode, DecodeValue, Encode, EncodeValue, Error, FromFields, Header, IsValue, Length, Reader,
-    Sequence, SliceReader, Writer, decode_sequence, field_refs,
+    Decode, DecodeValue, Encode, EncodeValue, Error, FromFields, Header, IsValue, Lends, Length,
+    Reader, Sequence, SliceReader, Writer, decode_sequence, field_refs,
 };
 use der_asn1::{
     BorrowedItem, DecodeItem, DefaultOf, DefaultU64, DefaultValue, Defaulted, DefaultedTo,
@@ -103,7 +103,7 @@ impl<'a> Sequence for RsaPssParams<'a> {
 }
 
 /// Decodes the fields one after the other, with the errors of every [`Sequence`].
-impl<'a, R: Reader<Borrowed = &'a [u8]>> DecodeValue<R> for RsaPssParams<'a> {
+impl<'a, R: Lends<Borrowed = &'a [u8]>> DecodeValue<R> for RsaPssParams<'a> {
     type Error = Error;
 
     ghost decode_value_answers = { λ h s result t.
@@ -111,7 +111,10 @@ impl<'a, R: Reader<Borrowed = &'a [u8]>> DecodeValue<R> for RsaPssParams<'a> {
         (map_ok
         ⟦<RsaPssParams<'a> as FromFields<(RsaPssParamsPart1<'a>, RsaPssParamsPart2<'a>, RsaPssParamsPart3, RsaPssParamsPart4)>>⟧.fields result) t };
 
-    fn decode_value(alloc: Global, reader: &mut R, header: Header) -> Result<Self, Error> {
+    fn decode_value(alloc: Global, reader: &mut R, header: Header) -> Result<Self, Error>
+    where
+        R: Reader,
+    {
         decode_sequence::<
             R,
             (
@@ -179,7 +182,7 @@ impl<'a> Item for RsaPssParams<'a> {
     ghost item = { sequence_item ⟦<RsaPssParams<'a> as Described>⟧.element };
 }
 
-impl<'a, R: Reader<Borrowed = &'a [u8]>> DecodeItem<R> for RsaPssParams<'a> {
+impl<'a, R: Lends<Borrowed = &'a [u8]>> DecodeItem<R> for RsaPssParams<'a> {
     ghost is_item = { sequence_is_item ⟦<RsaPssParams<'a> as Described>⟧.element refl };
 
     ghost decodes_items = { decodes_same (sequence_item

@@ -5,7 +5,7 @@ ghost use Rattle.std.specs.Prelude.{false};
 ghost use Rattle.der.specs.Prelude.{map_ok};
 
 use crate::Mgf1Sha1Default;
-use der::{Decode, Error, FromFields, Reader, SliceReader, decode_fields};
+use der::{Decode, Error, FromFields, Lends, Reader, SliceReader, decode_fields};
 use der_asn1::{DefaultedTo, Explicit};
 use spki::AlgorithmIdentifierRef;
 use std::alloc::Global;
@@ -31,7 +31,7 @@ impl<'a> FromFields<RsaPssParamsPart2Fields<'a>> for RsaPssParamsPart2<'a> {
     }
 }
 
-impl<'a, R: Reader<Borrowed = &'a [u8]>> Decode<R> for RsaPssParamsPart2<'a> {
+impl<'a, R: Lends<Borrowed = &'a [u8]>> Decode<R> for RsaPssParamsPart2<'a> {
     type Error = Error;
 
     ghost is_next = { λ v. ⟦<RsaPssParamsPart2Fields<'a> as Decode<SliceReader<'a>>>⟧.is_next
@@ -45,7 +45,10 @@ impl<'a, R: Reader<Borrowed = &'a [u8]>> Decode<R> for RsaPssParamsPart2<'a> {
         ⟦<RsaPssParamsPart2Fields<'a> as Decode<SliceReader<'a>>>⟧.decode_answers s
         (map_ok ⟦<RsaPssParamsPart2<'a> as FromFields<RsaPssParamsPart2Fields<'a>>>⟧.fields result) t };
 
-    fn decode(alloc: Global, reader: &mut R) -> Result<Self, Error> {
+    fn decode(alloc: Global, reader: &mut R) -> Result<Self, Error>
+    where
+        R: Reader,
+    {
         decode_fields::<R, RsaPssParamsPart2Fields<'a>, Self>(alloc, reader)
     }
 }

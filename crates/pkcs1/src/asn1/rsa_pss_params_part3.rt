@@ -4,7 +4,7 @@
 ghost use Rattle.std.specs.Prelude.{false};
 ghost use Rattle.der.specs.Prelude.{map_ok};
 
-use der::{Decode, Error, FromFields, Reader, SliceReader, decode_fields};
+use der::{Decode, Error, FromFields, Lends, Reader, SliceReader, decode_fields};
 use der_asn1::{DefaultU64, Defaulted, Explicit, IntegerOf, WithDefault};
 use std::alloc::Global;
 
@@ -28,7 +28,7 @@ impl FromFields<RsaPssParamsPart3Fields> for RsaPssParamsPart3 {
     }
 }
 
-impl<'a, R: Reader<Borrowed = &'a [u8]>> Decode<R> for RsaPssParamsPart3 {
+impl<'a, R: Lends<Borrowed = &'a [u8]>> Decode<R> for RsaPssParamsPart3 {
     type Error = Error;
 
     ghost is_next = { λ v. ⟦<RsaPssParamsPart3Fields as Decode<SliceReader<'a>>>⟧.is_next
@@ -42,7 +42,10 @@ impl<'a, R: Reader<Borrowed = &'a [u8]>> Decode<R> for RsaPssParamsPart3 {
         ⟦<RsaPssParamsPart3Fields as Decode<SliceReader<'a>>>⟧.decode_answers s
         (map_ok ⟦<RsaPssParamsPart3 as FromFields<RsaPssParamsPart3Fields>>⟧.fields result) t };
 
-    fn decode(alloc: Global, reader: &mut R) -> Result<Self, Error> {
+    fn decode(alloc: Global, reader: &mut R) -> Result<Self, Error>
+    where
+        R: Reader,
+    {
         decode_fields::<R, RsaPssParamsPart3Fields, Self>(alloc, reader)
     }
 }

@@ -10,8 +10,8 @@ ghost use Rattle.der_asn1.specs.Meaning.{alternative, defaulted, field, seen, se
 use crate::asn1::mac_data_part1::{MacDataPart1, MacDataPart1Fields};
 use crate::asn1::mac_data_part2::{MacDataPart2, MacDataPart2Fields};
 use der::{
-    Decode, DecodeValue, Encode, EncodeValue, Error, FromFields, Header, IsValue, Length, Reader,
-    Sequence, SliceReader, Writer, decode_sequence, field_refs,
+    Decode, DecodeValue, Encode, EncodeValue, Error, FromFields, Header, IsValue, Lends, Length,
+    Reader, Sequence, SliceReader, Writer, decode_sequence, field_refs,
 };
 use der_asn1::{
     BorrowedItem, DecodeItem, DefaultU64, DefaultValue, Defaulted, Described, IntegerOf, Item,
@@ -64,14 +64,17 @@ impl<'a> Sequence for MacData<'a> {
 }
 
 /// Decodes the fields one after the other, with the errors of every [`Sequence`].
-impl<'a, R: Reader<Borrowed = &'a [u8]>> DecodeValue<R> for MacData<'a> {
+impl<'a, R: Lends<Borrowed = &'a [u8]>> DecodeValue<R> for MacData<'a> {
     type Error = Error;
 
     ghost decode_value_answers = { λ h s result t.
         ⟦<(MacDataPart1<'a>, MacDataPart2) as Decode<SliceReader<'a>>>⟧.decode_answers s (map_ok
         ⟦<MacData<'a> as FromFields<(MacDataPart1<'a>, MacDataPart2)>>⟧.fields result) t };
 
-    fn decode_value(alloc: Global, reader: &mut R, header: Header) -> Result<Self, Error> {
+    fn decode_value(alloc: Global, reader: &mut R, header: Header) -> Result<Self, Error>
+    where
+        R: Reader,
+    {
         decode_sequence::<R, (MacDataPart1<'a>, MacDataPart2), Self>(alloc, reader, header)
     }
 }
@@ -121,7 +124,7 @@ impl<'a> Item for MacData<'a> {
     ghost item = { sequence_item ⟦<MacData<'a> as Described>⟧.element };
 }
 
-impl<'a, R: Reader<Borrowed = &'a [u8]>> DecodeItem<R> for MacData<'a> {
+impl<'a, R: Lends<Borrowed = &'a [u8]>> DecodeItem<R> for MacData<'a> {
     ghost is_item = { sequence_is_item ⟦<MacData<'a> as Described>⟧.element refl };
 
     ghost decodes_items = { decodes_same (sequence_item ⟦<MacData<'a> as Described>⟧.element) };

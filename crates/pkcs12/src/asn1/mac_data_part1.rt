@@ -4,7 +4,7 @@
 ghost use Rattle.std.specs.Prelude.{false};
 ghost use Rattle.der.specs.Prelude.{map_ok};
 
-use der::{Decode, Error, FromFields, Reader, SliceReader, decode_fields};
+use der::{Decode, Error, FromFields, Lends, Reader, SliceReader, decode_fields};
 use der_asn1::OctetStringRef;
 use pkcs1::DigestInfo;
 use std::alloc::Global;
@@ -28,7 +28,7 @@ impl<'a> FromFields<MacDataPart1Fields<'a>> for MacDataPart1<'a> {
     }
 }
 
-impl<'a, R: Reader<Borrowed = &'a [u8]>> Decode<R> for MacDataPart1<'a> {
+impl<'a, R: Lends<Borrowed = &'a [u8]>> Decode<R> for MacDataPart1<'a> {
     type Error = Error;
 
     ghost is_next = { λ v. ⟦<MacDataPart1Fields<'a> as Decode<SliceReader<'a>>>⟧.is_next
@@ -42,7 +42,10 @@ impl<'a, R: Reader<Borrowed = &'a [u8]>> Decode<R> for MacDataPart1<'a> {
         ⟦<MacDataPart1Fields<'a> as Decode<SliceReader<'a>>>⟧.decode_answers s
         (map_ok ⟦<MacDataPart1<'a> as FromFields<MacDataPart1Fields<'a>>>⟧.fields result) t };
 
-    fn decode(alloc: Global, reader: &mut R) -> Result<Self, Error> {
+    fn decode(alloc: Global, reader: &mut R) -> Result<Self, Error>
+    where
+        R: Reader,
+    {
         decode_fields::<R, MacDataPart1Fields<'a>, Self>(alloc, reader)
     }
 }

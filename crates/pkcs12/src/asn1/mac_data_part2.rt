@@ -4,7 +4,7 @@
 ghost use Rattle.std.specs.Prelude.{false};
 ghost use Rattle.der.specs.Prelude.{map_ok};
 
-use der::{Decode, Error, FromFields, Reader, SliceReader, decode_fields};
+use der::{Decode, Error, FromFields, Lends, Reader, SliceReader, decode_fields};
 use der_asn1::{DefaultU64, Defaulted, IntegerOf, WithDefault};
 use std::alloc::Global;
 
@@ -26,7 +26,7 @@ impl FromFields<MacDataPart2Fields> for MacDataPart2 {
     }
 }
 
-impl<'a, R: Reader<Borrowed = &'a [u8]>> Decode<R> for MacDataPart2 {
+impl<'a, R: Lends<Borrowed = &'a [u8]>> Decode<R> for MacDataPart2 {
     type Error = Error;
 
     ghost is_next = { λ v. ⟦<MacDataPart2Fields as Decode<SliceReader<'a>>>⟧.is_next
@@ -40,7 +40,10 @@ impl<'a, R: Reader<Borrowed = &'a [u8]>> Decode<R> for MacDataPart2 {
         ⟦<MacDataPart2Fields as Decode<SliceReader<'a>>>⟧.decode_answers s
         (map_ok ⟦<MacDataPart2 as FromFields<MacDataPart2Fields>>⟧.fields result) t };
 
-    fn decode(alloc: Global, reader: &mut R) -> Result<Self, Error> {
+    fn decode(alloc: Global, reader: &mut R) -> Result<Self, Error>
+    where
+        R: Reader,
+    {
         decode_fields::<R, MacDataPart2Fields, Self>(alloc, reader)
     }
 }

@@ -9,8 +9,8 @@ ghost use Rattle.der_asn1.specs.Meaning.{alternative, field, optional, sequence,
 ghost use Rattle.der_asn1.specs.TupleFields.{three_fields};
 
 use der::{
-    Decode, DecodeValue, Encode, EncodeValue, Error, FromFields, Header, IsValue, Length, Reader,
-    Sequence, SliceReader, Writer, decode_sequence, field_refs,
+    Decode, DecodeValue, Encode, EncodeValue, Error, FromFields, Header, IsValue, Lends, Length,
+    Reader, Sequence, SliceReader, Writer, decode_sequence, field_refs,
 };
 use der_asn1::{
     BorrowedItem, DecodeItem, Described, ExplicitAny, Item, Nestable, ObjectIdentifierRef, Optional,
@@ -60,14 +60,17 @@ impl<'a> Sequence for SafeBag<'a> {
 }
 
 /// Decodes the fields one after the other, with the errors of every [`Sequence`].
-impl<'a, R: Reader<Borrowed = &'a [u8]>> DecodeValue<R> for SafeBag<'a> {
+impl<'a, R: Lends<Borrowed = &'a [u8]>> DecodeValue<R> for SafeBag<'a> {
     type Error = Error;
 
     ghost decode_value_answers = { λ h s result t.
         ⟦<SafeBagFields<'a> as Decode<SliceReader<'a>>>⟧.decode_answers s (map_ok
         ⟦<SafeBag<'a> as FromFields<SafeBagFields<'a>>>⟧.fields result) t };
 
-    fn decode_value(alloc: Global, reader: &mut R, header: Header) -> Result<Self, Error> {
+    fn decode_value(alloc: Global, reader: &mut R, header: Header) -> Result<Self, Error>
+    where
+        R: Reader,
+    {
         decode_sequence::<R, SafeBagFields<'a>, Self>(alloc, reader, header)
     }
 }
@@ -111,7 +114,7 @@ impl<'a> Item for SafeBag<'a> {
     ghost item = { sequence_item ⟦<SafeBag<'a> as Described>⟧.element };
 }
 
-impl<'a, R: Reader<Borrowed = &'a [u8]>> DecodeItem<R> for SafeBag<'a> {
+impl<'a, R: Lends<Borrowed = &'a [u8]>> DecodeItem<R> for SafeBag<'a> {
     ghost is_item = { sequence_is_item ⟦<SafeBag<'a> as Described>⟧.element refl };
 
     ghost decodes_items = { decodes_same (sequence_item ⟦<SafeBag<'a> as Described>⟧.element) };

@@ -13,8 +13,8 @@ use crate::asn1::pbkdf2_params_part1::{Pbkdf2ParamsPart1, Pbkdf2ParamsPart1Field
 use crate::asn1::pbkdf2_params_part2::{Pbkdf2ParamsPart2, Pbkdf2ParamsPart2Fields};
 use crate::asn1::pbkdf2_salt::Pbkdf2Salt;
 use der::{
-    Decode, DecodeValue, Encode, EncodeValue, Error, FromFields, Header, IsValue, Length, Reader,
-    Sequence, SliceReader, Writer, decode_sequence, field_refs,
+    Decode, DecodeValue, Encode, EncodeValue, Error, FromFields, Header, IsValue, Lends, Length,
+    Reader, Sequence, SliceReader, Writer, decode_sequence, field_refs,
 };
 use der_asn1::{
     BorrowedItem, DecodeItem, DefaultOf, DefaultedTo, Described, DescribedChoice, IntRef, Item,
@@ -72,7 +72,7 @@ impl<'a> Sequence for Pbkdf2Params<'a> {
 }
 
 /// Decodes the fields one after the other, with the errors of every [`Sequence`].
-impl<'a, R: Reader<Borrowed = &'a [u8]>> DecodeValue<R> for Pbkdf2Params<'a> {
+impl<'a, R: Lends<Borrowed = &'a [u8]>> DecodeValue<R> for Pbkdf2Params<'a> {
     type Error = Error;
 
     ghost decode_value_answers = { λ h s result t.
@@ -80,7 +80,10 @@ impl<'a, R: Reader<Borrowed = &'a [u8]>> DecodeValue<R> for Pbkdf2Params<'a> {
         (map_ok
         ⟦<Pbkdf2Params<'a> as FromFields<(Pbkdf2ParamsPart1<'a>, Pbkdf2ParamsPart2<'a>)>>⟧.fields result) t };
 
-    fn decode_value(alloc: Global, reader: &mut R, header: Header) -> Result<Self, Error> {
+    fn decode_value(alloc: Global, reader: &mut R, header: Header) -> Result<Self, Error>
+    where
+        R: Reader,
+    {
         decode_sequence::<R, (Pbkdf2ParamsPart1<'a>, Pbkdf2ParamsPart2<'a>), Self>(
             alloc, reader, header,
         )
@@ -138,7 +141,7 @@ impl<'a> Item for Pbkdf2Params<'a> {
     ghost item = { sequence_item ⟦<Pbkdf2Params<'a> as Described>⟧.element };
 }
 
-impl<'a, R: Reader<Borrowed = &'a [u8]>> DecodeItem<R> for Pbkdf2Params<'a> {
+impl<'a, R: Lends<Borrowed = &'a [u8]>> DecodeItem<R> for Pbkdf2Params<'a> {
     ghost is_item = { sequence_is_item ⟦<Pbkdf2Params<'a> as Described>⟧.element refl };
 
     ghost decodes_items = { decodes_same (sequence_item

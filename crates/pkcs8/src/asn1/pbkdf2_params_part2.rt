@@ -5,7 +5,7 @@ ghost use Rattle.std.specs.Prelude.{false};
 ghost use Rattle.der.specs.Prelude.{map_ok};
 
 use crate::HmacWithSha1Default;
-use der::{Decode, Error, FromFields, Reader, SliceReader, decode_fields};
+use der::{Decode, Error, FromFields, Lends, Reader, SliceReader, decode_fields};
 use der_asn1::{DefaultedTo, IntRef, Optional};
 use spki::AlgorithmIdentifierRef;
 use std::alloc::Global;
@@ -32,7 +32,7 @@ impl<'a> FromFields<Pbkdf2ParamsPart2Fields<'a>> for Pbkdf2ParamsPart2<'a> {
     }
 }
 
-impl<'a, R: Reader<Borrowed = &'a [u8]>> Decode<R> for Pbkdf2ParamsPart2<'a> {
+impl<'a, R: Lends<Borrowed = &'a [u8]>> Decode<R> for Pbkdf2ParamsPart2<'a> {
     type Error = Error;
 
     ghost is_next = { λ v. ⟦<Pbkdf2ParamsPart2Fields<'a> as Decode<SliceReader<'a>>>⟧.is_next
@@ -46,7 +46,10 @@ impl<'a, R: Reader<Borrowed = &'a [u8]>> Decode<R> for Pbkdf2ParamsPart2<'a> {
         ⟦<Pbkdf2ParamsPart2Fields<'a> as Decode<SliceReader<'a>>>⟧.decode_answers s
         (map_ok ⟦<Pbkdf2ParamsPart2<'a> as FromFields<Pbkdf2ParamsPart2Fields<'a>>>⟧.fields result) t };
 
-    fn decode(alloc: Global, reader: &mut R) -> Result<Self, Error> {
+    fn decode(alloc: Global, reader: &mut R) -> Result<Self, Error>
+    where
+        R: Reader,
+    {
         decode_fields::<R, Pbkdf2ParamsPart2Fields<'a>, Self>(alloc, reader)
     }
 }

@@ -9,7 +9,7 @@ ghost use Rattle.der_asn1.specs.Meaning.{alternative, choice_is_item, choice_ite
 ghost use Rattle.der_asn1.specs.declared.either.Either.TheVariants.{First, Second};
 ghost use Rattle.pkcs8.specs.declared.asn1.pbkdf2_salt.Pbkdf2Salt.TheVariants as variant;
 
-use der::{Decode, Encode, Error, FromFields, Length, Reader, SliceReader, Tag, Writer};
+use der::{Decode, Encode, Error, FromFields, Lends, Length, Reader, SliceReader, Tag, Writer};
 use der_asn1::{
     BorrowedItem, Choice, DecodeItem, Described, DescribedChoice, Either, Item, OctetStringRef,
     decode_choice,
@@ -51,7 +51,7 @@ impl<'a> DescribedChoice for Pbkdf2Salt<'a> {
 }
 
 /// Decodes the alternative whose tag is next, with the errors of [`Either`].
-impl<'a, R: Reader<Borrowed = &'a [u8]>> Decode<R> for Pbkdf2Salt<'a> {
+impl<'a, R: Lends<Borrowed = &'a [u8]>> Decode<R> for Pbkdf2Salt<'a> {
     type Error = Error;
 
     ghost is_next = { ⟦<Pbkdf2Salt<'a> as DescribedChoice>⟧.alternative.is_next };
@@ -64,12 +64,15 @@ impl<'a, R: Reader<Borrowed = &'a [u8]>> Decode<R> for Pbkdf2Salt<'a> {
         ⟦<Pbkdf2SaltAlternatives<'a> as Decode<SliceReader<'a>>>⟧.decode_answers s
         (map_ok ⟦<Pbkdf2Salt<'a> as FromFields<Pbkdf2SaltAlternatives<'a>>>⟧.fields result) t };
 
-    fn decode(alloc: Global, reader: &mut R) -> Result<Self, Error> {
+    fn decode(alloc: Global, reader: &mut R) -> Result<Self, Error>
+    where
+        R: Reader,
+    {
         decode_choice::<R, Pbkdf2SaltAlternatives<'a>, Self>(alloc, reader)
     }
 }
 
-impl<'a, R: Reader<Borrowed = &'a [u8]>> Choice<R> for Pbkdf2Salt<'a> {
+impl<'a, R: Lends<Borrowed = &'a [u8]>> Choice<R> for Pbkdf2Salt<'a> {
     ghost chooses = { ⟦<Pbkdf2Salt<'a> as DescribedChoice>⟧.alternative.tags };
 
     fn can_decode(tag: Tag) -> bool {
@@ -126,7 +129,7 @@ impl<'a> Item for Pbkdf2Salt<'a> {
     ghost item = { choice_item ⟦<Pbkdf2Salt<'a> as DescribedChoice>⟧.alternative };
 }
 
-impl<'a, R: Reader<Borrowed = &'a [u8]>> DecodeItem<R> for Pbkdf2Salt<'a> {
+impl<'a, R: Lends<Borrowed = &'a [u8]>> DecodeItem<R> for Pbkdf2Salt<'a> {
     ghost is_item = { choice_is_item ⟦<Pbkdf2Salt<'a> as DescribedChoice>⟧.alternative refl };
 
     ghost decodes_items = { decodes_same (choice_item

@@ -8,8 +8,8 @@ ghost use Rattle.der_asn1.specs.Item.{decodes_same};
 ghost use Rattle.der_asn1.specs.Meaning.{alternative, field, sequence, sequence_is_item, sequence_item, two_fields};
 
 use der::{
-    Decode, DecodeValue, Encode, EncodeValue, Error, FromFields, Header, IsValue, Length, Reader,
-    Sequence, SliceReader, Writer, decode_sequence, field_refs,
+    Decode, DecodeValue, Encode, EncodeValue, Error, FromFields, Header, IsValue, Lends, Length,
+    Reader, Sequence, SliceReader, Writer, decode_sequence, field_refs,
 };
 use der_asn1::{
     AnyRef, BorrowedItem, DecodeItem, Described, Item, Nestable, ObjectIdentifierRef, SetOf,
@@ -48,14 +48,17 @@ impl<'a> Sequence for PrivateKeyAttribute<'a> {
 }
 
 /// Decodes the fields one after the other, with the errors of every [`Sequence`].
-impl<'a, R: Reader<Borrowed = &'a [u8]>> DecodeValue<R> for PrivateKeyAttribute<'a> {
+impl<'a, R: Lends<Borrowed = &'a [u8]>> DecodeValue<R> for PrivateKeyAttribute<'a> {
     type Error = Error;
 
     ghost decode_value_answers = { λ h s result t.
         ⟦<PrivateKeyAttributeFields<'a> as Decode<SliceReader<'a>>>⟧.decode_answers s (map_ok
         ⟦<PrivateKeyAttribute<'a> as FromFields<PrivateKeyAttributeFields<'a>>>⟧.fields result) t };
 
-    fn decode_value(alloc: Global, reader: &mut R, header: Header) -> Result<Self, Error> {
+    fn decode_value(alloc: Global, reader: &mut R, header: Header) -> Result<Self, Error>
+    where
+        R: Reader,
+    {
         decode_sequence::<R, PrivateKeyAttributeFields<'a>, Self>(alloc, reader, header)
     }
 }
@@ -96,7 +99,7 @@ impl<'a> Item for PrivateKeyAttribute<'a> {
     ghost item = { sequence_item ⟦<PrivateKeyAttribute<'a> as Described>⟧.element };
 }
 
-impl<'a, R: Reader<Borrowed = &'a [u8]>> DecodeItem<R> for PrivateKeyAttribute<'a> {
+impl<'a, R: Lends<Borrowed = &'a [u8]>> DecodeItem<R> for PrivateKeyAttribute<'a> {
     ghost is_item = { sequence_is_item ⟦<PrivateKeyAttribute<'a> as Described>⟧.element refl };
 
     ghost decodes_items = { decodes_same (sequence_item

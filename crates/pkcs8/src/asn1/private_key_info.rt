@@ -13,8 +13,8 @@ use crate::asn1::private_key_info_part1::{PrivateKeyInfoPart1, PrivateKeyInfoPar
 use crate::asn1::private_key_info_part2::{PrivateKeyInfoPart2, PrivateKeyInfoPart2Fields};
 use crate::asn1::version::Version;
 use der::{
-    Decode, DecodeValue, Encode, EncodeValue, Error, FromFields, Header, IsValue, Length, Reader,
-    Sequence, SliceReader, Writer, decode_sequence, field_refs,
+    Decode, DecodeValue, Encode, EncodeValue, Error, FromFields, Header, IsValue, Lends, Length,
+    Reader, Sequence, SliceReader, Writer, decode_sequence, field_refs,
 };
 use der_asn1::{
     BitStringRef, BorrowedItem, DecodeItem, Described, Implicit, Item, NamedInteger, Nestable,
@@ -81,7 +81,7 @@ impl<'a> Sequence for PrivateKeyInfo<'a> {
 }
 
 /// Decodes the fields one after the other, with the errors of every [`Sequence`].
-impl<'a, R: Reader<Borrowed = &'a [u8]>> DecodeValue<R> for PrivateKeyInfo<'a> {
+impl<'a, R: Lends<Borrowed = &'a [u8]>> DecodeValue<R> for PrivateKeyInfo<'a> {
     type Error = Error;
 
     ghost decode_value_answers = { λ h s result t.
@@ -89,7 +89,10 @@ impl<'a, R: Reader<Borrowed = &'a [u8]>> DecodeValue<R> for PrivateKeyInfo<'a> {
         (map_ok
         ⟦<PrivateKeyInfo<'a> as FromFields<(PrivateKeyInfoPart1<'a>, PrivateKeyInfoPart2<'a>)>>⟧.fields result) t };
 
-    fn decode_value(alloc: Global, reader: &mut R, header: Header) -> Result<Self, Error> {
+    fn decode_value(alloc: Global, reader: &mut R, header: Header) -> Result<Self, Error>
+    where
+        R: Reader,
+    {
         decode_sequence::<R, (PrivateKeyInfoPart1<'a>, PrivateKeyInfoPart2<'a>), Self>(
             alloc, reader, header,
         )
@@ -175,7 +178,7 @@ impl<'a> Item for PrivateKeyInfo<'a> {
     ghost item = { sequence_item ⟦<PrivateKeyInfo<'a> as Described>⟧.element };
 }
 
-impl<'a, R: Reader<Borrowed = &'a [u8]>> DecodeItem<R> for PrivateKeyInfo<'a> {
+impl<'a, R: Lends<Borrowed = &'a [u8]>> DecodeItem<R> for PrivateKeyInfo<'a> {
     ghost is_item = { sequence_is_item ⟦<PrivateKeyInfo<'a> as Described>⟧.element refl };
 
     ghost decodes_items = { decodes_same (sequence_item

@@ -5,7 +5,7 @@ ghost use Rattle.std.specs.Prelude.{false};
 ghost use Rattle.der.specs.Prelude.{map_ok};
 
 use crate::asn1::version::Version;
-use der::{Decode, Error, FromFields, Reader, SliceReader, decode_fields};
+use der::{Decode, Error, FromFields, Lends, Reader, SliceReader, decode_fields};
 use der_asn1::{NamedInteger, OctetStringRef};
 use spki::AlgorithmIdentifierRef;
 use std::alloc::Global;
@@ -38,7 +38,7 @@ impl<'a> FromFields<PrivateKeyInfoPart1Fields<'a>> for PrivateKeyInfoPart1<'a> {
     }
 }
 
-impl<'a, R: Reader<Borrowed = &'a [u8]>> Decode<R> for PrivateKeyInfoPart1<'a> {
+impl<'a, R: Lends<Borrowed = &'a [u8]>> Decode<R> for PrivateKeyInfoPart1<'a> {
     type Error = Error;
 
     ghost is_next = { λ v. ⟦<PrivateKeyInfoPart1Fields<'a> as Decode<SliceReader<'a>>>⟧.is_next
@@ -52,7 +52,10 @@ impl<'a, R: Reader<Borrowed = &'a [u8]>> Decode<R> for PrivateKeyInfoPart1<'a> {
         ⟦<PrivateKeyInfoPart1Fields<'a> as Decode<SliceReader<'a>>>⟧.decode_answers s
         (map_ok ⟦<PrivateKeyInfoPart1<'a> as FromFields<PrivateKeyInfoPart1Fields<'a>>>⟧.fields result) t };
 
-    fn decode(alloc: Global, reader: &mut R) -> Result<Self, Error> {
+    fn decode(alloc: Global, reader: &mut R) -> Result<Self, Error>
+    where
+        R: Reader,
+    {
         decode_fields::<R, PrivateKeyInfoPart1Fields<'a>, Self>(alloc, reader)
     }
 }

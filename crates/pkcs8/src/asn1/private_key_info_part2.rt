@@ -5,7 +5,7 @@ ghost use Rattle.std.specs.Prelude.{false};
 ghost use Rattle.der.specs.Prelude.{map_ok};
 
 use crate::asn1::private_key_attributes::PrivateKeyAttributes;
-use der::{Decode, Error, FromFields, Reader, SliceReader, decode_fields};
+use der::{Decode, Error, FromFields, Lends, Reader, SliceReader, decode_fields};
 use der_asn1::{BitStringRef, Implicit, Optional};
 use std::alloc::Global;
 
@@ -34,7 +34,7 @@ impl<'a> FromFields<PrivateKeyInfoPart2Fields<'a>> for PrivateKeyInfoPart2<'a> {
     }
 }
 
-impl<'a, R: Reader<Borrowed = &'a [u8]>> Decode<R> for PrivateKeyInfoPart2<'a> {
+impl<'a, R: Lends<Borrowed = &'a [u8]>> Decode<R> for PrivateKeyInfoPart2<'a> {
     type Error = Error;
 
     ghost is_next = { λ v. ⟦<PrivateKeyInfoPart2Fields<'a> as Decode<SliceReader<'a>>>⟧.is_next
@@ -48,7 +48,10 @@ impl<'a, R: Reader<Borrowed = &'a [u8]>> Decode<R> for PrivateKeyInfoPart2<'a> {
         ⟦<PrivateKeyInfoPart2Fields<'a> as Decode<SliceReader<'a>>>⟧.decode_answers s
         (map_ok ⟦<PrivateKeyInfoPart2<'a> as FromFields<PrivateKeyInfoPart2Fields<'a>>>⟧.fields result) t };
 
-    fn decode(alloc: Global, reader: &mut R) -> Result<Self, Error> {
+    fn decode(alloc: Global, reader: &mut R) -> Result<Self, Error>
+    where
+        R: Reader,
+    {
         decode_fields::<R, PrivateKeyInfoPart2Fields<'a>, Self>(alloc, reader)
     }
 }

@@ -9,8 +9,8 @@ ghost use Rattle.der_asn1.specs.Meaning.{alternative, field, optional, sequence,
 ghost use Rattle.der_asn1.specs.TupleFields.{five_fields};
 
 use der::{
-    Decode, DecodeValue, Encode, EncodeValue, Error, FromFields, Header, IsValue, Length, Reader,
-    Sequence, SliceReader, Writer, decode_sequence, field_refs,
+    Decode, DecodeValue, Encode, EncodeValue, Error, FromFields, Header, IsValue, Lends, Length,
+    Reader, Sequence, SliceReader, Writer, decode_sequence, field_refs,
 };
 use der_asn1::{
     BorrowedItem, DecodeItem, Described, IntRef, Item, Nestable, OctetStringRef, Optional,
@@ -76,14 +76,17 @@ impl<'a> Sequence for ScryptParams<'a> {
 }
 
 /// Decodes the fields one after the other, with the errors of every [`Sequence`].
-impl<'a, R: Reader<Borrowed = &'a [u8]>> DecodeValue<R> for ScryptParams<'a> {
+impl<'a, R: Lends<Borrowed = &'a [u8]>> DecodeValue<R> for ScryptParams<'a> {
     type Error = Error;
 
     ghost decode_value_answers = { λ h s result t.
         ⟦<ScryptParamsFields<'a> as Decode<SliceReader<'a>>>⟧.decode_answers s (map_ok
         ⟦<ScryptParams<'a> as FromFields<ScryptParamsFields<'a>>>⟧.fields result) t };
 
-    fn decode_value(alloc: Global, reader: &mut R, header: Header) -> Result<Self, Error> {
+    fn decode_value(alloc: Global, reader: &mut R, header: Header) -> Result<Self, Error>
+    where
+        R: Reader,
+    {
         decode_sequence::<R, ScryptParamsFields<'a>, Self>(alloc, reader, header)
     }
 }
@@ -169,7 +172,7 @@ impl<'a> Item for ScryptParams<'a> {
     ghost item = { sequence_item ⟦<ScryptParams<'a> as Described>⟧.element };
 }
 
-impl<'a, R: Reader<Borrowed = &'a [u8]>> DecodeItem<R> for ScryptParams<'a> {
+impl<'a, R: Lends<Borrowed = &'a [u8]>> DecodeItem<R> for ScryptParams<'a> {
     ghost is_item = { sequence_is_item ⟦<ScryptParams<'a> as Described>⟧.element refl };
 
     ghost decodes_items = { decodes_same (sequence_item

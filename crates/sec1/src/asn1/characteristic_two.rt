@@ -9,8 +9,8 @@ ghost use Rattle.der_asn1.specs.Meaning.{alternative, any_element, field, sequen
 ghost use Rattle.der_asn1.specs.TupleFields.{three_fields};
 
 use der::{
-    Decode, DecodeValue, Encode, EncodeValue, Error, FromFields, Header, IsValue, Length, Reader,
-    Sequence, SliceReader, Writer, decode_sequence, field_refs,
+    Decode, DecodeValue, Encode, EncodeValue, Error, FromFields, Header, IsValue, Lends, Length,
+    Reader, Sequence, SliceReader, Writer, decode_sequence, field_refs,
 };
 use der_asn1::{
     AnyRef, BorrowedItem, DecodeItem, Described, IntRef, Item, Nestable, ObjectIdentifierRef,
@@ -55,14 +55,17 @@ impl<'a> Sequence for CharacteristicTwo<'a> {
 }
 
 /// Decodes the fields one after the other, with the errors of every [`Sequence`].
-impl<'a, R: Reader<Borrowed = &'a [u8]>> DecodeValue<R> for CharacteristicTwo<'a> {
+impl<'a, R: Lends<Borrowed = &'a [u8]>> DecodeValue<R> for CharacteristicTwo<'a> {
     type Error = Error;
 
     ghost decode_value_answers = { λ h s result t.
         ⟦<CharacteristicTwoFields<'a> as Decode<SliceReader<'a>>>⟧.decode_answers s (map_ok
         ⟦<CharacteristicTwo<'a> as FromFields<CharacteristicTwoFields<'a>>>⟧.fields result) t };
 
-    fn decode_value(alloc: Global, reader: &mut R, header: Header) -> Result<Self, Error> {
+    fn decode_value(alloc: Global, reader: &mut R, header: Header) -> Result<Self, Error>
+    where
+        R: Reader,
+    {
         decode_sequence::<R, CharacteristicTwoFields<'a>, Self>(alloc, reader, header)
     }
 }
@@ -104,7 +107,7 @@ impl<'a> Item for CharacteristicTwo<'a> {
     ghost item = { sequence_item ⟦<CharacteristicTwo<'a> as Described>⟧.element };
 }
 
-impl<'a, R: Reader<Borrowed = &'a [u8]>> DecodeItem<R> for CharacteristicTwo<'a> {
+impl<'a, R: Lends<Borrowed = &'a [u8]>> DecodeItem<R> for CharacteristicTwo<'a> {
     ghost is_item = { sequence_is_item ⟦<CharacteristicTwo<'a> as Described>⟧.element refl };
 
     ghost decodes_items = { decodes_same (sequence_item

@@ -12,7 +12,7 @@ ghost use Rattle.sec1.specs.declared.asn1.ec_parameters.EcParameters.TheVariants
 use crate::asn1::ec_parameters_part1::EcParametersPart1;
 use crate::asn1::ec_parameters_part2::EcParametersPart2;
 use crate::asn1::specified_ec_domain::SpecifiedEcDomain;
-use der::{Decode, Encode, Error, FromFields, Length, Reader, SliceReader, Tag, Writer};
+use der::{Decode, Encode, Error, FromFields, Lends, Length, Reader, SliceReader, Tag, Writer};
 use der_asn1::{
     BorrowedItem, Choice, DecodeItem, DescribedChoice, Either, Item, Null, ObjectIdentifierRef,
     decode_choice,
@@ -67,7 +67,7 @@ impl<'a> DescribedChoice for EcParameters<'a> {
 }
 
 /// Decodes the alternative whose tag is next, with the errors of [`Either`].
-impl<'a, R: Reader<Borrowed = &'a [u8]>> Decode<R> for EcParameters<'a> {
+impl<'a, R: Lends<Borrowed = &'a [u8]>> Decode<R> for EcParameters<'a> {
     type Error = Error;
 
     ghost is_next = { ⟦<EcParameters<'a> as DescribedChoice>⟧.alternative.is_next };
@@ -80,12 +80,15 @@ impl<'a, R: Reader<Borrowed = &'a [u8]>> Decode<R> for EcParameters<'a> {
         ⟦<EcParametersAlternatives<'a> as Decode<SliceReader<'a>>>⟧.decode_answers s
         (map_ok ⟦<EcParameters<'a> as FromFields<EcParametersAlternatives<'a>>>⟧.fields result) t };
 
-    fn decode(alloc: Global, reader: &mut R) -> Result<Self, Error> {
+    fn decode(alloc: Global, reader: &mut R) -> Result<Self, Error>
+    where
+        R: Reader,
+    {
         decode_choice::<R, EcParametersAlternatives<'a>, Self>(alloc, reader)
     }
 }
 
-impl<'a, R: Reader<Borrowed = &'a [u8]>> Choice<R> for EcParameters<'a> {
+impl<'a, R: Lends<Borrowed = &'a [u8]>> Choice<R> for EcParameters<'a> {
     ghost chooses = { ⟦<EcParameters<'a> as DescribedChoice>⟧.alternative.tags };
 
     fn can_decode(tag: Tag) -> bool {
@@ -146,7 +149,7 @@ impl<'a> Item for EcParameters<'a> {
     ghost item = { choice_item ⟦<EcParameters<'a> as DescribedChoice>⟧.alternative };
 }
 
-impl<'a, R: Reader<Borrowed = &'a [u8]>> DecodeItem<R> for EcParameters<'a> {
+impl<'a, R: Lends<Borrowed = &'a [u8]>> DecodeItem<R> for EcParameters<'a> {
     ghost is_item = { choice_is_item ⟦<EcParameters<'a> as DescribedChoice>⟧.alternative refl };
 
     ghost decodes_items = { decodes_same (choice_item

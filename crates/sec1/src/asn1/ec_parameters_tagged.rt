@@ -9,8 +9,8 @@ ghost use Rattle.der_asn1.specs.Meaning.{alternative, field, sequence, sequence_
 
 use crate::asn1::ec_parameters::EcParameters;
 use der::{
-    Decode, DecodeValue, Encode, EncodeValue, Error, FromFields, Header, IsValue, Length, Reader,
-    Sequence, SliceReader, Writer, decode_sequence, field_refs,
+    Decode, DecodeValue, Encode, EncodeValue, Error, FromFields, Header, IsValue, Lends, Length,
+    Reader, Sequence, SliceReader, Writer, decode_sequence, field_refs,
 };
 use der_asn1::{BorrowedItem, DecodeItem, Described, DescribedChoice, Item, Nestable};
 use std::alloc::Global;
@@ -42,14 +42,17 @@ impl<'a> Sequence for EcParametersTagged<'a> {
 }
 
 /// Decodes the fields one after the other, with the errors of every [`Sequence`].
-impl<'a, R: Reader<Borrowed = &'a [u8]>> DecodeValue<R> for EcParametersTagged<'a> {
+impl<'a, R: Lends<Borrowed = &'a [u8]>> DecodeValue<R> for EcParametersTagged<'a> {
     type Error = Error;
 
     ghost decode_value_answers = { λ h s result t.
         ⟦<EcParametersTaggedFields<'a> as Decode<SliceReader<'a>>>⟧.decode_answers s (map_ok
         ⟦<EcParametersTagged<'a> as FromFields<EcParametersTaggedFields<'a>>>⟧.fields result) t };
 
-    fn decode_value(alloc: Global, reader: &mut R, header: Header) -> Result<Self, Error> {
+    fn decode_value(alloc: Global, reader: &mut R, header: Header) -> Result<Self, Error>
+    where
+        R: Reader,
+    {
         decode_sequence::<R, EcParametersTaggedFields<'a>, Self>(alloc, reader, header)
     }
 }
@@ -93,7 +96,7 @@ impl<'a> Item for EcParametersTagged<'a> {
     ghost item = { sequence_item ⟦<EcParametersTagged<'a> as Described>⟧.element };
 }
 
-impl<'a, R: Reader<Borrowed = &'a [u8]>> DecodeItem<R> for EcParametersTagged<'a> {
+impl<'a, R: Lends<Borrowed = &'a [u8]>> DecodeItem<R> for EcParametersTagged<'a> {
     ghost is_item = { sequence_is_item ⟦<EcParametersTagged<'a> as Described>⟧.element refl };
 
     ghost decodes_items = { decodes_same (sequence_item

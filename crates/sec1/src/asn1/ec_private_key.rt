@@ -11,8 +11,8 @@ use crate::asn1::ec_parameters_tagged::EcParametersTagged;
 use crate::asn1::ec_private_key_part1::{EcPrivateKeyPart1, EcPrivateKeyPart1Fields};
 use crate::asn1::ec_private_key_part2::{EcPrivateKeyPart2, EcPrivateKeyPart2Fields};
 use der::{
-    Decode, DecodeValue, Encode, EncodeValue, Error, FromFields, Header, IsValue, Length, Reader,
-    Sequence, SliceReader, Writer, decode_sequence, field_refs,
+    Decode, DecodeValue, Encode, EncodeValue, Error, FromFields, Header, IsValue, Lends, Length,
+    Reader, Sequence, SliceReader, Writer, decode_sequence, field_refs,
 };
 use der_asn1::{
     BitStringRef, BorrowedItem, DecodeItem, Described, Explicit, Implicit, IntRef, Item, Nestable,
@@ -67,7 +67,7 @@ impl<'a> Sequence for EcPrivateKey<'a> {
 }
 
 /// Decodes the fields one after the other, with the errors of every [`Sequence`].
-impl<'a, R: Reader<Borrowed = &'a [u8]>> DecodeValue<R> for EcPrivateKey<'a> {
+impl<'a, R: Lends<Borrowed = &'a [u8]>> DecodeValue<R> for EcPrivateKey<'a> {
     type Error = Error;
 
     ghost decode_value_answers = { λ h s result t.
@@ -75,7 +75,10 @@ impl<'a, R: Reader<Borrowed = &'a [u8]>> DecodeValue<R> for EcPrivateKey<'a> {
         (map_ok
         ⟦<EcPrivateKey<'a> as FromFields<(EcPrivateKeyPart1<'a>, EcPrivateKeyPart2<'a>)>>⟧.fields result) t };
 
-    fn decode_value(alloc: Global, reader: &mut R, header: Header) -> Result<Self, Error> {
+    fn decode_value(alloc: Global, reader: &mut R, header: Header) -> Result<Self, Error>
+    where
+        R: Reader,
+    {
         decode_sequence::<R, (EcPrivateKeyPart1<'a>, EcPrivateKeyPart2<'a>), Self>(
             alloc, reader, header,
         )
@@ -134,7 +137,7 @@ impl<'a> Item for EcPrivateKey<'a> {
     ghost item = { sequence_item ⟦<EcPrivateKey<'a> as Described>⟧.element };
 }
 
-impl<'a, R: Reader<Borrowed = &'a [u8]>> DecodeItem<R> for EcPrivateKey<'a> {
+impl<'a, R: Lends<Borrowed = &'a [u8]>> DecodeItem<R> for EcPrivateKey<'a> {
     ghost is_item = { sequence_is_item ⟦<EcPrivateKey<'a> as Described>⟧.element refl };
 
     ghost decodes_items = { decodes_same (sequence_item

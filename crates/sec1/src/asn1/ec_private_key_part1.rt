@@ -4,7 +4,7 @@
 ghost use Rattle.std.specs.Prelude.{false};
 ghost use Rattle.der.specs.Prelude.{map_ok};
 
-use der::{Decode, Error, FromFields, Reader, SliceReader, decode_fields};
+use der::{Decode, Error, FromFields, Lends, Reader, SliceReader, decode_fields};
 use der_asn1::{IntRef, OctetStringRef};
 use std::alloc::Global;
 
@@ -30,7 +30,7 @@ impl<'a> FromFields<EcPrivateKeyPart1Fields<'a>> for EcPrivateKeyPart1<'a> {
     }
 }
 
-impl<'a, R: Reader<Borrowed = &'a [u8]>> Decode<R> for EcPrivateKeyPart1<'a> {
+impl<'a, R: Lends<Borrowed = &'a [u8]>> Decode<R> for EcPrivateKeyPart1<'a> {
     type Error = Error;
 
     ghost is_next = { λ v. ⟦<EcPrivateKeyPart1Fields<'a> as Decode<SliceReader<'a>>>⟧.is_next
@@ -44,7 +44,10 @@ impl<'a, R: Reader<Borrowed = &'a [u8]>> Decode<R> for EcPrivateKeyPart1<'a> {
         ⟦<EcPrivateKeyPart1Fields<'a> as Decode<SliceReader<'a>>>⟧.decode_answers s
         (map_ok ⟦<EcPrivateKeyPart1<'a> as FromFields<EcPrivateKeyPart1Fields<'a>>>⟧.fields result) t };
 
-    fn decode(alloc: Global, reader: &mut R) -> Result<Self, Error> {
+    fn decode(alloc: Global, reader: &mut R) -> Result<Self, Error>
+    where
+        R: Reader,
+    {
         decode_fields::<R, EcPrivateKeyPart1Fields<'a>, Self>(alloc, reader)
     }
 }

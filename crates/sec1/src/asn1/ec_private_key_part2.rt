@@ -5,7 +5,7 @@ ghost use Rattle.std.specs.Prelude.{false};
 ghost use Rattle.der.specs.Prelude.{map_ok};
 
 use crate::asn1::ec_parameters_tagged::EcParametersTagged;
-use der::{Decode, Error, FromFields, Reader, SliceReader, decode_fields};
+use der::{Decode, Error, FromFields, Lends, Reader, SliceReader, decode_fields};
 use der_asn1::{BitStringRef, Explicit, Implicit, Optional};
 use std::alloc::Global;
 
@@ -34,7 +34,7 @@ impl<'a> FromFields<EcPrivateKeyPart2Fields<'a>> for EcPrivateKeyPart2<'a> {
     }
 }
 
-impl<'a, R: Reader<Borrowed = &'a [u8]>> Decode<R> for EcPrivateKeyPart2<'a> {
+impl<'a, R: Lends<Borrowed = &'a [u8]>> Decode<R> for EcPrivateKeyPart2<'a> {
     type Error = Error;
 
     ghost is_next = { λ v. ⟦<EcPrivateKeyPart2Fields<'a> as Decode<SliceReader<'a>>>⟧.is_next
@@ -48,7 +48,10 @@ impl<'a, R: Reader<Borrowed = &'a [u8]>> Decode<R> for EcPrivateKeyPart2<'a> {
         ⟦<EcPrivateKeyPart2Fields<'a> as Decode<SliceReader<'a>>>⟧.decode_answers s
         (map_ok ⟦<EcPrivateKeyPart2<'a> as FromFields<EcPrivateKeyPart2Fields<'a>>>⟧.fields result) t };
 
-    fn decode(alloc: Global, reader: &mut R) -> Result<Self, Error> {
+    fn decode(alloc: Global, reader: &mut R) -> Result<Self, Error>
+    where
+        R: Reader,
+    {
         decode_fields::<R, EcPrivateKeyPart2Fields<'a>, Self>(alloc, reader)
     }
 }

@@ -9,8 +9,8 @@ ghost use Rattle.der_asn1.specs.Meaning.{alternative, field, sequence, sequence_
 ghost use Rattle.der_asn1.specs.TupleFields.{three_fields};
 
 use der::{
-    Decode, DecodeValue, Encode, EncodeValue, Error, FromFields, Header, IsValue, Length, Reader,
-    Sequence, SliceReader, Writer, decode_sequence, field_refs,
+    Decode, DecodeValue, Encode, EncodeValue, Error, FromFields, Header, IsValue, Lends, Length,
+    Reader, Sequence, SliceReader, Writer, decode_sequence, field_refs,
 };
 use der_asn1::{BorrowedItem, DecodeItem, Described, IntRef, Item, Nestable};
 use std::alloc::Global;
@@ -49,14 +49,17 @@ impl<'a> Sequence for Pentanomial<'a> {
 }
 
 /// Decodes the fields one after the other, with the errors of every [`Sequence`].
-impl<'a, R: Reader<Borrowed = &'a [u8]>> DecodeValue<R> for Pentanomial<'a> {
+impl<'a, R: Lends<Borrowed = &'a [u8]>> DecodeValue<R> for Pentanomial<'a> {
     type Error = Error;
 
     ghost decode_value_answers = { λ h s result t.
         ⟦<PentanomialFields<'a> as Decode<SliceReader<'a>>>⟧.decode_answers s (map_ok
         ⟦<Pentanomial<'a> as FromFields<PentanomialFields<'a>>>⟧.fields result) t };
 
-    fn decode_value(alloc: Global, reader: &mut R, header: Header) -> Result<Self, Error> {
+    fn decode_value(alloc: Global, reader: &mut R, header: Header) -> Result<Self, Error>
+    where
+        R: Reader,
+    {
         decode_sequence::<R, PentanomialFields<'a>, Self>(alloc, reader, header)
     }
 }
@@ -98,7 +101,7 @@ impl<'a> Item for Pentanomial<'a> {
     ghost item = { sequence_item ⟦<Pentanomial<'a> as Described>⟧.element };
 }
 
-impl<'a, R: Reader<Borrowed = &'a [u8]>> DecodeItem<R> for Pentanomial<'a> {
+impl<'a, R: Lends<Borrowed = &'a [u8]>> DecodeItem<R> for Pentanomial<'a> {
     ghost is_item = { sequence_is_item ⟦<Pentanomial<'a> as Described>⟧.element refl };
 
     ghost decodes_items = { decodes_same (sequence_item ⟦<Pentanomial<'a> as Described>⟧.element) };

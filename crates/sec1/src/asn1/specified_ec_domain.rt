@@ -18,8 +18,8 @@ use crate::asn1::specified_ec_domain_part2::{
     SpecifiedEcDomainPart2, SpecifiedEcDomainPart2Fields,
 };
 use der::{
-    Decode, DecodeValue, Encode, EncodeValue, Error, FromFields, Header, IsValue, Length, Reader,
-    Sequence, SliceReader, Writer, decode_sequence, field_refs,
+    Decode, DecodeValue, Encode, EncodeValue, Error, FromFields, Header, IsValue, Lends, Length,
+    Reader, Sequence, SliceReader, Writer, decode_sequence, field_refs,
 };
 use der_asn1::{BorrowedItem, DecodeItem, Described, IntRef, Item, Nestable, Optional};
 use spki::AlgorithmIdentifierRef;
@@ -94,7 +94,7 @@ impl<'a> Sequence for SpecifiedEcDomain<'a> {
 }
 
 /// Decodes the fields one after the other, with the errors of every [`Sequence`].
-impl<'a, R: Reader<Borrowed = &'a [u8]>> DecodeValue<R> for SpecifiedEcDomain<'a> {
+impl<'a, R: Lends<Borrowed = &'a [u8]>> DecodeValue<R> for SpecifiedEcDomain<'a> {
     type Error = Error;
 
     ghost decode_value_answers = { λ h s result t.
@@ -102,7 +102,10 @@ impl<'a, R: Reader<Borrowed = &'a [u8]>> DecodeValue<R> for SpecifiedEcDomain<'a
         (map_ok
         ⟦<SpecifiedEcDomain<'a> as FromFields<(SpecifiedEcDomainPart1<'a>, SpecifiedEcDomainPart2<'a>)>>⟧.fields result) t };
 
-    fn decode_value(alloc: Global, reader: &mut R, header: Header) -> Result<Self, Error> {
+    fn decode_value(alloc: Global, reader: &mut R, header: Header) -> Result<Self, Error>
+    where
+        R: Reader,
+    {
         decode_sequence::<R, (SpecifiedEcDomainPart1<'a>, SpecifiedEcDomainPart2<'a>), Self>(
             alloc, reader, header,
         )
@@ -178,7 +181,7 @@ impl<'a> Item for SpecifiedEcDomain<'a> {
     ghost item = { sequence_item ⟦<SpecifiedEcDomain<'a> as Described>⟧.element };
 }
 
-impl<'a, R: Reader<Borrowed = &'a [u8]>> DecodeItem<R> for SpecifiedEcDomain<'a> {
+impl<'a, R: Lends<Borrowed = &'a [u8]>> DecodeItem<R> for SpecifiedEcDomain<'a> {
     ghost is_item = { sequence_is_item ⟦<SpecifiedEcDomain<'a> as Described>⟧.element refl };
 
     ghost decodes_items = { decodes_same (sequence_item

@@ -7,7 +7,7 @@ ghost use Rattle.der.specs.Prelude.{map_ok};
 use crate::asn1::curve::Curve;
 use crate::asn1::ec_point::EcPoint;
 use crate::asn1::field_id::FieldId;
-use der::{Decode, Error, FromFields, Reader, SliceReader, decode_fields};
+use der::{Decode, Error, FromFields, Lends, Reader, SliceReader, decode_fields};
 use der_asn1::IntRef;
 use std::alloc::Global;
 
@@ -42,7 +42,7 @@ impl<'a> FromFields<SpecifiedEcDomainPart1Fields<'a>> for SpecifiedEcDomainPart1
     }
 }
 
-impl<'a, R: Reader<Borrowed = &'a [u8]>> Decode<R> for SpecifiedEcDomainPart1<'a> {
+impl<'a, R: Lends<Borrowed = &'a [u8]>> Decode<R> for SpecifiedEcDomainPart1<'a> {
     type Error = Error;
 
     ghost is_next = { λ v. ⟦<SpecifiedEcDomainPart1Fields<'a> as Decode<SliceReader<'a>>>⟧.is_next
@@ -57,7 +57,10 @@ impl<'a, R: Reader<Borrowed = &'a [u8]>> Decode<R> for SpecifiedEcDomainPart1<'a
         (map_ok
         ⟦<SpecifiedEcDomainPart1<'a> as FromFields<SpecifiedEcDomainPart1Fields<'a>>>⟧.fields result) t };
 
-    fn decode(alloc: Global, reader: &mut R) -> Result<Self, Error> {
+    fn decode(alloc: Global, reader: &mut R) -> Result<Self, Error>
+    where
+        R: Reader,
+    {
         decode_fields::<R, SpecifiedEcDomainPart1Fields<'a>, Self>(alloc, reader)
     }
 }

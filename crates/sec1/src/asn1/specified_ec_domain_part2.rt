@@ -4,7 +4,7 @@
 ghost use Rattle.std.specs.Prelude.{false};
 ghost use Rattle.der.specs.Prelude.{map_ok};
 
-use der::{Decode, Error, FromFields, Reader, SliceReader, decode_fields};
+use der::{Decode, Error, FromFields, Lends, Reader, SliceReader, decode_fields};
 use der_asn1::{IntRef, Optional};
 use spki::AlgorithmIdentifierRef;
 use std::alloc::Global;
@@ -37,7 +37,7 @@ impl<'a> FromFields<SpecifiedEcDomainPart2Fields<'a>> for SpecifiedEcDomainPart2
     }
 }
 
-impl<'a, R: Reader<Borrowed = &'a [u8]>> Decode<R> for SpecifiedEcDomainPart2<'a> {
+impl<'a, R: Lends<Borrowed = &'a [u8]>> Decode<R> for SpecifiedEcDomainPart2<'a> {
     type Error = Error;
 
     ghost is_next = { λ v. ⟦<SpecifiedEcDomainPart2Fields<'a> as Decode<SliceReader<'a>>>⟧.is_next
@@ -52,7 +52,10 @@ impl<'a, R: Reader<Borrowed = &'a [u8]>> Decode<R> for SpecifiedEcDomainPart2<'a
         (map_ok
         ⟦<SpecifiedEcDomainPart2<'a> as FromFields<SpecifiedEcDomainPart2Fields<'a>>>⟧.fields result) t };
 
-    fn decode(alloc: Global, reader: &mut R) -> Result<Self, Error> {
+    fn decode(alloc: Global, reader: &mut R) -> Result<Self, Error>
+    where
+        R: Reader,
+    {
         decode_fields::<R, SpecifiedEcDomainPart2Fields<'a>, Self>(alloc, reader)
     }
 }

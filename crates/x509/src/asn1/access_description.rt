@@ -9,8 +9,8 @@ ghost use Rattle.der_asn1.specs.Meaning.{alternative, field, sequence, sequence_
 
 use crate::asn1::general_name::GeneralName;
 use der::{
-    Decode, DecodeValue, Encode, EncodeValue, Error, FromFields, Header, IsValue, Length, Reader,
-    Sequence, SliceReader, Writer, decode_sequence, field_refs,
+    Decode, DecodeValue, Encode, EncodeValue, Error, FromFields, Header, IsValue, Lends, Length,
+    Reader, Sequence, SliceReader, Writer, decode_sequence, field_refs,
 };
 use der_asn1::{
     BorrowedItem, DecodeItem, Described, DescribedChoice, Item, Nestable, ObjectIdentifierRef,
@@ -51,14 +51,17 @@ impl<'a> Sequence for AccessDescription<'a> {
 }
 
 /// Decodes the fields one after the other, with the errors of every [`Sequence`].
-impl<'a, R: Reader<Borrowed = &'a [u8]>> DecodeValue<R> for AccessDescription<'a> {
+impl<'a, R: Lends<Borrowed = &'a [u8]>> DecodeValue<R> for AccessDescription<'a> {
     type Error = Error;
 
     ghost decode_value_answers = { λ h s result t.
         ⟦<AccessDescriptionFields<'a> as Decode<SliceReader<'a>>>⟧.decode_answers s (map_ok
         ⟦<AccessDescription<'a> as FromFields<AccessDescriptionFields<'a>>>⟧.fields result) t };
 
-    fn decode_value(alloc: Global, reader: &mut R, header: Header) -> Result<Self, Error> {
+    fn decode_value(alloc: Global, reader: &mut R, header: Header) -> Result<Self, Error>
+    where
+        R: Reader,
+    {
         decode_sequence::<R, AccessDescriptionFields<'a>, Self>(alloc, reader, header)
     }
 }
@@ -109,7 +112,7 @@ impl<'a> Item for AccessDescription<'a> {
     ghost item = { sequence_item ⟦<AccessDescription<'a> as Described>⟧.element };
 }
 
-impl<'a, R: Reader<Borrowed = &'a [u8]>> DecodeItem<R> for AccessDescription<'a> {
+impl<'a, R: Lends<Borrowed = &'a [u8]>> DecodeItem<R> for AccessDescription<'a> {
     ghost is_item = { sequence_is_item ⟦<AccessDescription<'a> as Described>⟧.element refl };
 
     ghost decodes_items = { decodes_same (sequence_item

@@ -9,8 +9,8 @@ ghost use Rattle.der_asn1.specs.Meaning.{alternative, field, sequence, sequence_
 
 use crate::asn1::attribute_values::AttributeValues;
 use der::{
-    Decode, DecodeValue, Encode, EncodeValue, Error, FromFields, Header, IsValue, Length, Reader,
-    Sequence, SliceReader, Writer, decode_sequence, field_refs,
+    Decode, DecodeValue, Encode, EncodeValue, Error, FromFields, Header, IsValue, Lends, Length,
+    Reader, Sequence, SliceReader, Writer, decode_sequence, field_refs,
 };
 use der_asn1::{BorrowedItem, DecodeItem, Described, Item, Nestable, ObjectIdentifierRef};
 use std::alloc::Global;
@@ -46,14 +46,17 @@ impl<'a> Sequence for Attribute<'a> {
 }
 
 /// Decodes the fields one after the other, with the errors of every [`Sequence`].
-impl<'a, R: Reader<Borrowed = &'a [u8]>> DecodeValue<R> for Attribute<'a> {
+impl<'a, R: Lends<Borrowed = &'a [u8]>> DecodeValue<R> for Attribute<'a> {
     type Error = Error;
 
     ghost decode_value_answers = { λ h s result t.
         ⟦<AttributeFields<'a> as Decode<SliceReader<'a>>>⟧.decode_answers s (map_ok
         ⟦<Attribute<'a> as FromFields<AttributeFields<'a>>>⟧.fields result) t };
 
-    fn decode_value(alloc: Global, reader: &mut R, header: Header) -> Result<Self, Error> {
+    fn decode_value(alloc: Global, reader: &mut R, header: Header) -> Result<Self, Error>
+    where
+        R: Reader,
+    {
         decode_sequence::<R, AttributeFields<'a>, Self>(alloc, reader, header)
     }
 }
@@ -94,7 +97,7 @@ impl<'a> Item for Attribute<'a> {
     ghost item = { sequence_item ⟦<Attribute<'a> as Described>⟧.element };
 }
 
-impl<'a, R: Reader<Borrowed = &'a [u8]>> DecodeItem<R> for Attribute<'a> {
+impl<'a, R: Lends<Borrowed = &'a [u8]>> DecodeItem<R> for Attribute<'a> {
     ghost is_item = { sequence_is_item ⟦<Attribute<'a> as Described>⟧.element refl };
 
     ghost decodes_items = { decodes_same (sequence_item ⟦<Attribute<'a> as Described>⟧.element) };

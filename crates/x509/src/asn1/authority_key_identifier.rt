@@ -12,8 +12,8 @@ use crate::asn1::certificate_serial_number::CertificateSerialNumber;
 use crate::asn1::general_names::GeneralNames;
 use crate::asn1::key_identifier::KeyIdentifier;
 use der::{
-    Decode, DecodeValue, Encode, EncodeValue, Error, FromFields, Header, IsValue, Length, Reader,
-    Sequence, SliceReader, Writer, decode_sequence, field_refs,
+    Decode, DecodeValue, Encode, EncodeValue, Error, FromFields, Header, IsValue, Lends, Length,
+    Reader, Sequence, SliceReader, Writer, decode_sequence, field_refs,
 };
 use der_asn1::{BorrowedItem, DecodeItem, Described, Implicit, Item, Nestable, Optional};
 use std::alloc::Global;
@@ -66,14 +66,17 @@ impl<'a> Sequence for AuthorityKeyIdentifier<'a> {
 }
 
 /// Decodes the fields one after the other, with the errors of every [`Sequence`].
-impl<'a, R: Reader<Borrowed = &'a [u8]>> DecodeValue<R> for AuthorityKeyIdentifier<'a> {
+impl<'a, R: Lends<Borrowed = &'a [u8]>> DecodeValue<R> for AuthorityKeyIdentifier<'a> {
     type Error = Error;
 
     ghost decode_value_answers = { λ h s result t.
         ⟦<AuthorityKeyIdentifierFields<'a> as Decode<SliceReader<'a>>>⟧.decode_answers s (map_ok
         ⟦<AuthorityKeyIdentifier<'a> as FromFields<AuthorityKeyIdentifierFields<'a>>>⟧.fields result) t };
 
-    fn decode_value(alloc: Global, reader: &mut R, header: Header) -> Result<Self, Error> {
+    fn decode_value(alloc: Global, reader: &mut R, header: Header) -> Result<Self, Error>
+    where
+        R: Reader,
+    {
         decode_sequence::<R, AuthorityKeyIdentifierFields<'a>, Self>(alloc, reader, header)
     }
 }
@@ -154,7 +157,7 @@ impl<'a> Item for AuthorityKeyIdentifier<'a> {
     ghost item = { sequence_item ⟦<AuthorityKeyIdentifier<'a> as Described>⟧.element };
 }
 
-impl<'a, R: Reader<Borrowed = &'a [u8]>> DecodeItem<R> for AuthorityKeyIdentifier<'a> {
+impl<'a, R: Lends<Borrowed = &'a [u8]>> DecodeItem<R> for AuthorityKeyIdentifier<'a> {
     ghost is_item = { sequence_is_item ⟦<AuthorityKeyIdentifier<'a> as Described>⟧.element refl };
 
     ghost decodes_items = { decodes_same (sequence_item

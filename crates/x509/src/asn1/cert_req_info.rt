@@ -12,8 +12,8 @@ use crate::asn1::attributes::Attributes;
 use crate::asn1::cert_req_version::CertReqVersion;
 use crate::asn1::name::Name;
 use der::{
-    Decode, DecodeValue, Encode, EncodeValue, Error, FromFields, Header, IsValue, Length, Reader,
-    Sequence, SliceReader, Writer, decode_sequence, field_refs,
+    Decode, DecodeValue, Encode, EncodeValue, Error, FromFields, Header, IsValue, Lends, Length,
+    Reader, Sequence, SliceReader, Writer, decode_sequence, field_refs,
 };
 use der_asn1::{BorrowedItem, DecodeItem, Described, Implicit, Item, NamedInteger, Nestable};
 use spki::SubjectPublicKeyInfoRef;
@@ -68,14 +68,17 @@ impl<'a> Sequence for CertReqInfo<'a> {
 }
 
 /// Decodes the fields one after the other, with the errors of every [`Sequence`].
-impl<'a, R: Reader<Borrowed = &'a [u8]>> DecodeValue<R> for CertReqInfo<'a> {
+impl<'a, R: Lends<Borrowed = &'a [u8]>> DecodeValue<R> for CertReqInfo<'a> {
     type Error = Error;
 
     ghost decode_value_answers = { λ h s result t.
         ⟦<CertReqInfoFields<'a> as Decode<SliceReader<'a>>>⟧.decode_answers s (map_ok
         ⟦<CertReqInfo<'a> as FromFields<CertReqInfoFields<'a>>>⟧.fields result) t };
 
-    fn decode_value(alloc: Global, reader: &mut R, header: Header) -> Result<Self, Error> {
+    fn decode_value(alloc: Global, reader: &mut R, header: Header) -> Result<Self, Error>
+    where
+        R: Reader,
+    {
         decode_sequence::<R, CertReqInfoFields<'a>, Self>(alloc, reader, header)
     }
 }
@@ -118,7 +121,7 @@ impl<'a> Item for CertReqInfo<'a> {
     ghost item = { sequence_item ⟦<CertReqInfo<'a> as Described>⟧.element };
 }
 
-impl<'a, R: Reader<Borrowed = &'a [u8]>> DecodeItem<R> for CertReqInfo<'a> {
+impl<'a, R: Lends<Borrowed = &'a [u8]>> DecodeItem<R> for CertReqInfo<'a> {
     ghost is_item = { sequence_is_item ⟦<CertReqInfo<'a> as Described>⟧.element refl };
 
     ghost decodes_items = { decodes_same (sequence_item ⟦<CertReqInfo<'a> as Described>⟧.element) };

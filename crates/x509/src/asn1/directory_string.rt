@@ -11,7 +11,7 @@ ghost use Rattle.x509.specs.declared.asn1.directory_string.DirectoryString.TheVa
 
 use crate::asn1::directory_string_part1::DirectoryStringPart1;
 use crate::asn1::directory_string_part2::DirectoryStringPart2;
-use der::{Decode, Encode, Error, FromFields, Length, Reader, SliceReader, Tag, Writer};
+use der::{Decode, Encode, Error, FromFields, Lends, Length, Reader, SliceReader, Tag, Writer};
 use der_asn1::{
     BmpStringRef, BorrowedItem, Choice, DecodeItem, DescribedChoice, Either, Item,
     PrintableStringRef, TeletexStringRef, Utf8StringRef, decode_choice,
@@ -80,7 +80,7 @@ impl<'a> DescribedChoice for DirectoryString<'a> {
 }
 
 /// Decodes the alternative whose tag is next, with the errors of [`Either`].
-impl<'a, R: Reader<Borrowed = &'a [u8]>> Decode<R> for DirectoryString<'a> {
+impl<'a, R: Lends<Borrowed = &'a [u8]>> Decode<R> for DirectoryString<'a> {
     type Error = Error;
 
     ghost is_next = { ⟦<DirectoryString<'a> as DescribedChoice>⟧.alternative.is_next };
@@ -93,12 +93,15 @@ impl<'a, R: Reader<Borrowed = &'a [u8]>> Decode<R> for DirectoryString<'a> {
         ⟦<DirectoryStringAlternatives<'a> as Decode<SliceReader<'a>>>⟧.decode_answers s
         (map_ok ⟦<DirectoryString<'a> as FromFields<DirectoryStringAlternatives<'a>>>⟧.fields result) t };
 
-    fn decode(alloc: Global, reader: &mut R) -> Result<Self, Error> {
+    fn decode(alloc: Global, reader: &mut R) -> Result<Self, Error>
+    where
+        R: Reader,
+    {
         decode_choice::<R, DirectoryStringAlternatives<'a>, Self>(alloc, reader)
     }
 }
 
-impl<'a, R: Reader<Borrowed = &'a [u8]>> Choice<R> for DirectoryString<'a> {
+impl<'a, R: Lends<Borrowed = &'a [u8]>> Choice<R> for DirectoryString<'a> {
     ghost chooses = { ⟦<DirectoryString<'a> as DescribedChoice>⟧.alternative.tags };
 
     fn can_decode(tag: Tag) -> bool {
@@ -163,7 +166,7 @@ impl<'a> Item for DirectoryString<'a> {
     ghost item = { choice_item ⟦<DirectoryString<'a> as DescribedChoice>⟧.alternative };
 }
 
-impl<'a, R: Reader<Borrowed = &'a [u8]>> DecodeItem<R> for DirectoryString<'a> {
+impl<'a, R: Lends<Borrowed = &'a [u8]>> DecodeItem<R> for DirectoryString<'a> {
     ghost is_item = { choice_is_item ⟦<DirectoryString<'a> as DescribedChoice>⟧.alternative refl };
 
     ghost decodes_items = { decodes_same (choice_item

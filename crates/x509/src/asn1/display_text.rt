@@ -11,7 +11,7 @@ ghost use Rattle.x509.specs.declared.asn1.display_text.DisplayText.TheVariants a
 
 use crate::asn1::display_text_part1::DisplayTextPart1;
 use crate::asn1::display_text_part2::DisplayTextPart2;
-use der::{Decode, Encode, Error, FromFields, Length, Reader, SliceReader, Tag, Writer};
+use der::{Decode, Encode, Error, FromFields, Lends, Length, Reader, SliceReader, Tag, Writer};
 use der_asn1::{
     BmpStringRef, BorrowedItem, Choice, DecodeItem, DescribedChoice, Either, Ia5StringRef, Item,
     Utf8StringRef, VisibleStringRef, decode_choice,
@@ -76,7 +76,7 @@ impl<'a> DescribedChoice for DisplayText<'a> {
 }
 
 /// Decodes the alternative whose tag is next, with the errors of [`Either`].
-impl<'a, R: Reader<Borrowed = &'a [u8]>> Decode<R> for DisplayText<'a> {
+impl<'a, R: Lends<Borrowed = &'a [u8]>> Decode<R> for DisplayText<'a> {
     type Error = Error;
 
     ghost is_next = { ⟦<DisplayText<'a> as DescribedChoice>⟧.alternative.is_next };
@@ -89,12 +89,15 @@ impl<'a, R: Reader<Borrowed = &'a [u8]>> Decode<R> for DisplayText<'a> {
         ⟦<DisplayTextAlternatives<'a> as Decode<SliceReader<'a>>>⟧.decode_answers s
         (map_ok ⟦<DisplayText<'a> as FromFields<DisplayTextAlternatives<'a>>>⟧.fields result) t };
 
-    fn decode(alloc: Global, reader: &mut R) -> Result<Self, Error> {
+    fn decode(alloc: Global, reader: &mut R) -> Result<Self, Error>
+    where
+        R: Reader,
+    {
         decode_choice::<R, DisplayTextAlternatives<'a>, Self>(alloc, reader)
     }
 }
 
-impl<'a, R: Reader<Borrowed = &'a [u8]>> Choice<R> for DisplayText<'a> {
+impl<'a, R: Lends<Borrowed = &'a [u8]>> Choice<R> for DisplayText<'a> {
     ghost chooses = { ⟦<DisplayText<'a> as DescribedChoice>⟧.alternative.tags };
 
     fn can_decode(tag: Tag) -> bool {
@@ -159,7 +162,7 @@ impl<'a> Item for DisplayText<'a> {
     ghost item = { choice_item ⟦<DisplayText<'a> as DescribedChoice>⟧.alternative };
 }
 
-impl<'a, R: Reader<Borrowed = &'a [u8]>> DecodeItem<R> for DisplayText<'a> {
+impl<'a, R: Lends<Borrowed = &'a [u8]>> DecodeItem<R> for DisplayText<'a> {
     ghost is_item = { choice_is_item ⟦<DisplayText<'a> as DescribedChoice>⟧.alternative refl };
 
     ghost decodes_items = { decodes_same (choice_item

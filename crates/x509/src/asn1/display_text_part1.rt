@@ -5,7 +5,7 @@ ghost use Rattle.std.specs.Prelude.{false};
 ghost use Rattle.der.specs.Prelude.{map_ok};
 ghost use Rattle.der_asn1.specs.Meaning.{alternative, choice_of, either};
 
-use der::{Decode, Encode, Error, FromFields, Length, Reader, SliceReader, Tag, Writer};
+use der::{Decode, Encode, Error, FromFields, Lends, Length, Reader, SliceReader, Tag, Writer};
 use der_asn1::{
     Choice, Described, DescribedChoice, Either, Ia5StringRef, VisibleStringRef, decode_choice,
 };
@@ -33,7 +33,7 @@ impl<'a> DescribedChoice for DisplayTextPart1<'a> {
         (alternative ⟦<VisibleStringRef<'a> as Described>⟧.element)) (λ v. v.choice) };
 }
 
-impl<'a, R: Reader<Borrowed = &'a [u8]>> Decode<R> for DisplayTextPart1<'a> {
+impl<'a, R: Lends<Borrowed = &'a [u8]>> Decode<R> for DisplayTextPart1<'a> {
     type Error = Error;
 
     ghost is_next = { ⟦<DisplayTextPart1<'a> as DescribedChoice>⟧.alternative.is_next };
@@ -47,12 +47,15 @@ impl<'a, R: Reader<Borrowed = &'a [u8]>> Decode<R> for DisplayTextPart1<'a> {
         (map_ok (λ v. v.choice) result) t };
 
     #[inline(always)]
-    fn decode(alloc: Global, reader: &mut R) -> Result<Self, Error> {
+    fn decode(alloc: Global, reader: &mut R) -> Result<Self, Error>
+    where
+        R: Reader,
+    {
         decode_choice::<R, DisplayTextPart1Alternatives<'a>, Self>(alloc, reader)
     }
 }
 
-impl<'a, R: Reader<Borrowed = &'a [u8]>> Choice<R> for DisplayTextPart1<'a> {
+impl<'a, R: Lends<Borrowed = &'a [u8]>> Choice<R> for DisplayTextPart1<'a> {
     ghost chooses = { ⟦<DisplayTextPart1<'a> as DescribedChoice>⟧.alternative.tags };
 
     #[inline(always)]

@@ -13,8 +13,8 @@ use crate::asn1::distribution_point_part2::{DistributionPointPart2, Distribution
 use crate::asn1::general_names::GeneralNames;
 use crate::asn1::reason_flags::ReasonFlags;
 use der::{
-    Decode, DecodeValue, Encode, EncodeValue, Error, FromFields, Header, IsValue, Length, Reader,
-    Sequence, SliceReader, Writer, decode_sequence, field_refs,
+    Decode, DecodeValue, Encode, EncodeValue, Error, FromFields, Header, IsValue, Lends, Length,
+    Reader, Sequence, SliceReader, Writer, decode_sequence, field_refs,
 };
 use der_asn1::{BorrowedItem, DecodeItem, Described, Implicit, Item, Nestable, Optional};
 use std::alloc::Global;
@@ -70,7 +70,7 @@ impl<'a> Sequence for DistributionPoint<'a> {
 }
 
 /// Decodes the fields one after the other, with the errors of every [`Sequence`].
-impl<'a, R: Reader<Borrowed = &'a [u8]>> DecodeValue<R> for DistributionPoint<'a> {
+impl<'a, R: Lends<Borrowed = &'a [u8]>> DecodeValue<R> for DistributionPoint<'a> {
     type Error = Error;
 
     ghost decode_value_answers = { λ h s result t.
@@ -78,7 +78,10 @@ impl<'a, R: Reader<Borrowed = &'a [u8]>> DecodeValue<R> for DistributionPoint<'a
         (map_ok
         ⟦<DistributionPoint<'a> as FromFields<(DistributionPointPart1<'a>, DistributionPointPart2<'a>)>>⟧.fields result) t };
 
-    fn decode_value(alloc: Global, reader: &mut R, header: Header) -> Result<Self, Error> {
+    fn decode_value(alloc: Global, reader: &mut R, header: Header) -> Result<Self, Error>
+    where
+        R: Reader,
+    {
         decode_sequence::<R, (DistributionPointPart1<'a>, DistributionPointPart2<'a>), Self>(
             alloc, reader, header,
         )
@@ -136,7 +139,7 @@ impl<'a> Item for DistributionPoint<'a> {
     ghost item = { sequence_item ⟦<DistributionPoint<'a> as Described>⟧.element };
 }
 
-impl<'a, R: Reader<Borrowed = &'a [u8]>> DecodeItem<R> for DistributionPoint<'a> {
+impl<'a, R: Lends<Borrowed = &'a [u8]>> DecodeItem<R> for DistributionPoint<'a> {
     ghost is_item = { sequence_is_item ⟦<DistributionPoint<'a> as Described>⟧.element refl };
 
     ghost decodes_items = { decodes_same (sequence_item

@@ -11,7 +11,7 @@ ghost use Rattle.x509.specs.declared.asn1.distribution_point_name.DistributionPo
 
 use crate::asn1::general_names::GeneralNames;
 use crate::asn1::relative_distinguished_name::RelativeDistinguishedName;
-use der::{Decode, Encode, Error, FromFields, Length, Reader, SliceReader, Tag, Writer};
+use der::{Decode, Encode, Error, FromFields, Lends, Length, Reader, SliceReader, Tag, Writer};
 use der_asn1::{
     BorrowedItem, Choice, DecodeItem, Described, DescribedChoice, Either, Implicit, Item,
     decode_choice,
@@ -56,7 +56,7 @@ impl<'a> DescribedChoice for DistributionPointName<'a> {
 }
 
 /// Decodes the alternative whose tag is next, with the errors of [`Either`].
-impl<'a, R: Reader<Borrowed = &'a [u8]>> Decode<R> for DistributionPointName<'a> {
+impl<'a, R: Lends<Borrowed = &'a [u8]>> Decode<R> for DistributionPointName<'a> {
     type Error = Error;
 
     ghost is_next = { ⟦<DistributionPointName<'a> as DescribedChoice>⟧.alternative.is_next };
@@ -70,12 +70,15 @@ impl<'a, R: Reader<Borrowed = &'a [u8]>> Decode<R> for DistributionPointName<'a>
         (map_ok
         ⟦<DistributionPointName<'a> as FromFields<DistributionPointNameAlternatives<'a>>>⟧.fields result) t };
 
-    fn decode(alloc: Global, reader: &mut R) -> Result<Self, Error> {
+    fn decode(alloc: Global, reader: &mut R) -> Result<Self, Error>
+    where
+        R: Reader,
+    {
         decode_choice::<R, DistributionPointNameAlternatives<'a>, Self>(alloc, reader)
     }
 }
 
-impl<'a, R: Reader<Borrowed = &'a [u8]>> Choice<R> for DistributionPointName<'a> {
+impl<'a, R: Lends<Borrowed = &'a [u8]>> Choice<R> for DistributionPointName<'a> {
     ghost chooses = { ⟦<DistributionPointName<'a> as DescribedChoice>⟧.alternative.tags };
 
     fn can_decode(tag: Tag) -> bool {
@@ -132,7 +135,7 @@ impl<'a> Item for DistributionPointName<'a> {
     ghost item = { choice_item ⟦<DistributionPointName<'a> as DescribedChoice>⟧.alternative };
 }
 
-impl<'a, R: Reader<Borrowed = &'a [u8]>> DecodeItem<R> for DistributionPointName<'a> {
+impl<'a, R: Lends<Borrowed = &'a [u8]>> DecodeItem<R> for DistributionPointName<'a> {
     ghost is_item = { choice_is_item
         ⟦<DistributionPointName<'a> as DescribedChoice>⟧.alternative refl };
 

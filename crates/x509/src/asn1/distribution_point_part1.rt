@@ -6,7 +6,7 @@ ghost use Rattle.der.specs.Prelude.{map_ok};
 
 use crate::asn1::distribution_point_name_tagged::DistributionPointNameTagged;
 use crate::asn1::reason_flags::ReasonFlags;
-use der::{Decode, Error, FromFields, Reader, SliceReader, decode_fields};
+use der::{Decode, Error, FromFields, Lends, Reader, SliceReader, decode_fields};
 use der_asn1::{Implicit, Optional};
 use std::alloc::Global;
 
@@ -35,7 +35,7 @@ impl<'a> FromFields<DistributionPointPart1Fields<'a>> for DistributionPointPart1
     }
 }
 
-impl<'a, R: Reader<Borrowed = &'a [u8]>> Decode<R> for DistributionPointPart1<'a> {
+impl<'a, R: Lends<Borrowed = &'a [u8]>> Decode<R> for DistributionPointPart1<'a> {
     type Error = Error;
 
     ghost is_next = { λ v. ⟦<DistributionPointPart1Fields<'a> as Decode<SliceReader<'a>>>⟧.is_next
@@ -50,7 +50,10 @@ impl<'a, R: Reader<Borrowed = &'a [u8]>> Decode<R> for DistributionPointPart1<'a
         (map_ok
         ⟦<DistributionPointPart1<'a> as FromFields<DistributionPointPart1Fields<'a>>>⟧.fields result) t };
 
-    fn decode(alloc: Global, reader: &mut R) -> Result<Self, Error> {
+    fn decode(alloc: Global, reader: &mut R) -> Result<Self, Error>
+    where
+        R: Reader,
+    {
         decode_fields::<R, DistributionPointPart1Fields<'a>, Self>(alloc, reader)
     }
 }

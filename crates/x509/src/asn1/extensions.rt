@@ -9,7 +9,7 @@ ghost use Rattle.der_asn1.specs.Meaning.{renamed, sequence_is_item, sequence_ite
 
 use crate::asn1::extension::Extension;
 use der::{
-    DecodeValue, EncodeValue, Error, FromFields, Header, IsValue, Length, Reader, Sequence,
+    DecodeValue, EncodeValue, Error, FromFields, Header, IsValue, Lends, Length, Reader, Sequence,
     SliceReader, Writer, decode_wrapped,
 };
 use der_asn1::{BorrowedItem, DecodeItem, Described, Item, Nestable, SequenceOf};
@@ -41,14 +41,17 @@ impl<'a> Sequence for Extensions<'a> {
 }
 
 /// Decodes the list, with the errors of [`SequenceOf`].
-impl<'a, R: Reader<Borrowed = &'a [u8]>> DecodeValue<R> for Extensions<'a> {
+impl<'a, R: Lends<Borrowed = &'a [u8]>> DecodeValue<R> for Extensions<'a> {
     type Error = Error;
 
     ghost decode_value_answers = { λ h s result t.
         ⟦<Items<'a> as DecodeValue<SliceReader<'a>>>⟧.decode_value_answers h s
         (map_ok (λ v. v.items) result) t };
 
-    fn decode_value(alloc: Global, reader: &mut R, header: Header) -> Result<Self, Error> {
+    fn decode_value(alloc: Global, reader: &mut R, header: Header) -> Result<Self, Error>
+    where
+        R: Reader,
+    {
         decode_wrapped::<R, Items<'a>, Self>(alloc, reader, header)
     }
 }
@@ -86,7 +89,7 @@ impl<'a> Item for Extensions<'a> {
     ghost item = { sequence_item ⟦<Extensions<'a> as Described>⟧.element };
 }
 
-impl<'a, R: Reader<Borrowed = &'a [u8]>> DecodeItem<R> for Extensions<'a> {
+impl<'a, R: Lends<Borrowed = &'a [u8]>> DecodeItem<R> for Extensions<'a> {
     ghost is_item = { sequence_is_item ⟦<Extensions<'a> as Described>⟧.element refl };
 
     ghost decodes_items = { decodes_same (sequence_item ⟦<Extensions<'a> as Described>⟧.element) };

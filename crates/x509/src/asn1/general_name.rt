@@ -15,7 +15,7 @@ use crate::asn1::general_name_part2::GeneralNamePart2;
 use crate::asn1::general_name_part3::GeneralNamePart3;
 use crate::asn1::name::Name;
 use crate::asn1::other_name::OtherName;
-use der::{Decode, Encode, Error, FromFields, Length, Reader, SliceReader, Tag, Writer};
+use der::{Decode, Encode, Error, FromFields, Lends, Length, Reader, SliceReader, Tag, Writer};
 use der_asn1::{
     BorrowedItem, Choice, DecodeItem, DescribedChoice, Either, Explicit, Ia5StringRef, Implicit,
     Item, ObjectIdentifierRef, OctetStringRef, SequenceRef, decode_choice,
@@ -136,7 +136,7 @@ impl<'a> DescribedChoice for GeneralName<'a> {
 }
 
 /// Decodes the alternative whose tag is next, with the errors of [`Either`].
-impl<'a, R: Reader<Borrowed = &'a [u8]>> Decode<R> for GeneralName<'a> {
+impl<'a, R: Lends<Borrowed = &'a [u8]>> Decode<R> for GeneralName<'a> {
     type Error = Error;
 
     ghost is_next = { ⟦<GeneralName<'a> as DescribedChoice>⟧.alternative.is_next };
@@ -149,12 +149,15 @@ impl<'a, R: Reader<Borrowed = &'a [u8]>> Decode<R> for GeneralName<'a> {
         ⟦<GeneralNameAlternatives<'a> as Decode<SliceReader<'a>>>⟧.decode_answers s
         (map_ok ⟦<GeneralName<'a> as FromFields<GeneralNameAlternatives<'a>>>⟧.fields result) t };
 
-    fn decode(alloc: Global, reader: &mut R) -> Result<Self, Error> {
+    fn decode(alloc: Global, reader: &mut R) -> Result<Self, Error>
+    where
+        R: Reader,
+    {
         decode_choice::<R, GeneralNameAlternatives<'a>, Self>(alloc, reader)
     }
 }
 
-impl<'a, R: Reader<Borrowed = &'a [u8]>> Choice<R> for GeneralName<'a> {
+impl<'a, R: Lends<Borrowed = &'a [u8]>> Choice<R> for GeneralName<'a> {
     ghost chooses = { ⟦<GeneralName<'a> as DescribedChoice>⟧.alternative.tags };
 
     fn can_decode(tag: Tag) -> bool {
@@ -239,7 +242,7 @@ impl<'a> Item for GeneralName<'a> {
     ghost item = { choice_item ⟦<GeneralName<'a> as DescribedChoice>⟧.alternative };
 }
 
-impl<'a, R: Reader<Borrowed = &'a [u8]>> DecodeItem<R> for GeneralName<'a> {
+impl<'a, R: Lends<Borrowed = &'a [u8]>> DecodeItem<R> for GeneralName<'a> {
     ghost is_item = { choice_is_item ⟦<GeneralName<'a> as DescribedChoice>⟧.alternative refl };
 
     ghost decodes_items = { decodes_same (choice_item

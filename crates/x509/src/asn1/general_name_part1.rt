@@ -6,7 +6,7 @@ ghost use Rattle.der.specs.Prelude.{map_ok};
 ghost use Rattle.der_asn1.specs.Meaning.{alternative, choice_of, either};
 
 use crate::asn1::other_name::OtherName;
-use der::{Decode, Encode, Error, FromFields, Length, Reader, SliceReader, Tag, Writer};
+use der::{Decode, Encode, Error, FromFields, Lends, Length, Reader, SliceReader, Tag, Writer};
 use der_asn1::{Choice, Described, DescribedChoice, Either, Ia5StringRef, Implicit, decode_choice};
 use std::alloc::Global;
 
@@ -37,7 +37,7 @@ impl<'a> DescribedChoice for GeneralNamePart1<'a> {
         ⟦<Implicit<Ia5StringRef<'a>, 2> as Described>⟧.element))) (λ v. v.choice) };
 }
 
-impl<'a, R: Reader<Borrowed = &'a [u8]>> Decode<R> for GeneralNamePart1<'a> {
+impl<'a, R: Lends<Borrowed = &'a [u8]>> Decode<R> for GeneralNamePart1<'a> {
     type Error = Error;
 
     ghost is_next = { ⟦<GeneralNamePart1<'a> as DescribedChoice>⟧.alternative.is_next };
@@ -51,12 +51,15 @@ impl<'a, R: Reader<Borrowed = &'a [u8]>> Decode<R> for GeneralNamePart1<'a> {
         (map_ok (λ v. v.choice) result) t };
 
     #[inline(always)]
-    fn decode(alloc: Global, reader: &mut R) -> Result<Self, Error> {
+    fn decode(alloc: Global, reader: &mut R) -> Result<Self, Error>
+    where
+        R: Reader,
+    {
         decode_choice::<R, GeneralNamePart1Alternatives<'a>, Self>(alloc, reader)
     }
 }
 
-impl<'a, R: Reader<Borrowed = &'a [u8]>> Choice<R> for GeneralNamePart1<'a> {
+impl<'a, R: Lends<Borrowed = &'a [u8]>> Choice<R> for GeneralNamePart1<'a> {
     ghost chooses = { ⟦<GeneralNamePart1<'a> as DescribedChoice>⟧.alternative.tags };
 
     #[inline(always)]

@@ -7,7 +7,7 @@ ghost use Rattle.der_asn1.specs.Meaning.{alternative, choice_of, either};
 
 use crate::asn1::edi_party_name::EdiPartyName;
 use crate::asn1::name::Name;
-use der::{Decode, Encode, Error, FromFields, Length, Reader, SliceReader, Tag, Writer};
+use der::{Decode, Encode, Error, FromFields, Lends, Length, Reader, SliceReader, Tag, Writer};
 use der_asn1::{
     Choice, Described, DescribedChoice, Either, Explicit, Implicit, SequenceRef, decode_choice,
 };
@@ -40,7 +40,7 @@ impl<'a> DescribedChoice for GeneralNamePart2<'a> {
         ⟦<Implicit<EdiPartyName<'a>, 5> as Described>⟧.element))) (λ v. v.choice) };
 }
 
-impl<'a, R: Reader<Borrowed = &'a [u8]>> Decode<R> for GeneralNamePart2<'a> {
+impl<'a, R: Lends<Borrowed = &'a [u8]>> Decode<R> for GeneralNamePart2<'a> {
     type Error = Error;
 
     ghost is_next = { ⟦<GeneralNamePart2<'a> as DescribedChoice>⟧.alternative.is_next };
@@ -54,12 +54,15 @@ impl<'a, R: Reader<Borrowed = &'a [u8]>> Decode<R> for GeneralNamePart2<'a> {
         (map_ok (λ v. v.choice) result) t };
 
     #[inline(always)]
-    fn decode(alloc: Global, reader: &mut R) -> Result<Self, Error> {
+    fn decode(alloc: Global, reader: &mut R) -> Result<Self, Error>
+    where
+        R: Reader,
+    {
         decode_choice::<R, GeneralNamePart2Alternatives<'a>, Self>(alloc, reader)
     }
 }
 
-impl<'a, R: Reader<Borrowed = &'a [u8]>> Choice<R> for GeneralNamePart2<'a> {
+impl<'a, R: Lends<Borrowed = &'a [u8]>> Choice<R> for GeneralNamePart2<'a> {
     ghost chooses = { ⟦<GeneralNamePart2<'a> as DescribedChoice>⟧.alternative.tags };
 
     #[inline(always)]

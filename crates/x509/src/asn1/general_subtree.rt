@@ -12,8 +12,8 @@ use crate::asn1::general_name::GeneralName;
 use crate::asn1::general_subtree_part1::{GeneralSubtreePart1, GeneralSubtreePart1Fields};
 use crate::asn1::general_subtree_part2::{GeneralSubtreePart2, GeneralSubtreePart2Fields};
 use der::{
-    Decode, DecodeValue, Encode, EncodeValue, Error, FromFields, Header, IsValue, Length, Reader,
-    Sequence, SliceReader, Writer, decode_sequence, field_refs,
+    Decode, DecodeValue, Encode, EncodeValue, Error, FromFields, Header, IsValue, Lends, Length,
+    Reader, Sequence, SliceReader, Writer, decode_sequence, field_refs,
 };
 use der_asn1::{
     BorrowedItem, DecodeItem, DefaultU64, DefaultValue, Defaulted, Described, DescribedChoice,
@@ -68,7 +68,7 @@ impl<'a> Sequence for GeneralSubtree<'a> {
 }
 
 /// Decodes the fields one after the other, with the errors of every [`Sequence`].
-impl<'a, R: Reader<Borrowed = &'a [u8]>> DecodeValue<R> for GeneralSubtree<'a> {
+impl<'a, R: Lends<Borrowed = &'a [u8]>> DecodeValue<R> for GeneralSubtree<'a> {
     type Error = Error;
 
     ghost decode_value_answers = { λ h s result t.
@@ -76,7 +76,10 @@ impl<'a, R: Reader<Borrowed = &'a [u8]>> DecodeValue<R> for GeneralSubtree<'a> {
         (map_ok
         ⟦<GeneralSubtree<'a> as FromFields<(GeneralSubtreePart1<'a>, GeneralSubtreePart2<'a>)>>⟧.fields result) t };
 
-    fn decode_value(alloc: Global, reader: &mut R, header: Header) -> Result<Self, Error> {
+    fn decode_value(alloc: Global, reader: &mut R, header: Header) -> Result<Self, Error>
+    where
+        R: Reader,
+    {
         decode_sequence::<R, (GeneralSubtreePart1<'a>, GeneralSubtreePart2<'a>), Self>(
             alloc, reader, header,
         )
@@ -140,7 +143,7 @@ impl<'a> Item for GeneralSubtree<'a> {
     ghost item = { sequence_item ⟦<GeneralSubtree<'a> as Described>⟧.element };
 }
 
-impl<'a, R: Reader<Borrowed = &'a [u8]>> DecodeItem<R> for GeneralSubtree<'a> {
+impl<'a, R: Lends<Borrowed = &'a [u8]>> DecodeItem<R> for GeneralSubtree<'a> {
     ghost is_item = { sequence_is_item ⟦<GeneralSubtree<'a> as Described>⟧.element refl };
 
     ghost decodes_items = { decodes_same (sequence_item

@@ -5,7 +5,7 @@ ghost use Rattle.std.specs.Prelude.{false};
 ghost use Rattle.der.specs.Prelude.{map_ok};
 
 use crate::asn1::general_name::GeneralName;
-use der::{Decode, Error, FromFields, Reader, SliceReader, decode_fields};
+use der::{Decode, Error, FromFields, Lends, Reader, SliceReader, decode_fields};
 use der_asn1::{DefaultU64, Defaulted, Implicit, IntegerOf, WithDefault};
 use std::alloc::Global;
 
@@ -31,7 +31,7 @@ impl<'a> FromFields<GeneralSubtreePart1Fields<'a>> for GeneralSubtreePart1<'a> {
     }
 }
 
-impl<'a, R: Reader<Borrowed = &'a [u8]>> Decode<R> for GeneralSubtreePart1<'a> {
+impl<'a, R: Lends<Borrowed = &'a [u8]>> Decode<R> for GeneralSubtreePart1<'a> {
     type Error = Error;
 
     ghost is_next = { λ v. ⟦<GeneralSubtreePart1Fields<'a> as Decode<SliceReader<'a>>>⟧.is_next
@@ -45,7 +45,10 @@ impl<'a, R: Reader<Borrowed = &'a [u8]>> Decode<R> for GeneralSubtreePart1<'a> {
         ⟦<GeneralSubtreePart1Fields<'a> as Decode<SliceReader<'a>>>⟧.decode_answers s
         (map_ok ⟦<GeneralSubtreePart1<'a> as FromFields<GeneralSubtreePart1Fields<'a>>>⟧.fields result) t };
 
-    fn decode(alloc: Global, reader: &mut R) -> Result<Self, Error> {
+    fn decode(alloc: Global, reader: &mut R) -> Result<Self, Error>
+    where
+        R: Reader,
+    {
         decode_fields::<R, GeneralSubtreePart1Fields<'a>, Self>(alloc, reader)
     }
 }

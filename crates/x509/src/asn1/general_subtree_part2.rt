@@ -5,7 +5,7 @@ ghost use Rattle.std.specs.Prelude.{false};
 ghost use Rattle.der.specs.Prelude.{map_ok};
 
 use crate::asn1::base_distance::BaseDistance;
-use der::{Decode, Error, FromFields, Reader, SliceReader, decode_fields};
+use der::{Decode, Error, FromFields, Lends, Reader, SliceReader, decode_fields};
 use der_asn1::{Implicit, Optional};
 use std::alloc::Global;
 
@@ -27,7 +27,7 @@ impl<'a> FromFields<GeneralSubtreePart2Fields<'a>> for GeneralSubtreePart2<'a> {
     }
 }
 
-impl<'a, R: Reader<Borrowed = &'a [u8]>> Decode<R> for GeneralSubtreePart2<'a> {
+impl<'a, R: Lends<Borrowed = &'a [u8]>> Decode<R> for GeneralSubtreePart2<'a> {
     type Error = Error;
 
     ghost is_next = { λ v. ⟦<GeneralSubtreePart2Fields<'a> as Decode<SliceReader<'a>>>⟧.is_next
@@ -41,7 +41,10 @@ impl<'a, R: Reader<Borrowed = &'a [u8]>> Decode<R> for GeneralSubtreePart2<'a> {
         ⟦<GeneralSubtreePart2Fields<'a> as Decode<SliceReader<'a>>>⟧.decode_answers s
         (map_ok ⟦<GeneralSubtreePart2<'a> as FromFields<GeneralSubtreePart2Fields<'a>>>⟧.fields result) t };
 
-    fn decode(alloc: Global, reader: &mut R) -> Result<Self, Error> {
+    fn decode(alloc: Global, reader: &mut R) -> Result<Self, Error>
+    where
+        R: Reader,
+    {
         decode_fields::<R, GeneralSubtreePart2Fields<'a>, Self>(alloc, reader)
     }
 }

@@ -20,8 +20,8 @@ use crate::asn1::issuing_distribution_point_part3::{
 };
 use crate::asn1::reason_flags::ReasonFlags;
 use der::{
-    Decode, DecodeValue, Encode, EncodeValue, Error, FromFields, Header, IsValue, Length, Reader,
-    Sequence, SliceReader, Writer, decode_sequence, field_refs,
+    Decode, DecodeValue, Encode, EncodeValue, Error, FromFields, Header, IsValue, Lends, Length,
+    Reader, Sequence, SliceReader, Writer, decode_sequence, field_refs,
 };
 use der_asn1::{
     BooleanRef, BorrowedItem, DecodeItem, DefaultValue, Defaulted, Described, Implicit, Item,
@@ -117,7 +117,7 @@ impl<'a> Sequence for IssuingDistributionPoint<'a> {
 }
 
 /// Decodes the fields one after the other, with the errors of every [`Sequence`].
-impl<'a, R: Reader<Borrowed = &'a [u8]>> DecodeValue<R> for IssuingDistributionPoint<'a> {
+impl<'a, R: Lends<Borrowed = &'a [u8]>> DecodeValue<R> for IssuingDistributionPoint<'a> {
     type Error = Error;
 
     ghost decode_value_answers = { λ h s result t.
@@ -125,7 +125,10 @@ impl<'a, R: Reader<Borrowed = &'a [u8]>> DecodeValue<R> for IssuingDistributionP
         (map_ok
         ⟦<IssuingDistributionPoint<'a> as FromFields<(IssuingDistributionPointPart1<'a>, IssuingDistributionPointPart2<'a>, IssuingDistributionPointPart3<'a>)>>⟧.fields result) t };
 
-    fn decode_value(alloc: Global, reader: &mut R, header: Header) -> Result<Self, Error> {
+    fn decode_value(alloc: Global, reader: &mut R, header: Header) -> Result<Self, Error>
+    where
+        R: Reader,
+    {
         decode_sequence::<
             R,
             (
@@ -227,7 +230,7 @@ impl<'a> Item for IssuingDistributionPoint<'a> {
     ghost item = { sequence_item ⟦<IssuingDistributionPoint<'a> as Described>⟧.element };
 }
 
-impl<'a, R: Reader<Borrowed = &'a [u8]>> DecodeItem<R> for IssuingDistributionPoint<'a> {
+impl<'a, R: Lends<Borrowed = &'a [u8]>> DecodeItem<R> for IssuingDistributionPoint<'a> {
     ghost is_item = { sequence_is_item ⟦<IssuingDistributionPoint<'a> as Described>⟧.element refl };
 
     ghost decodes_items = { decodes_same (sequence_item

@@ -5,7 +5,7 @@ ghost use Rattle.std.specs.Prelude.{false};
 ghost use Rattle.der.specs.Prelude.{map_ok};
 
 use crate::asn1::distribution_point_name_tagged::DistributionPointNameTagged;
-use der::{Decode, Error, FromFields, Reader, SliceReader, decode_fields};
+use der::{Decode, Error, FromFields, Lends, Reader, SliceReader, decode_fields};
 use der_asn1::{BooleanRef, Defaulted, Implicit, Optional};
 use std::alloc::Global;
 
@@ -34,7 +34,7 @@ impl<'a> FromFields<IssuingDistributionPointPart1Fields<'a>> for IssuingDistribu
     }
 }
 
-impl<'a, R: Reader<Borrowed = &'a [u8]>> Decode<R> for IssuingDistributionPointPart1<'a> {
+impl<'a, R: Lends<Borrowed = &'a [u8]>> Decode<R> for IssuingDistributionPointPart1<'a> {
     type Error = Error;
 
     ghost is_next = { λ v.
@@ -50,7 +50,10 @@ impl<'a, R: Reader<Borrowed = &'a [u8]>> Decode<R> for IssuingDistributionPointP
         (map_ok
         ⟦<IssuingDistributionPointPart1<'a> as FromFields<IssuingDistributionPointPart1Fields<'a>>>⟧.fields result) t };
 
-    fn decode(alloc: Global, reader: &mut R) -> Result<Self, Error> {
+    fn decode(alloc: Global, reader: &mut R) -> Result<Self, Error>
+    where
+        R: Reader,
+    {
         decode_fields::<R, IssuingDistributionPointPart1Fields<'a>, Self>(alloc, reader)
     }
 }

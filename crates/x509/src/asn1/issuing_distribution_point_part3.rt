@@ -4,7 +4,7 @@
 ghost use Rattle.std.specs.Prelude.{false};
 ghost use Rattle.der.specs.Prelude.{map_ok};
 
-use der::{Decode, Error, FromFields, Reader, SliceReader, decode_fields};
+use der::{Decode, Error, FromFields, Lends, Reader, SliceReader, decode_fields};
 use der_asn1::{BooleanRef, Defaulted, Implicit};
 use std::alloc::Global;
 
@@ -33,7 +33,7 @@ impl<'a> FromFields<IssuingDistributionPointPart3Fields<'a>> for IssuingDistribu
     }
 }
 
-impl<'a, R: Reader<Borrowed = &'a [u8]>> Decode<R> for IssuingDistributionPointPart3<'a> {
+impl<'a, R: Lends<Borrowed = &'a [u8]>> Decode<R> for IssuingDistributionPointPart3<'a> {
     type Error = Error;
 
     ghost is_next = { λ v.
@@ -49,7 +49,10 @@ impl<'a, R: Reader<Borrowed = &'a [u8]>> Decode<R> for IssuingDistributionPointP
         (map_ok
         ⟦<IssuingDistributionPointPart3<'a> as FromFields<IssuingDistributionPointPart3Fields<'a>>>⟧.fields result) t };
 
-    fn decode(alloc: Global, reader: &mut R) -> Result<Self, Error> {
+    fn decode(alloc: Global, reader: &mut R) -> Result<Self, Error>
+    where
+        R: Reader,
+    {
         decode_fields::<R, IssuingDistributionPointPart3Fields<'a>, Self>(alloc, reader)
     }
 }

@@ -9,8 +9,8 @@ ghost use Rattle.der_asn1.specs.Meaning.{alternative, field, sequence, sequence_
 
 use crate::asn1::display_text::DisplayText;
 use der::{
-    Decode, DecodeValue, Encode, EncodeValue, Error, FromFields, Header, IsValue, Length, Reader,
-    Sequence, SliceReader, Writer, decode_sequence, field_refs,
+    Decode, DecodeValue, Encode, EncodeValue, Error, FromFields, Header, IsValue, Lends, Length,
+    Reader, Sequence, SliceReader, Writer, decode_sequence, field_refs,
 };
 use der_asn1::{
     BorrowedItem, DecodeItem, Described, DescribedChoice, IntRef, Item, Nestable, SequenceOf,
@@ -51,14 +51,17 @@ impl<'a> Sequence for NoticeReference<'a> {
 }
 
 /// Decodes the fields one after the other, with the errors of every [`Sequence`].
-impl<'a, R: Reader<Borrowed = &'a [u8]>> DecodeValue<R> for NoticeReference<'a> {
+impl<'a, R: Lends<Borrowed = &'a [u8]>> DecodeValue<R> for NoticeReference<'a> {
     type Error = Error;
 
     ghost decode_value_answers = { λ h s result t.
         ⟦<NoticeReferenceFields<'a> as Decode<SliceReader<'a>>>⟧.decode_answers s (map_ok
         ⟦<NoticeReference<'a> as FromFields<NoticeReferenceFields<'a>>>⟧.fields result) t };
 
-    fn decode_value(alloc: Global, reader: &mut R, header: Header) -> Result<Self, Error> {
+    fn decode_value(alloc: Global, reader: &mut R, header: Header) -> Result<Self, Error>
+    where
+        R: Reader,
+    {
         decode_sequence::<R, NoticeReferenceFields<'a>, Self>(alloc, reader, header)
     }
 }
@@ -104,7 +107,7 @@ impl<'a> Item for NoticeReference<'a> {
     ghost item = { sequence_item ⟦<NoticeReference<'a> as Described>⟧.element };
 }
 
-impl<'a, R: Reader<Borrowed = &'a [u8]>> DecodeItem<R> for NoticeReference<'a> {
+impl<'a, R: Lends<Borrowed = &'a [u8]>> DecodeItem<R> for NoticeReference<'a> {
     ghost is_item = { sequence_is_item ⟦<NoticeReference<'a> as Described>⟧.element refl };
 
     ghost decodes_items = { decodes_same (sequence_item

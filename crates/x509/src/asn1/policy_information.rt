@@ -9,8 +9,8 @@ ghost use Rattle.der_asn1.specs.Meaning.{alternative, field, optional, sequence,
 
 use crate::asn1::policy_qualifier_info::PolicyQualifierInfo;
 use der::{
-    Decode, DecodeValue, Encode, EncodeValue, Error, FromFields, Header, IsValue, Length, Reader,
-    Sequence, SliceReader, Writer, decode_sequence, field_refs,
+    Decode, DecodeValue, Encode, EncodeValue, Error, FromFields, Header, IsValue, Lends, Length,
+    Reader, Sequence, SliceReader, Writer, decode_sequence, field_refs,
 };
 use der_asn1::{
     BorrowedItem, DecodeItem, Described, Item, Nestable, ObjectIdentifierRef, Optional, SequenceOf,
@@ -54,14 +54,17 @@ impl<'a> Sequence for PolicyInformation<'a> {
 }
 
 /// Decodes the fields one after the other, with the errors of every [`Sequence`].
-impl<'a, R: Reader<Borrowed = &'a [u8]>> DecodeValue<R> for PolicyInformation<'a> {
+impl<'a, R: Lends<Borrowed = &'a [u8]>> DecodeValue<R> for PolicyInformation<'a> {
     type Error = Error;
 
     ghost decode_value_answers = { λ h s result t.
         ⟦<PolicyInformationFields<'a> as Decode<SliceReader<'a>>>⟧.decode_answers s (map_ok
         ⟦<PolicyInformation<'a> as FromFields<PolicyInformationFields<'a>>>⟧.fields result) t };
 
-    fn decode_value(alloc: Global, reader: &mut R, header: Header) -> Result<Self, Error> {
+    fn decode_value(alloc: Global, reader: &mut R, header: Header) -> Result<Self, Error>
+    where
+        R: Reader,
+    {
         decode_sequence::<R, PolicyInformationFields<'a>, Self>(alloc, reader, header)
     }
 }
@@ -104,7 +107,7 @@ impl<'a> Item for PolicyInformation<'a> {
     ghost item = { sequence_item ⟦<PolicyInformation<'a> as Described>⟧.element };
 }
 
-impl<'a, R: Reader<Borrowed = &'a [u8]>> DecodeItem<R> for PolicyInformation<'a> {
+impl<'a, R: Lends<Borrowed = &'a [u8]>> DecodeItem<R> for PolicyInformation<'a> {
     ghost is_item = { sequence_is_item ⟦<PolicyInformation<'a> as Described>⟧.element refl };
 
     ghost decodes_items = { decodes_same (sequence_item

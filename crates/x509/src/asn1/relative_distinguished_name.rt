@@ -9,7 +9,7 @@ ghost use Rattle.der_asn1.specs.Meaning.{renamed, sequence_is_item, sequence_ite
 
 use crate::asn1::attribute_type_and_value::AttributeTypeAndValue;
 use der::{
-    DecodeValue, EncodeValue, Error, FixedTag, FromFields, Header, IsValue, Lawful, Length,
+    DecodeValue, EncodeValue, Error, FixedTag, FromFields, Header, IsValue, Lawful, Lends, Length,
     ReadValue, Reader, SliceReader, Tag, Writer, WrittenValue, decode_wrapped,
 };
 use der_asn1::{BorrowedItem, DecodeItem, Described, Item, Nestable, SetOf};
@@ -72,14 +72,17 @@ impl<'a> Lawful for RelativeDistinguishedName<'a> {
 }
 
 /// Decodes the list, with the errors of [`SetOf`].
-impl<'a, R: Reader<Borrowed = &'a [u8]>> DecodeValue<R> for RelativeDistinguishedName<'a> {
+impl<'a, R: Lends<Borrowed = &'a [u8]>> DecodeValue<R> for RelativeDistinguishedName<'a> {
     type Error = Error;
 
     ghost decode_value_answers = { λ h s result t.
         ⟦<Items<'a> as DecodeValue<SliceReader<'a>>>⟧.decode_value_answers h s
         (map_ok (λ v. v.attributes) result) t };
 
-    fn decode_value(alloc: Global, reader: &mut R, header: Header) -> Result<Self, Error> {
+    fn decode_value(alloc: Global, reader: &mut R, header: Header) -> Result<Self, Error>
+    where
+        R: Reader,
+    {
         decode_wrapped::<R, Items<'a>, Self>(alloc, reader, header)
     }
 }
@@ -118,7 +121,7 @@ impl<'a> Item for RelativeDistinguishedName<'a> {
     ghost item = { sequence_item ⟦<RelativeDistinguishedName<'a> as Described>⟧.element };
 }
 
-impl<'a, R: Reader<Borrowed = &'a [u8]>> DecodeItem<R> for RelativeDistinguishedName<'a> {
+impl<'a, R: Lends<Borrowed = &'a [u8]>> DecodeItem<R> for RelativeDistinguishedName<'a> {
     ghost is_item = { sequence_is_item
         ⟦<RelativeDistinguishedName<'a> as Described>⟧.element refl };
 

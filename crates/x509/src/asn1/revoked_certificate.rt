@@ -12,8 +12,8 @@ use crate::asn1::certificate_serial_number::CertificateSerialNumber;
 use crate::asn1::extensions::Extensions;
 use crate::asn1::time::Time;
 use der::{
-    Decode, DecodeValue, Encode, EncodeValue, Error, FromFields, Header, IsValue, Length, Reader,
-    Sequence, SliceReader, Writer, decode_sequence, field_refs,
+    Decode, DecodeValue, Encode, EncodeValue, Error, FromFields, Header, IsValue, Lends, Length,
+    Reader, Sequence, SliceReader, Writer, decode_sequence, field_refs,
 };
 use der_asn1::{BorrowedItem, DecodeItem, Described, DescribedChoice, Item, Nestable, Optional};
 use std::alloc::Global;
@@ -61,14 +61,17 @@ impl<'a> Sequence for RevokedCertificate<'a> {
 }
 
 /// Decodes the fields one after the other, with the errors of every [`Sequence`].
-impl<'a, R: Reader<Borrowed = &'a [u8]>> DecodeValue<R> for RevokedCertificate<'a> {
+impl<'a, R: Lends<Borrowed = &'a [u8]>> DecodeValue<R> for RevokedCertificate<'a> {
     type Error = Error;
 
     ghost decode_value_answers = { λ h s result t.
         ⟦<RevokedCertificateFields<'a> as Decode<SliceReader<'a>>>⟧.decode_answers s (map_ok
         ⟦<RevokedCertificate<'a> as FromFields<RevokedCertificateFields<'a>>>⟧.fields result) t };
 
-    fn decode_value(alloc: Global, reader: &mut R, header: Header) -> Result<Self, Error> {
+    fn decode_value(alloc: Global, reader: &mut R, header: Header) -> Result<Self, Error>
+    where
+        R: Reader,
+    {
         decode_sequence::<R, RevokedCertificateFields<'a>, Self>(alloc, reader, header)
     }
 }
@@ -131,7 +134,7 @@ impl<'a> Item for RevokedCertificate<'a> {
     ghost item = { sequence_item ⟦<RevokedCertificate<'a> as Described>⟧.element };
 }
 
-impl<'a, R: Reader<Borrowed = &'a [u8]>> DecodeItem<R> for RevokedCertificate<'a> {
+impl<'a, R: Lends<Borrowed = &'a [u8]>> DecodeItem<R> for RevokedCertificate<'a> {
     ghost is_item = { sequence_is_item ⟦<RevokedCertificate<'a> as Described>⟧.element refl };
 
     ghost decodes_items = { decodes_same (sequence_item

@@ -16,8 +16,8 @@ use crate::asn1::tbs_cert_list_part1::{TbsCertListPart1, TbsCertListPart1Fields}
 use crate::asn1::tbs_cert_list_part2::{TbsCertListPart2, TbsCertListPart2Fields};
 use crate::asn1::time::Time;
 use der::{
-    Decode, DecodeValue, Encode, EncodeValue, Error, FromFields, Header, IsValue, Length, Reader,
-    Sequence, SliceReader, Writer, decode_sequence, field_refs,
+    Decode, DecodeValue, Encode, EncodeValue, Error, FromFields, Header, IsValue, Lends, Length,
+    Reader, Sequence, SliceReader, Writer, decode_sequence, field_refs,
 };
 use der_asn1::{
     BorrowedItem, DecodeItem, Described, DescribedChoice, Explicit, Item, Nestable, Optional,
@@ -95,14 +95,17 @@ impl<'a> Sequence for TbsCertList<'a> {
 }
 
 /// Decodes the fields one after the other, with the errors of every [`Sequence`].
-impl<'a, R: Reader<Borrowed = &'a [u8]>> DecodeValue<R> for TbsCertList<'a> {
+impl<'a, R: Lends<Borrowed = &'a [u8]>> DecodeValue<R> for TbsCertList<'a> {
     type Error = Error;
 
     ghost decode_value_answers = { λ h s result t.
         ⟦<(TbsCertListPart1<'a>, TbsCertListPart2<'a>) as Decode<SliceReader<'a>>>⟧.decode_answers s (map_ok
         ⟦<TbsCertList<'a> as FromFields<(TbsCertListPart1<'a>, TbsCertListPart2<'a>)>>⟧.fields result) t };
 
-    fn decode_value(alloc: Global, reader: &mut R, header: Header) -> Result<Self, Error> {
+    fn decode_value(alloc: Global, reader: &mut R, header: Header) -> Result<Self, Error>
+    where
+        R: Reader,
+    {
         decode_sequence::<R, (TbsCertListPart1<'a>, TbsCertListPart2<'a>), Self>(
             alloc, reader, header,
         )
@@ -200,7 +203,7 @@ impl<'a> Item for TbsCertList<'a> {
     ghost item = { sequence_item ⟦<TbsCertList<'a> as Described>⟧.element };
 }
 
-impl<'a, R: Reader<Borrowed = &'a [u8]>> DecodeItem<R> for TbsCertList<'a> {
+impl<'a, R: Lends<Borrowed = &'a [u8]>> DecodeItem<R> for TbsCertList<'a> {
     ghost is_item = { sequence_is_item ⟦<TbsCertList<'a> as Described>⟧.element refl };
 
     ghost decodes_items = { decodes_same (sequence_item ⟦<TbsCertList<'a> as Described>⟧.element) };

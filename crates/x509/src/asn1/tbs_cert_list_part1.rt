@@ -7,7 +7,7 @@ ghost use Rattle.der.specs.Prelude.{map_ok};
 use crate::Version;
 use crate::asn1::name::Name;
 use crate::asn1::time::Time;
-use der::{Decode, Error, FromFields, Reader, SliceReader, decode_fields};
+use der::{Decode, Error, FromFields, Lends, Reader, SliceReader, decode_fields};
 use der_asn1::Optional;
 use spki::AlgorithmIdentifierRef;
 use std::alloc::Global;
@@ -43,7 +43,7 @@ impl<'a> FromFields<TbsCertListPart1Fields<'a>> for TbsCertListPart1<'a> {
     }
 }
 
-impl<'a, R: Reader<Borrowed = &'a [u8]>> Decode<R> for TbsCertListPart1<'a> {
+impl<'a, R: Lends<Borrowed = &'a [u8]>> Decode<R> for TbsCertListPart1<'a> {
     type Error = Error;
 
     ghost is_next = { λ v. ⟦<TbsCertListPart1Fields<'a> as Decode<SliceReader<'a>>>⟧.is_next
@@ -57,7 +57,10 @@ impl<'a, R: Reader<Borrowed = &'a [u8]>> Decode<R> for TbsCertListPart1<'a> {
         ⟦<TbsCertListPart1Fields<'a> as Decode<SliceReader<'a>>>⟧.decode_answers s
         (map_ok ⟦<TbsCertListPart1<'a> as FromFields<TbsCertListPart1Fields<'a>>>⟧.fields result) t };
 
-    fn decode(alloc: Global, reader: &mut R) -> Result<Self, Error> {
+    fn decode(alloc: Global, reader: &mut R) -> Result<Self, Error>
+    where
+        R: Reader,
+    {
         decode_fields::<R, TbsCertListPart1Fields<'a>, Self>(alloc, reader)
     }
 }

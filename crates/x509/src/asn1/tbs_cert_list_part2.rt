@@ -7,7 +7,7 @@ ghost use Rattle.der.specs.Prelude.{map_ok};
 use crate::asn1::extensions::Extensions;
 use crate::asn1::revoked_certificates::RevokedCertificates;
 use crate::asn1::time::Time;
-use der::{Decode, Error, FromFields, Reader, SliceReader, decode_fields};
+use der::{Decode, Error, FromFields, Lends, Reader, SliceReader, decode_fields};
 use der_asn1::{Explicit, Optional};
 use std::alloc::Global;
 
@@ -39,7 +39,7 @@ impl<'a> FromFields<TbsCertListPart2Fields<'a>> for TbsCertListPart2<'a> {
     }
 }
 
-impl<'a, R: Reader<Borrowed = &'a [u8]>> Decode<R> for TbsCertListPart2<'a> {
+impl<'a, R: Lends<Borrowed = &'a [u8]>> Decode<R> for TbsCertListPart2<'a> {
     type Error = Error;
 
     ghost is_next = { λ v. ⟦<TbsCertListPart2Fields<'a> as Decode<SliceReader<'a>>>⟧.is_next
@@ -53,7 +53,10 @@ impl<'a, R: Reader<Borrowed = &'a [u8]>> Decode<R> for TbsCertListPart2<'a> {
         ⟦<TbsCertListPart2Fields<'a> as Decode<SliceReader<'a>>>⟧.decode_answers s
         (map_ok ⟦<TbsCertListPart2<'a> as FromFields<TbsCertListPart2Fields<'a>>>⟧.fields result) t };
 
-    fn decode(alloc: Global, reader: &mut R) -> Result<Self, Error> {
+    fn decode(alloc: Global, reader: &mut R) -> Result<Self, Error>
+    where
+        R: Reader,
+    {
         decode_fields::<R, TbsCertListPart2Fields<'a>, Self>(alloc, reader)
     }
 }

@@ -17,8 +17,8 @@ use crate::asn1::tbs_certificate_part2::{TbsCertificatePart2, TbsCertificatePart
 use crate::asn1::tbs_certificate_part3::{TbsCertificatePart3, TbsCertificatePart3Fields};
 use crate::asn1::validity::Validity;
 use der::{
-    Decode, DecodeValue, Encode, EncodeValue, Error, FromFields, Header, IsValue, Length, Reader,
-    Sequence, SliceReader, Writer, decode_sequence, field_refs,
+    Decode, DecodeValue, Encode, EncodeValue, Error, FromFields, Header, IsValue, Lends, Length,
+    Reader, Sequence, SliceReader, Writer, decode_sequence, field_refs,
 };
 use der_asn1::{
     BitStringRef, BorrowedItem, DecodeItem, DefaultValue, Defaulted, Described, Explicit, Implicit,
@@ -132,7 +132,7 @@ impl<'a> Sequence for TbsCertificate<'a> {
 }
 
 /// Decodes the fields one after the other, with the errors of every [`Sequence`].
-impl<'a, R: Reader<Borrowed = &'a [u8]>> DecodeValue<R> for TbsCertificate<'a> {
+impl<'a, R: Lends<Borrowed = &'a [u8]>> DecodeValue<R> for TbsCertificate<'a> {
     type Error = Error;
 
     ghost decode_value_answers = { λ h s result t.
@@ -140,7 +140,10 @@ impl<'a, R: Reader<Borrowed = &'a [u8]>> DecodeValue<R> for TbsCertificate<'a> {
         (map_ok
         ⟦<TbsCertificate<'a> as FromFields<(TbsCertificatePart1<'a>, TbsCertificatePart2<'a>, TbsCertificatePart3<'a>)>>⟧.fields result) t };
 
-    fn decode_value(alloc: Global, reader: &mut R, header: Header) -> Result<Self, Error> {
+    fn decode_value(alloc: Global, reader: &mut R, header: Header) -> Result<Self, Error>
+    where
+        R: Reader,
+    {
         decode_sequence::<
             R,
             (
@@ -247,7 +250,7 @@ impl<'a> Item for TbsCertificate<'a> {
     ghost item = { sequence_item ⟦<TbsCertificate<'a> as Described>⟧.element };
 }
 
-impl<'a, R: Reader<Borrowed = &'a [u8]>> DecodeItem<R> for TbsCertificate<'a> {
+impl<'a, R: Lends<Borrowed = &'a [u8]>> DecodeItem<R> for TbsCertificate<'a> {
     ghost is_item = { sequence_is_item ⟦<TbsCertificate<'a> as Described>⟧.element refl };
 
     ghost decodes_items = { decodes_same (sequence_item

@@ -7,7 +7,7 @@ ghost use Rattle.der.specs.Prelude.{map_ok};
 use crate::Version;
 use crate::asn1::certificate_serial_number::CertificateSerialNumber;
 use crate::asn1::name::Name;
-use der::{Decode, Error, FromFields, Reader, SliceReader, decode_fields};
+use der::{Decode, Error, FromFields, Lends, Reader, SliceReader, decode_fields};
 use der_asn1::{Defaulted, Explicit};
 use spki::AlgorithmIdentifierRef;
 use std::alloc::Global;
@@ -43,7 +43,7 @@ impl<'a> FromFields<TbsCertificatePart1Fields<'a>> for TbsCertificatePart1<'a> {
     }
 }
 
-impl<'a, R: Reader<Borrowed = &'a [u8]>> Decode<R> for TbsCertificatePart1<'a> {
+impl<'a, R: Lends<Borrowed = &'a [u8]>> Decode<R> for TbsCertificatePart1<'a> {
     type Error = Error;
 
     ghost is_next = { λ v. ⟦<TbsCertificatePart1Fields<'a> as Decode<SliceReader<'a>>>⟧.is_next
@@ -57,7 +57,10 @@ impl<'a, R: Reader<Borrowed = &'a [u8]>> Decode<R> for TbsCertificatePart1<'a> {
         ⟦<TbsCertificatePart1Fields<'a> as Decode<SliceReader<'a>>>⟧.decode_answers s
         (map_ok ⟦<TbsCertificatePart1<'a> as FromFields<TbsCertificatePart1Fields<'a>>>⟧.fields result) t };
 
-    fn decode(alloc: Global, reader: &mut R) -> Result<Self, Error> {
+    fn decode(alloc: Global, reader: &mut R) -> Result<Self, Error>
+    where
+        R: Reader,
+    {
         decode_fields::<R, TbsCertificatePart1Fields<'a>, Self>(alloc, reader)
     }
 }

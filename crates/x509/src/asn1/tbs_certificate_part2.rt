@@ -6,7 +6,7 @@ ghost use Rattle.der.specs.Prelude.{map_ok};
 
 use crate::asn1::name::Name;
 use crate::asn1::validity::Validity;
-use der::{Decode, Error, FromFields, Reader, SliceReader, decode_fields};
+use der::{Decode, Error, FromFields, Lends, Reader, SliceReader, decode_fields};
 use der_asn1::{BitStringRef, Implicit, Optional};
 use spki::SubjectPublicKeyInfoRef;
 use std::alloc::Global;
@@ -42,7 +42,7 @@ impl<'a> FromFields<TbsCertificatePart2Fields<'a>> for TbsCertificatePart2<'a> {
     }
 }
 
-impl<'a, R: Reader<Borrowed = &'a [u8]>> Decode<R> for TbsCertificatePart2<'a> {
+impl<'a, R: Lends<Borrowed = &'a [u8]>> Decode<R> for TbsCertificatePart2<'a> {
     type Error = Error;
 
     ghost is_next = { λ v. ⟦<TbsCertificatePart2Fields<'a> as Decode<SliceReader<'a>>>⟧.is_next
@@ -56,7 +56,10 @@ impl<'a, R: Reader<Borrowed = &'a [u8]>> Decode<R> for TbsCertificatePart2<'a> {
         ⟦<TbsCertificatePart2Fields<'a> as Decode<SliceReader<'a>>>⟧.decode_answers s
         (map_ok ⟦<TbsCertificatePart2<'a> as FromFields<TbsCertificatePart2Fields<'a>>>⟧.fields result) t };
 
-    fn decode(alloc: Global, reader: &mut R) -> Result<Self, Error> {
+    fn decode(alloc: Global, reader: &mut R) -> Result<Self, Error>
+    where
+        R: Reader,
+    {
         decode_fields::<R, TbsCertificatePart2Fields<'a>, Self>(alloc, reader)
     }
 }

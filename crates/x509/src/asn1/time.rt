@@ -9,7 +9,7 @@ ghost use Rattle.der_asn1.specs.Meaning.{alternative, choice_is_item, choice_ite
 ghost use Rattle.der_asn1.specs.declared.either.Either.TheVariants.{First, Second};
 ghost use Rattle.x509.specs.declared.asn1.time.Time.TheVariants as variant;
 
-use der::{Decode, Encode, Error, FromFields, Length, Reader, SliceReader, Tag, Writer};
+use der::{Decode, Encode, Error, FromFields, Lends, Length, Reader, SliceReader, Tag, Writer};
 use der_asn1::{
     BorrowedItem, Choice, DecodeItem, Described, DescribedChoice, Either, GeneralizedTime, Item,
     UtcTime, decode_choice,
@@ -50,7 +50,7 @@ impl DescribedChoice for Time {
 }
 
 /// Decodes the alternative whose tag is next, with the errors of [`Either`].
-impl<'a, R: Reader<Borrowed = &'a [u8]>> Decode<R> for Time {
+impl<'a, R: Lends<Borrowed = &'a [u8]>> Decode<R> for Time {
     type Error = Error;
 
     ghost is_next = { ⟦<Time as DescribedChoice>⟧.alternative.is_next };
@@ -63,12 +63,15 @@ impl<'a, R: Reader<Borrowed = &'a [u8]>> Decode<R> for Time {
         ⟦<TimeAlternatives as Decode<SliceReader<'a>>>⟧.decode_answers s
         (map_ok ⟦<Time as FromFields<TimeAlternatives>>⟧.fields result) t };
 
-    fn decode(alloc: Global, reader: &mut R) -> Result<Self, Error> {
+    fn decode(alloc: Global, reader: &mut R) -> Result<Self, Error>
+    where
+        R: Reader,
+    {
         decode_choice::<R, TimeAlternatives, Self>(alloc, reader)
     }
 }
 
-impl<'a, R: Reader<Borrowed = &'a [u8]>> Choice<R> for Time {
+impl<'a, R: Lends<Borrowed = &'a [u8]>> Choice<R> for Time {
     ghost chooses = { ⟦<Time as DescribedChoice>⟧.alternative.tags };
 
     fn can_decode(tag: Tag) -> bool {
@@ -125,7 +128,7 @@ impl Item for Time {
     ghost item = { choice_item ⟦<Time as DescribedChoice>⟧.alternative };
 }
 
-impl<'a, R: Reader<Borrowed = &'a [u8]>> DecodeItem<R> for Time {
+impl<'a, R: Lends<Borrowed = &'a [u8]>> DecodeItem<R> for Time {
     ghost is_item = { choice_is_item ⟦<Time as DescribedChoice>⟧.alternative refl };
 
     ghost decodes_items = { decodes_same (choice_item ⟦<Time as DescribedChoice>⟧.alternative) };

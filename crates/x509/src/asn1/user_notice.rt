@@ -10,8 +10,8 @@ ghost use Rattle.der_asn1.specs.Meaning.{alternative, optional, sequence, sequen
 use crate::asn1::display_text::DisplayText;
 use crate::asn1::notice_reference::NoticeReference;
 use der::{
-    Decode, DecodeValue, Encode, EncodeValue, Error, FromFields, Header, IsValue, Length, Reader,
-    Sequence, SliceReader, Writer, decode_sequence, field_refs,
+    Decode, DecodeValue, Encode, EncodeValue, Error, FromFields, Header, IsValue, Lends, Length,
+    Reader, Sequence, SliceReader, Writer, decode_sequence, field_refs,
 };
 use der_asn1::{BorrowedItem, DecodeItem, Described, DescribedChoice, Item, Nestable, Optional};
 use std::alloc::Global;
@@ -50,14 +50,17 @@ impl<'a> Sequence for UserNotice<'a> {
 }
 
 /// Decodes the fields one after the other, with the errors of every [`Sequence`].
-impl<'a, R: Reader<Borrowed = &'a [u8]>> DecodeValue<R> for UserNotice<'a> {
+impl<'a, R: Lends<Borrowed = &'a [u8]>> DecodeValue<R> for UserNotice<'a> {
     type Error = Error;
 
     ghost decode_value_answers = { λ h s result t.
         ⟦<UserNoticeFields<'a> as Decode<SliceReader<'a>>>⟧.decode_answers s (map_ok
         ⟦<UserNotice<'a> as FromFields<UserNoticeFields<'a>>>⟧.fields result) t };
 
-    fn decode_value(alloc: Global, reader: &mut R, header: Header) -> Result<Self, Error> {
+    fn decode_value(alloc: Global, reader: &mut R, header: Header) -> Result<Self, Error>
+    where
+        R: Reader,
+    {
         decode_sequence::<R, UserNoticeFields<'a>, Self>(alloc, reader, header)
     }
 }
@@ -107,7 +110,7 @@ impl<'a> Item for UserNotice<'a> {
     ghost item = { sequence_item ⟦<UserNotice<'a> as Described>⟧.element };
 }
 
-impl<'a, R: Reader<Borrowed = &'a [u8]>> DecodeItem<R> for UserNotice<'a> {
+impl<'a, R: Lends<Borrowed = &'a [u8]>> DecodeItem<R> for UserNotice<'a> {
     ghost is_item = { sequence_is_item ⟦<UserNotice<'a> as Described>⟧.element refl };
 
     ghost decodes_items = { decodes_same (sequence_item ⟦<UserNotice<'a> as Described>⟧.element) };

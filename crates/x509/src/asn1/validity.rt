@@ -9,8 +9,8 @@ ghost use Rattle.der_asn1.specs.Meaning.{alternative, field, sequence, sequence_
 
 use crate::asn1::time::Time;
 use der::{
-    Decode, DecodeValue, Encode, EncodeValue, Error, FromFields, Header, IsValue, Length, Reader,
-    Sequence, SliceReader, Writer, decode_sequence, field_refs,
+    Decode, DecodeValue, Encode, EncodeValue, Error, FromFields, Header, IsValue, Lends, Length,
+    Reader, Sequence, SliceReader, Writer, decode_sequence, field_refs,
 };
 use der_asn1::{BorrowedItem, DecodeItem, Described, DescribedChoice, Item, Nestable};
 use std::alloc::Global;
@@ -49,14 +49,17 @@ impl Sequence for Validity {
 }
 
 /// Decodes the fields one after the other, with the errors of every [`Sequence`].
-impl<'a, R: Reader<Borrowed = &'a [u8]>> DecodeValue<R> for Validity {
+impl<'a, R: Lends<Borrowed = &'a [u8]>> DecodeValue<R> for Validity {
     type Error = Error;
 
     ghost decode_value_answers = { λ h s result t.
         ⟦<ValidityFields as Decode<SliceReader<'a>>>⟧.decode_answers s (map_ok
         ⟦<Validity as FromFields<ValidityFields>>⟧.fields result) t };
 
-    fn decode_value(alloc: Global, reader: &mut R, header: Header) -> Result<Self, Error> {
+    fn decode_value(alloc: Global, reader: &mut R, header: Header) -> Result<Self, Error>
+    where
+        R: Reader,
+    {
         decode_sequence::<R, ValidityFields, Self>(alloc, reader, header)
     }
 }
@@ -103,7 +106,7 @@ impl Item for Validity {
     ghost item = { sequence_item ⟦<Validity as Described>⟧.element };
 }
 
-impl<'a, R: Reader<Borrowed = &'a [u8]>> DecodeItem<R> for Validity {
+impl<'a, R: Lends<Borrowed = &'a [u8]>> DecodeItem<R> for Validity {
     ghost is_item = { sequence_is_item ⟦<Validity as Described>⟧.element refl };
 
     ghost decodes_items = { decodes_same (sequence_item ⟦<Validity as Described>⟧.element) };

@@ -12,8 +12,8 @@ ghost use Rattle.der.specs.BytesOwned.{owned_octets};
 use crate::bytes::BytesOwned;
 use der_base::{Error, Length};
 use der_core::{
-    DecodeValue, DerOrd, EncodeValue, Header, IsValue, ReadValue, Reader, Writer, WrittenValue,
-    octets_len, place_before,
+    DecodeValue, DerOrd, EncodeValue, Header, IsValue, Lends, ReadValue, Reader, Writer,
+    WrittenValue, octets_len, place_before,
 };
 use std::alloc::Global;
 use std::cmp::Ordering;
@@ -37,12 +37,14 @@ impl ReadValue for BytesOwned {
 ///
 /// `Failed`, `Overflow`, `Incomplete` and `OutOfMemory`, as by [`Reader::read_vec`]. After
 /// `OutOfMemory`, the reader is unchanged: it is before the contents.
-impl<R: Reader> DecodeValue<R> for BytesOwned {
+impl<R: Lends> DecodeValue<R> for BytesOwned {
     type Error = Error;
 
     ghost decode_value_answers = { OwnedOctetsRead owned_octets };
 
     fn decode_value(alloc: Global, reader: &mut R, header: Header) -> Result<Self, Error>
+    where
+        R: Reader,
         ensures same { Same (R.state reader.old) (R.state reader.new) }
         ensures exact { IsBinding R.reliable result → OwnedOctetsRead owned_octets (head_of header)
             (R.state reader.old) result (R.state reader.new) }

@@ -11,8 +11,8 @@ ghost use Rattle.der.specs.BytesRef.{reference_octets};
 use crate::bytes::BytesRef;
 use der_base::{Error, Length};
 use der_core::{
-    DecodeValue, DerOrd, EncodeValue, Header, IsValue, ReadValue, Reader, Writer, WrittenValue,
-    octets_len, place_before,
+    DecodeValue, DerOrd, EncodeValue, Header, IsValue, Lends, ReadValue, Reader, Writer,
+    WrittenValue, octets_len, place_before,
 };
 use std::alloc::Global;
 use std::cmp::Ordering;
@@ -37,12 +37,14 @@ impl<'a> ReadValue for BytesRef<'a> {
 /// - `Failed`, `Overflow` and `Incomplete`, as by [`Reader::read_slice`].
 /// - `Reader` at the reader's position, if the reader cannot return slices of its input; the reader
 ///   is unchanged.
-impl<'a, R: Reader<Borrowed = &'a [u8]>> DecodeValue<R> for BytesRef<'a> {
+impl<'a, R: Lends<Borrowed = &'a [u8]>> DecodeValue<R> for BytesRef<'a> {
     type Error = Error;
 
     ghost decode_value_answers = { BorrowedOctetsRead reference_octets };
 
     fn decode_value(_alloc: Global, reader: &mut R, header: Header) -> Result<Self, Error>
+    where
+        R: Reader,
         ensures same { Same (R.state reader.old) (R.state reader.new) }
         ensures sound { TakesContents (TakesOctets IsCounted reference_octets) (head_of header)
             (R.state reader.old) result (R.state reader.new) }

@@ -8,7 +8,7 @@ ghost use Rattle.der.specs.MyByteMonth.{IsMonth, TakesMonth, MonthRead, MonthWri
 use crate::example::MyByteMonth;
 use der_base::{Error, ErrorKind, Length, Tag};
 use der_core::{
-    DecodeValue, EncodeValue, FixedTag, Header, IsValue, Lawful, Orderly, ReadValue, Reader,
+    DecodeValue, EncodeValue, FixedTag, Header, IsValue, Lawful, Lends, Orderly, ReadValue, Reader,
     ReaderExt, ValueOrd, Writer, WrittenValue, place_before,
 };
 use std::alloc::Global;
@@ -43,12 +43,15 @@ impl ReadValue for MyByteMonth {
 /// - `Failed`, `Overflow` and `Incomplete`, as by [`ReaderExt::read_byte`].
 /// - `DateTime` at the position after the octet, if the octet is 12 or more; the reader is after
 ///   the octet and has failed.
-impl<R: Reader> DecodeValue<R> for MyByteMonth {
+impl<R: Lends> DecodeValue<R> for MyByteMonth {
     type Error = Error;
 
     ghost decode_value_answers = { MonthRead };
 
-    fn decode_value(_alloc: Global, reader: &mut R, _header: Header) -> Result<Self, Error> {
+    fn decode_value(_alloc: Global, reader: &mut R, _header: Header) -> Result<Self, Error>
+    where
+        R: Reader,
+    {
         let octet = reader.read_byte()?;
         match MyByteMonth::new(octet) {
             Some(month) => Ok(month),

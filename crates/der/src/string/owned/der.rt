@@ -9,8 +9,8 @@ ghost use Rattle.der.specs.StringOwned.{owned_text};
 use crate::string::StringOwned;
 use der_base::{Error, Length};
 use der_core::{
-    DecodeValue, EncodeValue, Header, IsValue, Octets, ReadValue, Reader, Writer, WrittenValue,
-    octets_len, place_before,
+    DecodeValue, EncodeValue, Header, IsValue, Lends, Octets, ReadValue, Reader, Writer,
+    WrittenValue, octets_len, place_before,
 };
 use std::alloc::Global;
 
@@ -38,12 +38,14 @@ impl ReadValue for StringOwned {
 ///   has not failed.
 /// - `OutOfMemory` without a position, if allocation fails; the reader is after the contents and
 ///   has not failed.
-impl<R: Reader> DecodeValue<R> for StringOwned {
+impl<R: Lends> DecodeValue<R> for StringOwned {
     type Error = Error;
 
     ghost decode_value_answers = { OwnedTextRead owned_text };
 
     fn decode_value(alloc: Global, reader: &mut R, header: Header) -> Result<Self, Error>
+    where
+        R: Reader,
         ensures same { Same (R.state reader.old) (R.state reader.new) }
         ensures exact { IsBinding R.reliable result → OwnedTextRead owned_text (head_of header)
             (R.state reader.old) result (R.state reader.new) }

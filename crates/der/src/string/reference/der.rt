@@ -10,8 +10,8 @@ ghost use Rattle.der.specs.StringRef.{reference_text};
 use crate::string::StringRef;
 use der_base::{Error, Length};
 use der_core::{
-    DecodeValue, EncodeValue, Header, IsValue, ReadValue, Reader, Writer, WrittenValue, octets_len,
-    place_before,
+    DecodeValue, EncodeValue, Header, IsValue, Lends, ReadValue, Reader, Writer, WrittenValue,
+    octets_len, place_before,
 };
 use std::alloc::Global;
 
@@ -37,12 +37,14 @@ impl<'a> ReadValue for StringRef<'a> {
 ///   is unchanged.
 /// - `Utf8` without a position, if the contents are not UTF-8; the reader is after the contents and
 ///   has not failed.
-impl<'a, R: Reader<Borrowed = &'a [u8]>> DecodeValue<R> for StringRef<'a> {
+impl<'a, R: Lends<Borrowed = &'a [u8]>> DecodeValue<R> for StringRef<'a> {
     type Error = Error;
 
     ghost decode_value_answers = { BorrowedTextRead reference_text };
 
     fn decode_value(_alloc: Global, reader: &mut R, header: Header) -> Result<Self, Error>
+    where
+        R: Reader,
         ensures same { Same (R.state reader.old) (R.state reader.new) }
         ensures sound { TakesContents (TakesOctets IsText reference_text) (head_of header)
             (R.state reader.old) result (R.state reader.new) }

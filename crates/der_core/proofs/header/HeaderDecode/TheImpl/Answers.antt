@@ -4,7 +4,7 @@ use Rattle.der_core.proofs.DecodeLemmas.{decodes_reliably, reads}
 use Rattle.der_core.proofs.header.HeaderDecode.TheImpl.Goals as goal
 
 pub decode-tells : goal.decode-tells
-decode-tells g x y z w c =
+decode-tells g c =
     record {
       same = c.ensures.same;
       ok = IfOk-weaker c.result _ _ (λ v read working after. read) c.ensures.ok;
