@@ -6,7 +6,7 @@ ghost use Rattle.std.proofs.Common.{refl};
 ghost use Rattle.der.specs.Prelude.{map_ok};
 ghost use Rattle.der_asn1.specs.Meaning.{alternative, any_element, field, optional, sequence, two_fields};
 
-use der::{Decode, DecodeValue, Encode, EncodeValue, Error, FromFields, Header, Length, Reader, Sequence, SliceReader, Writer, decode_sequence, field_refs};
+use der::{Decode, DecodeValue, Encode, EncodeValue, Error, FromFields, Header, Length, Lends, Reader, Sequence, SliceReader, Writer, decode_sequence, field_refs};
 use der_asn1::{AnyRef, BitStringRef, Described, ObjectIdentifierRef, Optional};
 use std::alloc::Global;
 
@@ -36,7 +36,7 @@ impl<'a> Sequence for KeyAlgorithm<'a> {
     ghost fits = { (refl, refl) };
 }
 
-impl<'a, R: Reader<Borrowed = &'a [u8]>> DecodeValue<R> for KeyAlgorithm<'a> {
+impl<'a, R: Lends<Borrowed = &'a [u8]>> DecodeValue<R> for KeyAlgorithm<'a> {
     type Error = Error;
 
     ghost decode_value_answers = { λ h s result t.
@@ -44,7 +44,10 @@ impl<'a, R: Reader<Borrowed = &'a [u8]>> DecodeValue<R> for KeyAlgorithm<'a> {
         ⟦<KeyAlgorithm<'a> as FromFields<KeyAlgorithmFields<'a>>>⟧.fields result) t };
 
     #[inline(always)]
-    fn decode_value(alloc: Global, reader: &mut R, header: Header) -> Result<Self, Error> {
+    fn decode_value(alloc: Global, reader: &mut R, header: Header) -> Result<Self, Error>
+    where
+        R: Reader,
+    {
         decode_sequence::<R, KeyAlgorithmFields<'a>, Self>(alloc, reader, header)
     }
 }
@@ -105,7 +108,7 @@ impl<'a> Sequence for PublicKey<'a> {
     ghost fits = { (refl, refl) };
 }
 
-impl<'a, R: Reader<Borrowed = &'a [u8]>> DecodeValue<R> for PublicKey<'a> {
+impl<'a, R: Lends<Borrowed = &'a [u8]>> DecodeValue<R> for PublicKey<'a> {
     type Error = Error;
 
     ghost decode_value_answers = { λ h s result t.
@@ -113,7 +116,10 @@ impl<'a, R: Reader<Borrowed = &'a [u8]>> DecodeValue<R> for PublicKey<'a> {
         ⟦<PublicKey<'a> as FromFields<PublicKeyFields<'a>>>⟧.fields result) t };
 
     #[inline(always)]
-    fn decode_value(alloc: Global, reader: &mut R, header: Header) -> Result<Self, Error> {
+    fn decode_value(alloc: Global, reader: &mut R, header: Header) -> Result<Self, Error>
+    where
+        R: Reader,
+    {
         decode_sequence::<R, PublicKeyFields<'a>, Self>(alloc, reader, header)
     }
 }

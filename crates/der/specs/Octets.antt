@@ -95,14 +95,19 @@ OwnedTextRead octets_of h s result t =
     AnswersOrLacks (text_outcome (number h.length) s).answer (map_ok octets_of result)
     × (t ≡ (text_outcome (number h.length) s).after)
 
--- if the contents are acceptable as a value, a reliable reader reads one and is then at their end;
--- no allocation can fail, because there is none
-abbrev pub EndsTaken : {A : Type 0} → (List ℕ → Type 0) → (A → List ℕ)
+-- if the contents are acceptable as a value, a reliable reader reads one and is then at their end,
+-- or reading allocates and an allocation failed
+abbrev pub EndsTakenOrLacks : {A : Type 0} → Bool → (List ℕ → Type 0) → (A → List ℕ)
     → Bool → Head → ReaderState → Result A Error → ReaderState → Type 0
-EndsTaken {A} IsKind octets_of reliable h s result t =
+EndsTakenOrLacks {A} allocates IsKind octets_of reliable h s result t =
     (v : A) → reliable ≡ true → ContentsNext (TakesOctets IsKind octets_of v) h s
     → s.depth + 0 ≤ 64
-    → EndsOrLacks (λ e. is_out_of_memory_kind (kind_of e)) false result t
+    → EndsOrLacks (λ e. is_out_of_memory_kind (kind_of e)) allocates result t
+
+-- the same where no allocation can fail, because there is none
+abbrev pub EndsTaken : {A : Type 0} → (List ℕ → Type 0) → (A → List ℕ)
+    → Bool → Head → ReaderState → Result A Error → ReaderState → Type 0
+EndsTaken = EndsTakenOrLacks false
 
 -- the result of reading a slice from a reader that cannot return slices: an error, and no change
 abbrev pub not_borrowed_outcome : ReaderState → Outcome (List ℕ)

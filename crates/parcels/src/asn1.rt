@@ -3,21 +3,12 @@
 //! The types of the module.
 
 mod address;
-mod address_part1;
-mod address_part2;
 mod delivery;
 mod handling;
 mod journey;
-mod journey_part1;
-mod journey_part2;
-mod journey_part3;
 mod label;
 mod packing;
 mod parcel;
-mod parcel_part1;
-mod parcel_part2;
-mod parcel_part3;
-mod parcel_part4;
 mod plan;
 mod property;
 mod property_known;

@@ -9,8 +9,6 @@ mod friendly_name;
 mod key_bag;
 mod local_key_id;
 mod mac_data;
-mod mac_data_part1;
-mod mac_data_part2;
 mod pfx;
 mod pkcs12_pbe_params;
 mod pkcs8_shrouded_key_bag;

@@ -13,16 +13,12 @@ mod ec_parameters_part2;
 mod ec_parameters_tagged;
 mod ec_point;
 mod ec_private_key;
-mod ec_private_key_part1;
-mod ec_private_key_part2;
 mod ecdsa_sig_value;
 mod field_element;
 mod field_id;
 mod pentanomial;
 mod prime_p;
 mod specified_ec_domain;
-mod specified_ec_domain_part1;
-mod specified_ec_domain_part2;
 mod trinomial;
 pub mod values;
 

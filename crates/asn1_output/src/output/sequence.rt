@@ -116,10 +116,10 @@ const SEEN_PART: &str = "(seen ⟦<@N@L as FromFields<@NFields@L>>⟧.fields @M)
 const ENCODED_PART: &str = "⟦<@N@L as FromFields<@NFields@L>>⟧.fields (@Q v).@J";
 
 /// The most fields of a part.
-const PART: usize = 6;
+const PART: usize = 12;
 
 /// The greatest weight of the fields of a part: with more the checker stops at its limit of steps.
-const WEIGHT: usize = 6;
+const WEIGHT: usize = 20;
 
 impl SequenceText {
     /// A SEQUENCE with this name.

@@ -5,16 +5,10 @@ ghost use Rattle.std.specs.Prelude.{◌≡◌};
 ghost use Rattle.std.proofs.Common.{arith, refl};
 ghost use Rattle.der.specs.Prelude.{map_ok};
 ghost use Rattle.der_asn1.specs.Item.{decodes_same};
-ghost use Rattle.der_asn1.specs.Meaning.{alternative, field, optional, seen, sequence, sequence_is_item, sequence_item, two_fields};
-ghost use Rattle.der_asn1.specs.TupleFields.{four_fields, three_fields};
+ghost use Rattle.der_asn1.specs.Meaning.{alternative, field, optional, sequence, sequence_is_item, sequence_item};
+ghost use Rattle.der_asn1.specs.TupleFields.{seven_fields};
 
 use crate::asn1::auth_attributes::AuthAttributes;
-use crate::asn1::auth_enveloped_data_part1::{
-    AuthEnvelopedDataPart1, AuthEnvelopedDataPart1Fields,
-};
-use crate::asn1::auth_enveloped_data_part2::{
-    AuthEnvelopedDataPart2, AuthEnvelopedDataPart2Fields,
-};
 use crate::asn1::cms_version::CmsVersion;
 use crate::asn1::encrypted_content_info::EncryptedContentInfo;
 use crate::asn1::originator_info::OriginatorInfo;
@@ -51,49 +45,58 @@ pub struct AuthEnvelopedData<'a> {
 
 /// The fields of a [`AuthEnvelopedData`], in the order in which they are encoded.
 pub type AuthEnvelopedDataFields<'a> = (
-    AuthEnvelopedDataPart1Fields<'a>,
-    AuthEnvelopedDataPart2Fields<'a>,
+    CmsVersion<'a>,
+    Optional<Implicit<OriginatorInfo<'a>, 0>>,
+    RecipientInfos<'a>,
+    EncryptedContentInfo<'a>,
+    Optional<Implicit<AuthAttributes<'a>, 1>>,
+    OctetStringRef<'a>,
+    Optional<Implicit<AuthAttributes<'a>, 2>>,
 );
 
-impl<'a> FromFields<(AuthEnvelopedDataPart1<'a>, AuthEnvelopedDataPart2<'a>)>
-    for AuthEnvelopedData<'a> {
+impl<'a> FromFields<AuthEnvelopedDataFields<'a>> for AuthEnvelopedData<'a> {
     ghost fields = { λ v. (
-      record {
-        version = v.version;
-        originator_info = v.originator_info;
-        recipient_infos = v.recipient_infos;
-        auth_encrypted_content_info = v.auth_encrypted_content_info;
-      },
-      record { auth_attrs = v.auth_attrs; mac = v.mac; unauth_attrs = v.unauth_attrs },
+      v.version,
+      v.originator_info,
+      v.recipient_infos,
+      v.auth_encrypted_content_info,
+      v.auth_attrs,
+      v.mac,
+      v.unauth_attrs,
     ) };
 
-    fn from_fields(fields: (AuthEnvelopedDataPart1<'a>, AuthEnvelopedDataPart2<'a>)) -> Self {
-        let (part1, part2) = fields;
+    fn from_fields(fields: AuthEnvelopedDataFields<'a>) -> Self {
+        let (
+            version,
+            originator_info,
+            recipient_infos,
+            auth_encrypted_content_info,
+            auth_attrs,
+            mac,
+            unauth_attrs,
+        ) = fields;
         AuthEnvelopedData {
-            version: part1.version,
-            originator_info: part1.originator_info,
-            recipient_infos: part1.recipient_infos,
-            auth_encrypted_content_info: part1.auth_encrypted_content_info,
-            auth_attrs: part2.auth_attrs,
-            mac: part2.mac,
-            unauth_attrs: part2.unauth_attrs,
+            version,
+            originator_info,
+            recipient_infos,
+            auth_encrypted_content_info,
+            auth_attrs,
+            mac,
+            unauth_attrs,
         }
     }
 }
 
 impl<'a> Sequence for AuthEnvelopedData<'a> {
-    ghost meaning = { sequence (two_fields (seen
-        ⟦<AuthEnvelopedDataPart1<'a> as FromFields<AuthEnvelopedDataPart1Fields<'a>>>⟧.fields
-        (four_fields (field (alternative ⟦<CmsVersion<'a> as Described>⟧.element)) (optional
-        (alternative ⟦<Implicit<OriginatorInfo<'a>, 0> as Described>⟧.element)) (field (alternative
+    ghost meaning = { sequence (seven_fields (field (alternative
+        ⟦<CmsVersion<'a> as Described>⟧.element)) (optional (alternative
+        ⟦<Implicit<OriginatorInfo<'a>, 0> as Described>⟧.element)) (field (alternative
         ⟦<RecipientInfos<'a> as Described>⟧.element)) (field (alternative
-        ⟦<EncryptedContentInfo<'a> as Described>⟧.element)))) (seen
-        ⟦<AuthEnvelopedDataPart2<'a> as FromFields<AuthEnvelopedDataPart2Fields<'a>>>⟧.fields
-        (three_fields (optional (alternative
+        ⟦<EncryptedContentInfo<'a> as Described>⟧.element)) (optional (alternative
         ⟦<Implicit<AuthAttributes<'a>, 1> as Described>⟧.element)) (field (alternative
         ⟦<OctetStringRef<'a> as Described>⟧.element)) (optional (alternative
-        ⟦<Implicit<AuthAttributes<'a>, 2> as Described>⟧.element)))))
-        ⟦<AuthEnvelopedData<'a> as FromFields<(AuthEnvelopedDataPart1<'a>, AuthEnvelopedDataPart2<'a>)>>⟧.fields };
+        ⟦<Implicit<AuthAttributes<'a>, 2> as Described>⟧.element)))
+        ⟦<AuthEnvelopedData<'a> as FromFields<AuthEnvelopedDataFields<'a>>>⟧.fields };
 
     ghost fits = { (refl, refl) };
 }
@@ -103,17 +106,14 @@ impl<'a, R: Lends<Borrowed = &'a [u8]>> DecodeValue<R> for AuthEnvelopedData<'a>
     type Error = Error;
 
     ghost decode_value_answers = { λ h s result t.
-        ⟦<(AuthEnvelopedDataPart1<'a>, AuthEnvelopedDataPart2<'a>) as Decode<SliceReader<'a>>>⟧.decode_answers s
-        (map_ok
-        ⟦<AuthEnvelopedData<'a> as FromFields<(AuthEnvelopedDataPart1<'a>, AuthEnvelopedDataPart2<'a>)>>⟧.fields result) t };
+        ⟦<AuthEnvelopedDataFields<'a> as Decode<SliceReader<'a>>>⟧.decode_answers s (map_ok
+        ⟦<AuthEnvelopedData<'a> as FromFields<AuthEnvelopedDataFields<'a>>>⟧.fields result) t };
 
     fn decode_value(alloc: Global, reader: &mut R, header: Header) -> Result<Self, Error>
     where
         R: Reader,
     {
-        decode_sequence::<R, (AuthEnvelopedDataPart1<'a>, AuthEnvelopedDataPart2<'a>), Self>(
-            alloc, reader, header,
-        )
+        decode_sequence::<R, AuthEnvelopedDataFields<'a>, Self>(alloc, reader, header)
     }
 }
 
@@ -137,31 +137,23 @@ impl<'a> IsValue for AuthEnvelopedData<'a> {
 
 /// Writes the fields one after the other, with the errors of every [`Sequence`].
 impl<'a> EncodeValue for AuthEnvelopedData<'a> {
-    ghost value_size = { λ v. ⟦<AuthEnvelopedDataFields<'a> as Encode>⟧.size (
-      ⟦<AuthEnvelopedDataPart1<'a> as FromFields<AuthEnvelopedDataPart1Fields<'a>>>⟧.fields
-          (⟦<AuthEnvelopedData<'a> as FromFields<(AuthEnvelopedDataPart1<'a>, AuthEnvelopedDataPart2<'a>)>>⟧.fields v).0,
-      ⟦<AuthEnvelopedDataPart2<'a> as FromFields<AuthEnvelopedDataPart2Fields<'a>>>⟧.fields
-          (⟦<AuthEnvelopedData<'a> as FromFields<(AuthEnvelopedDataPart1<'a>, AuthEnvelopedDataPart2<'a>)>>⟧.fields v).1,
-    ) };
+    ghost value_size = { λ v. ⟦<AuthEnvelopedDataFields<'a> as Encode>⟧.size
+        (⟦<AuthEnvelopedData<'a> as FromFields<AuthEnvelopedDataFields<'a>>>⟧.fields v) };
 
-    ghost encode_value_answers = { λ v. ⟦<AuthEnvelopedDataFields<'a> as Encode>⟧.encode_answers (
-      ⟦<AuthEnvelopedDataPart1<'a> as FromFields<AuthEnvelopedDataPart1Fields<'a>>>⟧.fields
-          (⟦<AuthEnvelopedData<'a> as FromFields<(AuthEnvelopedDataPart1<'a>, AuthEnvelopedDataPart2<'a>)>>⟧.fields v).0,
-      ⟦<AuthEnvelopedDataPart2<'a> as FromFields<AuthEnvelopedDataPart2Fields<'a>>>⟧.fields
-          (⟦<AuthEnvelopedData<'a> as FromFields<(AuthEnvelopedDataPart1<'a>, AuthEnvelopedDataPart2<'a>)>>⟧.fields v).1,
-    ) };
+    ghost encode_value_answers = { λ v. ⟦<AuthEnvelopedDataFields<'a> as Encode>⟧.encode_answers
+        (⟦<AuthEnvelopedData<'a> as FromFields<AuthEnvelopedDataFields<'a>>>⟧.fields v) };
 
     fn value_len(&self) -> Result<Length, Error> {
         field_refs!(
             self,
             (
-                (
-                    version,
-                    originator_info,
-                    recipient_infos,
-                    auth_encrypted_content_info
-                ),
-                (auth_attrs, mac, unauth_attrs)
+                version,
+                originator_info,
+                recipient_infos,
+                auth_encrypted_content_info,
+                auth_attrs,
+                mac,
+                unauth_attrs
             )
         )
         .encoded_len()
@@ -171,13 +163,13 @@ impl<'a> EncodeValue for AuthEnvelopedData<'a> {
         field_refs!(
             self,
             (
-                (
-                    version,
-                    originator_info,
-                    recipient_infos,
-                    auth_encrypted_content_info
-                ),
-                (auth_attrs, mac, unauth_attrs)
+                version,
+                originator_info,
+                recipient_infos,
+                auth_encrypted_content_info,
+                auth_attrs,
+                mac,
+                unauth_attrs
             )
         )
         .encode(writer)
@@ -187,13 +179,13 @@ impl<'a> EncodeValue for AuthEnvelopedData<'a> {
         field_refs!(
             self,
             (
-                (
-                    version,
-                    originator_info,
-                    recipient_infos,
-                    auth_encrypted_content_info
-                ),
-                (auth_attrs, mac, unauth_attrs)
+                version,
+                originator_info,
+                recipient_infos,
+                auth_encrypted_content_info,
+                auth_attrs,
+                mac,
+                unauth_attrs
             )
         )
         .len_before()
@@ -203,13 +195,13 @@ impl<'a> EncodeValue for AuthEnvelopedData<'a> {
         field_refs!(
             self,
             (
-                (
-                    version,
-                    originator_info,
-                    recipient_infos,
-                    auth_encrypted_content_info
-                ),
-                (auth_attrs, mac, unauth_attrs)
+                version,
+                originator_info,
+                recipient_infos,
+                auth_encrypted_content_info,
+                auth_attrs,
+                mac,
+                unauth_attrs
             )
         )
         .encode_before(buf, end)

@@ -5,13 +5,10 @@ ghost use Rattle.std.specs.Prelude.{◌≡◌};
 ghost use Rattle.std.proofs.Common.{arith, refl};
 ghost use Rattle.der.specs.Prelude.{map_ok};
 ghost use Rattle.der_asn1.specs.Item.{decodes_same};
-ghost use Rattle.der_asn1.specs.Meaning.{alternative, field, optional, seen, sequence, sequence_is_item, sequence_item};
-ghost use Rattle.der_asn1.specs.TupleFields.{three_fields};
+ghost use Rattle.der_asn1.specs.Meaning.{alternative, field, optional, sequence, sequence_is_item, sequence_item};
+ghost use Rattle.der_asn1.specs.TupleFields.{nine_fields};
 
 use crate::asn1::auth_attributes::AuthAttributes;
-use crate::asn1::authenticated_data_part1::{AuthenticatedDataPart1, AuthenticatedDataPart1Fields};
-use crate::asn1::authenticated_data_part2::{AuthenticatedDataPart2, AuthenticatedDataPart2Fields};
-use crate::asn1::authenticated_data_part3::{AuthenticatedDataPart3, AuthenticatedDataPart3Fields};
 use crate::asn1::cms_version::CmsVersion;
 use crate::asn1::encapsulated_content_info::EncapsulatedContentInfo;
 use crate::asn1::originator_info::OriginatorInfo;
@@ -54,70 +51,68 @@ pub struct AuthenticatedData<'a> {
 
 /// The fields of a [`AuthenticatedData`], in the order in which they are encoded.
 pub type AuthenticatedDataFields<'a> = (
-    AuthenticatedDataPart1Fields<'a>,
-    AuthenticatedDataPart2Fields<'a>,
-    AuthenticatedDataPart3Fields<'a>,
+    CmsVersion<'a>,
+    Optional<Implicit<OriginatorInfo<'a>, 0>>,
+    RecipientInfos<'a>,
+    AlgorithmIdentifierRef<'a>,
+    Optional<Implicit<AlgorithmIdentifierRef<'a>, 1>>,
+    EncapsulatedContentInfo<'a>,
+    Optional<Implicit<AuthAttributes<'a>, 2>>,
+    OctetStringRef<'a>,
+    Optional<Implicit<AuthAttributes<'a>, 3>>,
 );
 
-impl<'a> FromFields<
-    (
-        AuthenticatedDataPart1<'a>,
-        AuthenticatedDataPart2<'a>,
-        AuthenticatedDataPart3<'a>,
-    ),
-> for AuthenticatedData<'a> {
+impl<'a> FromFields<AuthenticatedDataFields<'a>> for AuthenticatedData<'a> {
     ghost fields = { λ v. (
-      record {
-        version = v.version;
-        originator_info = v.originator_info;
-        recipient_infos = v.recipient_infos;
-      },
-      record {
-        mac_algorithm = v.mac_algorithm;
-        digest_algorithm = v.digest_algorithm;
-        encap_content_info = v.encap_content_info;
-      },
-      record { auth_attrs = v.auth_attrs; mac = v.mac; unauth_attrs = v.unauth_attrs },
+      v.version,
+      v.originator_info,
+      v.recipient_infos,
+      v.mac_algorithm,
+      v.digest_algorithm,
+      v.encap_content_info,
+      v.auth_attrs,
+      v.mac,
+      v.unauth_attrs,
     ) };
 
-    fn from_fields(
-        fields: (
-            AuthenticatedDataPart1<'a>,
-            AuthenticatedDataPart2<'a>,
-            AuthenticatedDataPart3<'a>,
-        ),
-    ) -> Self {
-        let (part1, part2, part3) = fields;
+    fn from_fields(fields: AuthenticatedDataFields<'a>) -> Self {
+        let (
+            version,
+            originator_info,
+            recipient_infos,
+            mac_algorithm,
+            digest_algorithm,
+            encap_content_info,
+            auth_attrs,
+            mac,
+            unauth_attrs,
+        ) = fields;
         AuthenticatedData {
-            version: part1.version,
-            originator_info: part1.originator_info,
-            recipient_infos: part1.recipient_infos,
-            mac_algorithm: part2.mac_algorithm,
-            digest_algorithm: part2.digest_algorithm,
-            encap_content_info: part2.encap_content_info,
-            auth_attrs: part3.auth_attrs,
-            mac: part3.mac,
-            unauth_attrs: part3.unauth_attrs,
+            version,
+            originator_info,
+            recipient_infos,
+            mac_algorithm,
+            digest_algorithm,
+            encap_content_info,
+            auth_attrs,
+            mac,
+            unauth_attrs,
         }
     }
 }
 
 impl<'a> Sequence for AuthenticatedData<'a> {
-    ghost meaning = { sequence (three_fields (seen
-        ⟦<AuthenticatedDataPart1<'a> as FromFields<AuthenticatedDataPart1Fields<'a>>>⟧.fields
-        (three_fields (field (alternative ⟦<CmsVersion<'a> as Described>⟧.element)) (optional
-        (alternative ⟦<Implicit<OriginatorInfo<'a>, 0> as Described>⟧.element)) (field (alternative
-        ⟦<RecipientInfos<'a> as Described>⟧.element)))) (seen
-        ⟦<AuthenticatedDataPart2<'a> as FromFields<AuthenticatedDataPart2Fields<'a>>>⟧.fields
-        (three_fields (field (alternative ⟦<AlgorithmIdentifierRef<'a> as Described>⟧.element))
-        (optional (alternative ⟦<Implicit<AlgorithmIdentifierRef<'a>, 1> as Described>⟧.element))
-        (field (alternative ⟦<EncapsulatedContentInfo<'a> as Described>⟧.element)))) (seen
-        ⟦<AuthenticatedDataPart3<'a> as FromFields<AuthenticatedDataPart3Fields<'a>>>⟧.fields
-        (three_fields (optional (alternative
+    ghost meaning = { sequence (nine_fields (field (alternative
+        ⟦<CmsVersion<'a> as Described>⟧.element)) (optional (alternative
+        ⟦<Implicit<OriginatorInfo<'a>, 0> as Described>⟧.element)) (field (alternative
+        ⟦<RecipientInfos<'a> as Described>⟧.element)) (field (alternative
+        ⟦<AlgorithmIdentifierRef<'a> as Described>⟧.element)) (optional (alternative
+        ⟦<Implicit<AlgorithmIdentifierRef<'a>, 1> as Described>⟧.element)) (field (alternative
+        ⟦<EncapsulatedContentInfo<'a> as Described>⟧.element)) (optional (alternative
         ⟦<Implicit<AuthAttributes<'a>, 2> as Described>⟧.element)) (field (alternative
         ⟦<OctetStringRef<'a> as Described>⟧.element)) (optional (alternative
-        ⟦<Implicit<AuthAttributes<'a>, 3> as Described>⟧.element)))))
-        ⟦<AuthenticatedData<'a> as FromFields<(AuthenticatedDataPart1<'a>, AuthenticatedDataPart2<'a>, AuthenticatedDataPart3<'a>)>>⟧.fields };
+        ⟦<Implicit<AuthAttributes<'a>, 3> as Described>⟧.element)))
+        ⟦<AuthenticatedData<'a> as FromFields<AuthenticatedDataFields<'a>>>⟧.fields };
 
     ghost fits = { (refl, refl) };
 }
@@ -127,23 +122,14 @@ impl<'a, R: Lends<Borrowed = &'a [u8]>> DecodeValue<R> for AuthenticatedData<'a>
     type Error = Error;
 
     ghost decode_value_answers = { λ h s result t.
-        ⟦<(AuthenticatedDataPart1<'a>, AuthenticatedDataPart2<'a>, AuthenticatedDataPart3<'a>) as Decode<SliceReader<'a>>>⟧.decode_answers s
-        (map_ok
-        ⟦<AuthenticatedData<'a> as FromFields<(AuthenticatedDataPart1<'a>, AuthenticatedDataPart2<'a>, AuthenticatedDataPart3<'a>)>>⟧.fields result) t };
+        ⟦<AuthenticatedDataFields<'a> as Decode<SliceReader<'a>>>⟧.decode_answers s (map_ok
+        ⟦<AuthenticatedData<'a> as FromFields<AuthenticatedDataFields<'a>>>⟧.fields result) t };
 
     fn decode_value(alloc: Global, reader: &mut R, header: Header) -> Result<Self, Error>
     where
         R: Reader,
     {
-        decode_sequence::<
-            R,
-            (
-                AuthenticatedDataPart1<'a>,
-                AuthenticatedDataPart2<'a>,
-                AuthenticatedDataPart3<'a>,
-            ),
-            Self,
-        >(alloc, reader, header)
+        decode_sequence::<R, AuthenticatedDataFields<'a>, Self>(alloc, reader, header)
     }
 }
 
@@ -171,31 +157,25 @@ impl<'a> IsValue for AuthenticatedData<'a> {
 
 /// Writes the fields one after the other, with the errors of every [`Sequence`].
 impl<'a> EncodeValue for AuthenticatedData<'a> {
-    ghost value_size = { λ v. ⟦<AuthenticatedDataFields<'a> as Encode>⟧.size (
-      ⟦<AuthenticatedDataPart1<'a> as FromFields<AuthenticatedDataPart1Fields<'a>>>⟧.fields
-          (⟦<AuthenticatedData<'a> as FromFields<(AuthenticatedDataPart1<'a>, AuthenticatedDataPart2<'a>, AuthenticatedDataPart3<'a>)>>⟧.fields v).0,
-      ⟦<AuthenticatedDataPart2<'a> as FromFields<AuthenticatedDataPart2Fields<'a>>>⟧.fields
-          (⟦<AuthenticatedData<'a> as FromFields<(AuthenticatedDataPart1<'a>, AuthenticatedDataPart2<'a>, AuthenticatedDataPart3<'a>)>>⟧.fields v).1,
-      ⟦<AuthenticatedDataPart3<'a> as FromFields<AuthenticatedDataPart3Fields<'a>>>⟧.fields
-          (⟦<AuthenticatedData<'a> as FromFields<(AuthenticatedDataPart1<'a>, AuthenticatedDataPart2<'a>, AuthenticatedDataPart3<'a>)>>⟧.fields v).2,
-    ) };
+    ghost value_size = { λ v. ⟦<AuthenticatedDataFields<'a> as Encode>⟧.size
+        (⟦<AuthenticatedData<'a> as FromFields<AuthenticatedDataFields<'a>>>⟧.fields v) };
 
-    ghost encode_value_answers = { λ v. ⟦<AuthenticatedDataFields<'a> as Encode>⟧.encode_answers (
-      ⟦<AuthenticatedDataPart1<'a> as FromFields<AuthenticatedDataPart1Fields<'a>>>⟧.fields
-          (⟦<AuthenticatedData<'a> as FromFields<(AuthenticatedDataPart1<'a>, AuthenticatedDataPart2<'a>, AuthenticatedDataPart3<'a>)>>⟧.fields v).0,
-      ⟦<AuthenticatedDataPart2<'a> as FromFields<AuthenticatedDataPart2Fields<'a>>>⟧.fields
-          (⟦<AuthenticatedData<'a> as FromFields<(AuthenticatedDataPart1<'a>, AuthenticatedDataPart2<'a>, AuthenticatedDataPart3<'a>)>>⟧.fields v).1,
-      ⟦<AuthenticatedDataPart3<'a> as FromFields<AuthenticatedDataPart3Fields<'a>>>⟧.fields
-          (⟦<AuthenticatedData<'a> as FromFields<(AuthenticatedDataPart1<'a>, AuthenticatedDataPart2<'a>, AuthenticatedDataPart3<'a>)>>⟧.fields v).2,
-    ) };
+    ghost encode_value_answers = { λ v. ⟦<AuthenticatedDataFields<'a> as Encode>⟧.encode_answers
+        (⟦<AuthenticatedData<'a> as FromFields<AuthenticatedDataFields<'a>>>⟧.fields v) };
 
     fn value_len(&self) -> Result<Length, Error> {
         field_refs!(
             self,
             (
-                (version, originator_info, recipient_infos),
-                (mac_algorithm, digest_algorithm, encap_content_info),
-                (auth_attrs, mac, unauth_attrs)
+                version,
+                originator_info,
+                recipient_infos,
+                mac_algorithm,
+                digest_algorithm,
+                encap_content_info,
+                auth_attrs,
+                mac,
+                unauth_attrs
             )
         )
         .encoded_len()
@@ -205,9 +185,15 @@ impl<'a> EncodeValue for AuthenticatedData<'a> {
         field_refs!(
             self,
             (
-                (version, originator_info, recipient_infos),
-                (mac_algorithm, digest_algorithm, encap_content_info),
-                (auth_attrs, mac, unauth_attrs)
+                version,
+                originator_info,
+                recipient_infos,
+                mac_algorithm,
+                digest_algorithm,
+                encap_content_info,
+                auth_attrs,
+                mac,
+                unauth_attrs
             )
         )
         .encode(writer)
@@ -217,9 +203,15 @@ impl<'a> EncodeValue for AuthenticatedData<'a> {
         field_refs!(
             self,
             (
-                (version, originator_info, recipient_infos),
-                (mac_algorithm, digest_algorithm, encap_content_info),
-                (auth_attrs, mac, unauth_attrs)
+                version,
+                originator_info,
+                recipient_infos,
+                mac_algorithm,
+                digest_algorithm,
+                encap_content_info,
+                auth_attrs,
+                mac,
+                unauth_attrs
             )
         )
         .len_before()
@@ -229,9 +221,15 @@ impl<'a> EncodeValue for AuthenticatedData<'a> {
         field_refs!(
             self,
             (
-                (version, originator_info, recipient_infos),
-                (mac_algorithm, digest_algorithm, encap_content_info),
-                (auth_attrs, mac, unauth_attrs)
+                version,
+                originator_info,
+                recipient_infos,
+                mac_algorithm,
+                digest_algorithm,
+                encap_content_info,
+                auth_attrs,
+                mac,
+                unauth_attrs
             )
         )
         .encode_before(buf, end)

@@ -5,13 +5,11 @@ ghost use Rattle.std.specs.Prelude.{◌≡◌};
 ghost use Rattle.std.proofs.Common.{arith, refl};
 ghost use Rattle.der.specs.Prelude.{map_ok};
 ghost use Rattle.der_asn1.specs.Item.{decodes_same};
-ghost use Rattle.der_asn1.specs.Meaning.{alternative, field, optional, seen, sequence, sequence_is_item, sequence_item, two_fields};
-ghost use Rattle.der_asn1.specs.TupleFields.{three_fields};
+ghost use Rattle.der_asn1.specs.Meaning.{alternative, field, optional, sequence, sequence_is_item, sequence_item};
+ghost use Rattle.der_asn1.specs.TupleFields.{five_fields};
 
 use crate::asn1::cms_version::CmsVersion;
 use crate::asn1::encrypted_content_info::EncryptedContentInfo;
-use crate::asn1::enveloped_data_part1::{EnvelopedDataPart1, EnvelopedDataPart1Fields};
-use crate::asn1::enveloped_data_part2::{EnvelopedDataPart2, EnvelopedDataPart2Fields};
 use crate::asn1::originator_info::OriginatorInfo;
 use crate::asn1::recipient_infos::RecipientInfos;
 use der::{
@@ -39,43 +37,44 @@ pub struct EnvelopedData<'a> {
 }
 
 /// The fields of a [`EnvelopedData`], in the order in which they are encoded.
-pub type EnvelopedDataFields<'a> = (EnvelopedDataPart1Fields<'a>, EnvelopedDataPart2Fields<'a>);
+pub type EnvelopedDataFields<'a> = (
+    CmsVersion<'a>,
+    Optional<Implicit<OriginatorInfo<'a>, 0>>,
+    RecipientInfos<'a>,
+    EncryptedContentInfo<'a>,
+    Optional<Implicit<Attributes<'a>, 1>>,
+);
 
-impl<'a> FromFields<(EnvelopedDataPart1<'a>, EnvelopedDataPart2<'a>)> for EnvelopedData<'a> {
+impl<'a> FromFields<EnvelopedDataFields<'a>> for EnvelopedData<'a> {
     ghost fields = { λ v. (
-      record {
-        version = v.version;
-        originator_info = v.originator_info;
-        recipient_infos = v.recipient_infos;
-      },
-      record {
-        encrypted_content_info = v.encrypted_content_info;
-        unprotected_attrs = v.unprotected_attrs;
-      },
+      v.version,
+      v.originator_info,
+      v.recipient_infos,
+      v.encrypted_content_info,
+      v.unprotected_attrs,
     ) };
 
-    fn from_fields(fields: (EnvelopedDataPart1<'a>, EnvelopedDataPart2<'a>)) -> Self {
-        let (part1, part2) = fields;
+    fn from_fields(fields: EnvelopedDataFields<'a>) -> Self {
+        let (version, originator_info, recipient_infos, encrypted_content_info, unprotected_attrs) =
+            fields;
         EnvelopedData {
-            version: part1.version,
-            originator_info: part1.originator_info,
-            recipient_infos: part1.recipient_infos,
-            encrypted_content_info: part2.encrypted_content_info,
-            unprotected_attrs: part2.unprotected_attrs,
+            version,
+            originator_info,
+            recipient_infos,
+            encrypted_content_info,
+            unprotected_attrs,
         }
     }
 }
 
 impl<'a> Sequence for EnvelopedData<'a> {
-    ghost meaning = { sequence (two_fields (seen
-        ⟦<EnvelopedDataPart1<'a> as FromFields<EnvelopedDataPart1Fields<'a>>>⟧.fields (three_fields
-        (field (alternative ⟦<CmsVersion<'a> as Described>⟧.element)) (optional (alternative
+    ghost meaning = { sequence (five_fields (field (alternative
+        ⟦<CmsVersion<'a> as Described>⟧.element)) (optional (alternative
         ⟦<Implicit<OriginatorInfo<'a>, 0> as Described>⟧.element)) (field (alternative
-        ⟦<RecipientInfos<'a> as Described>⟧.element)))) (seen
-        ⟦<EnvelopedDataPart2<'a> as FromFields<EnvelopedDataPart2Fields<'a>>>⟧.fields (two_fields
-        (field (alternative ⟦<EncryptedContentInfo<'a> as Described>⟧.element)) (optional
-        (alternative ⟦<Implicit<Attributes<'a>, 1> as Described>⟧.element)))))
-        ⟦<EnvelopedData<'a> as FromFields<(EnvelopedDataPart1<'a>, EnvelopedDataPart2<'a>)>>⟧.fields };
+        ⟦<RecipientInfos<'a> as Described>⟧.element)) (field (alternative
+        ⟦<EncryptedContentInfo<'a> as Described>⟧.element)) (optional (alternative
+        ⟦<Implicit<Attributes<'a>, 1> as Described>⟧.element)))
+        ⟦<EnvelopedData<'a> as FromFields<EnvelopedDataFields<'a>>>⟧.fields };
 
     ghost fits = { (refl, refl) };
 }
@@ -85,17 +84,14 @@ impl<'a, R: Lends<Borrowed = &'a [u8]>> DecodeValue<R> for EnvelopedData<'a> {
     type Error = Error;
 
     ghost decode_value_answers = { λ h s result t.
-        ⟦<(EnvelopedDataPart1<'a>, EnvelopedDataPart2<'a>) as Decode<SliceReader<'a>>>⟧.decode_answers s
-        (map_ok
-        ⟦<EnvelopedData<'a> as FromFields<(EnvelopedDataPart1<'a>, EnvelopedDataPart2<'a>)>>⟧.fields result) t };
+        ⟦<EnvelopedDataFields<'a> as Decode<SliceReader<'a>>>⟧.decode_answers s (map_ok
+        ⟦<EnvelopedData<'a> as FromFields<EnvelopedDataFields<'a>>>⟧.fields result) t };
 
     fn decode_value(alloc: Global, reader: &mut R, header: Header) -> Result<Self, Error>
     where
         R: Reader,
     {
-        decode_sequence::<R, (EnvelopedDataPart1<'a>, EnvelopedDataPart2<'a>), Self>(
-            alloc, reader, header,
-        )
+        decode_sequence::<R, EnvelopedDataFields<'a>, Self>(alloc, reader, header)
     }
 }
 
@@ -115,26 +111,21 @@ impl<'a> IsValue for EnvelopedData<'a> {
 
 /// Writes the fields one after the other, with the errors of every [`Sequence`].
 impl<'a> EncodeValue for EnvelopedData<'a> {
-    ghost value_size = { λ v. ⟦<EnvelopedDataFields<'a> as Encode>⟧.size (
-      ⟦<EnvelopedDataPart1<'a> as FromFields<EnvelopedDataPart1Fields<'a>>>⟧.fields
-          (⟦<EnvelopedData<'a> as FromFields<(EnvelopedDataPart1<'a>, EnvelopedDataPart2<'a>)>>⟧.fields v).0,
-      ⟦<EnvelopedDataPart2<'a> as FromFields<EnvelopedDataPart2Fields<'a>>>⟧.fields
-          (⟦<EnvelopedData<'a> as FromFields<(EnvelopedDataPart1<'a>, EnvelopedDataPart2<'a>)>>⟧.fields v).1,
-    ) };
+    ghost value_size = { λ v. ⟦<EnvelopedDataFields<'a> as Encode>⟧.size
+        (⟦<EnvelopedData<'a> as FromFields<EnvelopedDataFields<'a>>>⟧.fields v) };
 
-    ghost encode_value_answers = { λ v. ⟦<EnvelopedDataFields<'a> as Encode>⟧.encode_answers (
-      ⟦<EnvelopedDataPart1<'a> as FromFields<EnvelopedDataPart1Fields<'a>>>⟧.fields
-          (⟦<EnvelopedData<'a> as FromFields<(EnvelopedDataPart1<'a>, EnvelopedDataPart2<'a>)>>⟧.fields v).0,
-      ⟦<EnvelopedDataPart2<'a> as FromFields<EnvelopedDataPart2Fields<'a>>>⟧.fields
-          (⟦<EnvelopedData<'a> as FromFields<(EnvelopedDataPart1<'a>, EnvelopedDataPart2<'a>)>>⟧.fields v).1,
-    ) };
+    ghost encode_value_answers = { λ v. ⟦<EnvelopedDataFields<'a> as Encode>⟧.encode_answers
+        (⟦<EnvelopedData<'a> as FromFields<EnvelopedDataFields<'a>>>⟧.fields v) };
 
     fn value_len(&self) -> Result<Length, Error> {
         field_refs!(
             self,
             (
-                (version, originator_info, recipient_infos),
-                (encrypted_content_info, unprotected_attrs)
+                version,
+                originator_info,
+                recipient_infos,
+                encrypted_content_info,
+                unprotected_attrs
             )
         )
         .encoded_len()
@@ -144,8 +135,11 @@ impl<'a> EncodeValue for EnvelopedData<'a> {
         field_refs!(
             self,
             (
-                (version, originator_info, recipient_infos),
-                (encrypted_content_info, unprotected_attrs)
+                version,
+                originator_info,
+                recipient_infos,
+                encrypted_content_info,
+                unprotected_attrs
             )
         )
         .encode(writer)
@@ -155,8 +149,11 @@ impl<'a> EncodeValue for EnvelopedData<'a> {
         field_refs!(
             self,
             (
-                (version, originator_info, recipient_infos),
-                (encrypted_content_info, unprotected_attrs)
+                version,
+                originator_info,
+                recipient_infos,
+                encrypted_content_info,
+                unprotected_attrs
             )
         )
         .len_before()
@@ -166,8 +163,11 @@ impl<'a> EncodeValue for EnvelopedData<'a> {
         field_refs!(
             self,
             (
-                (version, originator_info, recipient_infos),
-                (encrypted_content_info, unprotected_attrs)
+                version,
+                originator_info,
+                recipient_infos,
+                encrypted_content_info,
+                unprotected_attrs
             )
         )
         .encode_before(buf, end)

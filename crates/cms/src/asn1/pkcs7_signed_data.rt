@@ -5,14 +5,12 @@ ghost use Rattle.std.specs.Prelude.{◌≡◌};
 ghost use Rattle.std.proofs.Common.{arith, refl};
 ghost use Rattle.der.specs.Prelude.{map_ok};
 ghost use Rattle.der_asn1.specs.Item.{decodes_same};
-ghost use Rattle.der_asn1.specs.Meaning.{alternative, field, optional, seen, sequence, sequence_is_item, sequence_item, two_fields};
-ghost use Rattle.der_asn1.specs.TupleFields.{three_fields};
+ghost use Rattle.der_asn1.specs.Meaning.{alternative, field, optional, sequence, sequence_is_item, sequence_item};
+ghost use Rattle.der_asn1.specs.TupleFields.{six_fields};
 
 use crate::asn1::certificate_set::CertificateSet;
 use crate::asn1::cms_version::CmsVersion;
 use crate::asn1::pkcs7_content_info::Pkcs7ContentInfo;
-use crate::asn1::pkcs7_signed_data_part1::{Pkcs7SignedDataPart1, Pkcs7SignedDataPart1Fields};
-use crate::asn1::pkcs7_signed_data_part2::{Pkcs7SignedDataPart2, Pkcs7SignedDataPart2Fields};
 use crate::asn1::revocation_info_choices::RevocationInfoChoices;
 use crate::asn1::signer_info::SignerInfo;
 use der::{
@@ -43,49 +41,46 @@ pub struct Pkcs7SignedData<'a> {
 
 /// The fields of a [`Pkcs7SignedData`], in the order in which they are encoded.
 pub type Pkcs7SignedDataFields<'a> = (
-    Pkcs7SignedDataPart1Fields<'a>,
-    Pkcs7SignedDataPart2Fields<'a>,
+    CmsVersion<'a>,
+    SetOf<'a, AlgorithmIdentifierRef<'a>>,
+    Pkcs7ContentInfo<'a>,
+    Optional<Implicit<CertificateSet<'a>, 0>>,
+    Optional<Implicit<RevocationInfoChoices<'a>, 1>>,
+    SetOf<'a, SignerInfo<'a>>,
 );
 
-impl<'a> FromFields<(Pkcs7SignedDataPart1<'a>, Pkcs7SignedDataPart2<'a>)> for Pkcs7SignedData<'a> {
+impl<'a> FromFields<Pkcs7SignedDataFields<'a>> for Pkcs7SignedData<'a> {
     ghost fields = { λ v. (
-      record {
-        version = v.version;
-        digest_algorithms = v.digest_algorithms;
-        content_info = v.content_info;
-      },
-      record {
-        certificates = v.certificates;
-        crls = v.crls;
-        signer_infos = v.signer_infos;
-      },
+      v.version,
+      v.digest_algorithms,
+      v.content_info,
+      v.certificates,
+      v.crls,
+      v.signer_infos,
     ) };
 
-    fn from_fields(fields: (Pkcs7SignedDataPart1<'a>, Pkcs7SignedDataPart2<'a>)) -> Self {
-        let (part1, part2) = fields;
+    fn from_fields(fields: Pkcs7SignedDataFields<'a>) -> Self {
+        let (version, digest_algorithms, content_info, certificates, crls, signer_infos) = fields;
         Pkcs7SignedData {
-            version: part1.version,
-            digest_algorithms: part1.digest_algorithms,
-            content_info: part1.content_info,
-            certificates: part2.certificates,
-            crls: part2.crls,
-            signer_infos: part2.signer_infos,
+            version,
+            digest_algorithms,
+            content_info,
+            certificates,
+            crls,
+            signer_infos,
         }
     }
 }
 
 impl<'a> Sequence for Pkcs7SignedData<'a> {
-    ghost meaning = { sequence (two_fields (seen
-        ⟦<Pkcs7SignedDataPart1<'a> as FromFields<Pkcs7SignedDataPart1Fields<'a>>>⟧.fields
-        (three_fields (field (alternative ⟦<CmsVersion<'a> as Described>⟧.element)) (field
-        (alternative ⟦<SetOf<'a, AlgorithmIdentifierRef<'a>> as Described>⟧.element)) (field
-        (alternative ⟦<Pkcs7ContentInfo<'a> as Described>⟧.element)))) (seen
-        ⟦<Pkcs7SignedDataPart2<'a> as FromFields<Pkcs7SignedDataPart2Fields<'a>>>⟧.fields
-        (three_fields (optional (alternative
+    ghost meaning = { sequence (six_fields (field (alternative
+        ⟦<CmsVersion<'a> as Described>⟧.element)) (field (alternative
+        ⟦<SetOf<'a, AlgorithmIdentifierRef<'a>> as Described>⟧.element)) (field (alternative
+        ⟦<Pkcs7ContentInfo<'a> as Described>⟧.element)) (optional (alternative
         ⟦<Implicit<CertificateSet<'a>, 0> as Described>⟧.element)) (optional (alternative
         ⟦<Implicit<RevocationInfoChoices<'a>, 1> as Described>⟧.element)) (field (alternative
-        ⟦<SetOf<'a, SignerInfo<'a>> as Described>⟧.element)))))
-        ⟦<Pkcs7SignedData<'a> as FromFields<(Pkcs7SignedDataPart1<'a>, Pkcs7SignedDataPart2<'a>)>>⟧.fields };
+        ⟦<SetOf<'a, SignerInfo<'a>> as Described>⟧.element)))
+        ⟦<Pkcs7SignedData<'a> as FromFields<Pkcs7SignedDataFields<'a>>>⟧.fields };
 
     ghost fits = { (refl, refl) };
 }
@@ -95,17 +90,14 @@ impl<'a, R: Lends<Borrowed = &'a [u8]>> DecodeValue<R> for Pkcs7SignedData<'a> {
     type Error = Error;
 
     ghost decode_value_answers = { λ h s result t.
-        ⟦<(Pkcs7SignedDataPart1<'a>, Pkcs7SignedDataPart2<'a>) as Decode<SliceReader<'a>>>⟧.decode_answers s
-        (map_ok
-        ⟦<Pkcs7SignedData<'a> as FromFields<(Pkcs7SignedDataPart1<'a>, Pkcs7SignedDataPart2<'a>)>>⟧.fields result) t };
+        ⟦<Pkcs7SignedDataFields<'a> as Decode<SliceReader<'a>>>⟧.decode_answers s (map_ok
+        ⟦<Pkcs7SignedData<'a> as FromFields<Pkcs7SignedDataFields<'a>>>⟧.fields result) t };
 
     fn decode_value(alloc: Global, reader: &mut R, header: Header) -> Result<Self, Error>
     where
         R: Reader,
     {
-        decode_sequence::<R, (Pkcs7SignedDataPart1<'a>, Pkcs7SignedDataPart2<'a>), Self>(
-            alloc, reader, header,
-        )
+        decode_sequence::<R, Pkcs7SignedDataFields<'a>, Self>(alloc, reader, header)
     }
 }
 
@@ -126,26 +118,22 @@ impl<'a> IsValue for Pkcs7SignedData<'a> {
 
 /// Writes the fields one after the other, with the errors of every [`Sequence`].
 impl<'a> EncodeValue for Pkcs7SignedData<'a> {
-    ghost value_size = { λ v. ⟦<Pkcs7SignedDataFields<'a> as Encode>⟧.size (
-      ⟦<Pkcs7SignedDataPart1<'a> as FromFields<Pkcs7SignedDataPart1Fields<'a>>>⟧.fields
-          (⟦<Pkcs7SignedData<'a> as FromFields<(Pkcs7SignedDataPart1<'a>, Pkcs7SignedDataPart2<'a>)>>⟧.fields v).0,
-      ⟦<Pkcs7SignedDataPart2<'a> as FromFields<Pkcs7SignedDataPart2Fields<'a>>>⟧.fields
-          (⟦<Pkcs7SignedData<'a> as FromFields<(Pkcs7SignedDataPart1<'a>, Pkcs7SignedDataPart2<'a>)>>⟧.fields v).1,
-    ) };
+    ghost value_size = { λ v. ⟦<Pkcs7SignedDataFields<'a> as Encode>⟧.size
+        (⟦<Pkcs7SignedData<'a> as FromFields<Pkcs7SignedDataFields<'a>>>⟧.fields v) };
 
-    ghost encode_value_answers = { λ v. ⟦<Pkcs7SignedDataFields<'a> as Encode>⟧.encode_answers (
-      ⟦<Pkcs7SignedDataPart1<'a> as FromFields<Pkcs7SignedDataPart1Fields<'a>>>⟧.fields
-          (⟦<Pkcs7SignedData<'a> as FromFields<(Pkcs7SignedDataPart1<'a>, Pkcs7SignedDataPart2<'a>)>>⟧.fields v).0,
-      ⟦<Pkcs7SignedDataPart2<'a> as FromFields<Pkcs7SignedDataPart2Fields<'a>>>⟧.fields
-          (⟦<Pkcs7SignedData<'a> as FromFields<(Pkcs7SignedDataPart1<'a>, Pkcs7SignedDataPart2<'a>)>>⟧.fields v).1,
-    ) };
+    ghost encode_value_answers = { λ v. ⟦<Pkcs7SignedDataFields<'a> as Encode>⟧.encode_answers
+        (⟦<Pkcs7SignedData<'a> as FromFields<Pkcs7SignedDataFields<'a>>>⟧.fields v) };
 
     fn value_len(&self) -> Result<Length, Error> {
         field_refs!(
             self,
             (
-                (version, digest_algorithms, content_info),
-                (certificates, crls, signer_infos)
+                version,
+                digest_algorithms,
+                content_info,
+                certificates,
+                crls,
+                signer_infos
             )
         )
         .encoded_len()
@@ -155,8 +143,12 @@ impl<'a> EncodeValue for Pkcs7SignedData<'a> {
         field_refs!(
             self,
             (
-                (version, digest_algorithms, content_info),
-                (certificates, crls, signer_infos)
+                version,
+                digest_algorithms,
+                content_info,
+                certificates,
+                crls,
+                signer_infos
             )
         )
         .encode(writer)
@@ -166,8 +158,12 @@ impl<'a> EncodeValue for Pkcs7SignedData<'a> {
         field_refs!(
             self,
             (
-                (version, digest_algorithms, content_info),
-                (certificates, crls, signer_infos)
+                version,
+                digest_algorithms,
+                content_info,
+                certificates,
+                crls,
+                signer_infos
             )
         )
         .len_before()
@@ -177,8 +173,12 @@ impl<'a> EncodeValue for Pkcs7SignedData<'a> {
         field_refs!(
             self,
             (
-                (version, digest_algorithms, content_info),
-                (certificates, crls, signer_infos)
+                version,
+                digest_algorithms,
+                content_info,
+                certificates,
+                crls,
+                signer_infos
             )
         )
         .encode_before(buf, end)

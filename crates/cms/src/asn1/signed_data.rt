@@ -5,15 +5,13 @@ ghost use Rattle.std.specs.Prelude.{◌≡◌};
 ghost use Rattle.std.proofs.Common.{arith, refl};
 ghost use Rattle.der.specs.Prelude.{map_ok};
 ghost use Rattle.der_asn1.specs.Item.{decodes_same};
-ghost use Rattle.der_asn1.specs.Meaning.{alternative, field, optional, seen, sequence, sequence_is_item, sequence_item, two_fields};
-ghost use Rattle.der_asn1.specs.TupleFields.{three_fields};
+ghost use Rattle.der_asn1.specs.Meaning.{alternative, field, optional, sequence, sequence_is_item, sequence_item};
+ghost use Rattle.der_asn1.specs.TupleFields.{six_fields};
 
 use crate::asn1::certificate_set::CertificateSet;
 use crate::asn1::cms_version::CmsVersion;
 use crate::asn1::encapsulated_content_info::EncapsulatedContentInfo;
 use crate::asn1::revocation_info_choices::RevocationInfoChoices;
-use crate::asn1::signed_data_part1::{SignedDataPart1, SignedDataPart1Fields};
-use crate::asn1::signed_data_part2::{SignedDataPart2, SignedDataPart2Fields};
 use crate::asn1::signer_info::SignerInfo;
 use der::{
     Decode, DecodeValue, Encode, EncodeValue, Error, FromFields, Header, IsValue, Lends, Length,
@@ -41,46 +39,48 @@ pub struct SignedData<'a> {
 }
 
 /// The fields of a [`SignedData`], in the order in which they are encoded.
-pub type SignedDataFields<'a> = (SignedDataPart1Fields<'a>, SignedDataPart2Fields<'a>);
+pub type SignedDataFields<'a> = (
+    CmsVersion<'a>,
+    SetOf<'a, AlgorithmIdentifierRef<'a>>,
+    EncapsulatedContentInfo<'a>,
+    Optional<Implicit<CertificateSet<'a>, 0>>,
+    Optional<Implicit<RevocationInfoChoices<'a>, 1>>,
+    SetOf<'a, SignerInfo<'a>>,
+);
 
-impl<'a> FromFields<(SignedDataPart1<'a>, SignedDataPart2<'a>)> for SignedData<'a> {
+impl<'a> FromFields<SignedDataFields<'a>> for SignedData<'a> {
     ghost fields = { λ v. (
-      record {
-        version = v.version;
-        digest_algorithms = v.digest_algorithms;
-        encap_content_info = v.encap_content_info;
-      },
-      record {
-        certificates = v.certificates;
-        crls = v.crls;
-        signer_infos = v.signer_infos;
-      },
+      v.version,
+      v.digest_algorithms,
+      v.encap_content_info,
+      v.certificates,
+      v.crls,
+      v.signer_infos,
     ) };
 
-    fn from_fields(fields: (SignedDataPart1<'a>, SignedDataPart2<'a>)) -> Self {
-        let (part1, part2) = fields;
+    fn from_fields(fields: SignedDataFields<'a>) -> Self {
+        let (version, digest_algorithms, encap_content_info, certificates, crls, signer_infos) =
+            fields;
         SignedData {
-            version: part1.version,
-            digest_algorithms: part1.digest_algorithms,
-            encap_content_info: part1.encap_content_info,
-            certificates: part2.certificates,
-            crls: part2.crls,
-            signer_infos: part2.signer_infos,
+            version,
+            digest_algorithms,
+            encap_content_info,
+            certificates,
+            crls,
+            signer_infos,
         }
     }
 }
 
 impl<'a> Sequence for SignedData<'a> {
-    ghost meaning = { sequence (two_fields (seen
-        ⟦<SignedDataPart1<'a> as FromFields<SignedDataPart1Fields<'a>>>⟧.fields (three_fields (field
-        (alternative ⟦<CmsVersion<'a> as Described>⟧.element)) (field (alternative
+    ghost meaning = { sequence (six_fields (field (alternative
+        ⟦<CmsVersion<'a> as Described>⟧.element)) (field (alternative
         ⟦<SetOf<'a, AlgorithmIdentifierRef<'a>> as Described>⟧.element)) (field (alternative
-        ⟦<EncapsulatedContentInfo<'a> as Described>⟧.element)))) (seen
-        ⟦<SignedDataPart2<'a> as FromFields<SignedDataPart2Fields<'a>>>⟧.fields (three_fields
-        (optional (alternative ⟦<Implicit<CertificateSet<'a>, 0> as Described>⟧.element)) (optional
-        (alternative ⟦<Implicit<RevocationInfoChoices<'a>, 1> as Described>⟧.element)) (field
-        (alternative ⟦<SetOf<'a, SignerInfo<'a>> as Described>⟧.element)))))
-        ⟦<SignedData<'a> as FromFields<(SignedDataPart1<'a>, SignedDataPart2<'a>)>>⟧.fields };
+        ⟦<EncapsulatedContentInfo<'a> as Described>⟧.element)) (optional (alternative
+        ⟦<Implicit<CertificateSet<'a>, 0> as Described>⟧.element)) (optional (alternative
+        ⟦<Implicit<RevocationInfoChoices<'a>, 1> as Described>⟧.element)) (field (alternative
+        ⟦<SetOf<'a, SignerInfo<'a>> as Described>⟧.element)))
+        ⟦<SignedData<'a> as FromFields<SignedDataFields<'a>>>⟧.fields };
 
     ghost fits = { (refl, refl) };
 }
@@ -90,16 +90,14 @@ impl<'a, R: Lends<Borrowed = &'a [u8]>> DecodeValue<R> for SignedData<'a> {
     type Error = Error;
 
     ghost decode_value_answers = { λ h s result t.
-        ⟦<(SignedDataPart1<'a>, SignedDataPart2<'a>) as Decode<SliceReader<'a>>>⟧.decode_answers s (map_ok
-        ⟦<SignedData<'a> as FromFields<(SignedDataPart1<'a>, SignedDataPart2<'a>)>>⟧.fields result) t };
+        ⟦<SignedDataFields<'a> as Decode<SliceReader<'a>>>⟧.decode_answers s (map_ok
+        ⟦<SignedData<'a> as FromFields<SignedDataFields<'a>>>⟧.fields result) t };
 
     fn decode_value(alloc: Global, reader: &mut R, header: Header) -> Result<Self, Error>
     where
         R: Reader,
     {
-        decode_sequence::<R, (SignedDataPart1<'a>, SignedDataPart2<'a>), Self>(
-            alloc, reader, header,
-        )
+        decode_sequence::<R, SignedDataFields<'a>, Self>(alloc, reader, header)
     }
 }
 
@@ -120,26 +118,22 @@ impl<'a> IsValue for SignedData<'a> {
 
 /// Writes the fields one after the other, with the errors of every [`Sequence`].
 impl<'a> EncodeValue for SignedData<'a> {
-    ghost value_size = { λ v. ⟦<SignedDataFields<'a> as Encode>⟧.size (
-      ⟦<SignedDataPart1<'a> as FromFields<SignedDataPart1Fields<'a>>>⟧.fields
-          (⟦<SignedData<'a> as FromFields<(SignedDataPart1<'a>, SignedDataPart2<'a>)>>⟧.fields v).0,
-      ⟦<SignedDataPart2<'a> as FromFields<SignedDataPart2Fields<'a>>>⟧.fields
-          (⟦<SignedData<'a> as FromFields<(SignedDataPart1<'a>, SignedDataPart2<'a>)>>⟧.fields v).1,
-    ) };
+    ghost value_size = { λ v. ⟦<SignedDataFields<'a> as Encode>⟧.size
+        (⟦<SignedData<'a> as FromFields<SignedDataFields<'a>>>⟧.fields v) };
 
-    ghost encode_value_answers = { λ v. ⟦<SignedDataFields<'a> as Encode>⟧.encode_answers (
-      ⟦<SignedDataPart1<'a> as FromFields<SignedDataPart1Fields<'a>>>⟧.fields
-          (⟦<SignedData<'a> as FromFields<(SignedDataPart1<'a>, SignedDataPart2<'a>)>>⟧.fields v).0,
-      ⟦<SignedDataPart2<'a> as FromFields<SignedDataPart2Fields<'a>>>⟧.fields
-          (⟦<SignedData<'a> as FromFields<(SignedDataPart1<'a>, SignedDataPart2<'a>)>>⟧.fields v).1,
-    ) };
+    ghost encode_value_answers = { λ v. ⟦<SignedDataFields<'a> as Encode>⟧.encode_answers
+        (⟦<SignedData<'a> as FromFields<SignedDataFields<'a>>>⟧.fields v) };
 
     fn value_len(&self) -> Result<Length, Error> {
         field_refs!(
             self,
             (
-                (version, digest_algorithms, encap_content_info),
-                (certificates, crls, signer_infos)
+                version,
+                digest_algorithms,
+                encap_content_info,
+                certificates,
+                crls,
+                signer_infos
             )
         )
         .encoded_len()
@@ -149,8 +143,12 @@ impl<'a> EncodeValue for SignedData<'a> {
         field_refs!(
             self,
             (
-                (version, digest_algorithms, encap_content_info),
-                (certificates, crls, signer_infos)
+                version,
+                digest_algorithms,
+                encap_content_info,
+                certificates,
+                crls,
+                signer_infos
             )
         )
         .encode(writer)
@@ -160,8 +158,12 @@ impl<'a> EncodeValue for SignedData<'a> {
         field_refs!(
             self,
             (
-                (version, digest_algorithms, encap_content_info),
-                (certificates, crls, signer_infos)
+                version,
+                digest_algorithms,
+                encap_content_info,
+                certificates,
+                crls,
+                signer_infos
             )
         )
         .len_before()
@@ -171,8 +173,12 @@ impl<'a> EncodeValue for SignedData<'a> {
         field_refs!(
             self,
             (
-                (version, digest_algorithms, encap_content_info),
-                (certificates, crls, signer_infos)
+                version,
+                digest_algorithms,
+                encap_content_info,
+                certificates,
+                crls,
+                signer_infos
             )
         )
         .encode_before(buf, end)

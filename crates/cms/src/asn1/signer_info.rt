@@ -5,13 +5,11 @@ ghost use Rattle.std.specs.Prelude.{◌≡◌};
 ghost use Rattle.std.proofs.Common.{arith, refl};
 ghost use Rattle.der.specs.Prelude.{map_ok};
 ghost use Rattle.der_asn1.specs.Item.{decodes_same};
-ghost use Rattle.der_asn1.specs.Meaning.{alternative, field, optional, seen, sequence, sequence_is_item, sequence_item, two_fields};
-ghost use Rattle.der_asn1.specs.TupleFields.{four_fields, three_fields};
+ghost use Rattle.der_asn1.specs.Meaning.{alternative, field, optional, sequence, sequence_is_item, sequence_item};
+ghost use Rattle.der_asn1.specs.TupleFields.{seven_fields};
 
 use crate::asn1::cms_version::CmsVersion;
 use crate::asn1::signer_identifier::SignerIdentifier;
-use crate::asn1::signer_info_part1::{SignerInfoPart1, SignerInfoPart1Fields};
-use crate::asn1::signer_info_part2::{SignerInfoPart2, SignerInfoPart2Fields};
 use der::{
     Decode, DecodeValue, Encode, EncodeValue, Error, FromFields, Header, IsValue, Lends, Length,
     Reader, Sequence, SliceReader, Writer, decode_sequence, field_refs,
@@ -46,49 +44,59 @@ pub struct SignerInfo<'a> {
 }
 
 /// The fields of a [`SignerInfo`], in the order in which they are encoded.
-pub type SignerInfoFields<'a> = (SignerInfoPart1Fields<'a>, SignerInfoPart2Fields<'a>);
+pub type SignerInfoFields<'a> = (
+    CmsVersion<'a>,
+    SignerIdentifier<'a>,
+    AlgorithmIdentifierRef<'a>,
+    Optional<Implicit<Attributes<'a>, 0>>,
+    AlgorithmIdentifierRef<'a>,
+    OctetStringRef<'a>,
+    Optional<Implicit<Attributes<'a>, 1>>,
+);
 
-impl<'a> FromFields<(SignerInfoPart1<'a>, SignerInfoPart2<'a>)> for SignerInfo<'a> {
+impl<'a> FromFields<SignerInfoFields<'a>> for SignerInfo<'a> {
     ghost fields = { λ v. (
-      record {
-        version = v.version;
-        sid = v.sid;
-        digest_algorithm = v.digest_algorithm;
-        signed_attrs = v.signed_attrs;
-      },
-      record {
-        signature_algorithm = v.signature_algorithm;
-        signature = v.signature;
-        unsigned_attrs = v.unsigned_attrs;
-      },
+      v.version,
+      v.sid,
+      v.digest_algorithm,
+      v.signed_attrs,
+      v.signature_algorithm,
+      v.signature,
+      v.unsigned_attrs,
     ) };
 
-    fn from_fields(fields: (SignerInfoPart1<'a>, SignerInfoPart2<'a>)) -> Self {
-        let (part1, part2) = fields;
+    fn from_fields(fields: SignerInfoFields<'a>) -> Self {
+        let (
+            version,
+            sid,
+            digest_algorithm,
+            signed_attrs,
+            signature_algorithm,
+            signature,
+            unsigned_attrs,
+        ) = fields;
         SignerInfo {
-            version: part1.version,
-            sid: part1.sid,
-            digest_algorithm: part1.digest_algorithm,
-            signed_attrs: part1.signed_attrs,
-            signature_algorithm: part2.signature_algorithm,
-            signature: part2.signature,
-            unsigned_attrs: part2.unsigned_attrs,
+            version,
+            sid,
+            digest_algorithm,
+            signed_attrs,
+            signature_algorithm,
+            signature,
+            unsigned_attrs,
         }
     }
 }
 
 impl<'a> Sequence for SignerInfo<'a> {
-    ghost meaning = { sequence (two_fields (seen
-        ⟦<SignerInfoPart1<'a> as FromFields<SignerInfoPart1Fields<'a>>>⟧.fields (four_fields (field
-        (alternative ⟦<CmsVersion<'a> as Described>⟧.element)) (field
+    ghost meaning = { sequence (seven_fields (field (alternative
+        ⟦<CmsVersion<'a> as Described>⟧.element)) (field
         ⟦<SignerIdentifier<'a> as DescribedChoice>⟧.alternative) (field (alternative
         ⟦<AlgorithmIdentifierRef<'a> as Described>⟧.element)) (optional (alternative
-        ⟦<Implicit<Attributes<'a>, 0> as Described>⟧.element)))) (seen
-        ⟦<SignerInfoPart2<'a> as FromFields<SignerInfoPart2Fields<'a>>>⟧.fields (three_fields (field
-        (alternative ⟦<AlgorithmIdentifierRef<'a> as Described>⟧.element)) (field (alternative
+        ⟦<Implicit<Attributes<'a>, 0> as Described>⟧.element)) (field (alternative
+        ⟦<AlgorithmIdentifierRef<'a> as Described>⟧.element)) (field (alternative
         ⟦<OctetStringRef<'a> as Described>⟧.element)) (optional (alternative
-        ⟦<Implicit<Attributes<'a>, 1> as Described>⟧.element)))))
-        ⟦<SignerInfo<'a> as FromFields<(SignerInfoPart1<'a>, SignerInfoPart2<'a>)>>⟧.fields };
+        ⟦<Implicit<Attributes<'a>, 1> as Described>⟧.element)))
+        ⟦<SignerInfo<'a> as FromFields<SignerInfoFields<'a>>>⟧.fields };
 
     ghost fits = { (refl, refl) };
 }
@@ -98,16 +106,14 @@ impl<'a, R: Lends<Borrowed = &'a [u8]>> DecodeValue<R> for SignerInfo<'a> {
     type Error = Error;
 
     ghost decode_value_answers = { λ h s result t.
-        ⟦<(SignerInfoPart1<'a>, SignerInfoPart2<'a>) as Decode<SliceReader<'a>>>⟧.decode_answers s (map_ok
-        ⟦<SignerInfo<'a> as FromFields<(SignerInfoPart1<'a>, SignerInfoPart2<'a>)>>⟧.fields result) t };
+        ⟦<SignerInfoFields<'a> as Decode<SliceReader<'a>>>⟧.decode_answers s (map_ok
+        ⟦<SignerInfo<'a> as FromFields<SignerInfoFields<'a>>>⟧.fields result) t };
 
     fn decode_value(alloc: Global, reader: &mut R, header: Header) -> Result<Self, Error>
     where
         R: Reader,
     {
-        decode_sequence::<R, (SignerInfoPart1<'a>, SignerInfoPart2<'a>), Self>(
-            alloc, reader, header,
-        )
+        decode_sequence::<R, SignerInfoFields<'a>, Self>(alloc, reader, header)
     }
 }
 
@@ -132,26 +138,23 @@ impl<'a> IsValue for SignerInfo<'a> {
 
 /// Writes the fields one after the other, with the errors of every [`Sequence`].
 impl<'a> EncodeValue for SignerInfo<'a> {
-    ghost value_size = { λ v. ⟦<SignerInfoFields<'a> as Encode>⟧.size (
-      ⟦<SignerInfoPart1<'a> as FromFields<SignerInfoPart1Fields<'a>>>⟧.fields
-          (⟦<SignerInfo<'a> as FromFields<(SignerInfoPart1<'a>, SignerInfoPart2<'a>)>>⟧.fields v).0,
-      ⟦<SignerInfoPart2<'a> as FromFields<SignerInfoPart2Fields<'a>>>⟧.fields
-          (⟦<SignerInfo<'a> as FromFields<(SignerInfoPart1<'a>, SignerInfoPart2<'a>)>>⟧.fields v).1,
-    ) };
+    ghost value_size = { λ v. ⟦<SignerInfoFields<'a> as Encode>⟧.size
+        (⟦<SignerInfo<'a> as FromFields<SignerInfoFields<'a>>>⟧.fields v) };
 
-    ghost encode_value_answers = { λ v. ⟦<SignerInfoFields<'a> as Encode>⟧.encode_answers (
-      ⟦<SignerInfoPart1<'a> as FromFields<SignerInfoPart1Fields<'a>>>⟧.fields
-          (⟦<SignerInfo<'a> as FromFields<(SignerInfoPart1<'a>, SignerInfoPart2<'a>)>>⟧.fields v).0,
-      ⟦<SignerInfoPart2<'a> as FromFields<SignerInfoPart2Fields<'a>>>⟧.fields
-          (⟦<SignerInfo<'a> as FromFields<(SignerInfoPart1<'a>, SignerInfoPart2<'a>)>>⟧.fields v).1,
-    ) };
+    ghost encode_value_answers = { λ v. ⟦<SignerInfoFields<'a> as Encode>⟧.encode_answers
+        (⟦<SignerInfo<'a> as FromFields<SignerInfoFields<'a>>>⟧.fields v) };
 
     fn value_len(&self) -> Result<Length, Error> {
         field_refs!(
             self,
             (
-                (version, sid, digest_algorithm, signed_attrs),
-                (signature_algorithm, signature, unsigned_attrs)
+                version,
+                sid,
+                digest_algorithm,
+                signed_attrs,
+                signature_algorithm,
+                signature,
+                unsigned_attrs
             )
         )
         .encoded_len()
@@ -161,8 +164,13 @@ impl<'a> EncodeValue for SignerInfo<'a> {
         field_refs!(
             self,
             (
-                (version, sid, digest_algorithm, signed_attrs),
-                (signature_algorithm, signature, unsigned_attrs)
+                version,
+                sid,
+                digest_algorithm,
+                signed_attrs,
+                signature_algorithm,
+                signature,
+                unsigned_attrs
             )
         )
         .encode(writer)
@@ -172,8 +180,13 @@ impl<'a> EncodeValue for SignerInfo<'a> {
         field_refs!(
             self,
             (
-                (version, sid, digest_algorithm, signed_attrs),
-                (signature_algorithm, signature, unsigned_attrs)
+                version,
+                sid,
+                digest_algorithm,
+                signed_attrs,
+                signature_algorithm,
+                signature,
+                unsigned_attrs
             )
         )
         .len_before()
@@ -183,8 +196,13 @@ impl<'a> EncodeValue for SignerInfo<'a> {
         field_refs!(
             self,
             (
-                (version, sid, digest_algorithm, signed_attrs),
-                (signature_algorithm, signature, unsigned_attrs)
+                version,
+                sid,
+                digest_algorithm,
+                signed_attrs,
+                signature_algorithm,
+                signature,
+                unsigned_attrs
             )
         )
         .encode_before(buf, end)

@@ -5,13 +5,10 @@ ghost use Rattle.std.specs.Prelude.{◌≡◌};
 ghost use Rattle.std.proofs.Common.{arith, refl};
 ghost use Rattle.der.specs.Prelude.{map_ok};
 ghost use Rattle.der_asn1.specs.Item.{decodes_same};
-ghost use Rattle.der_asn1.specs.Meaning.{alternative, defaulted, field, optional, seen, sequence, sequence_is_item, sequence_item, two_fields};
-ghost use Rattle.der_asn1.specs.TupleFields.{three_fields};
+ghost use Rattle.der_asn1.specs.Meaning.{alternative, defaulted, field, optional, sequence, sequence_is_item, sequence_item};
+ghost use Rattle.der_asn1.specs.TupleFields.{six_fields};
 
 use crate::asn1::message_imprint::MessageImprint;
-use crate::asn1::time_stamp_req_part1::{TimeStampReqPart1, TimeStampReqPart1Fields};
-use crate::asn1::time_stamp_req_part2::{TimeStampReqPart2, TimeStampReqPart2Fields};
-use crate::asn1::time_stamp_req_part3::{TimeStampReqPart3, TimeStampReqPart3Fields};
 use crate::asn1::tsa_policy_id::TsaPolicyId;
 use der::{
     Decode, DecodeValue, Encode, EncodeValue, Error, FromFields, Header, IsValue, Lends, Length,
@@ -43,59 +40,46 @@ pub struct TimeStampReq<'a> {
 
 /// The fields of a [`TimeStampReq`], in the order in which they are encoded.
 pub type TimeStampReqFields<'a> = (
-    TimeStampReqPart1Fields<'a>,
-    TimeStampReqPart2Fields<'a>,
-    TimeStampReqPart3Fields<'a>,
+    IntRef<'a>,
+    MessageImprint<'a>,
+    Optional<TsaPolicyId<'a>>,
+    Optional<IntRef<'a>>,
+    Defaulted<BooleanRef<'a>>,
+    Optional<Implicit<Extensions<'a>, 0>>,
 );
 
-impl<'a> FromFields<
-    (
-        TimeStampReqPart1<'a>,
-        TimeStampReqPart2<'a>,
-        TimeStampReqPart3<'a>,
-    ),
-> for TimeStampReq<'a> {
+impl<'a> FromFields<TimeStampReqFields<'a>> for TimeStampReq<'a> {
     ghost fields = { λ v. (
-      record { version = v.version; message_imprint = v.message_imprint },
-      record { req_policy = v.req_policy; nonce = v.nonce },
-      record {
-        cert_req = v.cert_req;
-        extensions = v.extensions;
-      },
+      v.version,
+      v.message_imprint,
+      v.req_policy,
+      v.nonce,
+      v.cert_req,
+      v.extensions,
     ) };
 
-    fn from_fields(
-        fields: (
-            TimeStampReqPart1<'a>,
-            TimeStampReqPart2<'a>,
-            TimeStampReqPart3<'a>,
-        ),
-    ) -> Self {
-        let (part1, part2, part3) = fields;
+    fn from_fields(fields: TimeStampReqFields<'a>) -> Self {
+        let (version, message_imprint, req_policy, nonce, cert_req, extensions) = fields;
         TimeStampReq {
-            version: part1.version,
-            message_imprint: part1.message_imprint,
-            req_policy: part2.req_policy,
-            nonce: part2.nonce,
-            cert_req: part3.cert_req,
-            extensions: part3.extensions,
+            version,
+            message_imprint,
+            req_policy,
+            nonce,
+            cert_req,
+            extensions,
         }
     }
 }
 
 impl<'a> Sequence for TimeStampReq<'a> {
-    ghost meaning = { sequence (three_fields (seen
-        ⟦<TimeStampReqPart1<'a> as FromFields<TimeStampReqPart1Fields<'a>>>⟧.fields (two_fields
-        (field (alternative ⟦<IntRef<'a> as Described>⟧.element)) (field (alternative
-        ⟦<MessageImprint<'a> as Described>⟧.element)))) (seen
-        ⟦<TimeStampReqPart2<'a> as FromFields<TimeStampReqPart2Fields<'a>>>⟧.fields (two_fields
-        (optional (alternative ⟦<TsaPolicyId<'a> as Described>⟧.element)) (optional (alternative
-        ⟦<IntRef<'a> as Described>⟧.element)))) (seen
-        ⟦<TimeStampReqPart3<'a> as FromFields<TimeStampReqPart3Fields<'a>>>⟧.fields (two_fields
-        (defaulted ⟦<BooleanRef<'a> as DefaultValue>⟧.is_default (alternative
+    ghost meaning = { sequence (six_fields (field (alternative ⟦<IntRef<'a> as Described>⟧.element))
+        (field (alternative ⟦<MessageImprint<'a> as Described>⟧.element)) (optional (alternative
+        ⟦<TsaPolicyId<'a> as Described>⟧.element)) (optional (alternative
+        ⟦<IntRef<'a> as Described>⟧.element)) (defaulted
+        ⟦<BooleanRef<'a> as DefaultValue>⟧.is_default (alternative
         ⟦<BooleanRef<'a> as Described>⟧.element)) (optional (alternative
-        ⟦<Implicit<Extensions<'a>, 0> as Described>⟧.element)))))
-        ⟦<TimeStampReq<'a> as FromFields<(TimeStampReqPart1<'a>, TimeStampReqPart2<'a>, TimeStampReqPart3<'a>)>>⟧.fields };
+        ⟦<Implicit<Extensions<'a>, 0> as Described>⟧.element)))
+        ⟦<TimeStampReq<'a> as FromFields<TimeStampReqFields<'a>>>⟧.fields };
 
     ghost fits = { (refl, refl) };
 }
@@ -105,23 +89,14 @@ impl<'a, R: Lends<Borrowed = &'a [u8]>> DecodeValue<R> for TimeStampReq<'a> {
     type Error = Error;
 
     ghost decode_value_answers = { λ h s result t.
-        ⟦<(TimeStampReqPart1<'a>, TimeStampReqPart2<'a>, TimeStampReqPart3<'a>) as Decode<SliceReader<'a>>>⟧.decode_answers s
-        (map_ok
-        ⟦<TimeStampReq<'a> as FromFields<(TimeStampReqPart1<'a>, TimeStampReqPart2<'a>, TimeStampReqPart3<'a>)>>⟧.fields result) t };
+        ⟦<TimeStampReqFields<'a> as Decode<SliceReader<'a>>>⟧.decode_answers s (map_ok
+        ⟦<TimeStampReq<'a> as FromFields<TimeStampReqFields<'a>>>⟧.fields result) t };
 
     fn decode_value(alloc: Global, reader: &mut R, header: Header) -> Result<Self, Error>
     where
         R: Reader,
     {
-        decode_sequence::<
-            R,
-            (
-                TimeStampReqPart1<'a>,
-                TimeStampReqPart2<'a>,
-                TimeStampReqPart3<'a>,
-            ),
-            Self,
-        >(alloc, reader, header)
+        decode_sequence::<R, TimeStampReqFields<'a>, Self>(alloc, reader, header)
     }
 }
 
@@ -144,31 +119,22 @@ impl<'a> IsValue for TimeStampReq<'a> {
 
 /// Writes the fields one after the other, with the errors of every [`Sequence`].
 impl<'a> EncodeValue for TimeStampReq<'a> {
-    ghost value_size = { λ v. ⟦<TimeStampReqFields<'a> as Encode>⟧.size (
-      ⟦<TimeStampReqPart1<'a> as FromFields<TimeStampReqPart1Fields<'a>>>⟧.fields
-          (⟦<TimeStampReq<'a> as FromFields<(TimeStampReqPart1<'a>, TimeStampReqPart2<'a>, TimeStampReqPart3<'a>)>>⟧.fields v).0,
-      ⟦<TimeStampReqPart2<'a> as FromFields<TimeStampReqPart2Fields<'a>>>⟧.fields
-          (⟦<TimeStampReq<'a> as FromFields<(TimeStampReqPart1<'a>, TimeStampReqPart2<'a>, TimeStampReqPart3<'a>)>>⟧.fields v).1,
-      ⟦<TimeStampReqPart3<'a> as FromFields<TimeStampReqPart3Fields<'a>>>⟧.fields
-          (⟦<TimeStampReq<'a> as FromFields<(TimeStampReqPart1<'a>, TimeStampReqPart2<'a>, TimeStampReqPart3<'a>)>>⟧.fields v).2,
-    ) };
+    ghost value_size = { λ v. ⟦<TimeStampReqFields<'a> as Encode>⟧.size
+        (⟦<TimeStampReq<'a> as FromFields<TimeStampReqFields<'a>>>⟧.fields v) };
 
-    ghost encode_value_answers = { λ v. ⟦<TimeStampReqFields<'a> as Encode>⟧.encode_answers (
-      ⟦<TimeStampReqPart1<'a> as FromFields<TimeStampReqPart1Fields<'a>>>⟧.fields
-          (⟦<TimeStampReq<'a> as FromFields<(TimeStampReqPart1<'a>, TimeStampReqPart2<'a>, TimeStampReqPart3<'a>)>>⟧.fields v).0,
-      ⟦<TimeStampReqPart2<'a> as FromFields<TimeStampReqPart2Fields<'a>>>⟧.fields
-          (⟦<TimeStampReq<'a> as FromFields<(TimeStampReqPart1<'a>, TimeStampReqPart2<'a>, TimeStampReqPart3<'a>)>>⟧.fields v).1,
-      ⟦<TimeStampReqPart3<'a> as FromFields<TimeStampReqPart3Fields<'a>>>⟧.fields
-          (⟦<TimeStampReq<'a> as FromFields<(TimeStampReqPart1<'a>, TimeStampReqPart2<'a>, TimeStampReqPart3<'a>)>>⟧.fields v).2,
-    ) };
+    ghost encode_value_answers = { λ v. ⟦<TimeStampReqFields<'a> as Encode>⟧.encode_answers
+        (⟦<TimeStampReq<'a> as FromFields<TimeStampReqFields<'a>>>⟧.fields v) };
 
     fn value_len(&self) -> Result<Length, Error> {
         field_refs!(
             self,
             (
-                (version, message_imprint),
-                (req_policy, nonce),
-                (cert_req, extensions)
+                version,
+                message_imprint,
+                req_policy,
+                nonce,
+                cert_req,
+                extensions
             )
         )
         .encoded_len()
@@ -178,9 +144,12 @@ impl<'a> EncodeValue for TimeStampReq<'a> {
         field_refs!(
             self,
             (
-                (version, message_imprint),
-                (req_policy, nonce),
-                (cert_req, extensions)
+                version,
+                message_imprint,
+                req_policy,
+                nonce,
+                cert_req,
+                extensions
             )
         )
         .encode(writer)
@@ -190,9 +159,12 @@ impl<'a> EncodeValue for TimeStampReq<'a> {
         field_refs!(
             self,
             (
-                (version, message_imprint),
-                (req_policy, nonce),
-                (cert_req, extensions)
+                version,
+                message_imprint,
+                req_policy,
+                nonce,
+                cert_req,
+                extensions
             )
         )
         .len_before()
@@ -202,9 +174,12 @@ impl<'a> EncodeValue for TimeStampReq<'a> {
         field_refs!(
             self,
             (
-                (version, message_imprint),
-                (req_policy, nonce),
-                (cert_req, extensions)
+                version,
+                message_imprint,
+                req_policy,
+                nonce,
+                cert_req,
+                extensions
             )
         )
         .encode_before(buf, end)

@@ -5,18 +5,13 @@ ghost use Rattle.std.specs.Prelude.{◌≡◌};
 ghost use Rattle.std.proofs.Common.{arith, refl};
 ghost use Rattle.der.specs.Prelude.{map_ok};
 ghost use Rattle.der_asn1.specs.Item.{decodes_same};
-ghost use Rattle.der_asn1.specs.Meaning.{alternative, defaulted, field, optional, seen, sequence, sequence_is_item, sequence_item, two_fields};
-ghost use Rattle.der_asn1.specs.TupleFields.{five_fields};
+ghost use Rattle.der_asn1.specs.Meaning.{alternative, defaulted, field, optional, sequence, sequence_is_item, sequence_item};
+ghost use Rattle.der_asn1.specs.TupleFields.{ten_fields};
 
 use crate::asn1::accuracy::Accuracy;
 use crate::asn1::general_name_tagged::GeneralNameTagged;
 use crate::asn1::message_imprint::MessageImprint;
 use crate::asn1::tsa_policy_id::TsaPolicyId;
-use crate::asn1::tst_info_part1::{TstInfoPart1, TstInfoPart1Fields};
-use crate::asn1::tst_info_part2::{TstInfoPart2, TstInfoPart2Fields};
-use crate::asn1::tst_info_part3::{TstInfoPart3, TstInfoPart3Fields};
-use crate::asn1::tst_info_part4::{TstInfoPart4, TstInfoPart4Fields};
-use crate::asn1::tst_info_part5::{TstInfoPart5, TstInfoPart5Fields};
 use der::{
     Decode, DecodeValue, Encode, EncodeValue, Error, FromFields, Header, IsValue, Lends, Length,
     Reader, Sequence, SliceReader, Writer, decode_sequence, field_refs,
@@ -56,77 +51,73 @@ pub struct TstInfo<'a> {
 
 /// The fields of a [`TstInfo`], in the order in which they are encoded.
 pub type TstInfoFields<'a> = (
-    TstInfoPart1Fields<'a>,
-    TstInfoPart2Fields<'a>,
-    TstInfoPart3Fields<'a>,
-    TstInfoPart4Fields<'a>,
-    TstInfoPart5Fields<'a>,
+    IntRef<'a>,
+    TsaPolicyId<'a>,
+    MessageImprint<'a>,
+    IntRef<'a>,
+    GeneralizedTime,
+    Optional<Accuracy<'a>>,
+    Defaulted<BooleanRef<'a>>,
+    Optional<IntRef<'a>>,
+    Optional<Implicit<GeneralNameTagged<'a>, 0>>,
+    Optional<Implicit<Extensions<'a>, 1>>,
 );
 
-impl<'a> FromFields<
-    (
-        TstInfoPart1<'a>,
-        TstInfoPart2<'a>,
-        TstInfoPart3<'a>,
-        TstInfoPart4<'a>,
-        TstInfoPart5<'a>,
-    ),
-> for TstInfo<'a> {
+impl<'a> FromFields<TstInfoFields<'a>> for TstInfo<'a> {
     ghost fields = { λ v. (
-      record { version = v.version; policy = v.policy },
-      record { message_imprint = v.message_imprint; serial_number = v.serial_number },
-      record { gen_time = v.gen_time; accuracy = v.accuracy },
-      record {
-        ordering = v.ordering;
-        nonce = v.nonce;
-      },
-      record { tsa = v.tsa; extensions = v.extensions },
+      v.version,
+      v.policy,
+      v.message_imprint,
+      v.serial_number,
+      v.gen_time,
+      v.accuracy,
+      v.ordering,
+      v.nonce,
+      v.tsa,
+      v.extensions,
     ) };
 
-    fn from_fields(
-        fields: (
-            TstInfoPart1<'a>,
-            TstInfoPart2<'a>,
-            TstInfoPart3<'a>,
-            TstInfoPart4<'a>,
-            TstInfoPart5<'a>,
-        ),
-    ) -> Self {
-        let (part1, part2, part3, part4, part5) = fields;
+    fn from_fields(fields: TstInfoFields<'a>) -> Self {
+        let (
+            version,
+            policy,
+            message_imprint,
+            serial_number,
+            gen_time,
+            accuracy,
+            ordering,
+            nonce,
+            tsa,
+            extensions,
+        ) = fields;
         TstInfo {
-            version: part1.version,
-            policy: part1.policy,
-            message_imprint: part2.message_imprint,
-            serial_number: part2.serial_number,
-            gen_time: part3.gen_time,
-            accuracy: part3.accuracy,
-            ordering: part4.ordering,
-            nonce: part4.nonce,
-            tsa: part5.tsa,
-            extensions: part5.extensions,
+            version,
+            policy,
+            message_imprint,
+            serial_number,
+            gen_time,
+            accuracy,
+            ordering,
+            nonce,
+            tsa,
+            extensions,
         }
     }
 }
 
 impl<'a> Sequence for TstInfo<'a> {
-    ghost meaning = { sequence (five_fields (seen
-        ⟦<TstInfoPart1<'a> as FromFields<TstInfoPart1Fields<'a>>>⟧.fields (two_fields (field
-        (alternative ⟦<IntRef<'a> as Described>⟧.element)) (field (alternative
-        ⟦<TsaPolicyId<'a> as Described>⟧.element)))) (seen
-        ⟦<TstInfoPart2<'a> as FromFields<TstInfoPart2Fields<'a>>>⟧.fields (two_fields (field
-        (alternative ⟦<MessageImprint<'a> as Described>⟧.element)) (field (alternative
-        ⟦<IntRef<'a> as Described>⟧.element)))) (seen
-        ⟦<TstInfoPart3<'a> as FromFields<TstInfoPart3Fields<'a>>>⟧.fields (two_fields (field
-        (alternative ⟦<GeneralizedTime as Described>⟧.element)) (optional (alternative
-        ⟦<Accuracy<'a> as Described>⟧.element)))) (seen
-        ⟦<TstInfoPart4<'a> as FromFields<TstInfoPart4Fields<'a>>>⟧.fields (two_fields (defaulted
+    ghost meaning = { sequence (ten_fields (field (alternative ⟦<IntRef<'a> as Described>⟧.element))
+        (field (alternative ⟦<TsaPolicyId<'a> as Described>⟧.element)) (field (alternative
+        ⟦<MessageImprint<'a> as Described>⟧.element)) (field (alternative
+        ⟦<IntRef<'a> as Described>⟧.element)) (field (alternative
+        ⟦<GeneralizedTime as Described>⟧.element)) (optional (alternative
+        ⟦<Accuracy<'a> as Described>⟧.element)) (defaulted
         ⟦<BooleanRef<'a> as DefaultValue>⟧.is_default (alternative
         ⟦<BooleanRef<'a> as Described>⟧.element)) (optional (alternative
-        ⟦<IntRef<'a> as Described>⟧.element)))) (seen
-        ⟦<TstInfoPart5<'a> as FromFields<TstInfoPart5Fields<'a>>>⟧.fields (two_fields (optional
-        (alternative ⟦<Implicit<GeneralNameTagged<'a>, 0> as Described>⟧.element)) (optional
-        (alternative ⟦<Implicit<Extensions<'a>, 1> as Described>⟧.element)))))
-        ⟦<TstInfo<'a> as FromFields<(TstInfoPart1<'a>, TstInfoPart2<'a>, TstInfoPart3<'a>, TstInfoPart4<'a>, TstInfoPart5<'a>)>>⟧.fields };
+        ⟦<IntRef<'a> as Described>⟧.element)) (optional (alternative
+        ⟦<Implicit<GeneralNameTagged<'a>, 0> as Described>⟧.element)) (optional (alternative
+        ⟦<Implicit<Extensions<'a>, 1> as Described>⟧.element)))
+        ⟦<TstInfo<'a> as FromFields<TstInfoFields<'a>>>⟧.fields };
 
     ghost fits = { (refl, refl) };
 }
@@ -136,25 +127,14 @@ impl<'a, R: Lends<Borrowed = &'a [u8]>> DecodeValue<R> for TstInfo<'a> {
     type Error = Error;
 
     ghost decode_value_answers = { λ h s result t.
-        ⟦<(TstInfoPart1<'a>, TstInfoPart2<'a>, TstInfoPart3<'a>, TstInfoPart4<'a>, TstInfoPart5<'a>) as Decode<SliceReader<'a>>>⟧.decode_answers s
-        (map_ok
-        ⟦<TstInfo<'a> as FromFields<(TstInfoPart1<'a>, TstInfoPart2<'a>, TstInfoPart3<'a>, TstInfoPart4<'a>, TstInfoPart5<'a>)>>⟧.fields result) t };
+        ⟦<TstInfoFields<'a> as Decode<SliceReader<'a>>>⟧.decode_answers s (map_ok
+        ⟦<TstInfo<'a> as FromFields<TstInfoFields<'a>>>⟧.fields result) t };
 
     fn decode_value(alloc: Global, reader: &mut R, header: Header) -> Result<Self, Error>
     where
         R: Reader,
     {
-        decode_sequence::<
-            R,
-            (
-                TstInfoPart1<'a>,
-                TstInfoPart2<'a>,
-                TstInfoPart3<'a>,
-                TstInfoPart4<'a>,
-                TstInfoPart5<'a>,
-            ),
-            Self,
-        >(alloc, reader, header)
+        decode_sequence::<R, TstInfoFields<'a>, Self>(alloc, reader, header)
     }
 }
 
@@ -183,41 +163,26 @@ impl<'a> IsValue for TstInfo<'a> {
 
 /// Writes the fields one after the other, with the errors of every [`Sequence`].
 impl<'a> EncodeValue for TstInfo<'a> {
-    ghost value_size = { λ v. ⟦<TstInfoFields<'a> as Encode>⟧.size (
-      ⟦<TstInfoPart1<'a> as FromFields<TstInfoPart1Fields<'a>>>⟧.fields
-          (⟦<TstInfo<'a> as FromFields<(TstInfoPart1<'a>, TstInfoPart2<'a>, TstInfoPart3<'a>, TstInfoPart4<'a>, TstInfoPart5<'a>)>>⟧.fields v).0,
-      ⟦<TstInfoPart2<'a> as FromFields<TstInfoPart2Fields<'a>>>⟧.fields
-          (⟦<TstInfo<'a> as FromFields<(TstInfoPart1<'a>, TstInfoPart2<'a>, TstInfoPart3<'a>, TstInfoPart4<'a>, TstInfoPart5<'a>)>>⟧.fields v).1,
-      ⟦<TstInfoPart3<'a> as FromFields<TstInfoPart3Fields<'a>>>⟧.fields
-          (⟦<TstInfo<'a> as FromFields<(TstInfoPart1<'a>, TstInfoPart2<'a>, TstInfoPart3<'a>, TstInfoPart4<'a>, TstInfoPart5<'a>)>>⟧.fields v).2,
-      ⟦<TstInfoPart4<'a> as FromFields<TstInfoPart4Fields<'a>>>⟧.fields
-          (⟦<TstInfo<'a> as FromFields<(TstInfoPart1<'a>, TstInfoPart2<'a>, TstInfoPart3<'a>, TstInfoPart4<'a>, TstInfoPart5<'a>)>>⟧.fields v).3,
-      ⟦<TstInfoPart5<'a> as FromFields<TstInfoPart5Fields<'a>>>⟧.fields
-          (⟦<TstInfo<'a> as FromFields<(TstInfoPart1<'a>, TstInfoPart2<'a>, TstInfoPart3<'a>, TstInfoPart4<'a>, TstInfoPart5<'a>)>>⟧.fields v).4,
-    ) };
+    ghost value_size = { λ v. ⟦<TstInfoFields<'a> as Encode>⟧.size
+        (⟦<TstInfo<'a> as FromFields<TstInfoFields<'a>>>⟧.fields v) };
 
-    ghost encode_value_answers = { λ v. ⟦<TstInfoFields<'a> as Encode>⟧.encode_answers (
-      ⟦<TstInfoPart1<'a> as FromFields<TstInfoPart1Fields<'a>>>⟧.fields
-          (⟦<TstInfo<'a> as FromFields<(TstInfoPart1<'a>, TstInfoPart2<'a>, TstInfoPart3<'a>, TstInfoPart4<'a>, TstInfoPart5<'a>)>>⟧.fields v).0,
-      ⟦<TstInfoPart2<'a> as FromFields<TstInfoPart2Fields<'a>>>⟧.fields
-          (⟦<TstInfo<'a> as FromFields<(TstInfoPart1<'a>, TstInfoPart2<'a>, TstInfoPart3<'a>, TstInfoPart4<'a>, TstInfoPart5<'a>)>>⟧.fields v).1,
-      ⟦<TstInfoPart3<'a> as FromFields<TstInfoPart3Fields<'a>>>⟧.fields
-          (⟦<TstInfo<'a> as FromFields<(TstInfoPart1<'a>, TstInfoPart2<'a>, TstInfoPart3<'a>, TstInfoPart4<'a>, TstInfoPart5<'a>)>>⟧.fields v).2,
-      ⟦<TstInfoPart4<'a> as FromFields<TstInfoPart4Fields<'a>>>⟧.fields
-          (⟦<TstInfo<'a> as FromFields<(TstInfoPart1<'a>, TstInfoPart2<'a>, TstInfoPart3<'a>, TstInfoPart4<'a>, TstInfoPart5<'a>)>>⟧.fields v).3,
-      ⟦<TstInfoPart5<'a> as FromFields<TstInfoPart5Fields<'a>>>⟧.fields
-          (⟦<TstInfo<'a> as FromFields<(TstInfoPart1<'a>, TstInfoPart2<'a>, TstInfoPart3<'a>, TstInfoPart4<'a>, TstInfoPart5<'a>)>>⟧.fields v).4,
-    ) };
+    ghost encode_value_answers = { λ v. ⟦<TstInfoFields<'a> as Encode>⟧.encode_answers
+        (⟦<TstInfo<'a> as FromFields<TstInfoFields<'a>>>⟧.fields v) };
 
     fn value_len(&self) -> Result<Length, Error> {
         field_refs!(
             self,
             (
-                (version, policy),
-                (message_imprint, serial_number),
-                (gen_time, accuracy),
-                (ordering, nonce),
-                (tsa, extensions)
+                version,
+                policy,
+                message_imprint,
+                serial_number,
+                gen_time,
+                accuracy,
+                ordering,
+                nonce,
+                tsa,
+                extensions
             )
         )
         .encoded_len()
@@ -227,11 +192,16 @@ impl<'a> EncodeValue for TstInfo<'a> {
         field_refs!(
             self,
             (
-                (version, policy),
-                (message_imprint, serial_number),
-                (gen_time, accuracy),
-                (ordering, nonce),
-                (tsa, extensions)
+                version,
+                policy,
+                message_imprint,
+                serial_number,
+                gen_time,
+                accuracy,
+                ordering,
+                nonce,
+                tsa,
+                extensions
             )
         )
         .encode(writer)
@@ -241,11 +211,16 @@ impl<'a> EncodeValue for TstInfo<'a> {
         field_refs!(
             self,
             (
-                (version, policy),
-                (message_imprint, serial_number),
-                (gen_time, accuracy),
-                (ordering, nonce),
-                (tsa, extensions)
+                version,
+                policy,
+                message_imprint,
+                serial_number,
+                gen_time,
+                accuracy,
+                ordering,
+                nonce,
+                tsa,
+                extensions
             )
         )
         .len_before()
@@ -255,11 +230,16 @@ impl<'a> EncodeValue for TstInfo<'a> {
         field_refs!(
             self,
             (
-                (version, policy),
-                (message_imprint, serial_number),
-                (gen_time, accuracy),
-                (ordering, nonce),
-                (tsa, extensions)
+                version,
+                policy,
+                message_imprint,
+                serial_number,
+                gen_time,
+                accuracy,
+                ordering,
+                nonce,
+                tsa,
+                extensions
             )
         )
         .encode_before(buf, end)

@@ -5,13 +5,10 @@ ghost use Rattle.std.specs.Prelude.{◌≡◌};
 ghost use Rattle.std.proofs.Common.{arith, refl};
 ghost use Rattle.der.specs.Prelude.{map_ok};
 ghost use Rattle.der_asn1.specs.Item.{decodes_same};
-ghost use Rattle.der_asn1.specs.Meaning.{alternative, defaulted, field, optional, seen, sequence, sequence_is_item, sequence_item, two_fields};
-ghost use Rattle.der_asn1.specs.TupleFields.{three_fields};
+ghost use Rattle.der_asn1.specs.Meaning.{alternative, defaulted, field, optional, sequence, sequence_is_item, sequence_item};
+ghost use Rattle.der_asn1.specs.TupleFields.{five_fields};
 
 use crate::asn1::responder_id::ResponderId;
-use crate::asn1::response_data_part1::{ResponseDataPart1, ResponseDataPart1Fields};
-use crate::asn1::response_data_part2::{ResponseDataPart2, ResponseDataPart2Fields};
-use crate::asn1::response_data_part3::{ResponseDataPart3, ResponseDataPart3Fields};
 use crate::asn1::single_response::SingleResponse;
 use der::{
     Decode, DecodeValue, Encode, EncodeValue, Error, FromFields, Header, IsValue, Lends, Length,
@@ -42,56 +39,44 @@ pub struct ResponseData<'a> {
 
 /// The fields of a [`ResponseData`], in the order in which they are encoded.
 pub type ResponseDataFields<'a> = (
-    ResponseDataPart1Fields<'a>,
-    ResponseDataPart2Fields<'a>,
-    ResponseDataPart3Fields<'a>,
+    Defaulted<Explicit<WithDefault<IntegerOf<u64>, DefaultU64<0>>, 0>>,
+    ResponderId<'a>,
+    GeneralizedTime,
+    SequenceOf<'a, SingleResponse<'a>>,
+    Optional<Explicit<Extensions<'a>, 1>>,
 );
 
-impl<'a> FromFields<
-    (
-        ResponseDataPart1<'a>,
-        ResponseDataPart2<'a>,
-        ResponseDataPart3<'a>,
-    ),
-> for ResponseData<'a> {
+impl<'a> FromFields<ResponseDataFields<'a>> for ResponseData<'a> {
     ghost fields = { λ v. (
-      record { version = v.version; responder_id = v.responder_id },
-      record { produced_at = v.produced_at; responses = v.responses },
-      record { response_extensions = v.response_extensions },
+      v.version,
+      v.responder_id,
+      v.produced_at,
+      v.responses,
+      v.response_extensions,
     ) };
 
-    fn from_fields(
-        fields: (
-            ResponseDataPart1<'a>,
-            ResponseDataPart2<'a>,
-            ResponseDataPart3<'a>,
-        ),
-    ) -> Self {
-        let (part1, part2, part3) = fields;
+    fn from_fields(fields: ResponseDataFields<'a>) -> Self {
+        let (version, responder_id, produced_at, responses, response_extensions) = fields;
         ResponseData {
-            version: part1.version,
-            responder_id: part1.responder_id,
-            produced_at: part2.produced_at,
-            responses: part2.responses,
-            response_extensions: part3.response_extensions,
+            version,
+            responder_id,
+            produced_at,
+            responses,
+            response_extensions,
         }
     }
 }
 
 impl<'a> Sequence for ResponseData<'a> {
-    ghost meaning = { sequence (three_fields (seen
-        ⟦<ResponseDataPart1<'a> as FromFields<ResponseDataPart1Fields<'a>>>⟧.fields (two_fields
-        (defaulted
+    ghost meaning = { sequence (five_fields (defaulted
         ⟦<Explicit<WithDefault<IntegerOf<u64>, DefaultU64<0>>, 0> as DefaultValue>⟧.is_default
         (alternative
         ⟦<Explicit<WithDefault<IntegerOf<u64>, DefaultU64<0>>, 0> as Described>⟧.element)) (field
-        ⟦<ResponderId<'a> as DescribedChoice>⟧.alternative))) (seen
-        ⟦<ResponseDataPart2<'a> as FromFields<ResponseDataPart2Fields<'a>>>⟧.fields (two_fields
-        (field (alternative ⟦<GeneralizedTime as Described>⟧.element)) (field (alternative
-        ⟦<SequenceOf<'a, SingleResponse<'a>> as Described>⟧.element)))) (seen
-        ⟦<ResponseDataPart3<'a> as FromFields<ResponseDataPart3Fields<'a>>>⟧.fields (optional
-        (alternative ⟦<Explicit<Extensions<'a>, 1> as Described>⟧.element))))
-        ⟦<ResponseData<'a> as FromFields<(ResponseDataPart1<'a>, ResponseDataPart2<'a>, ResponseDataPart3<'a>)>>⟧.fields };
+        ⟦<ResponderId<'a> as DescribedChoice>⟧.alternative) (field (alternative
+        ⟦<GeneralizedTime as Described>⟧.element)) (field (alternative
+        ⟦<SequenceOf<'a, SingleResponse<'a>> as Described>⟧.element)) (optional (alternative
+        ⟦<Explicit<Extensions<'a>, 1> as Described>⟧.element)))
+        ⟦<ResponseData<'a> as FromFields<ResponseDataFields<'a>>>⟧.fields };
 
     ghost fits = { (refl, refl) };
 }
@@ -101,23 +86,14 @@ impl<'a, R: Lends<Borrowed = &'a [u8]>> DecodeValue<R> for ResponseData<'a> {
     type Error = Error;
 
     ghost decode_value_answers = { λ h s result t.
-        ⟦<(ResponseDataPart1<'a>, ResponseDataPart2<'a>, ResponseDataPart3<'a>) as Decode<SliceReader<'a>>>⟧.decode_answers s
-        (map_ok
-        ⟦<ResponseData<'a> as FromFields<(ResponseDataPart1<'a>, ResponseDataPart2<'a>, ResponseDataPart3<'a>)>>⟧.fields result) t };
+        ⟦<ResponseDataFields<'a> as Decode<SliceReader<'a>>>⟧.decode_answers s (map_ok
+        ⟦<ResponseData<'a> as FromFields<ResponseDataFields<'a>>>⟧.fields result) t };
 
     fn decode_value(alloc: Global, reader: &mut R, header: Header) -> Result<Self, Error>
     where
         R: Reader,
     {
-        decode_sequence::<
-            R,
-            (
-                ResponseDataPart1<'a>,
-                ResponseDataPart2<'a>,
-                ResponseDataPart3<'a>,
-            ),
-            Self,
-        >(alloc, reader, header)
+        decode_sequence::<R, ResponseDataFields<'a>, Self>(alloc, reader, header)
     }
 }
 
@@ -138,30 +114,20 @@ impl<'a> IsValue for ResponseData<'a> {
 
 /// Writes the fields one after the other, with the errors of every [`Sequence`].
 impl<'a> EncodeValue for ResponseData<'a> {
-    ghost value_size = { λ v. ⟦<ResponseDataFields<'a> as Encode>⟧.size (
-      ⟦<ResponseDataPart1<'a> as FromFields<ResponseDataPart1Fields<'a>>>⟧.fields
-          (⟦<ResponseData<'a> as FromFields<(ResponseDataPart1<'a>, ResponseDataPart2<'a>, ResponseDataPart3<'a>)>>⟧.fields v).0,
-      ⟦<ResponseDataPart2<'a> as FromFields<ResponseDataPart2Fields<'a>>>⟧.fields
-          (⟦<ResponseData<'a> as FromFields<(ResponseDataPart1<'a>, ResponseDataPart2<'a>, ResponseDataPart3<'a>)>>⟧.fields v).1,
-      ⟦<ResponseDataPart3<'a> as FromFields<ResponseDataPart3Fields<'a>>>⟧.fields
-          (⟦<ResponseData<'a> as FromFields<(ResponseDataPart1<'a>, ResponseDataPart2<'a>, ResponseDataPart3<'a>)>>⟧.fields v).2,
-    ) };
+    ghost value_size = { λ v. ⟦<ResponseDataFields<'a> as Encode>⟧.size
+        (⟦<ResponseData<'a> as FromFields<ResponseDataFields<'a>>>⟧.fields v) };
 
-    ghost encode_value_answers = { λ v. ⟦<ResponseDataFields<'a> as Encode>⟧.encode_answers (
-      ⟦<ResponseDataPart1<'a> as FromFields<ResponseDataPart1Fields<'a>>>⟧.fields
-          (⟦<ResponseData<'a> as FromFields<(ResponseDataPart1<'a>, ResponseDataPart2<'a>, ResponseDataPart3<'a>)>>⟧.fields v).0,
-      ⟦<ResponseDataPart2<'a> as FromFields<ResponseDataPart2Fields<'a>>>⟧.fields
-          (⟦<ResponseData<'a> as FromFields<(ResponseDataPart1<'a>, ResponseDataPart2<'a>, ResponseDataPart3<'a>)>>⟧.fields v).1,
-      ⟦<ResponseDataPart3<'a> as FromFields<ResponseDataPart3Fields<'a>>>⟧.fields
-          (⟦<ResponseData<'a> as FromFields<(ResponseDataPart1<'a>, ResponseDataPart2<'a>, ResponseDataPart3<'a>)>>⟧.fields v).2,
-    ) };
+    ghost encode_value_answers = { λ v. ⟦<ResponseDataFields<'a> as Encode>⟧.encode_answers
+        (⟦<ResponseData<'a> as FromFields<ResponseDataFields<'a>>>⟧.fields v) };
 
     fn value_len(&self) -> Result<Length, Error> {
         field_refs!(
             self,
             (
-                (version, responder_id),
-                (produced_at, responses),
+                version,
+                responder_id,
+                produced_at,
+                responses,
                 response_extensions
             )
         )
@@ -172,8 +138,10 @@ impl<'a> EncodeValue for ResponseData<'a> {
         field_refs!(
             self,
             (
-                (version, responder_id),
-                (produced_at, responses),
+                version,
+                responder_id,
+                produced_at,
+                responses,
                 response_extensions
             )
         )
@@ -184,8 +152,10 @@ impl<'a> EncodeValue for ResponseData<'a> {
         field_refs!(
             self,
             (
-                (version, responder_id),
-                (produced_at, responses),
+                version,
+                responder_id,
+                produced_at,
+                responses,
                 response_extensions
             )
         )
@@ -196,8 +166,10 @@ impl<'a> EncodeValue for ResponseData<'a> {
         field_refs!(
             self,
             (
-                (version, responder_id),
-                (produced_at, responses),
+                version,
+                responder_id,
+                produced_at,
+                responses,
                 response_extensions
             )
         )

@@ -5,13 +5,11 @@ ghost use Rattle.std.specs.Prelude.{◌≡◌};
 ghost use Rattle.std.proofs.Common.{arith, refl};
 ghost use Rattle.der.specs.Prelude.{map_ok};
 ghost use Rattle.der_asn1.specs.Item.{decodes_same};
-ghost use Rattle.der_asn1.specs.Meaning.{alternative, field, optional, seen, sequence, sequence_is_item, sequence_item, two_fields};
-ghost use Rattle.der_asn1.specs.TupleFields.{three_fields};
+ghost use Rattle.der_asn1.specs.Meaning.{alternative, field, optional, sequence, sequence_is_item, sequence_item};
+ghost use Rattle.der_asn1.specs.TupleFields.{five_fields};
 
 use crate::asn1::cert_id::CertId;
 use crate::asn1::cert_status::CertStatus;
-use crate::asn1::single_response_part1::{SingleResponsePart1, SingleResponsePart1Fields};
-use crate::asn1::single_response_part2::{SingleResponsePart2, SingleResponsePart2Fields};
 use der::{
     Decode, DecodeValue, Encode, EncodeValue, Error, FromFields, Header, IsValue, Lends, Length,
     Reader, Sequence, SliceReader, Writer, decode_sequence, field_refs,
@@ -39,43 +37,43 @@ pub struct SingleResponse<'a> {
 }
 
 /// The fields of a [`SingleResponse`], in the order in which they are encoded.
-pub type SingleResponseFields<'a> = (SingleResponsePart1Fields<'a>, SingleResponsePart2Fields<'a>);
+pub type SingleResponseFields<'a> = (
+    CertId<'a>,
+    CertStatus<'a>,
+    GeneralizedTime,
+    Optional<Explicit<GeneralizedTime, 0>>,
+    Optional<Explicit<Extensions<'a>, 1>>,
+);
 
-impl<'a> FromFields<(SingleResponsePart1<'a>, SingleResponsePart2<'a>)> for SingleResponse<'a> {
+impl<'a> FromFields<SingleResponseFields<'a>> for SingleResponse<'a> {
     ghost fields = { λ v. (
-      record {
-        cert_id = v.cert_id;
-        cert_status = v.cert_status;
-        this_update = v.this_update;
-      },
-      record {
-        next_update = v.next_update;
-        single_extensions = v.single_extensions;
-      },
+      v.cert_id,
+      v.cert_status,
+      v.this_update,
+      v.next_update,
+      v.single_extensions,
     ) };
 
-    fn from_fields(fields: (SingleResponsePart1<'a>, SingleResponsePart2<'a>)) -> Self {
-        let (part1, part2) = fields;
+    fn from_fields(fields: SingleResponseFields<'a>) -> Self {
+        let (cert_id, cert_status, this_update, next_update, single_extensions) = fields;
         SingleResponse {
-            cert_id: part1.cert_id,
-            cert_status: part1.cert_status,
-            this_update: part1.this_update,
-            next_update: part2.next_update,
-            single_extensions: part2.single_extensions,
+            cert_id,
+            cert_status,
+            this_update,
+            next_update,
+            single_extensions,
         }
     }
 }
 
 impl<'a> Sequence for SingleResponse<'a> {
-    ghost meaning = { sequence (two_fields (seen
-        ⟦<SingleResponsePart1<'a> as FromFields<SingleResponsePart1Fields<'a>>>⟧.fields
-        (three_fields (field (alternative ⟦<CertId<'a> as Described>⟧.element)) (field
+    ghost meaning = { sequence (five_fields (field (alternative
+        ⟦<CertId<'a> as Described>⟧.element)) (field
         ⟦<CertStatus<'a> as DescribedChoice>⟧.alternative) (field (alternative
-        ⟦<GeneralizedTime as Described>⟧.element)))) (seen
-        ⟦<SingleResponsePart2<'a> as FromFields<SingleResponsePart2Fields<'a>>>⟧.fields (two_fields
-        (optional (alternative ⟦<Explicit<GeneralizedTime, 0> as Described>⟧.element)) (optional
-        (alternative ⟦<Explicit<Extensions<'a>, 1> as Described>⟧.element)))))
-        ⟦<SingleResponse<'a> as FromFields<(SingleResponsePart1<'a>, SingleResponsePart2<'a>)>>⟧.fields };
+        ⟦<GeneralizedTime as Described>⟧.element)) (optional (alternative
+        ⟦<Explicit<GeneralizedTime, 0> as Described>⟧.element)) (optional (alternative
+        ⟦<Explicit<Extensions<'a>, 1> as Described>⟧.element)))
+        ⟦<SingleResponse<'a> as FromFields<SingleResponseFields<'a>>>⟧.fields };
 
     ghost fits = { (refl, refl) };
 }
@@ -85,17 +83,14 @@ impl<'a, R: Lends<Borrowed = &'a [u8]>> DecodeValue<R> for SingleResponse<'a> {
     type Error = Error;
 
     ghost decode_value_answers = { λ h s result t.
-        ⟦<(SingleResponsePart1<'a>, SingleResponsePart2<'a>) as Decode<SliceReader<'a>>>⟧.decode_answers s
-        (map_ok
-        ⟦<SingleResponse<'a> as FromFields<(SingleResponsePart1<'a>, SingleResponsePart2<'a>)>>⟧.fields result) t };
+        ⟦<SingleResponseFields<'a> as Decode<SliceReader<'a>>>⟧.decode_answers s (map_ok
+        ⟦<SingleResponse<'a> as FromFields<SingleResponseFields<'a>>>⟧.fields result) t };
 
     fn decode_value(alloc: Global, reader: &mut R, header: Header) -> Result<Self, Error>
     where
         R: Reader,
     {
-        decode_sequence::<R, (SingleResponsePart1<'a>, SingleResponsePart2<'a>), Self>(
-            alloc, reader, header,
-        )
+        decode_sequence::<R, SingleResponseFields<'a>, Self>(alloc, reader, header)
     }
 }
 
@@ -119,26 +114,21 @@ impl<'a> IsValue for SingleResponse<'a> {
 
 /// Writes the fields one after the other, with the errors of every [`Sequence`].
 impl<'a> EncodeValue for SingleResponse<'a> {
-    ghost value_size = { λ v. ⟦<SingleResponseFields<'a> as Encode>⟧.size (
-      ⟦<SingleResponsePart1<'a> as FromFields<SingleResponsePart1Fields<'a>>>⟧.fields
-          (⟦<SingleResponse<'a> as FromFields<(SingleResponsePart1<'a>, SingleResponsePart2<'a>)>>⟧.fields v).0,
-      ⟦<SingleResponsePart2<'a> as FromFields<SingleResponsePart2Fields<'a>>>⟧.fields
-          (⟦<SingleResponse<'a> as FromFields<(SingleResponsePart1<'a>, SingleResponsePart2<'a>)>>⟧.fields v).1,
-    ) };
+    ghost value_size = { λ v. ⟦<SingleResponseFields<'a> as Encode>⟧.size
+        (⟦<SingleResponse<'a> as FromFields<SingleResponseFields<'a>>>⟧.fields v) };
 
-    ghost encode_value_answers = { λ v. ⟦<SingleResponseFields<'a> as Encode>⟧.encode_answers (
-      ⟦<SingleResponsePart1<'a> as FromFields<SingleResponsePart1Fields<'a>>>⟧.fields
-          (⟦<SingleResponse<'a> as FromFields<(SingleResponsePart1<'a>, SingleResponsePart2<'a>)>>⟧.fields v).0,
-      ⟦<SingleResponsePart2<'a> as FromFields<SingleResponsePart2Fields<'a>>>⟧.fields
-          (⟦<SingleResponse<'a> as FromFields<(SingleResponsePart1<'a>, SingleResponsePart2<'a>)>>⟧.fields v).1,
-    ) };
+    ghost encode_value_answers = { λ v. ⟦<SingleResponseFields<'a> as Encode>⟧.encode_answers
+        (⟦<SingleResponse<'a> as FromFields<SingleResponseFields<'a>>>⟧.fields v) };
 
     fn value_len(&self) -> Result<Length, Error> {
         field_refs!(
             self,
             (
-                (cert_id, cert_status, this_update),
-                (next_update, single_extensions)
+                cert_id,
+                cert_status,
+                this_update,
+                next_update,
+                single_extensions
             )
         )
         .encoded_len()
@@ -148,8 +138,11 @@ impl<'a> EncodeValue for SingleResponse<'a> {
         field_refs!(
             self,
             (
-                (cert_id, cert_status, this_update),
-                (next_update, single_extensions)
+                cert_id,
+                cert_status,
+                this_update,
+                next_update,
+                single_extensions
             )
         )
         .encode(writer)
@@ -159,8 +152,11 @@ impl<'a> EncodeValue for SingleResponse<'a> {
         field_refs!(
             self,
             (
-                (cert_id, cert_status, this_update),
-                (next_update, single_extensions)
+                cert_id,
+                cert_status,
+                this_update,
+                next_update,
+                single_extensions
             )
         )
         .len_before()
@@ -170,8 +166,11 @@ impl<'a> EncodeValue for SingleResponse<'a> {
         field_refs!(
             self,
             (
-                (cert_id, cert_status, this_update),
-                (next_update, single_extensions)
+                cert_id,
+                cert_status,
+                this_update,
+                next_update,
+                single_extensions
             )
         )
         .encode_before(buf, end)

@@ -5,15 +5,11 @@ ghost use Rattle.std.specs.Prelude.{◌≡◌};
 ghost use Rattle.std.proofs.Common.{arith, refl};
 ghost use Rattle.der.specs.Prelude.{map_ok};
 ghost use Rattle.der_asn1.specs.Item.{decodes_same};
-ghost use Rattle.der_asn1.specs.Meaning.{alternative, defaulted, field, optional, seen, sequence, sequence_is_item, sequence_item};
+ghost use Rattle.der_asn1.specs.Meaning.{alternative, defaulted, field, optional, sequence, sequence_is_item, sequence_item};
 ghost use Rattle.der_asn1.specs.TupleFields.{four_fields};
 
 use crate::asn1::general_name_tagged::GeneralNameTagged;
 use crate::asn1::request::Request;
-use crate::asn1::tbs_request_part1::{TbsRequestPart1, TbsRequestPart1Fields};
-use crate::asn1::tbs_request_part2::{TbsRequestPart2, TbsRequestPart2Fields};
-use crate::asn1::tbs_request_part3::{TbsRequestPart3, TbsRequestPart3Fields};
-use crate::asn1::tbs_request_part4::{TbsRequestPart4, TbsRequestPart4Fields};
 use der::{
     Decode, DecodeValue, Encode, EncodeValue, Error, FromFields, Header, IsValue, Lends, Length,
     Reader, Sequence, SliceReader, Writer, decode_sequence, field_refs,
@@ -41,58 +37,35 @@ pub struct TbsRequest<'a> {
 
 /// The fields of a [`TbsRequest`], in the order in which they are encoded.
 pub type TbsRequestFields<'a> = (
-    TbsRequestPart1Fields,
-    TbsRequestPart2Fields<'a>,
-    TbsRequestPart3Fields<'a>,
-    TbsRequestPart4Fields<'a>,
+    Defaulted<Explicit<WithDefault<IntegerOf<u64>, DefaultU64<0>>, 0>>,
+    Optional<Implicit<GeneralNameTagged<'a>, 1>>,
+    SequenceOf<'a, Request<'a>>,
+    Optional<Explicit<Extensions<'a>, 2>>,
 );
 
-impl<'a> FromFields<
-    (
-        TbsRequestPart1,
-        TbsRequestPart2<'a>,
-        TbsRequestPart3<'a>,
-        TbsRequestPart4<'a>,
-    ),
-> for TbsRequest<'a> {
-    ghost fields = { λ v. (
-      record { version = v.version },
-      record { requestor_name = v.requestor_name },
-      record { request_list = v.request_list },
-      record { request_extensions = v.request_extensions },
-    ) };
+impl<'a> FromFields<TbsRequestFields<'a>> for TbsRequest<'a> {
+    ghost fields = { λ v. (v.version, v.requestor_name, v.request_list, v.request_extensions) };
 
-    fn from_fields(
-        fields: (
-            TbsRequestPart1,
-            TbsRequestPart2<'a>,
-            TbsRequestPart3<'a>,
-            TbsRequestPart4<'a>,
-        ),
-    ) -> Self {
-        let (part1, part2, part3, part4) = fields;
+    fn from_fields(fields: TbsRequestFields<'a>) -> Self {
+        let (version, requestor_name, request_list, request_extensions) = fields;
         TbsRequest {
-            version: part1.version,
-            requestor_name: part2.requestor_name,
-            request_list: part3.request_list,
-            request_extensions: part4.request_extensions,
+            version,
+            requestor_name,
+            request_list,
+            request_extensions,
         }
     }
 }
 
 impl<'a> Sequence for TbsRequest<'a> {
-    ghost meaning = { sequence (four_fields (seen
-        ⟦<TbsRequestPart1 as FromFields<TbsRequestPart1Fields>>⟧.fields (defaulted
+    ghost meaning = { sequence (four_fields (defaulted
         ⟦<Explicit<WithDefault<IntegerOf<u64>, DefaultU64<0>>, 0> as DefaultValue>⟧.is_default
         (alternative
-        ⟦<Explicit<WithDefault<IntegerOf<u64>, DefaultU64<0>>, 0> as Described>⟧.element))) (seen
-        ⟦<TbsRequestPart2<'a> as FromFields<TbsRequestPart2Fields<'a>>>⟧.fields (optional
-        (alternative ⟦<Implicit<GeneralNameTagged<'a>, 1> as Described>⟧.element))) (seen
-        ⟦<TbsRequestPart3<'a> as FromFields<TbsRequestPart3Fields<'a>>>⟧.fields (field (alternative
-        ⟦<SequenceOf<'a, Request<'a>> as Described>⟧.element))) (seen
-        ⟦<TbsRequestPart4<'a> as FromFields<TbsRequestPart4Fields<'a>>>⟧.fields (optional
-        (alternative ⟦<Explicit<Extensions<'a>, 2> as Described>⟧.element))))
-        ⟦<TbsRequest<'a> as FromFields<(TbsRequestPart1, TbsRequestPart2<'a>, TbsRequestPart3<'a>, TbsRequestPart4<'a>)>>⟧.fields };
+        ⟦<Explicit<WithDefault<IntegerOf<u64>, DefaultU64<0>>, 0> as Described>⟧.element)) (optional
+        (alternative ⟦<Implicit<GeneralNameTagged<'a>, 1> as Described>⟧.element)) (field
+        (alternative ⟦<SequenceOf<'a, Request<'a>> as Described>⟧.element)) (optional (alternative
+        ⟦<Explicit<Extensions<'a>, 2> as Described>⟧.element)))
+        ⟦<TbsRequest<'a> as FromFields<TbsRequestFields<'a>>>⟧.fields };
 
     ghost fits = { (refl, refl) };
 }
@@ -102,24 +75,14 @@ impl<'a, R: Lends<Borrowed = &'a [u8]>> DecodeValue<R> for TbsRequest<'a> {
     type Error = Error;
 
     ghost decode_value_answers = { λ h s result t.
-        ⟦<(TbsRequestPart1, TbsRequestPart2<'a>, TbsRequestPart3<'a>, TbsRequestPart4<'a>) as Decode<SliceReader<'a>>>⟧.decode_answers s
-        (map_ok
-        ⟦<TbsRequest<'a> as FromFields<(TbsRequestPart1, TbsRequestPart2<'a>, TbsRequestPart3<'a>, TbsRequestPart4<'a>)>>⟧.fields result) t };
+        ⟦<TbsRequestFields<'a> as Decode<SliceReader<'a>>>⟧.decode_answers s (map_ok
+        ⟦<TbsRequest<'a> as FromFields<TbsRequestFields<'a>>>⟧.fields result) t };
 
     fn decode_value(alloc: Global, reader: &mut R, header: Header) -> Result<Self, Error>
     where
         R: Reader,
     {
-        decode_sequence::<
-            R,
-            (
-                TbsRequestPart1,
-                TbsRequestPart2<'a>,
-                TbsRequestPart3<'a>,
-                TbsRequestPart4<'a>,
-            ),
-            Self,
-        >(alloc, reader, header)
+        decode_sequence::<R, TbsRequestFields<'a>, Self>(alloc, reader, header)
     }
 }
 
@@ -138,27 +101,11 @@ impl<'a> IsValue for TbsRequest<'a> {
 
 /// Writes the fields one after the other, with the errors of every [`Sequence`].
 impl<'a> EncodeValue for TbsRequest<'a> {
-    ghost value_size = { λ v. ⟦<TbsRequestFields<'a> as Encode>⟧.size (
-      ⟦<TbsRequestPart1 as FromFields<TbsRequestPart1Fields>>⟧.fields
-          (⟦<TbsRequest<'a> as FromFields<(TbsRequestPart1, TbsRequestPart2<'a>, TbsRequestPart3<'a>, TbsRequestPart4<'a>)>>⟧.fields v).0,
-      ⟦<TbsRequestPart2<'a> as FromFields<TbsRequestPart2Fields<'a>>>⟧.fields
-          (⟦<TbsRequest<'a> as FromFields<(TbsRequestPart1, TbsRequestPart2<'a>, TbsRequestPart3<'a>, TbsRequestPart4<'a>)>>⟧.fields v).1,
-      ⟦<TbsRequestPart3<'a> as FromFields<TbsRequestPart3Fields<'a>>>⟧.fields
-          (⟦<TbsRequest<'a> as FromFields<(TbsRequestPart1, TbsRequestPart2<'a>, TbsRequestPart3<'a>, TbsRequestPart4<'a>)>>⟧.fields v).2,
-      ⟦<TbsRequestPart4<'a> as FromFields<TbsRequestPart4Fields<'a>>>⟧.fields
-          (⟦<TbsRequest<'a> as FromFields<(TbsRequestPart1, TbsRequestPart2<'a>, TbsRequestPart3<'a>, TbsRequestPart4<'a>)>>⟧.fields v).3,
-    ) };
+    ghost value_size = { λ v. ⟦<TbsRequestFields<'a> as Encode>⟧.size
+        (⟦<TbsRequest<'a> as FromFields<TbsRequestFields<'a>>>⟧.fields v) };
 
-    ghost encode_value_answers = { λ v. ⟦<TbsRequestFields<'a> as Encode>⟧.encode_answers (
-      ⟦<TbsRequestPart1 as FromFields<TbsRequestPart1Fields>>⟧.fields
-          (⟦<TbsRequest<'a> as FromFields<(TbsRequestPart1, TbsRequestPart2<'a>, TbsRequestPart3<'a>, TbsRequestPart4<'a>)>>⟧.fields v).0,
-      ⟦<TbsRequestPart2<'a> as FromFields<TbsRequestPart2Fields<'a>>>⟧.fields
-          (⟦<TbsRequest<'a> as FromFields<(TbsRequestPart1, TbsRequestPart2<'a>, TbsRequestPart3<'a>, TbsRequestPart4<'a>)>>⟧.fields v).1,
-      ⟦<TbsRequestPart3<'a> as FromFields<TbsRequestPart3Fields<'a>>>⟧.fields
-          (⟦<TbsRequest<'a> as FromFields<(TbsRequestPart1, TbsRequestPart2<'a>, TbsRequestPart3<'a>, TbsRequestPart4<'a>)>>⟧.fields v).2,
-      ⟦<TbsRequestPart4<'a> as FromFields<TbsRequestPart4Fields<'a>>>⟧.fields
-          (⟦<TbsRequest<'a> as FromFields<(TbsRequestPart1, TbsRequestPart2<'a>, TbsRequestPart3<'a>, TbsRequestPart4<'a>)>>⟧.fields v).3,
-    ) };
+    ghost encode_value_answers = { λ v. ⟦<TbsRequestFields<'a> as Encode>⟧.encode_answers
+        (⟦<TbsRequest<'a> as FromFields<TbsRequestFields<'a>>>⟧.fields v) };
 
     fn value_len(&self) -> Result<Length, Error> {
         field_refs!(

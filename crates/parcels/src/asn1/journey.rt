@@ -5,13 +5,10 @@ ghost use Rattle.std.specs.Prelude.{◌≡◌};
 ghost use Rattle.std.proofs.Common.{arith, refl};
 ghost use Rattle.der.specs.Prelude.{map_ok};
 ghost use Rattle.der_asn1.specs.Item.{decodes_same};
-ghost use Rattle.der_asn1.specs.Meaning.{alternative, defaulted, field, optional, seen, sequence, sequence_is_item, sequence_item, two_fields};
-ghost use Rattle.der_asn1.specs.TupleFields.{three_fields};
+ghost use Rattle.der_asn1.specs.Meaning.{alternative, defaulted, field, optional, sequence, sequence_is_item, sequence_item};
+ghost use Rattle.der_asn1.specs.TupleFields.{five_fields};
 
 use crate::asn1::address::Address;
-use crate::asn1::journey_part1::{JourneyPart1, JourneyPart1Fields};
-use crate::asn1::journey_part2::{JourneyPart2, JourneyPart2Fields};
-use crate::asn1::journey_part3::{JourneyPart3, JourneyPart3Fields};
 use crate::asn1::property::Property;
 use crate::asn1::stop::Stop;
 use der::{
@@ -41,45 +38,38 @@ pub struct Journey<'a> {
 
 /// The fields of a [`Journey`], in the order in which they are encoded.
 pub type JourneyFields<'a> = (
-    JourneyPart1Fields<'a>,
-    JourneyPart2Fields<'a>,
-    JourneyPart3Fields,
+    Implicit<Address<'a>, 1>,
+    Optional<Implicit<Address<'a>, 2>>,
+    SequenceOf<'a, Stop<'a>>,
+    Optional<Implicit<SetOf<'a, Property<'a>>, 3>>,
+    Defaulted<Implicit<WithDefault<IntegerOf<u64>, DefaultU64<0>>, 5>>,
 );
 
-impl<'a> FromFields<(JourneyPart1<'a>, JourneyPart2<'a>, JourneyPart3)> for Journey<'a> {
-    ghost fields = { λ v. (
-      record { sender = v.sender; receiver = v.receiver },
-      record { stops = v.stops; properties = v.properties },
-      record {
-        attempts = v.attempts;
-      },
-    ) };
+impl<'a> FromFields<JourneyFields<'a>> for Journey<'a> {
+    ghost fields = { λ v. (v.sender, v.receiver, v.stops, v.properties, v.attempts) };
 
-    fn from_fields(fields: (JourneyPart1<'a>, JourneyPart2<'a>, JourneyPart3)) -> Self {
-        let (part1, part2, part3) = fields;
+    fn from_fields(fields: JourneyFields<'a>) -> Self {
+        let (sender, receiver, stops, properties, attempts) = fields;
         Journey {
-            sender: part1.sender,
-            receiver: part1.receiver,
-            stops: part2.stops,
-            properties: part2.properties,
-            attempts: part3.attempts,
+            sender,
+            receiver,
+            stops,
+            properties,
+            attempts,
         }
     }
 }
 
 impl<'a> Sequence for Journey<'a> {
-    ghost meaning = { sequence (three_fields (seen
-        ⟦<JourneyPart1<'a> as FromFields<JourneyPart1Fields<'a>>>⟧.fields (two_fields (field
-        (alternative ⟦<Implicit<Address<'a>, 1> as Described>⟧.element)) (optional (alternative
-        ⟦<Implicit<Address<'a>, 2> as Described>⟧.element)))) (seen
-        ⟦<JourneyPart2<'a> as FromFields<JourneyPart2Fields<'a>>>⟧.fields (two_fields (field
-        (alternative ⟦<SequenceOf<'a, Stop<'a>> as Described>⟧.element)) (optional (alternative
-        ⟦<Implicit<SetOf<'a, Property<'a>>, 3> as Described>⟧.element)))) (seen
-        ⟦<JourneyPart3 as FromFields<JourneyPart3Fields>>⟧.fields (defaulted
+    ghost meaning = { sequence (five_fields (field (alternative
+        ⟦<Implicit<Address<'a>, 1> as Described>⟧.element)) (optional (alternative
+        ⟦<Implicit<Address<'a>, 2> as Described>⟧.element)) (field (alternative
+        ⟦<SequenceOf<'a, Stop<'a>> as Described>⟧.element)) (optional (alternative
+        ⟦<Implicit<SetOf<'a, Property<'a>>, 3> as Described>⟧.element)) (defaulted
         ⟦<Implicit<WithDefault<IntegerOf<u64>, DefaultU64<0>>, 5> as DefaultValue>⟧.is_default
         (alternative
-        ⟦<Implicit<WithDefault<IntegerOf<u64>, DefaultU64<0>>, 5> as Described>⟧.element))))
-        ⟦<Journey<'a> as FromFields<(JourneyPart1<'a>, JourneyPart2<'a>, JourneyPart3)>>⟧.fields };
+        ⟦<Implicit<WithDefault<IntegerOf<u64>, DefaultU64<0>>, 5> as Described>⟧.element)))
+        ⟦<Journey<'a> as FromFields<JourneyFields<'a>>>⟧.fields };
 
     ghost fits = { (refl, refl) };
 }
@@ -89,17 +79,14 @@ impl<'a, R: Lends<Borrowed = &'a [u8]>> DecodeValue<R> for Journey<'a> {
     type Error = Error;
 
     ghost decode_value_answers = { λ h s result t.
-        ⟦<(JourneyPart1<'a>, JourneyPart2<'a>, JourneyPart3) as Decode<SliceReader<'a>>>⟧.decode_answers s
-        (map_ok
-        ⟦<Journey<'a> as FromFields<(JourneyPart1<'a>, JourneyPart2<'a>, JourneyPart3)>>⟧.fields result) t };
+        ⟦<JourneyFields<'a> as Decode<SliceReader<'a>>>⟧.decode_answers s (map_ok
+        ⟦<Journey<'a> as FromFields<JourneyFields<'a>>>⟧.fields result) t };
 
     fn decode_value(alloc: Global, reader: &mut R, header: Header) -> Result<Self, Error>
     where
         R: Reader,
     {
-        decode_sequence::<R, (JourneyPart1<'a>, JourneyPart2<'a>, JourneyPart3), Self>(
-            alloc, reader, header,
-        )
+        decode_sequence::<R, JourneyFields<'a>, Self>(alloc, reader, header)
     }
 }
 
@@ -119,40 +106,26 @@ impl<'a> IsValue for Journey<'a> {
 
 /// Writes the fields one after the other, with the errors of every [`Sequence`].
 impl<'a> EncodeValue for Journey<'a> {
-    ghost value_size = { λ v. ⟦<JourneyFields<'a> as Encode>⟧.size (
-      ⟦<JourneyPart1<'a> as FromFields<JourneyPart1Fields<'a>>>⟧.fields
-          (⟦<Journey<'a> as FromFields<(JourneyPart1<'a>, JourneyPart2<'a>, JourneyPart3)>>⟧.fields v).0,
-      ⟦<JourneyPart2<'a> as FromFields<JourneyPart2Fields<'a>>>⟧.fields
-          (⟦<Journey<'a> as FromFields<(JourneyPart1<'a>, JourneyPart2<'a>, JourneyPart3)>>⟧.fields v).1,
-      ⟦<JourneyPart3 as FromFields<JourneyPart3Fields>>⟧.fields
-          (⟦<Journey<'a> as FromFields<(JourneyPart1<'a>, JourneyPart2<'a>, JourneyPart3)>>⟧.fields v).2,
-    ) };
+    ghost value_size = { λ v. ⟦<JourneyFields<'a> as Encode>⟧.size
+        (⟦<Journey<'a> as FromFields<JourneyFields<'a>>>⟧.fields v) };
 
-    ghost encode_value_answers = { λ v. ⟦<JourneyFields<'a> as Encode>⟧.encode_answers (
-      ⟦<JourneyPart1<'a> as FromFields<JourneyPart1Fields<'a>>>⟧.fields
-          (⟦<Journey<'a> as FromFields<(JourneyPart1<'a>, JourneyPart2<'a>, JourneyPart3)>>⟧.fields v).0,
-      ⟦<JourneyPart2<'a> as FromFields<JourneyPart2Fields<'a>>>⟧.fields
-          (⟦<Journey<'a> as FromFields<(JourneyPart1<'a>, JourneyPart2<'a>, JourneyPart3)>>⟧.fields v).1,
-      ⟦<JourneyPart3 as FromFields<JourneyPart3Fields>>⟧.fields
-          (⟦<Journey<'a> as FromFields<(JourneyPart1<'a>, JourneyPart2<'a>, JourneyPart3)>>⟧.fields v).2,
-    ) };
+    ghost encode_value_answers = { λ v. ⟦<JourneyFields<'a> as Encode>⟧.encode_answers
+        (⟦<Journey<'a> as FromFields<JourneyFields<'a>>>⟧.fields v) };
 
     fn value_len(&self) -> Result<Length, Error> {
-        field_refs!(self, ((sender, receiver), (stops, properties), attempts)).encoded_len()
+        field_refs!(self, (sender, receiver, stops, properties, attempts)).encoded_len()
     }
 
     fn encode_value<W: Writer>(&self, writer: &mut W) -> Result<(), Error> {
-        field_refs!(self, ((sender, receiver), (stops, properties), attempts)).encode(writer)
+        field_refs!(self, (sender, receiver, stops, properties, attempts)).encode(writer)
     }
 
     fn value_len_before(&self) -> Option<u32> {
-        field_refs!(self, ((sender, receiver), (stops, properties), attempts)).len_before()
+        field_refs!(self, (sender, receiver, stops, properties, attempts)).len_before()
     }
 
     fn encode_value_before(&self, buf: &mut [u8], end: u32) -> u32 {
-        field_refs!(self, ((sender, receiver), (stops, properties), attempts)).encode_before(
-            buf, end,
-        )
+        field_refs!(self, (sender, receiver, stops, properties, attempts)).encode_before(buf, end)
     }
 }
 

@@ -6,17 +6,13 @@ ghost use Rattle.std.proofs.Common.{arith, refl};
 ghost use Rattle.der.specs.Prelude.{map_ok};
 ghost use Rattle.der_asn1.specs.Integer.{integer_octets};
 ghost use Rattle.der_asn1.specs.Item.{decodes_same};
-ghost use Rattle.der_asn1.specs.Meaning.{alternative, defaulted, field, optional, seen, sequence, sequence_is_item, sequence_item, two_fields};
-ghost use Rattle.der_asn1.specs.TupleFields.{four_fields};
+ghost use Rattle.der_asn1.specs.Meaning.{alternative, defaulted, field, optional, sequence, sequence_is_item, sequence_item};
+ghost use Rattle.der_asn1.specs.TupleFields.{eight_fields};
 
 use crate::asn1::handling::Handling;
 use crate::asn1::journey::Journey;
 use crate::asn1::label::Label;
 use crate::asn1::packing::Packing;
-use crate::asn1::parcel_part1::{ParcelPart1, ParcelPart1Fields};
-use crate::asn1::parcel_part2::{ParcelPart2, ParcelPart2Fields};
-use crate::asn1::parcel_part3::{ParcelPart3, ParcelPart3Fields};
-use crate::asn1::parcel_part4::{ParcelPart4, ParcelPart4Fields};
 use crate::asn1::version::Version;
 use der::{
     Decode, DecodeValue, Encode, EncodeValue, Error, FromFields, Header, IsValue, Lends, Length,
@@ -52,72 +48,59 @@ pub struct Parcel<'a> {
 
 /// The fields of a [`Parcel`], in the order in which they are encoded.
 pub type ParcelFields<'a> = (
-    ParcelPart1Fields<'a>,
-    ParcelPart2Fields,
-    ParcelPart3Fields<'a>,
-    ParcelPart4Fields<'a>,
+    Defaulted<Explicit<WithDefault<NamedInteger<Version>, ParcelVersionDefault>, 0>>,
+    IntRef<'a>,
+    IntegerIn<1, 30000>,
+    Defaulted<WithDefault<Enumerated<Packing>, ParcelPackingDefault>>,
+    Optional<Handling<'a>>,
+    Defaulted<BooleanRef<'a>>,
+    Journey<'a>,
+    Optional<Implicit<Label<'a>, 4>>,
 );
 
-impl<'a> FromFields<
-    (
-        ParcelPart1<'a>,
-        ParcelPart2,
-        ParcelPart3<'a>,
-        ParcelPart4<'a>,
-    ),
-> for Parcel<'a> {
+impl<'a> FromFields<ParcelFields<'a>> for Parcel<'a> {
     ghost fields = { λ v. (
-      record { version = v.version; number = v.number },
-      record { weight = v.weight; packing = v.packing },
-      record {
-        handling = v.handling;
-        opened = v.opened;
-      },
-      record { journey = v.journey; label = v.label },
+      v.version,
+      v.number,
+      v.weight,
+      v.packing,
+      v.handling,
+      v.opened,
+      v.journey,
+      v.label,
     ) };
 
-    fn from_fields(
-        fields: (
-            ParcelPart1<'a>,
-            ParcelPart2,
-            ParcelPart3<'a>,
-            ParcelPart4<'a>,
-        ),
-    ) -> Self {
-        let (part1, part2, part3, part4) = fields;
+    fn from_fields(fields: ParcelFields<'a>) -> Self {
+        let (version, number, weight, packing, handling, opened, journey, label) = fields;
         Parcel {
-            version: part1.version,
-            number: part1.number,
-            weight: part2.weight,
-            packing: part2.packing,
-            handling: part3.handling,
-            opened: part3.opened,
-            journey: part4.journey,
-            label: part4.label,
+            version,
+            number,
+            weight,
+            packing,
+            handling,
+            opened,
+            journey,
+            label,
         }
     }
 }
 
 impl<'a> Sequence for Parcel<'a> {
-    ghost meaning = { sequence (four_fields (seen
-        ⟦<ParcelPart1<'a> as FromFields<ParcelPart1Fields<'a>>>⟧.fields (two_fields (defaulted
+    ghost meaning = { sequence (eight_fields (defaulted
         ⟦<Explicit<WithDefault<NamedInteger<Version>, ParcelVersionDefault>, 0> as DefaultValue>⟧.is_default
         (alternative
         ⟦<Explicit<WithDefault<NamedInteger<Version>, ParcelVersionDefault>, 0> as Described>⟧.element))
-        (field (alternative ⟦<IntRef<'a> as Described>⟧.element)))) (seen
-        ⟦<ParcelPart2 as FromFields<ParcelPart2Fields>>⟧.fields (two_fields (field (alternative
+        (field (alternative ⟦<IntRef<'a> as Described>⟧.element)) (field (alternative
         ⟦<IntegerIn<1, 30000> as Described>⟧.element)) (defaulted
         ⟦<WithDefault<Enumerated<Packing>, ParcelPackingDefault> as DefaultValue>⟧.is_default
         (alternative
-        ⟦<WithDefault<Enumerated<Packing>, ParcelPackingDefault> as Described>⟧.element)))) (seen
-        ⟦<ParcelPart3<'a> as FromFields<ParcelPart3Fields<'a>>>⟧.fields (two_fields (optional
+        ⟦<WithDefault<Enumerated<Packing>, ParcelPackingDefault> as Described>⟧.element)) (optional
         (alternative ⟦<Handling<'a> as Described>⟧.element)) (defaulted
         ⟦<BooleanRef<'a> as DefaultValue>⟧.is_default (alternative
-        ⟦<BooleanRef<'a> as Described>⟧.element)))) (seen
-        ⟦<ParcelPart4<'a> as FromFields<ParcelPart4Fields<'a>>>⟧.fields (two_fields (field
-        (alternative ⟦<Journey<'a> as Described>⟧.element)) (optional (alternative
-        ⟦<Implicit<Label<'a>, 4> as Described>⟧.element)))))
-        ⟦<Parcel<'a> as FromFields<(ParcelPart1<'a>, ParcelPart2, ParcelPart3<'a>, ParcelPart4<'a>)>>⟧.fields };
+        ⟦<BooleanRef<'a> as Described>⟧.element)) (field (alternative
+        ⟦<Journey<'a> as Described>⟧.element)) (optional (alternative
+        ⟦<Implicit<Label<'a>, 4> as Described>⟧.element)))
+        ⟦<Parcel<'a> as FromFields<ParcelFields<'a>>>⟧.fields };
 
     ghost fits = { (refl, refl) };
 }
@@ -127,24 +110,14 @@ impl<'a, R: Lends<Borrowed = &'a [u8]>> DecodeValue<R> for Parcel<'a> {
     type Error = Error;
 
     ghost decode_value_answers = { λ h s result t.
-        ⟦<(ParcelPart1<'a>, ParcelPart2, ParcelPart3<'a>, ParcelPart4<'a>) as Decode<SliceReader<'a>>>⟧.decode_answers s
-        (map_ok
-        ⟦<Parcel<'a> as FromFields<(ParcelPart1<'a>, ParcelPart2, ParcelPart3<'a>, ParcelPart4<'a>)>>⟧.fields result) t };
+        ⟦<ParcelFields<'a> as Decode<SliceReader<'a>>>⟧.decode_answers s (map_ok
+        ⟦<Parcel<'a> as FromFields<ParcelFields<'a>>>⟧.fields result) t };
 
     fn decode_value(alloc: Global, reader: &mut R, header: Header) -> Result<Self, Error>
     where
         R: Reader,
     {
-        decode_sequence::<
-            R,
-            (
-                ParcelPart1<'a>,
-                ParcelPart2,
-                ParcelPart3<'a>,
-                ParcelPart4<'a>,
-            ),
-            Self,
-        >(alloc, reader, header)
+        decode_sequence::<R, ParcelFields<'a>, Self>(alloc, reader, header)
     }
 }
 
@@ -167,36 +140,17 @@ impl<'a> IsValue for Parcel<'a> {
 
 /// Writes the fields one after the other, with the errors of every [`Sequence`].
 impl<'a> EncodeValue for Parcel<'a> {
-    ghost value_size = { λ v. ⟦<ParcelFields<'a> as Encode>⟧.size (
-      ⟦<ParcelPart1<'a> as FromFields<ParcelPart1Fields<'a>>>⟧.fields
-          (⟦<Parcel<'a> as FromFields<(ParcelPart1<'a>, ParcelPart2, ParcelPart3<'a>, ParcelPart4<'a>)>>⟧.fields v).0,
-      ⟦<ParcelPart2 as FromFields<ParcelPart2Fields>>⟧.fields
-          (⟦<Parcel<'a> as FromFields<(ParcelPart1<'a>, ParcelPart2, ParcelPart3<'a>, ParcelPart4<'a>)>>⟧.fields v).1,
-      ⟦<ParcelPart3<'a> as FromFields<ParcelPart3Fields<'a>>>⟧.fields
-          (⟦<Parcel<'a> as FromFields<(ParcelPart1<'a>, ParcelPart2, ParcelPart3<'a>, ParcelPart4<'a>)>>⟧.fields v).2,
-      ⟦<ParcelPart4<'a> as FromFields<ParcelPart4Fields<'a>>>⟧.fields
-          (⟦<Parcel<'a> as FromFields<(ParcelPart1<'a>, ParcelPart2, ParcelPart3<'a>, ParcelPart4<'a>)>>⟧.fields v).3,
-    ) };
+    ghost value_size = { λ v. ⟦<ParcelFields<'a> as Encode>⟧.size
+        (⟦<Parcel<'a> as FromFields<ParcelFields<'a>>>⟧.fields v) };
 
-    ghost encode_value_answers = { λ v. ⟦<ParcelFields<'a> as Encode>⟧.encode_answers (
-      ⟦<ParcelPart1<'a> as FromFields<ParcelPart1Fields<'a>>>⟧.fields
-          (⟦<Parcel<'a> as FromFields<(ParcelPart1<'a>, ParcelPart2, ParcelPart3<'a>, ParcelPart4<'a>)>>⟧.fields v).0,
-      ⟦<ParcelPart2 as FromFields<ParcelPart2Fields>>⟧.fields
-          (⟦<Parcel<'a> as FromFields<(ParcelPart1<'a>, ParcelPart2, ParcelPart3<'a>, ParcelPart4<'a>)>>⟧.fields v).1,
-      ⟦<ParcelPart3<'a> as FromFields<ParcelPart3Fields<'a>>>⟧.fields
-          (⟦<Parcel<'a> as FromFields<(ParcelPart1<'a>, ParcelPart2, ParcelPart3<'a>, ParcelPart4<'a>)>>⟧.fields v).2,
-      ⟦<ParcelPart4<'a> as FromFields<ParcelPart4Fields<'a>>>⟧.fields
-          (⟦<Parcel<'a> as FromFields<(ParcelPart1<'a>, ParcelPart2, ParcelPart3<'a>, ParcelPart4<'a>)>>⟧.fields v).3,
-    ) };
+    ghost encode_value_answers = { λ v. ⟦<ParcelFields<'a> as Encode>⟧.encode_answers
+        (⟦<Parcel<'a> as FromFields<ParcelFields<'a>>>⟧.fields v) };
 
     fn value_len(&self) -> Result<Length, Error> {
         field_refs!(
             self,
             (
-                (version, number),
-                (weight, packing),
-                (handling, opened),
-                (journey, label)
+                version, number, weight, packing, handling, opened, journey, label
             )
         )
         .encoded_len()
@@ -206,10 +160,7 @@ impl<'a> EncodeValue for Parcel<'a> {
         field_refs!(
             self,
             (
-                (version, number),
-                (weight, packing),
-                (handling, opened),
-                (journey, label)
+                version, number, weight, packing, handling, opened, journey, label
             )
         )
         .encode(writer)
@@ -219,10 +170,7 @@ impl<'a> EncodeValue for Parcel<'a> {
         field_refs!(
             self,
             (
-                (version, number),
-                (weight, packing),
-                (handling, opened),
-                (journey, label)
+                version, number, weight, packing, handling, opened, journey, label
             )
         )
         .len_before()
@@ -232,10 +180,7 @@ impl<'a> EncodeValue for Parcel<'a> {
         field_refs!(
             self,
             (
-                (version, number),
-                (weight, packing),
-                (handling, opened),
-                (journey, label)
+                version, number, weight, packing, handling, opened, journey, label
             )
         )
         .encode_before(buf, end)

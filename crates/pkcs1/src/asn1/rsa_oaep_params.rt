@@ -6,10 +6,9 @@ ghost use Rattle.std.proofs.Common.{arith, refl};
 ghost use Rattle.der.specs.Prelude.{map_ok};
 ghost use Rattle.der_asn1.specs.Item.{decodes_same};
 ghost use Rattle.der_asn1.specs.DefaultedTo.{defaulted_to};
-ghost use Rattle.der_asn1.specs.Meaning.{seen, sequence, sequence_is_item, sequence_item, two_fields};
+ghost use Rattle.der_asn1.specs.Meaning.{sequence, sequence_is_item, sequence_item};
+ghost use Rattle.der_asn1.specs.TupleFields.{three_fields};
 
-use crate::asn1::rsa_oaep_params_part1::{RsaOaepParamsPart1, RsaOaepParamsPart1Fields};
-use crate::asn1::rsa_oaep_params_part2::{RsaOaepParamsPart2, RsaOaepParamsPart2Fields};
 use crate::{EmptyLabelDefault, Mgf1Sha1Default, Sha1Default};
 use der::{
     Decode, DecodeValue, Encode, EncodeValue, Error, FromFields, Header, IsValue, Lends, Length,
@@ -33,36 +32,34 @@ pub struct RsaOaepParams<'a> {
 }
 
 /// The fields of a [`RsaOaepParams`], in the order in which they are encoded.
-pub type RsaOaepParamsFields<'a> = (RsaOaepParamsPart1Fields<'a>, RsaOaepParamsPart2Fields<'a>);
+pub type RsaOaepParamsFields<'a> = (
+    DefaultedTo<Explicit<AlgorithmIdentifierRef<'a>, 0>, Sha1Default>,
+    DefaultedTo<Explicit<AlgorithmIdentifierRef<'a>, 1>, Mgf1Sha1Default>,
+    DefaultedTo<Explicit<AlgorithmIdentifierRef<'a>, 2>, EmptyLabelDefault>,
+);
 
-impl<'a> FromFields<(RsaOaepParamsPart1<'a>, RsaOaepParamsPart2<'a>)> for RsaOaepParams<'a> {
-    ghost fields = { λ v. (
-      record { hash = v.hash; mask_gen = v.mask_gen },
-      record { p_source = v.p_source },
-    ) };
+impl<'a> FromFields<RsaOaepParamsFields<'a>> for RsaOaepParams<'a> {
+    ghost fields = { λ v. (v.hash, v.mask_gen, v.p_source) };
 
-    fn from_fields(fields: (RsaOaepParamsPart1<'a>, RsaOaepParamsPart2<'a>)) -> Self {
-        let (part1, part2) = fields;
+    fn from_fields(fields: RsaOaepParamsFields<'a>) -> Self {
+        let (hash, mask_gen, p_source) = fields;
         RsaOaepParams {
-            hash: part1.hash,
-            mask_gen: part1.mask_gen,
-            p_source: part2.p_source,
+            hash,
+            mask_gen,
+            p_source,
         }
     }
 }
 
 impl<'a> Sequence for RsaOaepParams<'a> {
-    ghost meaning = { sequence (two_fields (seen
-        ⟦<RsaOaepParamsPart1<'a> as FromFields<RsaOaepParamsPart1Fields<'a>>>⟧.fields (two_fields
-        (defaulted_to
+    ghost meaning = { sequence (three_fields (defaulted_to
         ⟦<Sha1Default as DefaultOf<Explicit<AlgorithmIdentifierRef<'a>, 0>>>⟧.default_contents
         ⟦<Explicit<AlgorithmIdentifierRef<'a>, 0> as Described>⟧.element (λ v. v.0)) (defaulted_to
         ⟦<Mgf1Sha1Default as DefaultOf<Explicit<AlgorithmIdentifierRef<'a>, 1>>>⟧.default_contents
-        ⟦<Explicit<AlgorithmIdentifierRef<'a>, 1> as Described>⟧.element (λ v. v.0)))) (seen
-        ⟦<RsaOaepParamsPart2<'a> as FromFields<RsaOaepParamsPart2Fields<'a>>>⟧.fields (defaulted_to
+        ⟦<Explicit<AlgorithmIdentifierRef<'a>, 1> as Described>⟧.element (λ v. v.0)) (defaulted_to
         ⟦<EmptyLabelDefault as DefaultOf<Explicit<AlgorithmIdentifierRef<'a>, 2>>>⟧.default_contents
-        ⟦<Explicit<AlgorithmIdentifierRef<'a>, 2> as Described>⟧.element (λ v. v.0))))
-        ⟦<RsaOaepParams<'a> as FromFields<(RsaOaepParamsPart1<'a>, RsaOaepParamsPart2<'a>)>>⟧.fields };
+        ⟦<Explicit<AlgorithmIdentifierRef<'a>, 2> as Described>⟧.element (λ v. v.0)))
+        ⟦<RsaOaepParams<'a> as FromFields<RsaOaepParamsFields<'a>>>⟧.fields };
 
     ghost fits = { (refl, refl) };
 }
@@ -72,17 +69,14 @@ impl<'a, R: Lends<Borrowed = &'a [u8]>> DecodeValue<R> for RsaOaepParams<'a> {
     type Error = Error;
 
     ghost decode_value_answers = { λ h s result t.
-        ⟦<(RsaOaepParamsPart1<'a>, RsaOaepParamsPart2<'a>) as Decode<SliceReader<'a>>>⟧.decode_answers s
-        (map_ok
-        ⟦<RsaOaepParams<'a> as FromFields<(RsaOaepParamsPart1<'a>, RsaOaepParamsPart2<'a>)>>⟧.fields result) t };
+        ⟦<RsaOaepParamsFields<'a> as Decode<SliceReader<'a>>>⟧.decode_answers s (map_ok
+        ⟦<RsaOaepParams<'a> as FromFields<RsaOaepParamsFields<'a>>>⟧.fields result) t };
 
     fn decode_value(alloc: Global, reader: &mut R, header: Header) -> Result<Self, Error>
     where
         R: Reader,
     {
-        decode_sequence::<R, (RsaOaepParamsPart1<'a>, RsaOaepParamsPart2<'a>), Self>(
-            alloc, reader, header,
-        )
+        decode_sequence::<R, RsaOaepParamsFields<'a>, Self>(alloc, reader, header)
     }
 }
 
@@ -96,34 +90,26 @@ impl<'a> IsValue for RsaOaepParams<'a> {
 
 /// Writes the fields one after the other, with the errors of every [`Sequence`].
 impl<'a> EncodeValue for RsaOaepParams<'a> {
-    ghost value_size = { λ v. ⟦<RsaOaepParamsFields<'a> as Encode>⟧.size (
-      ⟦<RsaOaepParamsPart1<'a> as FromFields<RsaOaepParamsPart1Fields<'a>>>⟧.fields
-          (⟦<RsaOaepParams<'a> as FromFields<(RsaOaepParamsPart1<'a>, RsaOaepParamsPart2<'a>)>>⟧.fields v).0,
-      ⟦<RsaOaepParamsPart2<'a> as FromFields<RsaOaepParamsPart2Fields<'a>>>⟧.fields
-          (⟦<RsaOaepParams<'a> as FromFields<(RsaOaepParamsPart1<'a>, RsaOaepParamsPart2<'a>)>>⟧.fields v).1,
-    ) };
+    ghost value_size = { λ v. ⟦<RsaOaepParamsFields<'a> as Encode>⟧.size
+        (⟦<RsaOaepParams<'a> as FromFields<RsaOaepParamsFields<'a>>>⟧.fields v) };
 
-    ghost encode_value_answers = { λ v. ⟦<RsaOaepParamsFields<'a> as Encode>⟧.encode_answers (
-      ⟦<RsaOaepParamsPart1<'a> as FromFields<RsaOaepParamsPart1Fields<'a>>>⟧.fields
-          (⟦<RsaOaepParams<'a> as FromFields<(RsaOaepParamsPart1<'a>, RsaOaepParamsPart2<'a>)>>⟧.fields v).0,
-      ⟦<RsaOaepParamsPart2<'a> as FromFields<RsaOaepParamsPart2Fields<'a>>>⟧.fields
-          (⟦<RsaOaepParams<'a> as FromFields<(RsaOaepParamsPart1<'a>, RsaOaepParamsPart2<'a>)>>⟧.fields v).1,
-    ) };
+    ghost encode_value_answers = { λ v. ⟦<RsaOaepParamsFields<'a> as Encode>⟧.encode_answers
+        (⟦<RsaOaepParams<'a> as FromFields<RsaOaepParamsFields<'a>>>⟧.fields v) };
 
     fn value_len(&self) -> Result<Length, Error> {
-        field_refs!(self, ((hash, mask_gen), p_source)).encoded_len()
+        field_refs!(self, (hash, mask_gen, p_source)).encoded_len()
     }
 
     fn encode_value<W: Writer>(&self, writer: &mut W) -> Result<(), Error> {
-        field_refs!(self, ((hash, mask_gen), p_source)).encode(writer)
+        field_refs!(self, (hash, mask_gen, p_source)).encode(writer)
     }
 
     fn value_len_before(&self) -> Option<u32> {
-        field_refs!(self, ((hash, mask_gen), p_source)).len_before()
+        field_refs!(self, (hash, mask_gen, p_source)).len_before()
     }
 
     fn encode_value_before(&self, buf: &mut [u8], end: u32) -> u32 {
-        field_refs!(self, ((hash, mask_gen), p_source)).encode_before(buf, end)
+        field_refs!(self, (hash, mask_gen, p_source)).encode_before(buf, end)
     }
 }
 

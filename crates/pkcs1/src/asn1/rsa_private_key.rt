@@ -5,12 +5,10 @@ ghost use Rattle.std.specs.Prelude.{◌≡◌};
 ghost use Rattle.std.proofs.Common.{arith, refl};
 ghost use Rattle.der.specs.Prelude.{map_ok};
 ghost use Rattle.der_asn1.specs.Item.{decodes_same};
-ghost use Rattle.der_asn1.specs.Meaning.{alternative, field, optional, seen, sequence, sequence_is_item, sequence_item, two_fields};
-ghost use Rattle.der_asn1.specs.TupleFields.{five_fields};
+ghost use Rattle.der_asn1.specs.Meaning.{alternative, field, optional, sequence, sequence_is_item, sequence_item};
+ghost use Rattle.der_asn1.specs.TupleFields.{ten_fields};
 
 use crate::asn1::other_prime_infos::OtherPrimeInfos;
-use crate::asn1::rsa_private_key_part1::{RsaPrivateKeyPart1, RsaPrivateKeyPart1Fields};
-use crate::asn1::rsa_private_key_part2::{RsaPrivateKeyPart2, RsaPrivateKeyPart2Fields};
 use der::{
     Decode, DecodeValue, Encode, EncodeValue, Error, FromFields, Header, IsValue, Lends, Length,
     Reader, Sequence, SliceReader, Writer, decode_sequence, field_refs,
@@ -45,58 +43,73 @@ pub struct RsaPrivateKey<'a> {
 }
 
 /// The fields of a [`RsaPrivateKey`], in the order in which they are encoded.
-pub type RsaPrivateKeyFields<'a> = (RsaPrivateKeyPart1Fields<'a>, RsaPrivateKeyPart2Fields<'a>);
+pub type RsaPrivateKeyFields<'a> = (
+    IntRef<'a>,
+    IntRef<'a>,
+    IntRef<'a>,
+    IntRef<'a>,
+    IntRef<'a>,
+    IntRef<'a>,
+    IntRef<'a>,
+    IntRef<'a>,
+    IntRef<'a>,
+    Optional<OtherPrimeInfos<'a>>,
+);
 
-impl<'a> FromFields<(RsaPrivateKeyPart1<'a>, RsaPrivateKeyPart2<'a>)> for RsaPrivateKey<'a> {
+impl<'a> FromFields<RsaPrivateKeyFields<'a>> for RsaPrivateKey<'a> {
     ghost fields = { λ v. (
-      record {
-        version = v.version;
-        modulus = v.modulus;
-        public_exponent = v.public_exponent;
-        private_exponent = v.private_exponent;
-        prime1 = v.prime1;
-      },
-      record {
-        prime2 = v.prime2;
-        exponent1 = v.exponent1;
-        exponent2 = v.exponent2;
-        coefficient = v.coefficient;
-        other_prime_infos = v.other_prime_infos;
-      },
+      v.version,
+      v.modulus,
+      v.public_exponent,
+      v.private_exponent,
+      v.prime1,
+      v.prime2,
+      v.exponent1,
+      v.exponent2,
+      v.coefficient,
+      v.other_prime_infos,
     ) };
 
-    fn from_fields(fields: (RsaPrivateKeyPart1<'a>, RsaPrivateKeyPart2<'a>)) -> Self {
-        let (part1, part2) = fields;
+    fn from_fields(fields: RsaPrivateKeyFields<'a>) -> Self {
+        let (
+            version,
+            modulus,
+            public_exponent,
+            private_exponent,
+            prime1,
+            prime2,
+            exponent1,
+            exponent2,
+            coefficient,
+            other_prime_infos,
+        ) = fields;
         RsaPrivateKey {
-            version: part1.version,
-            modulus: part1.modulus,
-            public_exponent: part1.public_exponent,
-            private_exponent: part1.private_exponent,
-            prime1: part1.prime1,
-            prime2: part2.prime2,
-            exponent1: part2.exponent1,
-            exponent2: part2.exponent2,
-            coefficient: part2.coefficient,
-            other_prime_infos: part2.other_prime_infos,
+            version,
+            modulus,
+            public_exponent,
+            private_exponent,
+            prime1,
+            prime2,
+            exponent1,
+            exponent2,
+            coefficient,
+            other_prime_infos,
         }
     }
 }
 
 impl<'a> Sequence for RsaPrivateKey<'a> {
-    ghost meaning = { sequence (two_fields (seen
-        ⟦<RsaPrivateKeyPart1<'a> as FromFields<RsaPrivateKeyPart1Fields<'a>>>⟧.fields (five_fields
+    ghost meaning = { sequence (ten_fields (field (alternative ⟦<IntRef<'a> as Described>⟧.element))
         (field (alternative ⟦<IntRef<'a> as Described>⟧.element)) (field (alternative
         ⟦<IntRef<'a> as Described>⟧.element)) (field (alternative
         ⟦<IntRef<'a> as Described>⟧.element)) (field (alternative
         ⟦<IntRef<'a> as Described>⟧.element)) (field (alternative
-        ⟦<IntRef<'a> as Described>⟧.element)))) (seen
-        ⟦<RsaPrivateKeyPart2<'a> as FromFields<RsaPrivateKeyPart2Fields<'a>>>⟧.fields (five_fields
-        (field (alternative ⟦<IntRef<'a> as Described>⟧.element)) (field (alternative
+        ⟦<IntRef<'a> as Described>⟧.element)) (field (alternative
         ⟦<IntRef<'a> as Described>⟧.element)) (field (alternative
         ⟦<IntRef<'a> as Described>⟧.element)) (field (alternative
         ⟦<IntRef<'a> as Described>⟧.element)) (optional (alternative
-        ⟦<OtherPrimeInfos<'a> as Described>⟧.element)))))
-        ⟦<RsaPrivateKey<'a> as FromFields<(RsaPrivateKeyPart1<'a>, RsaPrivateKeyPart2<'a>)>>⟧.fields };
+        ⟦<OtherPrimeInfos<'a> as Described>⟧.element)))
+        ⟦<RsaPrivateKey<'a> as FromFields<RsaPrivateKeyFields<'a>>>⟧.fields };
 
     ghost fits = { (refl, refl) };
 }
@@ -106,17 +119,14 @@ impl<'a, R: Lends<Borrowed = &'a [u8]>> DecodeValue<R> for RsaPrivateKey<'a> {
     type Error = Error;
 
     ghost decode_value_answers = { λ h s result t.
-        ⟦<(RsaPrivateKeyPart1<'a>, RsaPrivateKeyPart2<'a>) as Decode<SliceReader<'a>>>⟧.decode_answers s
-        (map_ok
-        ⟦<RsaPrivateKey<'a> as FromFields<(RsaPrivateKeyPart1<'a>, RsaPrivateKeyPart2<'a>)>>⟧.fields result) t };
+        ⟦<RsaPrivateKeyFields<'a> as Decode<SliceReader<'a>>>⟧.decode_answers s (map_ok
+        ⟦<RsaPrivateKey<'a> as FromFields<RsaPrivateKeyFields<'a>>>⟧.fields result) t };
 
     fn decode_value(alloc: Global, reader: &mut R, header: Header) -> Result<Self, Error>
     where
         R: Reader,
     {
-        decode_sequence::<R, (RsaPrivateKeyPart1<'a>, RsaPrivateKeyPart2<'a>), Self>(
-            alloc, reader, header,
-        )
+        decode_sequence::<R, RsaPrivateKeyFields<'a>, Self>(alloc, reader, header)
     }
 }
 
@@ -139,26 +149,26 @@ impl<'a> IsValue for RsaPrivateKey<'a> {
 
 /// Writes the fields one after the other, with the errors of every [`Sequence`].
 impl<'a> EncodeValue for RsaPrivateKey<'a> {
-    ghost value_size = { λ v. ⟦<RsaPrivateKeyFields<'a> as Encode>⟧.size (
-      ⟦<RsaPrivateKeyPart1<'a> as FromFields<RsaPrivateKeyPart1Fields<'a>>>⟧.fields
-          (⟦<RsaPrivateKey<'a> as FromFields<(RsaPrivateKeyPart1<'a>, RsaPrivateKeyPart2<'a>)>>⟧.fields v).0,
-      ⟦<RsaPrivateKeyPart2<'a> as FromFields<RsaPrivateKeyPart2Fields<'a>>>⟧.fields
-          (⟦<RsaPrivateKey<'a> as FromFields<(RsaPrivateKeyPart1<'a>, RsaPrivateKeyPart2<'a>)>>⟧.fields v).1,
-    ) };
+    ghost value_size = { λ v. ⟦<RsaPrivateKeyFields<'a> as Encode>⟧.size
+        (⟦<RsaPrivateKey<'a> as FromFields<RsaPrivateKeyFields<'a>>>⟧.fields v) };
 
-    ghost encode_value_answers = { λ v. ⟦<RsaPrivateKeyFields<'a> as Encode>⟧.encode_answers (
-      ⟦<RsaPrivateKeyPart1<'a> as FromFields<RsaPrivateKeyPart1Fields<'a>>>⟧.fields
-          (⟦<RsaPrivateKey<'a> as FromFields<(RsaPrivateKeyPart1<'a>, RsaPrivateKeyPart2<'a>)>>⟧.fields v).0,
-      ⟦<RsaPrivateKeyPart2<'a> as FromFields<RsaPrivateKeyPart2Fields<'a>>>⟧.fields
-          (⟦<RsaPrivateKey<'a> as FromFields<(RsaPrivateKeyPart1<'a>, RsaPrivateKeyPart2<'a>)>>⟧.fields v).1,
-    ) };
+    ghost encode_value_answers = { λ v. ⟦<RsaPrivateKeyFields<'a> as Encode>⟧.encode_answers
+        (⟦<RsaPrivateKey<'a> as FromFields<RsaPrivateKeyFields<'a>>>⟧.fields v) };
 
     fn value_len(&self) -> Result<Length, Error> {
         field_refs!(
             self,
             (
-                (version, modulus, public_exponent, private_exponent, prime1),
-                (prime2, exponent1, exponent2, coefficient, other_prime_infos)
+                version,
+                modulus,
+                public_exponent,
+                private_exponent,
+                prime1,
+                prime2,
+                exponent1,
+                exponent2,
+                coefficient,
+                other_prime_infos
             )
         )
         .encoded_len()
@@ -168,8 +178,16 @@ impl<'a> EncodeValue for RsaPrivateKey<'a> {
         field_refs!(
             self,
             (
-                (version, modulus, public_exponent, private_exponent, prime1),
-                (prime2, exponent1, exponent2, coefficient, other_prime_infos)
+                version,
+                modulus,
+                public_exponent,
+                private_exponent,
+                prime1,
+                prime2,
+                exponent1,
+                exponent2,
+                coefficient,
+                other_prime_infos
             )
         )
         .encode(writer)
@@ -179,8 +197,16 @@ impl<'a> EncodeValue for RsaPrivateKey<'a> {
         field_refs!(
             self,
             (
-                (version, modulus, public_exponent, private_exponent, prime1),
-                (prime2, exponent1, exponent2, coefficient, other_prime_infos)
+                version,
+                modulus,
+                public_exponent,
+                private_exponent,
+                prime1,
+                prime2,
+                exponent1,
+                exponent2,
+                coefficient,
+                other_prime_infos
             )
         )
         .len_before()
@@ -190,8 +216,16 @@ impl<'a> EncodeValue for RsaPrivateKey<'a> {
         field_refs!(
             self,
             (
-                (version, modulus, public_exponent, private_exponent, prime1),
-                (prime2, exponent1, exponent2, coefficient, other_prime_infos)
+                version,
+                modulus,
+                public_exponent,
+                private_exponent,
+                prime1,
+                prime2,
+                exponent1,
+                exponent2,
+                coefficient,
+                other_prime_infos
             )
         )
         .encode_before(buf, end)

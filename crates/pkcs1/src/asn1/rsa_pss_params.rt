@@ -6,13 +6,9 @@ ghost use Rattle.std.proofs.Common.{arith, refl};
 ghost use Rattle.der.specs.Prelude.{map_ok};
 ghost use Rattle.der_asn1.specs.Item.{decodes_same};
 ghost use Rattle.der_asn1.specs.DefaultedTo.{defaulted_to};
-ghost use Rattle.der_asn1.specs.Meaning.{alternative, defaulted, seen, sequence, sequence_is_item, sequence_item};
+ghost use Rattle.der_asn1.specs.Meaning.{alternative, defaulted, sequence, sequence_is_item, sequence_item};
 ghost use Rattle.der_asn1.specs.TupleFields.{four_fields};
 
-use crate::asn1::rsa_pss_params_part1::{RsaPssParamsPart1, RsaPssParamsPart1Fields};
-use crate::asn1::rsa_pss_params_part2::{RsaPssParamsPart2, RsaPssParamsPart2Fields};
-use crate::asn1::rsa_pss_params_part3::{RsaPssParamsPart3, RsaPssParamsPart3Fields};
-use crate::asn1::rsa_pss_params_part4::{RsaPssParamsPart4, RsaPssParamsPart4Fields};
 use crate::{Mgf1Sha1Default, Sha1Default};
 use der::{
     Decode, DecodeValue, Encode, EncodeValue, Error, FromFields, Header, IsValue, Lends, Length,
@@ -42,62 +38,40 @@ pub struct RsaPssParams<'a> {
 
 /// The fields of a [`RsaPssParams`], in the order in which they are encoded.
 pub type RsaPssParamsFields<'a> = (
-    RsaPssParamsPart1Fields<'a>,
-    RsaPssParamsPart2Fields<'a>,
-    RsaPssParamsPart3Fields,
-    RsaPssParamsPart4Fields,
+    DefaultedTo<Explicit<AlgorithmIdentifierRef<'a>, 0>, Sha1Default>,
+    DefaultedTo<Explicit<AlgorithmIdentifierRef<'a>, 1>, Mgf1Sha1Default>,
+    Defaulted<Explicit<WithDefault<IntegerOf<u64>, DefaultU64<20>>, 2>>,
+    Defaulted<Explicit<WithDefault<IntegerOf<u64>, DefaultU64<1>>, 3>>,
 );
 
-impl<'a> FromFields<
-    (
-        RsaPssParamsPart1<'a>,
-        RsaPssParamsPart2<'a>,
-        RsaPssParamsPart3,
-        RsaPssParamsPart4,
-    ),
-> for RsaPssParams<'a> {
-    ghost fields = { λ v. (
-      record { hash = v.hash },
-      record { mask_gen = v.mask_gen },
-      record { salt_len = v.salt_len },
-      record { trailer_field = v.trailer_field },
-    ) };
+impl<'a> FromFields<RsaPssParamsFields<'a>> for RsaPssParams<'a> {
+    ghost fields = { λ v. (v.hash, v.mask_gen, v.salt_len, v.trailer_field) };
 
-    fn from_fields(
-        fields: (
-            RsaPssParamsPart1<'a>,
-            RsaPssParamsPart2<'a>,
-            RsaPssParamsPart3,
-            RsaPssParamsPart4,
-        ),
-    ) -> Self {
-        let (part1, part2, part3, part4) = fields;
+    fn from_fields(fields: RsaPssParamsFields<'a>) -> Self {
+        let (hash, mask_gen, salt_len, trailer_field) = fields;
         RsaPssParams {
-            hash: part1.hash,
-            mask_gen: part2.mask_gen,
-            salt_len: part3.salt_len,
-            trailer_field: part4.trailer_field,
+            hash,
+            mask_gen,
+            salt_len,
+            trailer_field,
         }
     }
 }
 
 impl<'a> Sequence for RsaPssParams<'a> {
-    ghost meaning = { sequence (four_fields (seen
-        ⟦<RsaPssParamsPart1<'a> as FromFields<RsaPssParamsPart1Fields<'a>>>⟧.fields (defaulted_to
+    ghost meaning = { sequence (four_fields (defaulted_to
         ⟦<Sha1Default as DefaultOf<Explicit<AlgorithmIdentifierRef<'a>, 0>>>⟧.default_contents
-        ⟦<Explicit<AlgorithmIdentifierRef<'a>, 0> as Described>⟧.element (λ v. v.0))) (seen
-        ⟦<RsaPssParamsPart2<'a> as FromFields<RsaPssParamsPart2Fields<'a>>>⟧.fields (defaulted_to
+        ⟦<Explicit<AlgorithmIdentifierRef<'a>, 0> as Described>⟧.element (λ v. v.0)) (defaulted_to
         ⟦<Mgf1Sha1Default as DefaultOf<Explicit<AlgorithmIdentifierRef<'a>, 1>>>⟧.default_contents
-        ⟦<Explicit<AlgorithmIdentifierRef<'a>, 1> as Described>⟧.element (λ v. v.0))) (seen
-        ⟦<RsaPssParamsPart3 as FromFields<RsaPssParamsPart3Fields>>⟧.fields (defaulted
+        ⟦<Explicit<AlgorithmIdentifierRef<'a>, 1> as Described>⟧.element (λ v. v.0)) (defaulted
         ⟦<Explicit<WithDefault<IntegerOf<u64>, DefaultU64<20>>, 2> as DefaultValue>⟧.is_default
         (alternative
-        ⟦<Explicit<WithDefault<IntegerOf<u64>, DefaultU64<20>>, 2> as Described>⟧.element))) (seen
-        ⟦<RsaPssParamsPart4 as FromFields<RsaPssParamsPart4Fields>>⟧.fields (defaulted
+        ⟦<Explicit<WithDefault<IntegerOf<u64>, DefaultU64<20>>, 2> as Described>⟧.element))
+        (defaulted
         ⟦<Explicit<WithDefault<IntegerOf<u64>, DefaultU64<1>>, 3> as DefaultValue>⟧.is_default
         (alternative
-        ⟦<Explicit<WithDefault<IntegerOf<u64>, DefaultU64<1>>, 3> as Described>⟧.element))))
-        ⟦<RsaPssParams<'a> as FromFields<(RsaPssParamsPart1<'a>, RsaPssParamsPart2<'a>, RsaPssParamsPart3, RsaPssParamsPart4)>>⟧.fields };
+        ⟦<Explicit<WithDefault<IntegerOf<u64>, DefaultU64<1>>, 3> as Described>⟧.element)))
+        ⟦<RsaPssParams<'a> as FromFields<RsaPssParamsFields<'a>>>⟧.fields };
 
     ghost fits = { (refl, refl) };
 }
@@ -107,24 +81,14 @@ impl<'a, R: Lends<Borrowed = &'a [u8]>> DecodeValue<R> for RsaPssParams<'a> {
     type Error = Error;
 
     ghost decode_value_answers = { λ h s result t.
-        ⟦<(RsaPssParamsPart1<'a>, RsaPssParamsPart2<'a>, RsaPssParamsPart3, RsaPssParamsPart4) as Decode<SliceReader<'a>>>⟧.decode_answers s
-        (map_ok
-        ⟦<RsaPssParams<'a> as FromFields<(RsaPssParamsPart1<'a>, RsaPssParamsPart2<'a>, RsaPssParamsPart3, RsaPssParamsPart4)>>⟧.fields result) t };
+        ⟦<RsaPssParamsFields<'a> as Decode<SliceReader<'a>>>⟧.decode_answers s (map_ok
+        ⟦<RsaPssParams<'a> as FromFields<RsaPssParamsFields<'a>>>⟧.fields result) t };
 
     fn decode_value(alloc: Global, reader: &mut R, header: Header) -> Result<Self, Error>
     where
         R: Reader,
     {
-        decode_sequence::<
-            R,
-            (
-                RsaPssParamsPart1<'a>,
-                RsaPssParamsPart2<'a>,
-                RsaPssParamsPart3,
-                RsaPssParamsPart4,
-            ),
-            Self,
-        >(alloc, reader, header)
+        decode_sequence::<R, RsaPssParamsFields<'a>, Self>(alloc, reader, header)
     }
 }
 
@@ -139,27 +103,11 @@ impl<'a> IsValue for RsaPssParams<'a> {
 
 /// Writes the fields one after the other, with the errors of every [`Sequence`].
 impl<'a> EncodeValue for RsaPssParams<'a> {
-    ghost value_size = { λ v. ⟦<RsaPssParamsFields<'a> as Encode>⟧.size (
-      ⟦<RsaPssParamsPart1<'a> as FromFields<RsaPssParamsPart1Fields<'a>>>⟧.fields
-          (⟦<RsaPssParams<'a> as FromFields<(RsaPssParamsPart1<'a>, RsaPssParamsPart2<'a>, RsaPssParamsPart3, RsaPssParamsPart4)>>⟧.fields v).0,
-      ⟦<RsaPssParamsPart2<'a> as FromFields<RsaPssParamsPart2Fields<'a>>>⟧.fields
-          (⟦<RsaPssParams<'a> as FromFields<(RsaPssParamsPart1<'a>, RsaPssParamsPart2<'a>, RsaPssParamsPart3, RsaPssParamsPart4)>>⟧.fields v).1,
-      ⟦<RsaPssParamsPart3 as FromFields<RsaPssParamsPart3Fields>>⟧.fields
-          (⟦<RsaPssParams<'a> as FromFields<(RsaPssParamsPart1<'a>, RsaPssParamsPart2<'a>, RsaPssParamsPart3, RsaPssParamsPart4)>>⟧.fields v).2,
-      ⟦<RsaPssParamsPart4 as FromFields<RsaPssParamsPart4Fields>>⟧.fields
-          (⟦<RsaPssParams<'a> as FromFields<(RsaPssParamsPart1<'a>, RsaPssParamsPart2<'a>, RsaPssParamsPart3, RsaPssParamsPart4)>>⟧.fields v).3,
-    ) };
+    ghost value_size = { λ v. ⟦<RsaPssParamsFields<'a> as Encode>⟧.size
+        (⟦<RsaPssParams<'a> as FromFields<RsaPssParamsFields<'a>>>⟧.fields v) };
 
-    ghost encode_value_answers = { λ v. ⟦<RsaPssParamsFields<'a> as Encode>⟧.encode_answers (
-      ⟦<RsaPssParamsPart1<'a> as FromFields<RsaPssParamsPart1Fields<'a>>>⟧.fields
-          (⟦<RsaPssParams<'a> as FromFields<(RsaPssParamsPart1<'a>, RsaPssParamsPart2<'a>, RsaPssParamsPart3, RsaPssParamsPart4)>>⟧.fields v).0,
-      ⟦<RsaPssParamsPart2<'a> as FromFields<RsaPssParamsPart2Fields<'a>>>⟧.fields
-          (⟦<RsaPssParams<'a> as FromFields<(RsaPssParamsPart1<'a>, RsaPssParamsPart2<'a>, RsaPssParamsPart3, RsaPssParamsPart4)>>⟧.fields v).1,
-      ⟦<RsaPssParamsPart3 as FromFields<RsaPssParamsPart3Fields>>⟧.fields
-          (⟦<RsaPssParams<'a> as FromFields<(RsaPssParamsPart1<'a>, RsaPssParamsPart2<'a>, RsaPssParamsPart3, RsaPssParamsPart4)>>⟧.fields v).2,
-      ⟦<RsaPssParamsPart4 as FromFields<RsaPssParamsPart4Fields>>⟧.fields
-          (⟦<RsaPssParams<'a> as FromFields<(RsaPssParamsPart1<'a>, RsaPssParamsPart2<'a>, RsaPssParamsPart3, RsaPssParamsPart4)>>⟧.fields v).3,
-    ) };
+    ghost encode_value_answers = { λ v. ⟦<RsaPssParamsFields<'a> as Encode>⟧.encode_answers
+        (⟦<RsaPssParams<'a> as FromFields<RsaPssParamsFields<'a>>>⟧.fields v) };
 
     fn value_len(&self) -> Result<Length, Error> {
         field_refs!(self, (hash, mask_gen, salt_len, trailer_field)).encoded_len()

@@ -5,10 +5,9 @@ ghost use Rattle.std.specs.Prelude.{◌≡◌};
 ghost use Rattle.std.proofs.Common.{arith, refl};
 ghost use Rattle.der.specs.Prelude.{map_ok};
 ghost use Rattle.der_asn1.specs.Item.{decodes_same};
-ghost use Rattle.der_asn1.specs.Meaning.{alternative, defaulted, field, seen, sequence, sequence_is_item, sequence_item, two_fields};
+ghost use Rattle.der_asn1.specs.Meaning.{alternative, defaulted, field, sequence, sequence_is_item, sequence_item};
+ghost use Rattle.der_asn1.specs.TupleFields.{three_fields};
 
-use crate::asn1::mac_data_part1::{MacDataPart1, MacDataPart1Fields};
-use crate::asn1::mac_data_part2::{MacDataPart2, MacDataPart2Fields};
 use der::{
     Decode, DecodeValue, Encode, EncodeValue, Error, FromFields, Header, IsValue, Lends, Length,
     Reader, Sequence, SliceReader, Writer, decode_sequence, field_refs,
@@ -32,33 +31,32 @@ pub struct MacData<'a> {
 }
 
 /// The fields of a [`MacData`], in the order in which they are encoded.
-pub type MacDataFields<'a> = (MacDataPart1Fields<'a>, MacDataPart2Fields);
+pub type MacDataFields<'a> = (
+    DigestInfo<'a>,
+    OctetStringRef<'a>,
+    Defaulted<WithDefault<IntegerOf<u64>, DefaultU64<1>>>,
+);
 
-impl<'a> FromFields<(MacDataPart1<'a>, MacDataPart2)> for MacData<'a> {
-    ghost fields = { λ v. (
-      record { mac = v.mac; mac_salt = v.mac_salt },
-      record { iterations = v.iterations },
-    ) };
+impl<'a> FromFields<MacDataFields<'a>> for MacData<'a> {
+    ghost fields = { λ v. (v.mac, v.mac_salt, v.iterations) };
 
-    fn from_fields(fields: (MacDataPart1<'a>, MacDataPart2)) -> Self {
-        let (part1, part2) = fields;
+    fn from_fields(fields: MacDataFields<'a>) -> Self {
+        let (mac, mac_salt, iterations) = fields;
         MacData {
-            mac: part1.mac,
-            mac_salt: part1.mac_salt,
-            iterations: part2.iterations,
+            mac,
+            mac_salt,
+            iterations,
         }
     }
 }
 
 impl<'a> Sequence for MacData<'a> {
-    ghost meaning = { sequence (two_fields (seen
-        ⟦<MacDataPart1<'a> as FromFields<MacDataPart1Fields<'a>>>⟧.fields (two_fields (field
-        (alternative ⟦<DigestInfo<'a> as Described>⟧.element)) (field (alternative
-        ⟦<OctetStringRef<'a> as Described>⟧.element)))) (seen
-        ⟦<MacDataPart2 as FromFields<MacDataPart2Fields>>⟧.fields (defaulted
+    ghost meaning = { sequence (three_fields (field (alternative
+        ⟦<DigestInfo<'a> as Described>⟧.element)) (field (alternative
+        ⟦<OctetStringRef<'a> as Described>⟧.element)) (defaulted
         ⟦<WithDefault<IntegerOf<u64>, DefaultU64<1>> as DefaultValue>⟧.is_default (alternative
-        ⟦<WithDefault<IntegerOf<u64>, DefaultU64<1>> as Described>⟧.element))))
-        ⟦<MacData<'a> as FromFields<(MacDataPart1<'a>, MacDataPart2)>>⟧.fields };
+        ⟦<WithDefault<IntegerOf<u64>, DefaultU64<1>> as Described>⟧.element)))
+        ⟦<MacData<'a> as FromFields<MacDataFields<'a>>>⟧.fields };
 
     ghost fits = { (refl, refl) };
 }
@@ -68,14 +66,14 @@ impl<'a, R: Lends<Borrowed = &'a [u8]>> DecodeValue<R> for MacData<'a> {
     type Error = Error;
 
     ghost decode_value_answers = { λ h s result t.
-        ⟦<(MacDataPart1<'a>, MacDataPart2) as Decode<SliceReader<'a>>>⟧.decode_answers s (map_ok
-        ⟦<MacData<'a> as FromFields<(MacDataPart1<'a>, MacDataPart2)>>⟧.fields result) t };
+        ⟦<MacDataFields<'a> as Decode<SliceReader<'a>>>⟧.decode_answers s (map_ok
+        ⟦<MacData<'a> as FromFields<MacDataFields<'a>>>⟧.fields result) t };
 
     fn decode_value(alloc: Global, reader: &mut R, header: Header) -> Result<Self, Error>
     where
         R: Reader,
     {
-        decode_sequence::<R, (MacDataPart1<'a>, MacDataPart2), Self>(alloc, reader, header)
+        decode_sequence::<R, MacDataFields<'a>, Self>(alloc, reader, header)
     }
 }
 
@@ -89,34 +87,26 @@ impl<'a> IsValue for MacData<'a> {
 
 /// Writes the fields one after the other, with the errors of every [`Sequence`].
 impl<'a> EncodeValue for MacData<'a> {
-    ghost value_size = { λ v. ⟦<MacDataFields<'a> as Encode>⟧.size (
-      ⟦<MacDataPart1<'a> as FromFields<MacDataPart1Fields<'a>>>⟧.fields
-          (⟦<MacData<'a> as FromFields<(MacDataPart1<'a>, MacDataPart2)>>⟧.fields v).0,
-      ⟦<MacDataPart2 as FromFields<MacDataPart2Fields>>⟧.fields
-          (⟦<MacData<'a> as FromFields<(MacDataPart1<'a>, MacDataPart2)>>⟧.fields v).1,
-    ) };
+    ghost value_size = { λ v. ⟦<MacDataFields<'a> as Encode>⟧.size
+        (⟦<MacData<'a> as FromFields<MacDataFields<'a>>>⟧.fields v) };
 
-    ghost encode_value_answers = { λ v. ⟦<MacDataFields<'a> as Encode>⟧.encode_answers (
-      ⟦<MacDataPart1<'a> as FromFields<MacDataPart1Fields<'a>>>⟧.fields
-          (⟦<MacData<'a> as FromFields<(MacDataPart1<'a>, MacDataPart2)>>⟧.fields v).0,
-      ⟦<MacDataPart2 as FromFields<MacDataPart2Fields>>⟧.fields
-          (⟦<MacData<'a> as FromFields<(MacDataPart1<'a>, MacDataPart2)>>⟧.fields v).1,
-    ) };
+    ghost encode_value_answers = { λ v. ⟦<MacDataFields<'a> as Encode>⟧.encode_answers
+        (⟦<MacData<'a> as FromFields<MacDataFields<'a>>>⟧.fields v) };
 
     fn value_len(&self) -> Result<Length, Error> {
-        field_refs!(self, ((mac, mac_salt), iterations)).encoded_len()
+        field_refs!(self, (mac, mac_salt, iterations)).encoded_len()
     }
 
     fn encode_value<W: Writer>(&self, writer: &mut W) -> Result<(), Error> {
-        field_refs!(self, ((mac, mac_salt), iterations)).encode(writer)
+        field_refs!(self, (mac, mac_salt, iterations)).encode(writer)
     }
 
     fn value_len_before(&self) -> Option<u32> {
-        field_refs!(self, ((mac, mac_salt), iterations)).len_before()
+        field_refs!(self, (mac, mac_salt, iterations)).len_before()
     }
 
     fn encode_value_before(&self, buf: &mut [u8], end: u32) -> u32 {
-        field_refs!(self, ((mac, mac_salt), iterations)).encode_before(buf, end)
+        field_refs!(self, (mac, mac_salt, iterations)).encode_before(buf, end)
     }
 }
 

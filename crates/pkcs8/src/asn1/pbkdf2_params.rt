@@ -6,11 +6,10 @@ ghost use Rattle.std.proofs.Common.{arith, refl};
 ghost use Rattle.der.specs.Prelude.{map_ok};
 ghost use Rattle.der_asn1.specs.Item.{decodes_same};
 ghost use Rattle.der_asn1.specs.DefaultedTo.{defaulted_to};
-ghost use Rattle.der_asn1.specs.Meaning.{alternative, field, optional, seen, sequence, sequence_is_item, sequence_item, two_fields};
+ghost use Rattle.der_asn1.specs.Meaning.{alternative, field, optional, sequence, sequence_is_item, sequence_item};
+ghost use Rattle.der_asn1.specs.TupleFields.{four_fields};
 
 use crate::HmacWithSha1Default;
-use crate::asn1::pbkdf2_params_part1::{Pbkdf2ParamsPart1, Pbkdf2ParamsPart1Fields};
-use crate::asn1::pbkdf2_params_part2::{Pbkdf2ParamsPart2, Pbkdf2ParamsPart2Fields};
 use crate::asn1::pbkdf2_salt::Pbkdf2Salt;
 use der::{
     Decode, DecodeValue, Encode, EncodeValue, Error, FromFields, Header, IsValue, Lends, Length,
@@ -38,35 +37,35 @@ pub struct Pbkdf2Params<'a> {
 }
 
 /// The fields of a [`Pbkdf2Params`], in the order in which they are encoded.
-pub type Pbkdf2ParamsFields<'a> = (Pbkdf2ParamsPart1Fields<'a>, Pbkdf2ParamsPart2Fields<'a>);
+pub type Pbkdf2ParamsFields<'a> = (
+    Pbkdf2Salt<'a>,
+    IntRef<'a>,
+    Optional<IntRef<'a>>,
+    DefaultedTo<AlgorithmIdentifierRef<'a>, HmacWithSha1Default>,
+);
 
-impl<'a> FromFields<(Pbkdf2ParamsPart1<'a>, Pbkdf2ParamsPart2<'a>)> for Pbkdf2Params<'a> {
-    ghost fields = { λ v. (
-      record { salt = v.salt; iteration_count = v.iteration_count },
-      record { key_length = v.key_length; prf = v.prf },
-    ) };
+impl<'a> FromFields<Pbkdf2ParamsFields<'a>> for Pbkdf2Params<'a> {
+    ghost fields = { λ v. (v.salt, v.iteration_count, v.key_length, v.prf) };
 
-    fn from_fields(fields: (Pbkdf2ParamsPart1<'a>, Pbkdf2ParamsPart2<'a>)) -> Self {
-        let (part1, part2) = fields;
+    fn from_fields(fields: Pbkdf2ParamsFields<'a>) -> Self {
+        let (salt, iteration_count, key_length, prf) = fields;
         Pbkdf2Params {
-            salt: part1.salt,
-            iteration_count: part1.iteration_count,
-            key_length: part2.key_length,
-            prf: part2.prf,
+            salt,
+            iteration_count,
+            key_length,
+            prf,
         }
     }
 }
 
 impl<'a> Sequence for Pbkdf2Params<'a> {
-    ghost meaning = { sequence (two_fields (seen
-        ⟦<Pbkdf2ParamsPart1<'a> as FromFields<Pbkdf2ParamsPart1Fields<'a>>>⟧.fields (two_fields
-        (field ⟦<Pbkdf2Salt<'a> as DescribedChoice>⟧.alternative) (field (alternative
-        ⟦<IntRef<'a> as Described>⟧.element)))) (seen
-        ⟦<Pbkdf2ParamsPart2<'a> as FromFields<Pbkdf2ParamsPart2Fields<'a>>>⟧.fields (two_fields
-        (optional (alternative ⟦<IntRef<'a> as Described>⟧.element)) (defaulted_to
+    ghost meaning = { sequence (four_fields (field
+        ⟦<Pbkdf2Salt<'a> as DescribedChoice>⟧.alternative) (field (alternative
+        ⟦<IntRef<'a> as Described>⟧.element)) (optional (alternative
+        ⟦<IntRef<'a> as Described>⟧.element)) (defaulted_to
         ⟦<HmacWithSha1Default as DefaultOf<AlgorithmIdentifierRef<'a>>>⟧.default_contents
-        ⟦<AlgorithmIdentifierRef<'a> as Described>⟧.element (λ v. v.0)))))
-        ⟦<Pbkdf2Params<'a> as FromFields<(Pbkdf2ParamsPart1<'a>, Pbkdf2ParamsPart2<'a>)>>⟧.fields };
+        ⟦<AlgorithmIdentifierRef<'a> as Described>⟧.element (λ v. v.0)))
+        ⟦<Pbkdf2Params<'a> as FromFields<Pbkdf2ParamsFields<'a>>>⟧.fields };
 
     ghost fits = { (refl, refl) };
 }
@@ -76,17 +75,14 @@ impl<'a, R: Lends<Borrowed = &'a [u8]>> DecodeValue<R> for Pbkdf2Params<'a> {
     type Error = Error;
 
     ghost decode_value_answers = { λ h s result t.
-        ⟦<(Pbkdf2ParamsPart1<'a>, Pbkdf2ParamsPart2<'a>) as Decode<SliceReader<'a>>>⟧.decode_answers s
-        (map_ok
-        ⟦<Pbkdf2Params<'a> as FromFields<(Pbkdf2ParamsPart1<'a>, Pbkdf2ParamsPart2<'a>)>>⟧.fields result) t };
+        ⟦<Pbkdf2ParamsFields<'a> as Decode<SliceReader<'a>>>⟧.decode_answers s (map_ok
+        ⟦<Pbkdf2Params<'a> as FromFields<Pbkdf2ParamsFields<'a>>>⟧.fields result) t };
 
     fn decode_value(alloc: Global, reader: &mut R, header: Header) -> Result<Self, Error>
     where
         R: Reader,
     {
-        decode_sequence::<R, (Pbkdf2ParamsPart1<'a>, Pbkdf2ParamsPart2<'a>), Self>(
-            alloc, reader, header,
-        )
+        decode_sequence::<R, Pbkdf2ParamsFields<'a>, Self>(alloc, reader, header)
     }
 }
 
@@ -106,34 +102,26 @@ impl<'a> IsValue for Pbkdf2Params<'a> {
 
 /// Writes the fields one after the other, with the errors of every [`Sequence`].
 impl<'a> EncodeValue for Pbkdf2Params<'a> {
-    ghost value_size = { λ v. ⟦<Pbkdf2ParamsFields<'a> as Encode>⟧.size (
-      ⟦<Pbkdf2ParamsPart1<'a> as FromFields<Pbkdf2ParamsPart1Fields<'a>>>⟧.fields
-          (⟦<Pbkdf2Params<'a> as FromFields<(Pbkdf2ParamsPart1<'a>, Pbkdf2ParamsPart2<'a>)>>⟧.fields v).0,
-      ⟦<Pbkdf2ParamsPart2<'a> as FromFields<Pbkdf2ParamsPart2Fields<'a>>>⟧.fields
-          (⟦<Pbkdf2Params<'a> as FromFields<(Pbkdf2ParamsPart1<'a>, Pbkdf2ParamsPart2<'a>)>>⟧.fields v).1,
-    ) };
+    ghost value_size = { λ v. ⟦<Pbkdf2ParamsFields<'a> as Encode>⟧.size
+        (⟦<Pbkdf2Params<'a> as FromFields<Pbkdf2ParamsFields<'a>>>⟧.fields v) };
 
-    ghost encode_value_answers = { λ v. ⟦<Pbkdf2ParamsFields<'a> as Encode>⟧.encode_answers (
-      ⟦<Pbkdf2ParamsPart1<'a> as FromFields<Pbkdf2ParamsPart1Fields<'a>>>⟧.fields
-          (⟦<Pbkdf2Params<'a> as FromFields<(Pbkdf2ParamsPart1<'a>, Pbkdf2ParamsPart2<'a>)>>⟧.fields v).0,
-      ⟦<Pbkdf2ParamsPart2<'a> as FromFields<Pbkdf2ParamsPart2Fields<'a>>>⟧.fields
-          (⟦<Pbkdf2Params<'a> as FromFields<(Pbkdf2ParamsPart1<'a>, Pbkdf2ParamsPart2<'a>)>>⟧.fields v).1,
-    ) };
+    ghost encode_value_answers = { λ v. ⟦<Pbkdf2ParamsFields<'a> as Encode>⟧.encode_answers
+        (⟦<Pbkdf2Params<'a> as FromFields<Pbkdf2ParamsFields<'a>>>⟧.fields v) };
 
     fn value_len(&self) -> Result<Length, Error> {
-        field_refs!(self, ((salt, iteration_count), (key_length, prf))).encoded_len()
+        field_refs!(self, (salt, iteration_count, key_length, prf)).encoded_len()
     }
 
     fn encode_value<W: Writer>(&self, writer: &mut W) -> Result<(), Error> {
-        field_refs!(self, ((salt, iteration_count), (key_length, prf))).encode(writer)
+        field_refs!(self, (salt, iteration_count, key_length, prf)).encode(writer)
     }
 
     fn value_len_before(&self) -> Option<u32> {
-        field_refs!(self, ((salt, iteration_count), (key_length, prf))).len_before()
+        field_refs!(self, (salt, iteration_count, key_length, prf)).len_before()
     }
 
     fn encode_value_before(&self, buf: &mut [u8], end: u32) -> u32 {
-        field_refs!(self, ((salt, iteration_count), (key_length, prf))).encode_before(buf, end)
+        field_refs!(self, (salt, iteration_count, key_length, prf)).encode_before(buf, end)
     }
 }
 

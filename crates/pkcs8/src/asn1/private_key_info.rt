@@ -5,12 +5,10 @@ ghost use Rattle.std.specs.Prelude.{◌≡◌};
 ghost use Rattle.std.proofs.Common.{arith, refl};
 ghost use Rattle.der.specs.Prelude.{map_ok};
 ghost use Rattle.der_asn1.specs.Item.{decodes_same};
-ghost use Rattle.der_asn1.specs.Meaning.{alternative, field, optional, seen, sequence, sequence_is_item, sequence_item, two_fields};
-ghost use Rattle.der_asn1.specs.TupleFields.{three_fields};
+ghost use Rattle.der_asn1.specs.Meaning.{alternative, field, optional, sequence, sequence_is_item, sequence_item};
+ghost use Rattle.der_asn1.specs.TupleFields.{five_fields};
 
 use crate::asn1::private_key_attributes::PrivateKeyAttributes;
-use crate::asn1::private_key_info_part1::{PrivateKeyInfoPart1, PrivateKeyInfoPart1Fields};
-use crate::asn1::private_key_info_part2::{PrivateKeyInfoPart2, PrivateKeyInfoPart2Fields};
 use crate::asn1::version::Version;
 use der::{
     Decode, DecodeValue, Encode, EncodeValue, Error, FromFields, Header, IsValue, Lends, Length,
@@ -42,40 +40,43 @@ pub struct PrivateKeyInfo<'a> {
 }
 
 /// The fields of a [`PrivateKeyInfo`], in the order in which they are encoded.
-pub type PrivateKeyInfoFields<'a> = (PrivateKeyInfoPart1Fields<'a>, PrivateKeyInfoPart2Fields<'a>);
+pub type PrivateKeyInfoFields<'a> = (
+    NamedInteger<Version>,
+    AlgorithmIdentifierRef<'a>,
+    OctetStringRef<'a>,
+    Optional<Implicit<PrivateKeyAttributes<'a>, 0>>,
+    Optional<Implicit<BitStringRef<'a>, 1>>,
+);
 
-impl<'a> FromFields<(PrivateKeyInfoPart1<'a>, PrivateKeyInfoPart2<'a>)> for PrivateKeyInfo<'a> {
+impl<'a> FromFields<PrivateKeyInfoFields<'a>> for PrivateKeyInfo<'a> {
     ghost fields = { λ v. (
-      record {
-        version = v.version;
-        private_key_algorithm = v.private_key_algorithm;
-        private_key = v.private_key;
-      },
-      record { attributes = v.attributes; public_key = v.public_key },
+      v.version,
+      v.private_key_algorithm,
+      v.private_key,
+      v.attributes,
+      v.public_key,
     ) };
 
-    fn from_fields(fields: (PrivateKeyInfoPart1<'a>, PrivateKeyInfoPart2<'a>)) -> Self {
-        let (part1, part2) = fields;
+    fn from_fields(fields: PrivateKeyInfoFields<'a>) -> Self {
+        let (version, private_key_algorithm, private_key, attributes, public_key) = fields;
         PrivateKeyInfo {
-            version: part1.version,
-            private_key_algorithm: part1.private_key_algorithm,
-            private_key: part1.private_key,
-            attributes: part2.attributes,
-            public_key: part2.public_key,
+            version,
+            private_key_algorithm,
+            private_key,
+            attributes,
+            public_key,
         }
     }
 }
 
 impl<'a> Sequence for PrivateKeyInfo<'a> {
-    ghost meaning = { sequence (two_fields (seen
-        ⟦<PrivateKeyInfoPart1<'a> as FromFields<PrivateKeyInfoPart1Fields<'a>>>⟧.fields
-        (three_fields (field (alternative ⟦<NamedInteger<Version> as Described>⟧.element)) (field
-        (alternative ⟦<AlgorithmIdentifierRef<'a> as Described>⟧.element)) (field (alternative
-        ⟦<OctetStringRef<'a> as Described>⟧.element)))) (seen
-        ⟦<PrivateKeyInfoPart2<'a> as FromFields<PrivateKeyInfoPart2Fields<'a>>>⟧.fields (two_fields
-        (optional (alternative ⟦<Implicit<PrivateKeyAttributes<'a>, 0> as Described>⟧.element))
-        (optional (alternative ⟦<Implicit<BitStringRef<'a>, 1> as Described>⟧.element)))))
-        ⟦<PrivateKeyInfo<'a> as FromFields<(PrivateKeyInfoPart1<'a>, PrivateKeyInfoPart2<'a>)>>⟧.fields };
+    ghost meaning = { sequence (five_fields (field (alternative
+        ⟦<NamedInteger<Version> as Described>⟧.element)) (field (alternative
+        ⟦<AlgorithmIdentifierRef<'a> as Described>⟧.element)) (field (alternative
+        ⟦<OctetStringRef<'a> as Described>⟧.element)) (optional (alternative
+        ⟦<Implicit<PrivateKeyAttributes<'a>, 0> as Described>⟧.element)) (optional (alternative
+        ⟦<Implicit<BitStringRef<'a>, 1> as Described>⟧.element)))
+        ⟦<PrivateKeyInfo<'a> as FromFields<PrivateKeyInfoFields<'a>>>⟧.fields };
 
     ghost fits = { (refl, refl) };
 }
@@ -85,17 +86,14 @@ impl<'a, R: Lends<Borrowed = &'a [u8]>> DecodeValue<R> for PrivateKeyInfo<'a> {
     type Error = Error;
 
     ghost decode_value_answers = { λ h s result t.
-        ⟦<(PrivateKeyInfoPart1<'a>, PrivateKeyInfoPart2<'a>) as Decode<SliceReader<'a>>>⟧.decode_answers s
-        (map_ok
-        ⟦<PrivateKeyInfo<'a> as FromFields<(PrivateKeyInfoPart1<'a>, PrivateKeyInfoPart2<'a>)>>⟧.fields result) t };
+        ⟦<PrivateKeyInfoFields<'a> as Decode<SliceReader<'a>>>⟧.decode_answers s (map_ok
+        ⟦<PrivateKeyInfo<'a> as FromFields<PrivateKeyInfoFields<'a>>>⟧.fields result) t };
 
     fn decode_value(alloc: Global, reader: &mut R, header: Header) -> Result<Self, Error>
     where
         R: Reader,
     {
-        decode_sequence::<R, (PrivateKeyInfoPart1<'a>, PrivateKeyInfoPart2<'a>), Self>(
-            alloc, reader, header,
-        )
+        decode_sequence::<R, PrivateKeyInfoFields<'a>, Self>(alloc, reader, header)
     }
 }
 
@@ -115,26 +113,21 @@ impl<'a> IsValue for PrivateKeyInfo<'a> {
 
 /// Writes the fields one after the other, with the errors of every [`Sequence`].
 impl<'a> EncodeValue for PrivateKeyInfo<'a> {
-    ghost value_size = { λ v. ⟦<PrivateKeyInfoFields<'a> as Encode>⟧.size (
-      ⟦<PrivateKeyInfoPart1<'a> as FromFields<PrivateKeyInfoPart1Fields<'a>>>⟧.fields
-          (⟦<PrivateKeyInfo<'a> as FromFields<(PrivateKeyInfoPart1<'a>, PrivateKeyInfoPart2<'a>)>>⟧.fields v).0,
-      ⟦<PrivateKeyInfoPart2<'a> as FromFields<PrivateKeyInfoPart2Fields<'a>>>⟧.fields
-          (⟦<PrivateKeyInfo<'a> as FromFields<(PrivateKeyInfoPart1<'a>, PrivateKeyInfoPart2<'a>)>>⟧.fields v).1,
-    ) };
+    ghost value_size = { λ v. ⟦<PrivateKeyInfoFields<'a> as Encode>⟧.size
+        (⟦<PrivateKeyInfo<'a> as FromFields<PrivateKeyInfoFields<'a>>>⟧.fields v) };
 
-    ghost encode_value_answers = { λ v. ⟦<PrivateKeyInfoFields<'a> as Encode>⟧.encode_answers (
-      ⟦<PrivateKeyInfoPart1<'a> as FromFields<PrivateKeyInfoPart1Fields<'a>>>⟧.fields
-          (⟦<PrivateKeyInfo<'a> as FromFields<(PrivateKeyInfoPart1<'a>, PrivateKeyInfoPart2<'a>)>>⟧.fields v).0,
-      ⟦<PrivateKeyInfoPart2<'a> as FromFields<PrivateKeyInfoPart2Fields<'a>>>⟧.fields
-          (⟦<PrivateKeyInfo<'a> as FromFields<(PrivateKeyInfoPart1<'a>, PrivateKeyInfoPart2<'a>)>>⟧.fields v).1,
-    ) };
+    ghost encode_value_answers = { λ v. ⟦<PrivateKeyInfoFields<'a> as Encode>⟧.encode_answers
+        (⟦<PrivateKeyInfo<'a> as FromFields<PrivateKeyInfoFields<'a>>>⟧.fields v) };
 
     fn value_len(&self) -> Result<Length, Error> {
         field_refs!(
             self,
             (
-                (version, private_key_algorithm, private_key),
-                (attributes, public_key)
+                version,
+                private_key_algorithm,
+                private_key,
+                attributes,
+                public_key
             )
         )
         .encoded_len()
@@ -144,8 +137,11 @@ impl<'a> EncodeValue for PrivateKeyInfo<'a> {
         field_refs!(
             self,
             (
-                (version, private_key_algorithm, private_key),
-                (attributes, public_key)
+                version,
+                private_key_algorithm,
+                private_key,
+                attributes,
+                public_key
             )
         )
         .encode(writer)
@@ -155,8 +151,11 @@ impl<'a> EncodeValue for PrivateKeyInfo<'a> {
         field_refs!(
             self,
             (
-                (version, private_key_algorithm, private_key),
-                (attributes, public_key)
+                version,
+                private_key_algorithm,
+                private_key,
+                attributes,
+                public_key
             )
         )
         .len_before()
@@ -166,8 +165,11 @@ impl<'a> EncodeValue for PrivateKeyInfo<'a> {
         field_refs!(
             self,
             (
-                (version, private_key_algorithm, private_key),
-                (attributes, public_key)
+                version,
+                private_key_algorithm,
+                private_key,
+                attributes,
+                public_key
             )
         )
         .encode_before(buf, end)

@@ -5,11 +5,10 @@ ghost use Rattle.std.specs.Prelude.{◌≡◌};
 ghost use Rattle.std.proofs.Common.{arith, refl};
 ghost use Rattle.der.specs.Prelude.{map_ok};
 ghost use Rattle.der_asn1.specs.Item.{decodes_same};
-ghost use Rattle.der_asn1.specs.Meaning.{alternative, field, optional, seen, sequence, sequence_is_item, sequence_item, two_fields};
+ghost use Rattle.der_asn1.specs.Meaning.{alternative, field, optional, sequence, sequence_is_item, sequence_item};
+ghost use Rattle.der_asn1.specs.TupleFields.{four_fields};
 
 use crate::asn1::ec_parameters_tagged::EcParametersTagged;
-use crate::asn1::ec_private_key_part1::{EcPrivateKeyPart1, EcPrivateKeyPart1Fields};
-use crate::asn1::ec_private_key_part2::{EcPrivateKeyPart2, EcPrivateKeyPart2Fields};
 use der::{
     Decode, DecodeValue, Encode, EncodeValue, Error, FromFields, Header, IsValue, Lends, Length,
     Reader, Sequence, SliceReader, Writer, decode_sequence, field_refs,
@@ -34,34 +33,34 @@ pub struct EcPrivateKey<'a> {
 }
 
 /// The fields of a [`EcPrivateKey`], in the order in which they are encoded.
-pub type EcPrivateKeyFields<'a> = (EcPrivateKeyPart1Fields<'a>, EcPrivateKeyPart2Fields<'a>);
+pub type EcPrivateKeyFields<'a> = (
+    IntRef<'a>,
+    OctetStringRef<'a>,
+    Optional<Implicit<EcParametersTagged<'a>, 0>>,
+    Optional<Explicit<BitStringRef<'a>, 1>>,
+);
 
-impl<'a> FromFields<(EcPrivateKeyPart1<'a>, EcPrivateKeyPart2<'a>)> for EcPrivateKey<'a> {
-    ghost fields = { λ v. (
-      record { version = v.version; private_key = v.private_key },
-      record { parameters = v.parameters; public_key = v.public_key },
-    ) };
+impl<'a> FromFields<EcPrivateKeyFields<'a>> for EcPrivateKey<'a> {
+    ghost fields = { λ v. (v.version, v.private_key, v.parameters, v.public_key) };
 
-    fn from_fields(fields: (EcPrivateKeyPart1<'a>, EcPrivateKeyPart2<'a>)) -> Self {
-        let (part1, part2) = fields;
+    fn from_fields(fields: EcPrivateKeyFields<'a>) -> Self {
+        let (version, private_key, parameters, public_key) = fields;
         EcPrivateKey {
-            version: part1.version,
-            private_key: part1.private_key,
-            parameters: part2.parameters,
-            public_key: part2.public_key,
+            version,
+            private_key,
+            parameters,
+            public_key,
         }
     }
 }
 
 impl<'a> Sequence for EcPrivateKey<'a> {
-    ghost meaning = { sequence (two_fields (seen
-        ⟦<EcPrivateKeyPart1<'a> as FromFields<EcPrivateKeyPart1Fields<'a>>>⟧.fields (two_fields
-        (field (alternative ⟦<IntRef<'a> as Described>⟧.element)) (field (alternative
-        ⟦<OctetStringRef<'a> as Described>⟧.element)))) (seen
-        ⟦<EcPrivateKeyPart2<'a> as FromFields<EcPrivateKeyPart2Fields<'a>>>⟧.fields (two_fields
-        (optional (alternative ⟦<Implicit<EcParametersTagged<'a>, 0> as Described>⟧.element))
-        (optional (alternative ⟦<Explicit<BitStringRef<'a>, 1> as Described>⟧.element)))))
-        ⟦<EcPrivateKey<'a> as FromFields<(EcPrivateKeyPart1<'a>, EcPrivateKeyPart2<'a>)>>⟧.fields };
+    ghost meaning = { sequence (four_fields (field (alternative
+        ⟦<IntRef<'a> as Described>⟧.element)) (field (alternative
+        ⟦<OctetStringRef<'a> as Described>⟧.element)) (optional (alternative
+        ⟦<Implicit<EcParametersTagged<'a>, 0> as Described>⟧.element)) (optional (alternative
+        ⟦<Explicit<BitStringRef<'a>, 1> as Described>⟧.element)))
+        ⟦<EcPrivateKey<'a> as FromFields<EcPrivateKeyFields<'a>>>⟧.fields };
 
     ghost fits = { (refl, refl) };
 }
@@ -71,17 +70,14 @@ impl<'a, R: Lends<Borrowed = &'a [u8]>> DecodeValue<R> for EcPrivateKey<'a> {
     type Error = Error;
 
     ghost decode_value_answers = { λ h s result t.
-        ⟦<(EcPrivateKeyPart1<'a>, EcPrivateKeyPart2<'a>) as Decode<SliceReader<'a>>>⟧.decode_answers s
-        (map_ok
-        ⟦<EcPrivateKey<'a> as FromFields<(EcPrivateKeyPart1<'a>, EcPrivateKeyPart2<'a>)>>⟧.fields result) t };
+        ⟦<EcPrivateKeyFields<'a> as Decode<SliceReader<'a>>>⟧.decode_answers s (map_ok
+        ⟦<EcPrivateKey<'a> as FromFields<EcPrivateKeyFields<'a>>>⟧.fields result) t };
 
     fn decode_value(alloc: Global, reader: &mut R, header: Header) -> Result<Self, Error>
     where
         R: Reader,
     {
-        decode_sequence::<R, (EcPrivateKeyPart1<'a>, EcPrivateKeyPart2<'a>), Self>(
-            alloc, reader, header,
-        )
+        decode_sequence::<R, EcPrivateKeyFields<'a>, Self>(alloc, reader, header)
     }
 }
 
@@ -100,36 +96,26 @@ impl<'a> IsValue for EcPrivateKey<'a> {
 
 /// Writes the fields one after the other, with the errors of every [`Sequence`].
 impl<'a> EncodeValue for EcPrivateKey<'a> {
-    ghost value_size = { λ v. ⟦<EcPrivateKeyFields<'a> as Encode>⟧.size (
-      ⟦<EcPrivateKeyPart1<'a> as FromFields<EcPrivateKeyPart1Fields<'a>>>⟧.fields
-          (⟦<EcPrivateKey<'a> as FromFields<(EcPrivateKeyPart1<'a>, EcPrivateKeyPart2<'a>)>>⟧.fields v).0,
-      ⟦<EcPrivateKeyPart2<'a> as FromFields<EcPrivateKeyPart2Fields<'a>>>⟧.fields
-          (⟦<EcPrivateKey<'a> as FromFields<(EcPrivateKeyPart1<'a>, EcPrivateKeyPart2<'a>)>>⟧.fields v).1,
-    ) };
+    ghost value_size = { λ v. ⟦<EcPrivateKeyFields<'a> as Encode>⟧.size
+        (⟦<EcPrivateKey<'a> as FromFields<EcPrivateKeyFields<'a>>>⟧.fields v) };
 
-    ghost encode_value_answers = { λ v. ⟦<EcPrivateKeyFields<'a> as Encode>⟧.encode_answers (
-      ⟦<EcPrivateKeyPart1<'a> as FromFields<EcPrivateKeyPart1Fields<'a>>>⟧.fields
-          (⟦<EcPrivateKey<'a> as FromFields<(EcPrivateKeyPart1<'a>, EcPrivateKeyPart2<'a>)>>⟧.fields v).0,
-      ⟦<EcPrivateKeyPart2<'a> as FromFields<EcPrivateKeyPart2Fields<'a>>>⟧.fields
-          (⟦<EcPrivateKey<'a> as FromFields<(EcPrivateKeyPart1<'a>, EcPrivateKeyPart2<'a>)>>⟧.fields v).1,
-    ) };
+    ghost encode_value_answers = { λ v. ⟦<EcPrivateKeyFields<'a> as Encode>⟧.encode_answers
+        (⟦<EcPrivateKey<'a> as FromFields<EcPrivateKeyFields<'a>>>⟧.fields v) };
 
     fn value_len(&self) -> Result<Length, Error> {
-        field_refs!(self, ((version, private_key), (parameters, public_key))).encoded_len()
+        field_refs!(self, (version, private_key, parameters, public_key)).encoded_len()
     }
 
     fn encode_value<W: Writer>(&self, writer: &mut W) -> Result<(), Error> {
-        field_refs!(self, ((version, private_key), (parameters, public_key))).encode(writer)
+        field_refs!(self, (version, private_key, parameters, public_key)).encode(writer)
     }
 
     fn value_len_before(&self) -> Option<u32> {
-        field_refs!(self, ((version, private_key), (parameters, public_key))).len_before()
+        field_refs!(self, (version, private_key, parameters, public_key)).len_before()
     }
 
     fn encode_value_before(&self, buf: &mut [u8], end: u32) -> u32 {
-        field_refs!(self, ((version, private_key), (parameters, public_key))).encode_before(
-            buf, end,
-        )
+        field_refs!(self, (version, private_key, parameters, public_key)).encode_before(buf, end)
     }
 }
 

@@ -5,18 +5,12 @@ ghost use Rattle.std.specs.Prelude.{◌≡◌};
 ghost use Rattle.std.proofs.Common.{arith, refl};
 ghost use Rattle.der.specs.Prelude.{map_ok};
 ghost use Rattle.der_asn1.specs.Item.{decodes_same};
-ghost use Rattle.der_asn1.specs.Meaning.{alternative, field, optional, seen, sequence, sequence_is_item, sequence_item, two_fields};
-ghost use Rattle.der_asn1.specs.TupleFields.{four_fields, three_fields};
+ghost use Rattle.der_asn1.specs.Meaning.{alternative, field, optional, sequence, sequence_is_item, sequence_item};
+ghost use Rattle.der_asn1.specs.TupleFields.{seven_fields};
 
 use crate::asn1::curve::Curve;
 use crate::asn1::ec_point::EcPoint;
 use crate::asn1::field_id::FieldId;
-use crate::asn1::specified_ec_domain_part1::{
-    SpecifiedEcDomainPart1, SpecifiedEcDomainPart1Fields,
-};
-use crate::asn1::specified_ec_domain_part2::{
-    SpecifiedEcDomainPart2, SpecifiedEcDomainPart2Fields,
-};
 use der::{
     Decode, DecodeValue, Encode, EncodeValue, Error, FromFields, Header, IsValue, Lends, Length,
     Reader, Sequence, SliceReader, Writer, decode_sequence, field_refs,
@@ -47,48 +41,42 @@ pub struct SpecifiedEcDomain<'a> {
 
 /// The fields of a [`SpecifiedEcDomain`], in the order in which they are encoded.
 pub type SpecifiedEcDomainFields<'a> = (
-    SpecifiedEcDomainPart1Fields<'a>,
-    SpecifiedEcDomainPart2Fields<'a>,
+    IntRef<'a>,
+    FieldId<'a>,
+    Curve<'a>,
+    EcPoint<'a>,
+    IntRef<'a>,
+    Optional<IntRef<'a>>,
+    Optional<AlgorithmIdentifierRef<'a>>,
 );
 
-impl<'a> FromFields<(SpecifiedEcDomainPart1<'a>, SpecifiedEcDomainPart2<'a>)>
-    for SpecifiedEcDomain<'a> {
-    ghost fields = { λ v. (
-      record {
-        version = v.version;
-        field_id = v.field_id;
-        curve = v.curve;
-        base = v.base;
-      },
-      record { order = v.order; cofactor = v.cofactor; hash = v.hash },
-    ) };
+impl<'a> FromFields<SpecifiedEcDomainFields<'a>> for SpecifiedEcDomain<'a> {
+    ghost fields = { λ v. (v.version, v.field_id, v.curve, v.base, v.order, v.cofactor, v.hash) };
 
-    fn from_fields(fields: (SpecifiedEcDomainPart1<'a>, SpecifiedEcDomainPart2<'a>)) -> Self {
-        let (part1, part2) = fields;
+    fn from_fields(fields: SpecifiedEcDomainFields<'a>) -> Self {
+        let (version, field_id, curve, base, order, cofactor, hash) = fields;
         SpecifiedEcDomain {
-            version: part1.version,
-            field_id: part1.field_id,
-            curve: part1.curve,
-            base: part1.base,
-            order: part2.order,
-            cofactor: part2.cofactor,
-            hash: part2.hash,
+            version,
+            field_id,
+            curve,
+            base,
+            order,
+            cofactor,
+            hash,
         }
     }
 }
 
 impl<'a> Sequence for SpecifiedEcDomain<'a> {
-    ghost meaning = { sequence (two_fields (seen
-        ⟦<SpecifiedEcDomainPart1<'a> as FromFields<SpecifiedEcDomainPart1Fields<'a>>>⟧.fields
-        (four_fields (field (alternative ⟦<IntRef<'a> as Described>⟧.element)) (field (alternative
+    ghost meaning = { sequence (seven_fields (field (alternative
+        ⟦<IntRef<'a> as Described>⟧.element)) (field (alternative
         ⟦<FieldId<'a> as Described>⟧.element)) (field (alternative
         ⟦<Curve<'a> as Described>⟧.element)) (field (alternative
-        ⟦<EcPoint<'a> as Described>⟧.element)))) (seen
-        ⟦<SpecifiedEcDomainPart2<'a> as FromFields<SpecifiedEcDomainPart2Fields<'a>>>⟧.fields
-        (three_fields (field (alternative ⟦<IntRef<'a> as Described>⟧.element)) (optional
-        (alternative ⟦<IntRef<'a> as Described>⟧.element)) (optional (alternative
-        ⟦<AlgorithmIdentifierRef<'a> as Described>⟧.element)))))
-        ⟦<SpecifiedEcDomain<'a> as FromFields<(SpecifiedEcDomainPart1<'a>, SpecifiedEcDomainPart2<'a>)>>⟧.fields };
+        ⟦<EcPoint<'a> as Described>⟧.element)) (field (alternative
+        ⟦<IntRef<'a> as Described>⟧.element)) (optional (alternative
+        ⟦<IntRef<'a> as Described>⟧.element)) (optional (alternative
+        ⟦<AlgorithmIdentifierRef<'a> as Described>⟧.element)))
+        ⟦<SpecifiedEcDomain<'a> as FromFields<SpecifiedEcDomainFields<'a>>>⟧.fields };
 
     ghost fits = { (refl, refl) };
 }
@@ -98,17 +86,14 @@ impl<'a, R: Lends<Borrowed = &'a [u8]>> DecodeValue<R> for SpecifiedEcDomain<'a>
     type Error = Error;
 
     ghost decode_value_answers = { λ h s result t.
-        ⟦<(SpecifiedEcDomainPart1<'a>, SpecifiedEcDomainPart2<'a>) as Decode<SliceReader<'a>>>⟧.decode_answers s
-        (map_ok
-        ⟦<SpecifiedEcDomain<'a> as FromFields<(SpecifiedEcDomainPart1<'a>, SpecifiedEcDomainPart2<'a>)>>⟧.fields result) t };
+        ⟦<SpecifiedEcDomainFields<'a> as Decode<SliceReader<'a>>>⟧.decode_answers s (map_ok
+        ⟦<SpecifiedEcDomain<'a> as FromFields<SpecifiedEcDomainFields<'a>>>⟧.fields result) t };
 
     fn decode_value(alloc: Global, reader: &mut R, header: Header) -> Result<Self, Error>
     where
         R: Reader,
     {
-        decode_sequence::<R, (SpecifiedEcDomainPart1<'a>, SpecifiedEcDomainPart2<'a>), Self>(
-            alloc, reader, header,
-        )
+        decode_sequence::<R, SpecifiedEcDomainFields<'a>, Self>(alloc, reader, header)
     }
 }
 
@@ -130,24 +115,16 @@ impl<'a> IsValue for SpecifiedEcDomain<'a> {
 
 /// Writes the fields one after the other, with the errors of every [`Sequence`].
 impl<'a> EncodeValue for SpecifiedEcDomain<'a> {
-    ghost value_size = { λ v. ⟦<SpecifiedEcDomainFields<'a> as Encode>⟧.size (
-      ⟦<SpecifiedEcDomainPart1<'a> as FromFields<SpecifiedEcDomainPart1Fields<'a>>>⟧.fields
-          (⟦<SpecifiedEcDomain<'a> as FromFields<(SpecifiedEcDomainPart1<'a>, SpecifiedEcDomainPart2<'a>)>>⟧.fields v).0,
-      ⟦<SpecifiedEcDomainPart2<'a> as FromFields<SpecifiedEcDomainPart2Fields<'a>>>⟧.fields
-          (⟦<SpecifiedEcDomain<'a> as FromFields<(SpecifiedEcDomainPart1<'a>, SpecifiedEcDomainPart2<'a>)>>⟧.fields v).1,
-    ) };
+    ghost value_size = { λ v. ⟦<SpecifiedEcDomainFields<'a> as Encode>⟧.size
+        (⟦<SpecifiedEcDomain<'a> as FromFields<SpecifiedEcDomainFields<'a>>>⟧.fields v) };
 
-    ghost encode_value_answers = { λ v. ⟦<SpecifiedEcDomainFields<'a> as Encode>⟧.encode_answers (
-      ⟦<SpecifiedEcDomainPart1<'a> as FromFields<SpecifiedEcDomainPart1Fields<'a>>>⟧.fields
-          (⟦<SpecifiedEcDomain<'a> as FromFields<(SpecifiedEcDomainPart1<'a>, SpecifiedEcDomainPart2<'a>)>>⟧.fields v).0,
-      ⟦<SpecifiedEcDomainPart2<'a> as FromFields<SpecifiedEcDomainPart2Fields<'a>>>⟧.fields
-          (⟦<SpecifiedEcDomain<'a> as FromFields<(SpecifiedEcDomainPart1<'a>, SpecifiedEcDomainPart2<'a>)>>⟧.fields v).1,
-    ) };
+    ghost encode_value_answers = { λ v. ⟦<SpecifiedEcDomainFields<'a> as Encode>⟧.encode_answers
+        (⟦<SpecifiedEcDomain<'a> as FromFields<SpecifiedEcDomainFields<'a>>>⟧.fields v) };
 
     fn value_len(&self) -> Result<Length, Error> {
         field_refs!(
             self,
-            ((version, field_id, curve, base), (order, cofactor, hash))
+            (version, field_id, curve, base, order, cofactor, hash)
         )
         .encoded_len()
     }
@@ -155,7 +132,7 @@ impl<'a> EncodeValue for SpecifiedEcDomain<'a> {
     fn encode_value<W: Writer>(&self, writer: &mut W) -> Result<(), Error> {
         field_refs!(
             self,
-            ((version, field_id, curve, base), (order, cofactor, hash))
+            (version, field_id, curve, base, order, cofactor, hash)
         )
         .encode(writer)
     }
@@ -163,7 +140,7 @@ impl<'a> EncodeValue for SpecifiedEcDomain<'a> {
     fn value_len_before(&self) -> Option<u32> {
         field_refs!(
             self,
-            ((version, field_id, curve, base), (order, cofactor, hash))
+            (version, field_id, curve, base, order, cofactor, hash)
         )
         .len_before()
     }
@@ -171,7 +148,7 @@ impl<'a> EncodeValue for SpecifiedEcDomain<'a> {
     fn encode_value_before(&self, buf: &mut [u8], end: u32) -> u32 {
         field_refs!(
             self,
-            ((version, field_id, curve, base), (order, cofactor, hash))
+            (version, field_id, curve, base, order, cofactor, hash)
         )
         .encode_before(buf, end)
     }

@@ -5,11 +5,10 @@ ghost use Rattle.std.specs.Prelude.{◌≡◌};
 ghost use Rattle.std.proofs.Common.{arith, refl};
 ghost use Rattle.der.specs.Prelude.{map_ok};
 ghost use Rattle.der_asn1.specs.Item.{decodes_same};
-ghost use Rattle.der_asn1.specs.Meaning.{alternative, optional, seen, sequence, sequence_is_item, sequence_item, two_fields};
+ghost use Rattle.der_asn1.specs.Meaning.{alternative, optional, sequence, sequence_is_item, sequence_item};
+ghost use Rattle.der_asn1.specs.TupleFields.{three_fields};
 
 use crate::asn1::distribution_point_name_tagged::DistributionPointNameTagged;
-use crate::asn1::distribution_point_part1::{DistributionPointPart1, DistributionPointPart1Fields};
-use crate::asn1::distribution_point_part2::{DistributionPointPart2, DistributionPointPart2Fields};
 use crate::asn1::general_names::GeneralNames;
 use crate::asn1::reason_flags::ReasonFlags;
 use der::{
@@ -32,39 +31,30 @@ pub struct DistributionPoint<'a> {
 
 /// The fields of a [`DistributionPoint`], in the order in which they are encoded.
 pub type DistributionPointFields<'a> = (
-    DistributionPointPart1Fields<'a>,
-    DistributionPointPart2Fields<'a>,
+    Optional<Implicit<DistributionPointNameTagged<'a>, 0>>,
+    Optional<Implicit<ReasonFlags<'a>, 1>>,
+    Optional<Implicit<GeneralNames<'a>, 2>>,
 );
 
-impl<'a> FromFields<(DistributionPointPart1<'a>, DistributionPointPart2<'a>)>
-    for DistributionPoint<'a> {
-    ghost fields = { λ v. (
-      record {
-        distribution_point = v.distribution_point;
-        reasons = v.reasons;
-      },
-      record { crl_issuer = v.crl_issuer },
-    ) };
+impl<'a> FromFields<DistributionPointFields<'a>> for DistributionPoint<'a> {
+    ghost fields = { λ v. (v.distribution_point, v.reasons, v.crl_issuer) };
 
-    fn from_fields(fields: (DistributionPointPart1<'a>, DistributionPointPart2<'a>)) -> Self {
-        let (part1, part2) = fields;
+    fn from_fields(fields: DistributionPointFields<'a>) -> Self {
+        let (distribution_point, reasons, crl_issuer) = fields;
         DistributionPoint {
-            distribution_point: part1.distribution_point,
-            reasons: part1.reasons,
-            crl_issuer: part2.crl_issuer,
+            distribution_point,
+            reasons,
+            crl_issuer,
         }
     }
 }
 
 impl<'a> Sequence for DistributionPoint<'a> {
-    ghost meaning = { sequence (two_fields (seen
-        ⟦<DistributionPointPart1<'a> as FromFields<DistributionPointPart1Fields<'a>>>⟧.fields
-        (two_fields (optional (alternative
+    ghost meaning = { sequence (three_fields (optional (alternative
         ⟦<Implicit<DistributionPointNameTagged<'a>, 0> as Described>⟧.element)) (optional
-        (alternative ⟦<Implicit<ReasonFlags<'a>, 1> as Described>⟧.element)))) (seen
-        ⟦<DistributionPointPart2<'a> as FromFields<DistributionPointPart2Fields<'a>>>⟧.fields
-        (optional (alternative ⟦<Implicit<GeneralNames<'a>, 2> as Described>⟧.element))))
-        ⟦<DistributionPoint<'a> as FromFields<(DistributionPointPart1<'a>, DistributionPointPart2<'a>)>>⟧.fields };
+        (alternative ⟦<Implicit<ReasonFlags<'a>, 1> as Described>⟧.element)) (optional (alternative
+        ⟦<Implicit<GeneralNames<'a>, 2> as Described>⟧.element)))
+        ⟦<DistributionPoint<'a> as FromFields<DistributionPointFields<'a>>>⟧.fields };
 
     ghost fits = { (refl, refl) };
 }
@@ -74,17 +64,14 @@ impl<'a, R: Lends<Borrowed = &'a [u8]>> DecodeValue<R> for DistributionPoint<'a>
     type Error = Error;
 
     ghost decode_value_answers = { λ h s result t.
-        ⟦<(DistributionPointPart1<'a>, DistributionPointPart2<'a>) as Decode<SliceReader<'a>>>⟧.decode_answers s
-        (map_ok
-        ⟦<DistributionPoint<'a> as FromFields<(DistributionPointPart1<'a>, DistributionPointPart2<'a>)>>⟧.fields result) t };
+        ⟦<DistributionPointFields<'a> as Decode<SliceReader<'a>>>⟧.decode_answers s (map_ok
+        ⟦<DistributionPoint<'a> as FromFields<DistributionPointFields<'a>>>⟧.fields result) t };
 
     fn decode_value(alloc: Global, reader: &mut R, header: Header) -> Result<Self, Error>
     where
         R: Reader,
     {
-        decode_sequence::<R, (DistributionPointPart1<'a>, DistributionPointPart2<'a>), Self>(
-            alloc, reader, header,
-        )
+        decode_sequence::<R, DistributionPointFields<'a>, Self>(alloc, reader, header)
     }
 }
 
@@ -104,34 +91,26 @@ impl<'a> IsValue for DistributionPoint<'a> {
 
 /// Writes the fields one after the other, with the errors of every [`Sequence`].
 impl<'a> EncodeValue for DistributionPoint<'a> {
-    ghost value_size = { λ v. ⟦<DistributionPointFields<'a> as Encode>⟧.size (
-      ⟦<DistributionPointPart1<'a> as FromFields<DistributionPointPart1Fields<'a>>>⟧.fields
-          (⟦<DistributionPoint<'a> as FromFields<(DistributionPointPart1<'a>, DistributionPointPart2<'a>)>>⟧.fields v).0,
-      ⟦<DistributionPointPart2<'a> as FromFields<DistributionPointPart2Fields<'a>>>⟧.fields
-          (⟦<DistributionPoint<'a> as FromFields<(DistributionPointPart1<'a>, DistributionPointPart2<'a>)>>⟧.fields v).1,
-    ) };
+    ghost value_size = { λ v. ⟦<DistributionPointFields<'a> as Encode>⟧.size
+        (⟦<DistributionPoint<'a> as FromFields<DistributionPointFields<'a>>>⟧.fields v) };
 
-    ghost encode_value_answers = { λ v. ⟦<DistributionPointFields<'a> as Encode>⟧.encode_answers (
-      ⟦<DistributionPointPart1<'a> as FromFields<DistributionPointPart1Fields<'a>>>⟧.fields
-          (⟦<DistributionPoint<'a> as FromFields<(DistributionPointPart1<'a>, DistributionPointPart2<'a>)>>⟧.fields v).0,
-      ⟦<DistributionPointPart2<'a> as FromFields<DistributionPointPart2Fields<'a>>>⟧.fields
-          (⟦<DistributionPoint<'a> as FromFields<(DistributionPointPart1<'a>, DistributionPointPart2<'a>)>>⟧.fields v).1,
-    ) };
+    ghost encode_value_answers = { λ v. ⟦<DistributionPointFields<'a> as Encode>⟧.encode_answers
+        (⟦<DistributionPoint<'a> as FromFields<DistributionPointFields<'a>>>⟧.fields v) };
 
     fn value_len(&self) -> Result<Length, Error> {
-        field_refs!(self, ((distribution_point, reasons), crl_issuer)).encoded_len()
+        field_refs!(self, (distribution_point, reasons, crl_issuer)).encoded_len()
     }
 
     fn encode_value<W: Writer>(&self, writer: &mut W) -> Result<(), Error> {
-        field_refs!(self, ((distribution_point, reasons), crl_issuer)).encode(writer)
+        field_refs!(self, (distribution_point, reasons, crl_issuer)).encode(writer)
     }
 
     fn value_len_before(&self) -> Option<u32> {
-        field_refs!(self, ((distribution_point, reasons), crl_issuer)).len_before()
+        field_refs!(self, (distribution_point, reasons, crl_issuer)).len_before()
     }
 
     fn encode_value_before(&self, buf: &mut [u8], end: u32) -> u32 {
-        field_refs!(self, ((distribution_point, reasons), crl_issuer)).encode_before(buf, end)
+        field_refs!(self, (distribution_point, reasons, crl_issuer)).encode_before(buf, end)
     }
 }
 

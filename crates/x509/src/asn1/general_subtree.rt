@@ -5,12 +5,11 @@ ghost use Rattle.std.specs.Prelude.{◌≡◌};
 ghost use Rattle.std.proofs.Common.{arith, refl};
 ghost use Rattle.der.specs.Prelude.{map_ok};
 ghost use Rattle.der_asn1.specs.Item.{decodes_same};
-ghost use Rattle.der_asn1.specs.Meaning.{alternative, defaulted, field, optional, seen, sequence, sequence_is_item, sequence_item, two_fields};
+ghost use Rattle.der_asn1.specs.Meaning.{alternative, defaulted, field, optional, sequence, sequence_is_item, sequence_item};
+ghost use Rattle.der_asn1.specs.TupleFields.{three_fields};
 
 use crate::asn1::base_distance::BaseDistance;
 use crate::asn1::general_name::GeneralName;
-use crate::asn1::general_subtree_part1::{GeneralSubtreePart1, GeneralSubtreePart1Fields};
-use crate::asn1::general_subtree_part2::{GeneralSubtreePart2, GeneralSubtreePart2Fields};
 use der::{
     Decode, DecodeValue, Encode, EncodeValue, Error, FromFields, Header, IsValue, Lends, Length,
     Reader, Sequence, SliceReader, Writer, decode_sequence, field_refs,
@@ -35,34 +34,33 @@ pub struct GeneralSubtree<'a> {
 }
 
 /// The fields of a [`GeneralSubtree`], in the order in which they are encoded.
-pub type GeneralSubtreeFields<'a> = (GeneralSubtreePart1Fields<'a>, GeneralSubtreePart2Fields<'a>);
+pub type GeneralSubtreeFields<'a> = (
+    GeneralName<'a>,
+    Defaulted<Implicit<WithDefault<IntegerOf<u64>, DefaultU64<0>>, 0>>,
+    Optional<Implicit<BaseDistance<'a>, 1>>,
+);
 
-impl<'a> FromFields<(GeneralSubtreePart1<'a>, GeneralSubtreePart2<'a>)> for GeneralSubtree<'a> {
-    ghost fields = { λ v. (
-      record { base = v.base; minimum = v.minimum },
-      record { maximum = v.maximum },
-    ) };
+impl<'a> FromFields<GeneralSubtreeFields<'a>> for GeneralSubtree<'a> {
+    ghost fields = { λ v. (v.base, v.minimum, v.maximum) };
 
-    fn from_fields(fields: (GeneralSubtreePart1<'a>, GeneralSubtreePart2<'a>)) -> Self {
-        let (part1, part2) = fields;
+    fn from_fields(fields: GeneralSubtreeFields<'a>) -> Self {
+        let (base, minimum, maximum) = fields;
         GeneralSubtree {
-            base: part1.base,
-            minimum: part1.minimum,
-            maximum: part2.maximum,
+            base,
+            minimum,
+            maximum,
         }
     }
 }
 
 impl<'a> Sequence for GeneralSubtree<'a> {
-    ghost meaning = { sequence (two_fields (seen
-        ⟦<GeneralSubtreePart1<'a> as FromFields<GeneralSubtreePart1Fields<'a>>>⟧.fields (two_fields
-        (field ⟦<GeneralName<'a> as DescribedChoice>⟧.alternative) (defaulted
+    ghost meaning = { sequence (three_fields (field
+        ⟦<GeneralName<'a> as DescribedChoice>⟧.alternative) (defaulted
         ⟦<Implicit<WithDefault<IntegerOf<u64>, DefaultU64<0>>, 0> as DefaultValue>⟧.is_default
         (alternative
-        ⟦<Implicit<WithDefault<IntegerOf<u64>, DefaultU64<0>>, 0> as Described>⟧.element)))) (seen
-        ⟦<GeneralSubtreePart2<'a> as FromFields<GeneralSubtreePart2Fields<'a>>>⟧.fields (optional
-        (alternative ⟦<Implicit<BaseDistance<'a>, 1> as Described>⟧.element))))
-        ⟦<GeneralSubtree<'a> as FromFields<(GeneralSubtreePart1<'a>, GeneralSubtreePart2<'a>)>>⟧.fields };
+        ⟦<Implicit<WithDefault<IntegerOf<u64>, DefaultU64<0>>, 0> as Described>⟧.element)) (optional
+        (alternative ⟦<Implicit<BaseDistance<'a>, 1> as Described>⟧.element)))
+        ⟦<GeneralSubtree<'a> as FromFields<GeneralSubtreeFields<'a>>>⟧.fields };
 
     ghost fits = { (refl, refl) };
 }
@@ -72,17 +70,14 @@ impl<'a, R: Lends<Borrowed = &'a [u8]>> DecodeValue<R> for GeneralSubtree<'a> {
     type Error = Error;
 
     ghost decode_value_answers = { λ h s result t.
-        ⟦<(GeneralSubtreePart1<'a>, GeneralSubtreePart2<'a>) as Decode<SliceReader<'a>>>⟧.decode_answers s
-        (map_ok
-        ⟦<GeneralSubtree<'a> as FromFields<(GeneralSubtreePart1<'a>, GeneralSubtreePart2<'a>)>>⟧.fields result) t };
+        ⟦<GeneralSubtreeFields<'a> as Decode<SliceReader<'a>>>⟧.decode_answers s (map_ok
+        ⟦<GeneralSubtree<'a> as FromFields<GeneralSubtreeFields<'a>>>⟧.fields result) t };
 
     fn decode_value(alloc: Global, reader: &mut R, header: Header) -> Result<Self, Error>
     where
         R: Reader,
     {
-        decode_sequence::<R, (GeneralSubtreePart1<'a>, GeneralSubtreePart2<'a>), Self>(
-            alloc, reader, header,
-        )
+        decode_sequence::<R, GeneralSubtreeFields<'a>, Self>(alloc, reader, header)
     }
 }
 
@@ -108,34 +103,26 @@ impl<'a> IsValue for GeneralSubtree<'a> {
 
 /// Writes the fields one after the other, with the errors of every [`Sequence`].
 impl<'a> EncodeValue for GeneralSubtree<'a> {
-    ghost value_size = { λ v. ⟦<GeneralSubtreeFields<'a> as Encode>⟧.size (
-      ⟦<GeneralSubtreePart1<'a> as FromFields<GeneralSubtreePart1Fields<'a>>>⟧.fields
-          (⟦<GeneralSubtree<'a> as FromFields<(GeneralSubtreePart1<'a>, GeneralSubtreePart2<'a>)>>⟧.fields v).0,
-      ⟦<GeneralSubtreePart2<'a> as FromFields<GeneralSubtreePart2Fields<'a>>>⟧.fields
-          (⟦<GeneralSubtree<'a> as FromFields<(GeneralSubtreePart1<'a>, GeneralSubtreePart2<'a>)>>⟧.fields v).1,
-    ) };
+    ghost value_size = { λ v. ⟦<GeneralSubtreeFields<'a> as Encode>⟧.size
+        (⟦<GeneralSubtree<'a> as FromFields<GeneralSubtreeFields<'a>>>⟧.fields v) };
 
-    ghost encode_value_answers = { λ v. ⟦<GeneralSubtreeFields<'a> as Encode>⟧.encode_answers (
-      ⟦<GeneralSubtreePart1<'a> as FromFields<GeneralSubtreePart1Fields<'a>>>⟧.fields
-          (⟦<GeneralSubtree<'a> as FromFields<(GeneralSubtreePart1<'a>, GeneralSubtreePart2<'a>)>>⟧.fields v).0,
-      ⟦<GeneralSubtreePart2<'a> as FromFields<GeneralSubtreePart2Fields<'a>>>⟧.fields
-          (⟦<GeneralSubtree<'a> as FromFields<(GeneralSubtreePart1<'a>, GeneralSubtreePart2<'a>)>>⟧.fields v).1,
-    ) };
+    ghost encode_value_answers = { λ v. ⟦<GeneralSubtreeFields<'a> as Encode>⟧.encode_answers
+        (⟦<GeneralSubtree<'a> as FromFields<GeneralSubtreeFields<'a>>>⟧.fields v) };
 
     fn value_len(&self) -> Result<Length, Error> {
-        field_refs!(self, ((base, minimum), maximum)).encoded_len()
+        field_refs!(self, (base, minimum, maximum)).encoded_len()
     }
 
     fn encode_value<W: Writer>(&self, writer: &mut W) -> Result<(), Error> {
-        field_refs!(self, ((base, minimum), maximum)).encode(writer)
+        field_refs!(self, (base, minimum, maximum)).encode(writer)
     }
 
     fn value_len_before(&self) -> Option<u32> {
-        field_refs!(self, ((base, minimum), maximum)).len_before()
+        field_refs!(self, (base, minimum, maximum)).len_before()
     }
 
     fn encode_value_before(&self, buf: &mut [u8], end: u32) -> u32 {
-        field_refs!(self, ((base, minimum), maximum)).encode_before(buf, end)
+        field_refs!(self, (base, minimum, maximum)).encode_before(buf, end)
     }
 }
 

@@ -5,19 +5,10 @@ ghost use Rattle.std.specs.Prelude.{◌≡◌};
 ghost use Rattle.std.proofs.Common.{arith, refl};
 ghost use Rattle.der.specs.Prelude.{map_ok};
 ghost use Rattle.der_asn1.specs.Item.{decodes_same};
-ghost use Rattle.der_asn1.specs.Meaning.{alternative, defaulted, optional, seen, sequence, sequence_is_item, sequence_item, two_fields};
-ghost use Rattle.der_asn1.specs.TupleFields.{three_fields};
+ghost use Rattle.der_asn1.specs.Meaning.{alternative, defaulted, optional, sequence, sequence_is_item, sequence_item};
+ghost use Rattle.der_asn1.specs.TupleFields.{six_fields};
 
 use crate::asn1::distribution_point_name_tagged::DistributionPointNameTagged;
-use crate::asn1::issuing_distribution_point_part1::{
-    IssuingDistributionPointPart1, IssuingDistributionPointPart1Fields,
-};
-use crate::asn1::issuing_distribution_point_part2::{
-    IssuingDistributionPointPart2, IssuingDistributionPointPart2Fields,
-};
-use crate::asn1::issuing_distribution_point_part3::{
-    IssuingDistributionPointPart3, IssuingDistributionPointPart3Fields,
-};
 use crate::asn1::reason_flags::ReasonFlags;
 use der::{
     Decode, DecodeValue, Encode, EncodeValue, Error, FromFields, Header, IsValue, Lends, Length,
@@ -49,69 +40,57 @@ pub struct IssuingDistributionPoint<'a> {
 
 /// The fields of a [`IssuingDistributionPoint`], in the order in which they are encoded.
 pub type IssuingDistributionPointFields<'a> = (
-    IssuingDistributionPointPart1Fields<'a>,
-    IssuingDistributionPointPart2Fields<'a>,
-    IssuingDistributionPointPart3Fields<'a>,
+    Optional<Implicit<DistributionPointNameTagged<'a>, 0>>,
+    Defaulted<Implicit<BooleanRef<'a>, 1>>,
+    Defaulted<Implicit<BooleanRef<'a>, 2>>,
+    Optional<Implicit<ReasonFlags<'a>, 3>>,
+    Defaulted<Implicit<BooleanRef<'a>, 4>>,
+    Defaulted<Implicit<BooleanRef<'a>, 5>>,
 );
 
-impl<'a> FromFields<
-    (
-        IssuingDistributionPointPart1<'a>,
-        IssuingDistributionPointPart2<'a>,
-        IssuingDistributionPointPart3<'a>,
-    ),
-> for IssuingDistributionPoint<'a> {
+impl<'a> FromFields<IssuingDistributionPointFields<'a>> for IssuingDistributionPoint<'a> {
     ghost fields = { λ v. (
-      record {
-        distribution_point = v.distribution_point;
-        only_contains_user_certs = v.only_contains_user_certs;
-      },
-      record {
-        only_contains_ca_certs = v.only_contains_ca_certs;
-        only_some_reasons = v.only_some_reasons;
-      },
-      record {
-        indirect_crl = v.indirect_crl;
-        only_contains_attribute_certs = v.only_contains_attribute_certs;
-      },
+      v.distribution_point,
+      v.only_contains_user_certs,
+      v.only_contains_ca_certs,
+      v.only_some_reasons,
+      v.indirect_crl,
+      v.only_contains_attribute_certs,
     ) };
 
-    fn from_fields(
-        fields: (
-            IssuingDistributionPointPart1<'a>,
-            IssuingDistributionPointPart2<'a>,
-            IssuingDistributionPointPart3<'a>,
-        ),
-    ) -> Self {
-        let (part1, part2, part3) = fields;
+    fn from_fields(fields: IssuingDistributionPointFields<'a>) -> Self {
+        let (
+            distribution_point,
+            only_contains_user_certs,
+            only_contains_ca_certs,
+            only_some_reasons,
+            indirect_crl,
+            only_contains_attribute_certs,
+        ) = fields;
         IssuingDistributionPoint {
-            distribution_point: part1.distribution_point,
-            only_contains_user_certs: part1.only_contains_user_certs,
-            only_contains_ca_certs: part2.only_contains_ca_certs,
-            only_some_reasons: part2.only_some_reasons,
-            indirect_crl: part3.indirect_crl,
-            only_contains_attribute_certs: part3.only_contains_attribute_certs,
+            distribution_point,
+            only_contains_user_certs,
+            only_contains_ca_certs,
+            only_some_reasons,
+            indirect_crl,
+            only_contains_attribute_certs,
         }
     }
 }
 
 impl<'a> Sequence for IssuingDistributionPoint<'a> {
-    ghost meaning = { sequence (three_fields (seen
-        ⟦<IssuingDistributionPointPart1<'a> as FromFields<IssuingDistributionPointPart1Fields<'a>>>⟧.fields
-        (two_fields (optional (alternative
+    ghost meaning = { sequence (six_fields (optional (alternative
         ⟦<Implicit<DistributionPointNameTagged<'a>, 0> as Described>⟧.element)) (defaulted
         ⟦<Implicit<BooleanRef<'a>, 1> as DefaultValue>⟧.is_default (alternative
-        ⟦<Implicit<BooleanRef<'a>, 1> as Described>⟧.element)))) (seen
-        ⟦<IssuingDistributionPointPart2<'a> as FromFields<IssuingDistributionPointPart2Fields<'a>>>⟧.fields
-        (two_fields (defaulted ⟦<Implicit<BooleanRef<'a>, 2> as DefaultValue>⟧.is_default
-        (alternative ⟦<Implicit<BooleanRef<'a>, 2> as Described>⟧.element)) (optional (alternative
-        ⟦<Implicit<ReasonFlags<'a>, 3> as Described>⟧.element)))) (seen
-        ⟦<IssuingDistributionPointPart3<'a> as FromFields<IssuingDistributionPointPart3Fields<'a>>>⟧.fields
-        (two_fields (defaulted ⟦<Implicit<BooleanRef<'a>, 4> as DefaultValue>⟧.is_default
-        (alternative ⟦<Implicit<BooleanRef<'a>, 4> as Described>⟧.element)) (defaulted
+        ⟦<Implicit<BooleanRef<'a>, 1> as Described>⟧.element)) (defaulted
+        ⟦<Implicit<BooleanRef<'a>, 2> as DefaultValue>⟧.is_default (alternative
+        ⟦<Implicit<BooleanRef<'a>, 2> as Described>⟧.element)) (optional (alternative
+        ⟦<Implicit<ReasonFlags<'a>, 3> as Described>⟧.element)) (defaulted
+        ⟦<Implicit<BooleanRef<'a>, 4> as DefaultValue>⟧.is_default (alternative
+        ⟦<Implicit<BooleanRef<'a>, 4> as Described>⟧.element)) (defaulted
         ⟦<Implicit<BooleanRef<'a>, 5> as DefaultValue>⟧.is_default (alternative
-        ⟦<Implicit<BooleanRef<'a>, 5> as Described>⟧.element)))))
-        ⟦<IssuingDistributionPoint<'a> as FromFields<(IssuingDistributionPointPart1<'a>, IssuingDistributionPointPart2<'a>, IssuingDistributionPointPart3<'a>)>>⟧.fields };
+        ⟦<Implicit<BooleanRef<'a>, 5> as Described>⟧.element)))
+        ⟦<IssuingDistributionPoint<'a> as FromFields<IssuingDistributionPointFields<'a>>>⟧.fields };
 
     ghost fits = { (refl, refl) };
 }
@@ -121,23 +100,14 @@ impl<'a, R: Lends<Borrowed = &'a [u8]>> DecodeValue<R> for IssuingDistributionPo
     type Error = Error;
 
     ghost decode_value_answers = { λ h s result t.
-        ⟦<(IssuingDistributionPointPart1<'a>, IssuingDistributionPointPart2<'a>, IssuingDistributionPointPart3<'a>) as Decode<SliceReader<'a>>>⟧.decode_answers s
-        (map_ok
-        ⟦<IssuingDistributionPoint<'a> as FromFields<(IssuingDistributionPointPart1<'a>, IssuingDistributionPointPart2<'a>, IssuingDistributionPointPart3<'a>)>>⟧.fields result) t };
+        ⟦<IssuingDistributionPointFields<'a> as Decode<SliceReader<'a>>>⟧.decode_answers s (map_ok
+        ⟦<IssuingDistributionPoint<'a> as FromFields<IssuingDistributionPointFields<'a>>>⟧.fields result) t };
 
     fn decode_value(alloc: Global, reader: &mut R, header: Header) -> Result<Self, Error>
     where
         R: Reader,
     {
-        decode_sequence::<
-            R,
-            (
-                IssuingDistributionPointPart1<'a>,
-                IssuingDistributionPointPart2<'a>,
-                IssuingDistributionPointPart3<'a>,
-            ),
-            Self,
-        >(alloc, reader, header)
+        decode_sequence::<R, IssuingDistributionPointFields<'a>, Self>(alloc, reader, header)
     }
 }
 
@@ -158,32 +128,23 @@ impl<'a> IsValue for IssuingDistributionPoint<'a> {
 
 /// Writes the fields one after the other, with the errors of every [`Sequence`].
 impl<'a> EncodeValue for IssuingDistributionPoint<'a> {
-    ghost value_size = { λ v. ⟦<IssuingDistributionPointFields<'a> as Encode>⟧.size (
-      ⟦<IssuingDistributionPointPart1<'a> as FromFields<IssuingDistributionPointPart1Fields<'a>>>⟧.fields
-          (⟦<IssuingDistributionPoint<'a> as FromFields<(IssuingDistributionPointPart1<'a>, IssuingDistributionPointPart2<'a>, IssuingDistributionPointPart3<'a>)>>⟧.fields v).0,
-      ⟦<IssuingDistributionPointPart2<'a> as FromFields<IssuingDistributionPointPart2Fields<'a>>>⟧.fields
-          (⟦<IssuingDistributionPoint<'a> as FromFields<(IssuingDistributionPointPart1<'a>, IssuingDistributionPointPart2<'a>, IssuingDistributionPointPart3<'a>)>>⟧.fields v).1,
-      ⟦<IssuingDistributionPointPart3<'a> as FromFields<IssuingDistributionPointPart3Fields<'a>>>⟧.fields
-          (⟦<IssuingDistributionPoint<'a> as FromFields<(IssuingDistributionPointPart1<'a>, IssuingDistributionPointPart2<'a>, IssuingDistributionPointPart3<'a>)>>⟧.fields v).2,
-    ) };
+    ghost value_size = { λ v. ⟦<IssuingDistributionPointFields<'a> as Encode>⟧.size
+        (⟦<IssuingDistributionPoint<'a> as FromFields<IssuingDistributionPointFields<'a>>>⟧.fields v) };
 
     ghost encode_value_answers = { λ v.
-        ⟦<IssuingDistributionPointFields<'a> as Encode>⟧.encode_answers (
-          ⟦<IssuingDistributionPointPart1<'a> as FromFields<IssuingDistributionPointPart1Fields<'a>>>⟧.fields
-              (⟦<IssuingDistributionPoint<'a> as FromFields<(IssuingDistributionPointPart1<'a>, IssuingDistributionPointPart2<'a>, IssuingDistributionPointPart3<'a>)>>⟧.fields v).0,
-          ⟦<IssuingDistributionPointPart2<'a> as FromFields<IssuingDistributionPointPart2Fields<'a>>>⟧.fields
-              (⟦<IssuingDistributionPoint<'a> as FromFields<(IssuingDistributionPointPart1<'a>, IssuingDistributionPointPart2<'a>, IssuingDistributionPointPart3<'a>)>>⟧.fields v).1,
-          ⟦<IssuingDistributionPointPart3<'a> as FromFields<IssuingDistributionPointPart3Fields<'a>>>⟧.fields
-              (⟦<IssuingDistributionPoint<'a> as FromFields<(IssuingDistributionPointPart1<'a>, IssuingDistributionPointPart2<'a>, IssuingDistributionPointPart3<'a>)>>⟧.fields v).2,
-        ) };
+        ⟦<IssuingDistributionPointFields<'a> as Encode>⟧.encode_answers
+        (⟦<IssuingDistributionPoint<'a> as FromFields<IssuingDistributionPointFields<'a>>>⟧.fields v) };
 
     fn value_len(&self) -> Result<Length, Error> {
         field_refs!(
             self,
             (
-                (distribution_point, only_contains_user_certs),
-                (only_contains_ca_certs, only_some_reasons),
-                (indirect_crl, only_contains_attribute_certs)
+                distribution_point,
+                only_contains_user_certs,
+                only_contains_ca_certs,
+                only_some_reasons,
+                indirect_crl,
+                only_contains_attribute_certs
             )
         )
         .encoded_len()
@@ -193,9 +154,12 @@ impl<'a> EncodeValue for IssuingDistributionPoint<'a> {
         field_refs!(
             self,
             (
-                (distribution_point, only_contains_user_certs),
-                (only_contains_ca_certs, only_some_reasons),
-                (indirect_crl, only_contains_attribute_certs)
+                distribution_point,
+                only_contains_user_certs,
+                only_contains_ca_certs,
+                only_some_reasons,
+                indirect_crl,
+                only_contains_attribute_certs
             )
         )
         .encode(writer)
@@ -205,9 +169,12 @@ impl<'a> EncodeValue for IssuingDistributionPoint<'a> {
         field_refs!(
             self,
             (
-                (distribution_point, only_contains_user_certs),
-                (only_contains_ca_certs, only_some_reasons),
-                (indirect_crl, only_contains_attribute_certs)
+                distribution_point,
+                only_contains_user_certs,
+                only_contains_ca_certs,
+                only_some_reasons,
+                indirect_crl,
+                only_contains_attribute_certs
             )
         )
         .len_before()
@@ -217,9 +184,12 @@ impl<'a> EncodeValue for IssuingDistributionPoint<'a> {
         field_refs!(
             self,
             (
-                (distribution_point, only_contains_user_certs),
-                (only_contains_ca_certs, only_some_reasons),
-                (indirect_crl, only_contains_attribute_certs)
+                distribution_point,
+                only_contains_user_certs,
+                only_contains_ca_certs,
+                only_some_reasons,
+                indirect_crl,
+                only_contains_attribute_certs
             )
         )
         .encode_before(buf, end)

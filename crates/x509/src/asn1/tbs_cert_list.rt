@@ -5,15 +5,13 @@ ghost use Rattle.std.specs.Prelude.{◌≡◌};
 ghost use Rattle.std.proofs.Common.{arith, refl};
 ghost use Rattle.der.specs.Prelude.{map_ok};
 ghost use Rattle.der_asn1.specs.Item.{decodes_same};
-ghost use Rattle.der_asn1.specs.Meaning.{alternative, field, optional, seen, sequence, sequence_is_item, sequence_item, two_fields};
-ghost use Rattle.der_asn1.specs.TupleFields.{four_fields, three_fields};
+ghost use Rattle.der_asn1.specs.Meaning.{alternative, field, optional, sequence, sequence_is_item, sequence_item};
+ghost use Rattle.der_asn1.specs.TupleFields.{seven_fields};
 
 use crate::Version;
 use crate::asn1::extensions::Extensions;
 use crate::asn1::name::Name;
 use crate::asn1::revoked_certificates::RevokedCertificates;
-use crate::asn1::tbs_cert_list_part1::{TbsCertListPart1, TbsCertListPart1Fields};
-use crate::asn1::tbs_cert_list_part2::{TbsCertListPart2, TbsCertListPart2Fields};
 use crate::asn1::time::Time;
 use der::{
     Decode, DecodeValue, Encode, EncodeValue, Error, FromFields, Header, IsValue, Lends, Length,
@@ -48,48 +46,58 @@ pub struct TbsCertList<'a> {
 }
 
 /// The fields of a [`TbsCertList`], in the order in which they are encoded.
-pub type TbsCertListFields<'a> = (TbsCertListPart1Fields<'a>, TbsCertListPart2Fields<'a>);
+pub type TbsCertListFields<'a> = (
+    Optional<Version<'a>>,
+    AlgorithmIdentifierRef<'a>,
+    Name<'a>,
+    Time,
+    Optional<Time>,
+    Optional<RevokedCertificates<'a>>,
+    Optional<Explicit<Extensions<'a>, 0>>,
+);
 
-impl<'a> FromFields<(TbsCertListPart1<'a>, TbsCertListPart2<'a>)> for TbsCertList<'a> {
+impl<'a> FromFields<TbsCertListFields<'a>> for TbsCertList<'a> {
     ghost fields = { λ v. (
-      record {
-        version = v.version;
-        signature = v.signature;
-        issuer = v.issuer;
-        this_update = v.this_update;
-      },
-      record {
-        next_update = v.next_update;
-        revoked_certificates = v.revoked_certificates;
-        crl_extensions = v.crl_extensions;
-      },
+      v.version,
+      v.signature,
+      v.issuer,
+      v.this_update,
+      v.next_update,
+      v.revoked_certificates,
+      v.crl_extensions,
     ) };
 
-    fn from_fields(fields: (TbsCertListPart1<'a>, TbsCertListPart2<'a>)) -> Self {
-        let (part1, part2) = fields;
+    fn from_fields(fields: TbsCertListFields<'a>) -> Self {
+        let (
+            version,
+            signature,
+            issuer,
+            this_update,
+            next_update,
+            revoked_certificates,
+            crl_extensions,
+        ) = fields;
         TbsCertList {
-            version: part1.version,
-            signature: part1.signature,
-            issuer: part1.issuer,
-            this_update: part1.this_update,
-            next_update: part2.next_update,
-            revoked_certificates: part2.revoked_certificates,
-            crl_extensions: part2.crl_extensions,
+            version,
+            signature,
+            issuer,
+            this_update,
+            next_update,
+            revoked_certificates,
+            crl_extensions,
         }
     }
 }
 
 impl<'a> Sequence for TbsCertList<'a> {
-    ghost meaning = { sequence (two_fields (seen
-        ⟦<TbsCertListPart1<'a> as FromFields<TbsCertListPart1Fields<'a>>>⟧.fields (four_fields
-        (optional (alternative ⟦<Version<'a> as Described>⟧.element)) (field (alternative
+    ghost meaning = { sequence (seven_fields (optional (alternative
+        ⟦<Version<'a> as Described>⟧.element)) (field (alternative
         ⟦<AlgorithmIdentifierRef<'a> as Described>⟧.element)) (field (alternative
-        ⟦<Name<'a> as Described>⟧.element)) (field ⟦<Time as DescribedChoice>⟧.alternative))) (seen
-        ⟦<TbsCertListPart2<'a> as FromFields<TbsCertListPart2Fields<'a>>>⟧.fields (three_fields
+        ⟦<Name<'a> as Described>⟧.element)) (field ⟦<Time as DescribedChoice>⟧.alternative)
         (optional ⟦<Time as DescribedChoice>⟧.alternative) (optional (alternative
         ⟦<RevokedCertificates<'a> as Described>⟧.element)) (optional (alternative
-        ⟦<Explicit<Extensions<'a>, 0> as Described>⟧.element)))))
-        ⟦<TbsCertList<'a> as FromFields<(TbsCertListPart1<'a>, TbsCertListPart2<'a>)>>⟧.fields };
+        ⟦<Explicit<Extensions<'a>, 0> as Described>⟧.element)))
+        ⟦<TbsCertList<'a> as FromFields<TbsCertListFields<'a>>>⟧.fields };
 
     ghost fits = { (refl, refl) };
 }
@@ -99,16 +107,14 @@ impl<'a, R: Lends<Borrowed = &'a [u8]>> DecodeValue<R> for TbsCertList<'a> {
     type Error = Error;
 
     ghost decode_value_answers = { λ h s result t.
-        ⟦<(TbsCertListPart1<'a>, TbsCertListPart2<'a>) as Decode<SliceReader<'a>>>⟧.decode_answers s (map_ok
-        ⟦<TbsCertList<'a> as FromFields<(TbsCertListPart1<'a>, TbsCertListPart2<'a>)>>⟧.fields result) t };
+        ⟦<TbsCertListFields<'a> as Decode<SliceReader<'a>>>⟧.decode_answers s (map_ok
+        ⟦<TbsCertList<'a> as FromFields<TbsCertListFields<'a>>>⟧.fields result) t };
 
     fn decode_value(alloc: Global, reader: &mut R, header: Header) -> Result<Self, Error>
     where
         R: Reader,
     {
-        decode_sequence::<R, (TbsCertListPart1<'a>, TbsCertListPart2<'a>), Self>(
-            alloc, reader, header,
-        )
+        decode_sequence::<R, TbsCertListFields<'a>, Self>(alloc, reader, header)
     }
 }
 
@@ -140,26 +146,23 @@ impl<'a> IsValue for TbsCertList<'a> {
 
 /// Writes the fields one after the other, with the errors of every [`Sequence`].
 impl<'a> EncodeValue for TbsCertList<'a> {
-    ghost value_size = { λ v. ⟦<TbsCertListFields<'a> as Encode>⟧.size (
-      ⟦<TbsCertListPart1<'a> as FromFields<TbsCertListPart1Fields<'a>>>⟧.fields
-          (⟦<TbsCertList<'a> as FromFields<(TbsCertListPart1<'a>, TbsCertListPart2<'a>)>>⟧.fields v).0,
-      ⟦<TbsCertListPart2<'a> as FromFields<TbsCertListPart2Fields<'a>>>⟧.fields
-          (⟦<TbsCertList<'a> as FromFields<(TbsCertListPart1<'a>, TbsCertListPart2<'a>)>>⟧.fields v).1,
-    ) };
+    ghost value_size = { λ v. ⟦<TbsCertListFields<'a> as Encode>⟧.size
+        (⟦<TbsCertList<'a> as FromFields<TbsCertListFields<'a>>>⟧.fields v) };
 
-    ghost encode_value_answers = { λ v. ⟦<TbsCertListFields<'a> as Encode>⟧.encode_answers (
-      ⟦<TbsCertListPart1<'a> as FromFields<TbsCertListPart1Fields<'a>>>⟧.fields
-          (⟦<TbsCertList<'a> as FromFields<(TbsCertListPart1<'a>, TbsCertListPart2<'a>)>>⟧.fields v).0,
-      ⟦<TbsCertListPart2<'a> as FromFields<TbsCertListPart2Fields<'a>>>⟧.fields
-          (⟦<TbsCertList<'a> as FromFields<(TbsCertListPart1<'a>, TbsCertListPart2<'a>)>>⟧.fields v).1,
-    ) };
+    ghost encode_value_answers = { λ v. ⟦<TbsCertListFields<'a> as Encode>⟧.encode_answers
+        (⟦<TbsCertList<'a> as FromFields<TbsCertListFields<'a>>>⟧.fields v) };
 
     fn value_len(&self) -> Result<Length, Error> {
         field_refs!(
             self,
             (
-                (version, signature, issuer, this_update),
-                (next_update, revoked_certificates, crl_extensions)
+                version,
+                signature,
+                issuer,
+                this_update,
+                next_update,
+                revoked_certificates,
+                crl_extensions
             )
         )
         .encoded_len()
@@ -169,8 +172,13 @@ impl<'a> EncodeValue for TbsCertList<'a> {
         field_refs!(
             self,
             (
-                (version, signature, issuer, this_update),
-                (next_update, revoked_certificates, crl_extensions)
+                version,
+                signature,
+                issuer,
+                this_update,
+                next_update,
+                revoked_certificates,
+                crl_extensions
             )
         )
         .encode(writer)
@@ -180,8 +188,13 @@ impl<'a> EncodeValue for TbsCertList<'a> {
         field_refs!(
             self,
             (
-                (version, signature, issuer, this_update),
-                (next_update, revoked_certificates, crl_extensions)
+                version,
+                signature,
+                issuer,
+                this_update,
+                next_update,
+                revoked_certificates,
+                crl_extensions
             )
         )
         .len_before()
@@ -191,8 +204,13 @@ impl<'a> EncodeValue for TbsCertList<'a> {
         field_refs!(
             self,
             (
-                (version, signature, issuer, this_update),
-                (next_update, revoked_certificates, crl_extensions)
+                version,
+                signature,
+                issuer,
+                this_update,
+                next_update,
+                revoked_certificates,
+                crl_extensions
             )
         )
         .encode_before(buf, end)

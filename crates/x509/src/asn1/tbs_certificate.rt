@@ -5,16 +5,13 @@ ghost use Rattle.std.specs.Prelude.{◌≡◌};
 ghost use Rattle.std.proofs.Common.{arith, refl};
 ghost use Rattle.der.specs.Prelude.{map_ok};
 ghost use Rattle.der_asn1.specs.Item.{decodes_same};
-ghost use Rattle.der_asn1.specs.Meaning.{alternative, defaulted, field, optional, seen, sequence, sequence_is_item, sequence_item, two_fields};
-ghost use Rattle.der_asn1.specs.TupleFields.{four_fields, three_fields};
+ghost use Rattle.der_asn1.specs.Meaning.{alternative, defaulted, field, optional, sequence, sequence_is_item, sequence_item};
+ghost use Rattle.der_asn1.specs.TupleFields.{ten_fields};
 
 use crate::Version;
 use crate::asn1::certificate_serial_number::CertificateSerialNumber;
 use crate::asn1::extensions::Extensions;
 use crate::asn1::name::Name;
-use crate::asn1::tbs_certificate_part1::{TbsCertificatePart1, TbsCertificatePart1Fields};
-use crate::asn1::tbs_certificate_part2::{TbsCertificatePart2, TbsCertificatePart2Fields};
-use crate::asn1::tbs_certificate_part3::{TbsCertificatePart3, TbsCertificatePart3Fields};
 use crate::asn1::validity::Validity;
 use der::{
     Decode, DecodeValue, Encode, EncodeValue, Error, FromFields, Header, IsValue, Lends, Length,
@@ -56,77 +53,73 @@ pub struct TbsCertificate<'a> {
 
 /// The fields of a [`TbsCertificate`], in the order in which they are encoded.
 pub type TbsCertificateFields<'a> = (
-    TbsCertificatePart1Fields<'a>,
-    TbsCertificatePart2Fields<'a>,
-    TbsCertificatePart3Fields<'a>,
+    Defaulted<Explicit<Version<'a>, 0>>,
+    CertificateSerialNumber<'a>,
+    AlgorithmIdentifierRef<'a>,
+    Name<'a>,
+    Validity,
+    Name<'a>,
+    SubjectPublicKeyInfoRef<'a>,
+    Optional<Implicit<BitStringRef<'a>, 1>>,
+    Optional<Implicit<BitStringRef<'a>, 2>>,
+    Optional<Explicit<Extensions<'a>, 3>>,
 );
 
-impl<'a> FromFields<
-    (
-        TbsCertificatePart1<'a>,
-        TbsCertificatePart2<'a>,
-        TbsCertificatePart3<'a>,
-    ),
-> for TbsCertificate<'a> {
+impl<'a> FromFields<TbsCertificateFields<'a>> for TbsCertificate<'a> {
     ghost fields = { λ v. (
-      record {
-        version = v.version;
-        serial_number = v.serial_number;
-        signature = v.signature;
-        issuer = v.issuer;
-      },
-      record {
-        validity = v.validity;
-        subject = v.subject;
-        subject_public_key_info = v.subject_public_key_info;
-        issuer_unique_id = v.issuer_unique_id;
-      },
-      record {
-        subject_unique_id = v.subject_unique_id;
-        extensions = v.extensions;
-      },
+      v.version,
+      v.serial_number,
+      v.signature,
+      v.issuer,
+      v.validity,
+      v.subject,
+      v.subject_public_key_info,
+      v.issuer_unique_id,
+      v.subject_unique_id,
+      v.extensions,
     ) };
 
-    fn from_fields(
-        fields: (
-            TbsCertificatePart1<'a>,
-            TbsCertificatePart2<'a>,
-            TbsCertificatePart3<'a>,
-        ),
-    ) -> Self {
-        let (part1, part2, part3) = fields;
+    fn from_fields(fields: TbsCertificateFields<'a>) -> Self {
+        let (
+            version,
+            serial_number,
+            signature,
+            issuer,
+            validity,
+            subject,
+            subject_public_key_info,
+            issuer_unique_id,
+            subject_unique_id,
+            extensions,
+        ) = fields;
         TbsCertificate {
-            version: part1.version,
-            serial_number: part1.serial_number,
-            signature: part1.signature,
-            issuer: part1.issuer,
-            validity: part2.validity,
-            subject: part2.subject,
-            subject_public_key_info: part2.subject_public_key_info,
-            issuer_unique_id: part2.issuer_unique_id,
-            subject_unique_id: part3.subject_unique_id,
-            extensions: part3.extensions,
+            version,
+            serial_number,
+            signature,
+            issuer,
+            validity,
+            subject,
+            subject_public_key_info,
+            issuer_unique_id,
+            subject_unique_id,
+            extensions,
         }
     }
 }
 
 impl<'a> Sequence for TbsCertificate<'a> {
-    ghost meaning = { sequence (three_fields (seen
-        ⟦<TbsCertificatePart1<'a> as FromFields<TbsCertificatePart1Fields<'a>>>⟧.fields (four_fields
-        (defaulted ⟦<Explicit<Version<'a>, 0> as DefaultValue>⟧.is_default (alternative
+    ghost meaning = { sequence (ten_fields (defaulted
+        ⟦<Explicit<Version<'a>, 0> as DefaultValue>⟧.is_default (alternative
         ⟦<Explicit<Version<'a>, 0> as Described>⟧.element)) (field (alternative
         ⟦<CertificateSerialNumber<'a> as Described>⟧.element)) (field (alternative
         ⟦<AlgorithmIdentifierRef<'a> as Described>⟧.element)) (field (alternative
-        ⟦<Name<'a> as Described>⟧.element)))) (seen
-        ⟦<TbsCertificatePart2<'a> as FromFields<TbsCertificatePart2Fields<'a>>>⟧.fields (four_fields
-        (field (alternative ⟦<Validity as Described>⟧.element)) (field (alternative
-        ⟦<Name<'a> as Described>⟧.element)) (field (alternative
+        ⟦<Name<'a> as Described>⟧.element)) (field (alternative ⟦<Validity as Described>⟧.element))
+        (field (alternative ⟦<Name<'a> as Described>⟧.element)) (field (alternative
         ⟦<SubjectPublicKeyInfoRef<'a> as Described>⟧.element)) (optional (alternative
-        ⟦<Implicit<BitStringRef<'a>, 1> as Described>⟧.element)))) (seen
-        ⟦<TbsCertificatePart3<'a> as FromFields<TbsCertificatePart3Fields<'a>>>⟧.fields (two_fields
-        (optional (alternative ⟦<Implicit<BitStringRef<'a>, 2> as Described>⟧.element)) (optional
-        (alternative ⟦<Explicit<Extensions<'a>, 3> as Described>⟧.element)))))
-        ⟦<TbsCertificate<'a> as FromFields<(TbsCertificatePart1<'a>, TbsCertificatePart2<'a>, TbsCertificatePart3<'a>)>>⟧.fields };
+        ⟦<Implicit<BitStringRef<'a>, 1> as Described>⟧.element)) (optional (alternative
+        ⟦<Implicit<BitStringRef<'a>, 2> as Described>⟧.element)) (optional (alternative
+        ⟦<Explicit<Extensions<'a>, 3> as Described>⟧.element)))
+        ⟦<TbsCertificate<'a> as FromFields<TbsCertificateFields<'a>>>⟧.fields };
 
     ghost fits = { (refl, refl) };
 }
@@ -136,23 +129,14 @@ impl<'a, R: Lends<Borrowed = &'a [u8]>> DecodeValue<R> for TbsCertificate<'a> {
     type Error = Error;
 
     ghost decode_value_answers = { λ h s result t.
-        ⟦<(TbsCertificatePart1<'a>, TbsCertificatePart2<'a>, TbsCertificatePart3<'a>) as Decode<SliceReader<'a>>>⟧.decode_answers s
-        (map_ok
-        ⟦<TbsCertificate<'a> as FromFields<(TbsCertificatePart1<'a>, TbsCertificatePart2<'a>, TbsCertificatePart3<'a>)>>⟧.fields result) t };
+        ⟦<TbsCertificateFields<'a> as Decode<SliceReader<'a>>>⟧.decode_answers s (map_ok
+        ⟦<TbsCertificate<'a> as FromFields<TbsCertificateFields<'a>>>⟧.fields result) t };
 
     fn decode_value(alloc: Global, reader: &mut R, header: Header) -> Result<Self, Error>
     where
         R: Reader,
     {
-        decode_sequence::<
-            R,
-            (
-                TbsCertificatePart1<'a>,
-                TbsCertificatePart2<'a>,
-                TbsCertificatePart3<'a>,
-            ),
-            Self,
-        >(alloc, reader, header)
+        decode_sequence::<R, TbsCertificateFields<'a>, Self>(alloc, reader, header)
     }
 }
 
@@ -179,31 +163,26 @@ impl<'a> IsValue for TbsCertificate<'a> {
 
 /// Writes the fields one after the other, with the errors of every [`Sequence`].
 impl<'a> EncodeValue for TbsCertificate<'a> {
-    ghost value_size = { λ v. ⟦<TbsCertificateFields<'a> as Encode>⟧.size (
-      ⟦<TbsCertificatePart1<'a> as FromFields<TbsCertificatePart1Fields<'a>>>⟧.fields
-          (⟦<TbsCertificate<'a> as FromFields<(TbsCertificatePart1<'a>, TbsCertificatePart2<'a>, TbsCertificatePart3<'a>)>>⟧.fields v).0,
-      ⟦<TbsCertificatePart2<'a> as FromFields<TbsCertificatePart2Fields<'a>>>⟧.fields
-          (⟦<TbsCertificate<'a> as FromFields<(TbsCertificatePart1<'a>, TbsCertificatePart2<'a>, TbsCertificatePart3<'a>)>>⟧.fields v).1,
-      ⟦<TbsCertificatePart3<'a> as FromFields<TbsCertificatePart3Fields<'a>>>⟧.fields
-          (⟦<TbsCertificate<'a> as FromFields<(TbsCertificatePart1<'a>, TbsCertificatePart2<'a>, TbsCertificatePart3<'a>)>>⟧.fields v).2,
-    ) };
+    ghost value_size = { λ v. ⟦<TbsCertificateFields<'a> as Encode>⟧.size
+        (⟦<TbsCertificate<'a> as FromFields<TbsCertificateFields<'a>>>⟧.fields v) };
 
-    ghost encode_value_answers = { λ v. ⟦<TbsCertificateFields<'a> as Encode>⟧.encode_answers (
-      ⟦<TbsCertificatePart1<'a> as FromFields<TbsCertificatePart1Fields<'a>>>⟧.fields
-          (⟦<TbsCertificate<'a> as FromFields<(TbsCertificatePart1<'a>, TbsCertificatePart2<'a>, TbsCertificatePart3<'a>)>>⟧.fields v).0,
-      ⟦<TbsCertificatePart2<'a> as FromFields<TbsCertificatePart2Fields<'a>>>⟧.fields
-          (⟦<TbsCertificate<'a> as FromFields<(TbsCertificatePart1<'a>, TbsCertificatePart2<'a>, TbsCertificatePart3<'a>)>>⟧.fields v).1,
-      ⟦<TbsCertificatePart3<'a> as FromFields<TbsCertificatePart3Fields<'a>>>⟧.fields
-          (⟦<TbsCertificate<'a> as FromFields<(TbsCertificatePart1<'a>, TbsCertificatePart2<'a>, TbsCertificatePart3<'a>)>>⟧.fields v).2,
-    ) };
+    ghost encode_value_answers = { λ v. ⟦<TbsCertificateFields<'a> as Encode>⟧.encode_answers
+        (⟦<TbsCertificate<'a> as FromFields<TbsCertificateFields<'a>>>⟧.fields v) };
 
     fn value_len(&self) -> Result<Length, Error> {
         field_refs!(
             self,
             (
-                (version, serial_number, signature, issuer),
-                (validity, subject, subject_public_key_info, issuer_unique_id),
-                (subject_unique_id, extensions)
+                version,
+                serial_number,
+                signature,
+                issuer,
+                validity,
+                subject,
+                subject_public_key_info,
+                issuer_unique_id,
+                subject_unique_id,
+                extensions
             )
         )
         .encoded_len()
@@ -213,9 +192,16 @@ impl<'a> EncodeValue for TbsCertificate<'a> {
         field_refs!(
             self,
             (
-                (version, serial_number, signature, issuer),
-                (validity, subject, subject_public_key_info, issuer_unique_id),
-                (subject_unique_id, extensions)
+                version,
+                serial_number,
+                signature,
+                issuer,
+                validity,
+                subject,
+                subject_public_key_info,
+                issuer_unique_id,
+                subject_unique_id,
+                extensions
             )
         )
         .encode(writer)
@@ -225,9 +211,16 @@ impl<'a> EncodeValue for TbsCertificate<'a> {
         field_refs!(
             self,
             (
-                (version, serial_number, signature, issuer),
-                (validity, subject, subject_public_key_info, issuer_unique_id),
-                (subject_unique_id, extensions)
+                version,
+                serial_number,
+                signature,
+                issuer,
+                validity,
+                subject,
+                subject_public_key_info,
+                issuer_unique_id,
+                subject_unique_id,
+                extensions
             )
         )
         .len_before()
@@ -237,9 +230,16 @@ impl<'a> EncodeValue for TbsCertificate<'a> {
         field_refs!(
             self,
             (
-                (version, serial_number, signature, issuer),
-                (validity, subject, subject_public_key_info, issuer_unique_id),
-                (subject_unique_id, extensions)
+                version,
+                serial_number,
+                signature,
+                issuer,
+                validity,
+                subject,
+                subject_public_key_info,
+                issuer_unique_id,
+                subject_unique_id,
+                extensions
             )
         )
         .encode_before(buf, end)

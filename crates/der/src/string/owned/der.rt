@@ -1,9 +1,10 @@
 //! Reading and writing of owned texts.
 ghost use Rattle.std.specs.Prelude.{◌≡◌, false, true};
+ghost use Rattle.der_core.specs.DecodeValue.{TakesContents};
 ghost use Rattle.der_core.specs.Header.{head_of};
 ghost use Rattle.der_core.specs.Outcome.{Gives, IsBinding, map_ok};
 ghost use Rattle.der_core.specs.ReaderState.{Same};
-ghost use Rattle.der.specs.Octets.{IsText, TakesOctets, OwnedTextRead, octets_size, OctetsWritten, not_borrowed_outcome};
+ghost use Rattle.der.specs.Octets.{IsText, TakesOctets, EndsTakenOrLacks, OwnedTextRead, octets_size, OctetsWritten, not_borrowed_outcome};
 ghost use Rattle.der.specs.StringOwned.{owned_text};
 
 use crate::string::StringOwned;
@@ -47,6 +48,10 @@ impl<R: Lends> DecodeValue<R> for StringOwned {
     where
         R: Reader,
         ensures same { Same (R.state reader.old) (R.state reader.new) }
+        ensures sound { TakesContents (TakesOctets IsText owned_text) (head_of header)
+            (R.state reader.old) result (R.state reader.new) }
+        ensures complete { EndsTakenOrLacks true IsText owned_text R.reliable (head_of header)
+            (R.state reader.old) result (R.state reader.new) }
         ensures exact { IsBinding R.reliable result → OwnedTextRead owned_text (head_of header)
             (R.state reader.old) result (R.state reader.new) }
         ensures not_borrowed { R.reads_slices ≡ false
