@@ -22,13 +22,13 @@ pub use der_base::{
 };
 pub use der_core::{
     Decode, DecodeBytes, DecodeError, DecodeValue, DerOrd, Described, Encode, EncodeRef,
-    EncodeValue, EncodeValueRef, FixedTag, FromFields, Header, IsConstructed, IsValue, Lawful,
-    Lends, Octets, OrdIsValueOrd, Orderly, Position, ReadValue, Reader, ReaderExt, Resumption,
-    Sequence, SliceReader, SliceWriter, TagPeek, Tagged, Turns, ValueOrd, Writer, WrittenValue,
-    close_value, decode_contents, decode_fields, decode_header, decode_indefinite_length,
-    decode_length, decode_sequence, decode_tlv, decode_wrapped, der_cmp_tlv, encode_tlv,
-    encode_to_vec_in, encode_value_to_slice, encoded_len_tlv, field_refs, iter_cmp, iter_cmp_owned,
-    octets_len, place_before, read_eoc, read_value, to_der_in,
+    EncodeValue, EncodeValueRef, FieldsCall, FixedTag, FromFields, HasFields, Header,
+    IsConstructed, IsValue, Lawful, Lends, Octets, OrdIsValueOrd, Orderly, Position, ReadValue,
+    Reader, ReaderExt, Resumption, Sequence, SliceReader, SliceWriter, TagPeek, Tagged, Turns,
+    ValueOrd, Writer, WrittenValue, close_value, decode_contents, decode_fields, decode_header,
+    decode_indefinite_length, decode_length, decode_sequence, decode_tlv, decode_wrapped,
+    der_cmp_tlv, encode_tlv, encode_to_vec_in, encode_value_to_slice, encoded_len_tlv, field_refs,
+    iter_cmp, iter_cmp_owned, octets_len, place_before, read_eoc, read_value, to_der_in,
 };
 pub use length::indefinite::read_constructed_vec;
 pub use referenced::{box_to_ref, slice_to_owned};

@@ -11,6 +11,7 @@ ghost use Rattle.der_core.specs.Encode.{Counts, HasSize, FitsCounted, FitsInto, 
 mod before;
 mod boxed;
 mod fields;
+mod has_fields;
 mod long_tuples;
 mod phantom;
 mod tuples;
@@ -23,6 +24,7 @@ use crate::tag::fixed::Tagged;
 use crate::writer::{SliceWriter, Writer};
 pub use before::{octets_len, place_before};
 use der_base::{Error, Length};
+pub use has_fields::{FieldsCall, HasFields};
 use std::alloc::Global;
 pub use value::{EncodeValue, WrittenValue, encode_value_to_slice};
 pub use vec::{encode_to_vec_in, to_der_in};

@@ -27,8 +27,8 @@ pub use decode::{
 };
 pub use described::Described;
 pub use encode::{
-    Encode, EncodeValue, WrittenValue, encode_tlv, encode_to_vec_in, encode_value_to_slice,
-    encoded_len_tlv, octets_len, place_before, to_der_in,
+    Encode, EncodeValue, FieldsCall, HasFields, WrittenValue, encode_tlv, encode_to_vec_in,
+    encode_value_to_slice, encoded_len_tlv, octets_len, place_before, to_der_in,
 };
 pub use encode_ref::{EncodeRef, EncodeValueRef};
 pub use from_fields::{FromFields, decode_fields, decode_sequence, decode_wrapped};

@@ -66,25 +66,18 @@ impl@L IsValue for @N@L {
 }
 
 /// Writes the fields one after the other, with the errors of every [`Sequence`].
-impl@L EncodeValue for @N@L {
-    ghost value_size = { λ v. ⟦<@NFields@L as Encode>⟧.size @E };
+impl@L HasFields for @N@L {
+    ghost fields_size = { λ v. ⟦<@NFields@L as Encode>⟧.size @E };
 
-    ghost encode_value_answers = { λ v. ⟦<@NFields@L as Encode>⟧.encode_answers @E };
+    ghost fields_answers = { λ v. ⟦<@NFields@L as Encode>⟧.encode_answers @E };
 
-    fn value_len(&self) -> Result<Length, Error> {
-        field_refs!(self, @R).encoded_len()
-    }
-
-    fn encode_value<W: Writer>(&self, writer: &mut W) -> Result<(), Error> {
-        field_refs!(self, @R).encode(writer)
-    }
-
-    fn value_len_before(&self) -> Option<u32> {
-        field_refs!(self, @R).len_before()
-    }
-
-    fn encode_value_before(&self, buf: &mut [u8], end: u32) -> u32 {
-        field_refs!(self, @R).encode_before(buf, end)
+    fn call_fields<S, C: FieldsCall<S>>(
+        &self,
+        call: &C,
+        state: &mut S,
+        buf: &mut [u8],
+    ) -> C::Output {
+        call.call(&field_refs!(self, @R), state, buf)
     }
 }
 ";

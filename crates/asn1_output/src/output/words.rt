@@ -8,8 +8,10 @@ DecodeValue
 Encode
 EncodeValue
 Error
+FieldsCall
 FixedTag
 FromFields
+HasFields
 Header
 IsValue
 Lawful

@@ -11,8 +11,8 @@ ghost use Rattle.der_asn1.specs.TupleFields.{three_fields};
 use crate::asn1::cms_version::CmsVersion;
 use crate::asn1::encapsulated_content_info::EncapsulatedContentInfo;
 use der::{
-    Decode, DecodeValue, Encode, EncodeValue, Error, FromFields, Header, IsValue, Lends, Length,
-    Reader, Sequence, SliceReader, Writer, decode_sequence, field_refs,
+    Decode, DecodeValue, Encode, Error, FieldsCall, FromFields, HasFields, Header, IsValue, Lends,
+    Reader, Sequence, SliceReader, decode_sequence, field_refs,
 };
 use der_asn1::{BorrowedItem, DecodeItem, Described, Item, Nestable};
 use spki::AlgorithmIdentifierRef;
@@ -84,28 +84,23 @@ impl<'a> IsValue for CompressedData<'a> {
 }
 
 /// Writes the fields one after the other, with the errors of every [`Sequence`].
-impl<'a> EncodeValue for CompressedData<'a> {
-    ghost value_size = { λ v. ⟦<CompressedDataFields<'a> as Encode>⟧.size
+impl<'a> HasFields for CompressedData<'a> {
+    ghost fields_size = { λ v. ⟦<CompressedDataFields<'a> as Encode>⟧.size
         (⟦<CompressedData<'a> as FromFields<CompressedDataFields<'a>>>⟧.fields v) };
 
-    ghost encode_value_answers = { λ v. ⟦<CompressedDataFields<'a> as Encode>⟧.encode_answers
+    ghost fields_answers = { λ v. ⟦<CompressedDataFields<'a> as Encode>⟧.encode_answers
         (⟦<CompressedData<'a> as FromFields<CompressedDataFields<'a>>>⟧.fields v) };
 
-    fn value_len(&self) -> Result<Length, Error> {
-        field_refs!(self, (version, compression_algorithm, encap_content_info)).encoded_len()
-    }
-
-    fn encode_value<W: Writer>(&self, writer: &mut W) -> Result<(), Error> {
-        field_refs!(self, (version, compression_algorithm, encap_content_info)).encode(writer)
-    }
-
-    fn value_len_before(&self) -> Option<u32> {
-        field_refs!(self, (version, compression_algorithm, encap_content_info)).len_before()
-    }
-
-    fn encode_value_before(&self, buf: &mut [u8], end: u32) -> u32 {
-        field_refs!(self, (version, compression_algorithm, encap_content_info)).encode_before(
-            buf, end,
+    fn call_fields<S, C: FieldsCall<S>>(
+        &self,
+        call: &C,
+        state: &mut S,
+        buf: &mut [u8],
+    ) -> C::Output {
+        call.call(
+            &field_refs!(self, (version, compression_algorithm, encap_content_info)),
+            state,
+            buf,
         )
     }
 }

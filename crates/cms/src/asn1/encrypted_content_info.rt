@@ -11,8 +11,8 @@ ghost use Rattle.der_asn1.specs.TupleFields.{three_fields};
 use crate::EncryptedOctets;
 use crate::asn1::content_type::ContentType;
 use der::{
-    Decode, DecodeValue, Encode, EncodeValue, Error, FromFields, Header, IsValue, Lends, Length,
-    Reader, Sequence, SliceReader, Writer, decode_sequence, field_refs,
+    Decode, DecodeValue, Encode, Error, FieldsCall, FromFields, HasFields, Header, IsValue, Lends,
+    Reader, Sequence, SliceReader, decode_sequence, field_refs,
 };
 use der_asn1::{BorrowedItem, DecodeItem, Described, DescribedChoice, Item, Nestable, Optional};
 use spki::AlgorithmIdentifierRef;
@@ -86,59 +86,31 @@ impl<'a> IsValue for EncryptedContentInfo<'a> {
 }
 
 /// Writes the fields one after the other, with the errors of every [`Sequence`].
-impl<'a> EncodeValue for EncryptedContentInfo<'a> {
-    ghost value_size = { λ v. ⟦<EncryptedContentInfoFields<'a> as Encode>⟧.size
+impl<'a> HasFields for EncryptedContentInfo<'a> {
+    ghost fields_size = { λ v. ⟦<EncryptedContentInfoFields<'a> as Encode>⟧.size
         (⟦<EncryptedContentInfo<'a> as FromFields<EncryptedContentInfoFields<'a>>>⟧.fields v) };
 
-    ghost encode_value_answers = { λ v. ⟦<EncryptedContentInfoFields<'a> as Encode>⟧.encode_answers
+    ghost fields_answers = { λ v. ⟦<EncryptedContentInfoFields<'a> as Encode>⟧.encode_answers
         (⟦<EncryptedContentInfo<'a> as FromFields<EncryptedContentInfoFields<'a>>>⟧.fields v) };
 
-    fn value_len(&self) -> Result<Length, Error> {
-        field_refs!(
-            self,
-            (
-                content_type,
-                content_encryption_algorithm,
-                encrypted_content
-            )
+    fn call_fields<S, C: FieldsCall<S>>(
+        &self,
+        call: &C,
+        state: &mut S,
+        buf: &mut [u8],
+    ) -> C::Output {
+        call.call(
+            &field_refs!(
+                self,
+                (
+                    content_type,
+                    content_encryption_algorithm,
+                    encrypted_content
+                )
+            ),
+            state,
+            buf,
         )
-        .encoded_len()
-    }
-
-    fn encode_value<W: Writer>(&self, writer: &mut W) -> Result<(), Error> {
-        field_refs!(
-            self,
-            (
-                content_type,
-                content_encryption_algorithm,
-                encrypted_content
-            )
-        )
-        .encode(writer)
-    }
-
-    fn value_len_before(&self) -> Option<u32> {
-        field_refs!(
-            self,
-            (
-                content_type,
-                content_encryption_algorithm,
-                encrypted_content
-            )
-        )
-        .len_before()
-    }
-
-    fn encode_value_before(&self, buf: &mut [u8], end: u32) -> u32 {
-        field_refs!(
-            self,
-            (
-                content_type,
-                content_encryption_algorithm,
-                encrypted_content
-            )
-        )
-        .encode_before(buf, end)
     }
 }
 

@@ -13,8 +13,8 @@ use crate::asn1::encrypted_content_info::EncryptedContentInfo;
 use crate::asn1::originator_info::OriginatorInfo;
 use crate::asn1::recipient_infos::RecipientInfos;
 use der::{
-    Decode, DecodeValue, Encode, EncodeValue, Error, FromFields, Header, IsValue, Lends, Length,
-    Reader, Sequence, SliceReader, Writer, decode_sequence, field_refs,
+    Decode, DecodeValue, Encode, Error, FieldsCall, FromFields, HasFields, Header, IsValue, Lends,
+    Reader, Sequence, SliceReader, decode_sequence, field_refs,
 };
 use der_asn1::{BorrowedItem, DecodeItem, Described, Implicit, Item, Nestable, Optional};
 use std::alloc::Global;
@@ -110,67 +110,33 @@ impl<'a> IsValue for EnvelopedData<'a> {
 }
 
 /// Writes the fields one after the other, with the errors of every [`Sequence`].
-impl<'a> EncodeValue for EnvelopedData<'a> {
-    ghost value_size = { λ v. ⟦<EnvelopedDataFields<'a> as Encode>⟧.size
+impl<'a> HasFields for EnvelopedData<'a> {
+    ghost fields_size = { λ v. ⟦<EnvelopedDataFields<'a> as Encode>⟧.size
         (⟦<EnvelopedData<'a> as FromFields<EnvelopedDataFields<'a>>>⟧.fields v) };
 
-    ghost encode_value_answers = { λ v. ⟦<EnvelopedDataFields<'a> as Encode>⟧.encode_answers
+    ghost fields_answers = { λ v. ⟦<EnvelopedDataFields<'a> as Encode>⟧.encode_answers
         (⟦<EnvelopedData<'a> as FromFields<EnvelopedDataFields<'a>>>⟧.fields v) };
 
-    fn value_len(&self) -> Result<Length, Error> {
-        field_refs!(
-            self,
-            (
-                version,
-                originator_info,
-                recipient_infos,
-                encrypted_content_info,
-                unprotected_attrs
-            )
+    fn call_fields<S, C: FieldsCall<S>>(
+        &self,
+        call: &C,
+        state: &mut S,
+        buf: &mut [u8],
+    ) -> C::Output {
+        call.call(
+            &field_refs!(
+                self,
+                (
+                    version,
+                    originator_info,
+                    recipient_infos,
+                    encrypted_content_info,
+                    unprotected_attrs
+                )
+            ),
+            state,
+            buf,
         )
-        .encoded_len()
-    }
-
-    fn encode_value<W: Writer>(&self, writer: &mut W) -> Result<(), Error> {
-        field_refs!(
-            self,
-            (
-                version,
-                originator_info,
-                recipient_infos,
-                encrypted_content_info,
-                unprotected_attrs
-            )
-        )
-        .encode(writer)
-    }
-
-    fn value_len_before(&self) -> Option<u32> {
-        field_refs!(
-            self,
-            (
-                version,
-                originator_info,
-                recipient_infos,
-                encrypted_content_info,
-                unprotected_attrs
-            )
-        )
-        .len_before()
-    }
-
-    fn encode_value_before(&self, buf: &mut [u8], end: u32) -> u32 {
-        field_refs!(
-            self,
-            (
-                version,
-                originator_info,
-                recipient_infos,
-                encrypted_content_info,
-                unprotected_attrs
-            )
-        )
-        .encode_before(buf, end)
     }
 }
 

@@ -10,8 +10,8 @@ ghost use Rattle.der_asn1.specs.TupleFields.{three_fields};
 
 use crate::asn1::other_key_attribute::OtherKeyAttribute;
 use der::{
-    Decode, DecodeValue, Encode, EncodeValue, Error, FromFields, Header, IsValue, Lends, Length,
-    Reader, Sequence, SliceReader, Writer, decode_sequence, field_refs,
+    Decode, DecodeValue, Encode, Error, FieldsCall, FromFields, HasFields, Header, IsValue, Lends,
+    Reader, Sequence, SliceReader, decode_sequence, field_refs,
 };
 use der_asn1::{
     BorrowedItem, DecodeItem, Described, GeneralizedTime, Item, Nestable, OctetStringRef, Optional,
@@ -88,27 +88,24 @@ impl<'a> IsValue for KekIdentifier<'a> {
 }
 
 /// Writes the fields one after the other, with the errors of every [`Sequence`].
-impl<'a> EncodeValue for KekIdentifier<'a> {
-    ghost value_size = { λ v. ⟦<KekIdentifierFields<'a> as Encode>⟧.size
+impl<'a> HasFields for KekIdentifier<'a> {
+    ghost fields_size = { λ v. ⟦<KekIdentifierFields<'a> as Encode>⟧.size
         (⟦<KekIdentifier<'a> as FromFields<KekIdentifierFields<'a>>>⟧.fields v) };
 
-    ghost encode_value_answers = { λ v. ⟦<KekIdentifierFields<'a> as Encode>⟧.encode_answers
+    ghost fields_answers = { λ v. ⟦<KekIdentifierFields<'a> as Encode>⟧.encode_answers
         (⟦<KekIdentifier<'a> as FromFields<KekIdentifierFields<'a>>>⟧.fields v) };
 
-    fn value_len(&self) -> Result<Length, Error> {
-        field_refs!(self, (key_identifier, date, other)).encoded_len()
-    }
-
-    fn encode_value<W: Writer>(&self, writer: &mut W) -> Result<(), Error> {
-        field_refs!(self, (key_identifier, date, other)).encode(writer)
-    }
-
-    fn value_len_before(&self) -> Option<u32> {
-        field_refs!(self, (key_identifier, date, other)).len_before()
-    }
-
-    fn encode_value_before(&self, buf: &mut [u8], end: u32) -> u32 {
-        field_refs!(self, (key_identifier, date, other)).encode_before(buf, end)
+    fn call_fields<S, C: FieldsCall<S>>(
+        &self,
+        call: &C,
+        state: &mut S,
+        buf: &mut [u8],
+    ) -> C::Output {
+        call.call(
+            &field_refs!(self, (key_identifier, date, other)),
+            state,
+            buf,
+        )
     }
 }
 

@@ -11,8 +11,8 @@ ghost use Rattle.der_asn1.specs.TupleFields.{four_fields};
 use crate::asn1::cms_version::CmsVersion;
 use crate::asn1::kek_identifier::KekIdentifier;
 use der::{
-    Decode, DecodeValue, Encode, EncodeValue, Error, FromFields, Header, IsValue, Lends, Length,
-    Reader, Sequence, SliceReader, Writer, decode_sequence, field_refs,
+    Decode, DecodeValue, Encode, Error, FieldsCall, FromFields, HasFields, Header, IsValue, Lends,
+    Reader, Sequence, SliceReader, decode_sequence, field_refs,
 };
 use der_asn1::{BorrowedItem, DecodeItem, Described, Item, Nestable, OctetStringRef};
 use spki::AlgorithmIdentifierRef;
@@ -90,43 +90,27 @@ impl<'a> IsValue for KekRecipientInfo<'a> {
 }
 
 /// Writes the fields one after the other, with the errors of every [`Sequence`].
-impl<'a> EncodeValue for KekRecipientInfo<'a> {
-    ghost value_size = { λ v. ⟦<KekRecipientInfoFields<'a> as Encode>⟧.size
+impl<'a> HasFields for KekRecipientInfo<'a> {
+    ghost fields_size = { λ v. ⟦<KekRecipientInfoFields<'a> as Encode>⟧.size
         (⟦<KekRecipientInfo<'a> as FromFields<KekRecipientInfoFields<'a>>>⟧.fields v) };
 
-    ghost encode_value_answers = { λ v. ⟦<KekRecipientInfoFields<'a> as Encode>⟧.encode_answers
+    ghost fields_answers = { λ v. ⟦<KekRecipientInfoFields<'a> as Encode>⟧.encode_answers
         (⟦<KekRecipientInfo<'a> as FromFields<KekRecipientInfoFields<'a>>>⟧.fields v) };
 
-    fn value_len(&self) -> Result<Length, Error> {
-        field_refs!(
-            self,
-            (version, kekid, key_encryption_algorithm, encrypted_key)
+    fn call_fields<S, C: FieldsCall<S>>(
+        &self,
+        call: &C,
+        state: &mut S,
+        buf: &mut [u8],
+    ) -> C::Output {
+        call.call(
+            &field_refs!(
+                self,
+                (version, kekid, key_encryption_algorithm, encrypted_key)
+            ),
+            state,
+            buf,
         )
-        .encoded_len()
-    }
-
-    fn encode_value<W: Writer>(&self, writer: &mut W) -> Result<(), Error> {
-        field_refs!(
-            self,
-            (version, kekid, key_encryption_algorithm, encrypted_key)
-        )
-        .encode(writer)
-    }
-
-    fn value_len_before(&self) -> Option<u32> {
-        field_refs!(
-            self,
-            (version, kekid, key_encryption_algorithm, encrypted_key)
-        )
-        .len_before()
-    }
-
-    fn encode_value_before(&self, buf: &mut [u8], end: u32) -> u32 {
-        field_refs!(
-            self,
-            (version, kekid, key_encryption_algorithm, encrypted_key)
-        )
-        .encode_before(buf, end)
     }
 }
 

@@ -12,8 +12,8 @@ use crate::asn1::cms_version::CmsVersion;
 use crate::asn1::originator_identifier_or_key_tagged::OriginatorIdentifierOrKeyTagged;
 use crate::asn1::recipient_encrypted_key::RecipientEncryptedKey;
 use der::{
-    Decode, DecodeValue, Encode, EncodeValue, Error, FromFields, Header, IsValue, Lends, Length,
-    Reader, Sequence, SliceReader, Writer, decode_sequence, field_refs,
+    Decode, DecodeValue, Encode, Error, FieldsCall, FromFields, HasFields, Header, IsValue, Lends,
+    Reader, Sequence, SliceReader, decode_sequence, field_refs,
 };
 use der_asn1::{
     BorrowedItem, DecodeItem, Described, Explicit, Implicit, Item, Nestable, OctetStringRef,
@@ -109,67 +109,33 @@ impl<'a> IsValue for KeyAgreeRecipientInfo<'a> {
 }
 
 /// Writes the fields one after the other, with the errors of every [`Sequence`].
-impl<'a> EncodeValue for KeyAgreeRecipientInfo<'a> {
-    ghost value_size = { λ v. ⟦<KeyAgreeRecipientInfoFields<'a> as Encode>⟧.size
+impl<'a> HasFields for KeyAgreeRecipientInfo<'a> {
+    ghost fields_size = { λ v. ⟦<KeyAgreeRecipientInfoFields<'a> as Encode>⟧.size
         (⟦<KeyAgreeRecipientInfo<'a> as FromFields<KeyAgreeRecipientInfoFields<'a>>>⟧.fields v) };
 
-    ghost encode_value_answers = { λ v. ⟦<KeyAgreeRecipientInfoFields<'a> as Encode>⟧.encode_answers
+    ghost fields_answers = { λ v. ⟦<KeyAgreeRecipientInfoFields<'a> as Encode>⟧.encode_answers
         (⟦<KeyAgreeRecipientInfo<'a> as FromFields<KeyAgreeRecipientInfoFields<'a>>>⟧.fields v) };
 
-    fn value_len(&self) -> Result<Length, Error> {
-        field_refs!(
-            self,
-            (
-                version,
-                originator,
-                ukm,
-                key_encryption_algorithm,
-                recipient_encrypted_keys
-            )
+    fn call_fields<S, C: FieldsCall<S>>(
+        &self,
+        call: &C,
+        state: &mut S,
+        buf: &mut [u8],
+    ) -> C::Output {
+        call.call(
+            &field_refs!(
+                self,
+                (
+                    version,
+                    originator,
+                    ukm,
+                    key_encryption_algorithm,
+                    recipient_encrypted_keys
+                )
+            ),
+            state,
+            buf,
         )
-        .encoded_len()
-    }
-
-    fn encode_value<W: Writer>(&self, writer: &mut W) -> Result<(), Error> {
-        field_refs!(
-            self,
-            (
-                version,
-                originator,
-                ukm,
-                key_encryption_algorithm,
-                recipient_encrypted_keys
-            )
-        )
-        .encode(writer)
-    }
-
-    fn value_len_before(&self) -> Option<u32> {
-        field_refs!(
-            self,
-            (
-                version,
-                originator,
-                ukm,
-                key_encryption_algorithm,
-                recipient_encrypted_keys
-            )
-        )
-        .len_before()
-    }
-
-    fn encode_value_before(&self, buf: &mut [u8], end: u32) -> u32 {
-        field_refs!(
-            self,
-            (
-                version,
-                originator,
-                ukm,
-                key_encryption_algorithm,
-                recipient_encrypted_keys
-            )
-        )
-        .encode_before(buf, end)
     }
 }
 

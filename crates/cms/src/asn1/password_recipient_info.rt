@@ -10,8 +10,8 @@ ghost use Rattle.der_asn1.specs.TupleFields.{four_fields};
 
 use crate::asn1::cms_version::CmsVersion;
 use der::{
-    Decode, DecodeValue, Encode, EncodeValue, Error, FromFields, Header, IsValue, Lends, Length,
-    Reader, Sequence, SliceReader, Writer, decode_sequence, field_refs,
+    Decode, DecodeValue, Encode, Error, FieldsCall, FromFields, HasFields, Header, IsValue, Lends,
+    Reader, Sequence, SliceReader, decode_sequence, field_refs,
 };
 use der_asn1::{
     BorrowedItem, DecodeItem, Described, Implicit, Item, Nestable, OctetStringRef, Optional,
@@ -98,63 +98,32 @@ impl<'a> IsValue for PasswordRecipientInfo<'a> {
 }
 
 /// Writes the fields one after the other, with the errors of every [`Sequence`].
-impl<'a> EncodeValue for PasswordRecipientInfo<'a> {
-    ghost value_size = { λ v. ⟦<PasswordRecipientInfoFields<'a> as Encode>⟧.size
+impl<'a> HasFields for PasswordRecipientInfo<'a> {
+    ghost fields_size = { λ v. ⟦<PasswordRecipientInfoFields<'a> as Encode>⟧.size
         (⟦<PasswordRecipientInfo<'a> as FromFields<PasswordRecipientInfoFields<'a>>>⟧.fields v) };
 
-    ghost encode_value_answers = { λ v. ⟦<PasswordRecipientInfoFields<'a> as Encode>⟧.encode_answers
+    ghost fields_answers = { λ v. ⟦<PasswordRecipientInfoFields<'a> as Encode>⟧.encode_answers
         (⟦<PasswordRecipientInfo<'a> as FromFields<PasswordRecipientInfoFields<'a>>>⟧.fields v) };
 
-    fn value_len(&self) -> Result<Length, Error> {
-        field_refs!(
-            self,
-            (
-                version,
-                key_derivation_algorithm,
-                key_encryption_algorithm,
-                encrypted_key
-            )
+    fn call_fields<S, C: FieldsCall<S>>(
+        &self,
+        call: &C,
+        state: &mut S,
+        buf: &mut [u8],
+    ) -> C::Output {
+        call.call(
+            &field_refs!(
+                self,
+                (
+                    version,
+                    key_derivation_algorithm,
+                    key_encryption_algorithm,
+                    encrypted_key
+                )
+            ),
+            state,
+            buf,
         )
-        .encoded_len()
-    }
-
-    fn encode_value<W: Writer>(&self, writer: &mut W) -> Result<(), Error> {
-        field_refs!(
-            self,
-            (
-                version,
-                key_derivation_algorithm,
-                key_encryption_algorithm,
-                encrypted_key
-            )
-        )
-        .encode(writer)
-    }
-
-    fn value_len_before(&self) -> Option<u32> {
-        field_refs!(
-            self,
-            (
-                version,
-                key_derivation_algorithm,
-                key_encryption_algorithm,
-                encrypted_key
-            )
-        )
-        .len_before()
-    }
-
-    fn encode_value_before(&self, buf: &mut [u8], end: u32) -> u32 {
-        field_refs!(
-            self,
-            (
-                version,
-                key_derivation_algorithm,
-                key_encryption_algorithm,
-                encrypted_key
-            )
-        )
-        .encode_before(buf, end)
     }
 }
 

@@ -14,8 +14,8 @@ use crate::asn1::pkcs7_content_info::Pkcs7ContentInfo;
 use crate::asn1::revocation_info_choices::RevocationInfoChoices;
 use crate::asn1::signer_info::SignerInfo;
 use der::{
-    Decode, DecodeValue, Encode, EncodeValue, Error, FromFields, Header, IsValue, Lends, Length,
-    Reader, Sequence, SliceReader, Writer, decode_sequence, field_refs,
+    Decode, DecodeValue, Encode, Error, FieldsCall, FromFields, HasFields, Header, IsValue, Lends,
+    Reader, Sequence, SliceReader, decode_sequence, field_refs,
 };
 use der_asn1::{BorrowedItem, DecodeItem, Described, Implicit, Item, Nestable, Optional, SetOf};
 use spki::AlgorithmIdentifierRef;
@@ -117,71 +117,34 @@ impl<'a> IsValue for Pkcs7SignedData<'a> {
 }
 
 /// Writes the fields one after the other, with the errors of every [`Sequence`].
-impl<'a> EncodeValue for Pkcs7SignedData<'a> {
-    ghost value_size = { λ v. ⟦<Pkcs7SignedDataFields<'a> as Encode>⟧.size
+impl<'a> HasFields for Pkcs7SignedData<'a> {
+    ghost fields_size = { λ v. ⟦<Pkcs7SignedDataFields<'a> as Encode>⟧.size
         (⟦<Pkcs7SignedData<'a> as FromFields<Pkcs7SignedDataFields<'a>>>⟧.fields v) };
 
-    ghost encode_value_answers = { λ v. ⟦<Pkcs7SignedDataFields<'a> as Encode>⟧.encode_answers
+    ghost fields_answers = { λ v. ⟦<Pkcs7SignedDataFields<'a> as Encode>⟧.encode_answers
         (⟦<Pkcs7SignedData<'a> as FromFields<Pkcs7SignedDataFields<'a>>>⟧.fields v) };
 
-    fn value_len(&self) -> Result<Length, Error> {
-        field_refs!(
-            self,
-            (
-                version,
-                digest_algorithms,
-                content_info,
-                certificates,
-                crls,
-                signer_infos
-            )
+    fn call_fields<S, C: FieldsCall<S>>(
+        &self,
+        call: &C,
+        state: &mut S,
+        buf: &mut [u8],
+    ) -> C::Output {
+        call.call(
+            &field_refs!(
+                self,
+                (
+                    version,
+                    digest_algorithms,
+                    content_info,
+                    certificates,
+                    crls,
+                    signer_infos
+                )
+            ),
+            state,
+            buf,
         )
-        .encoded_len()
-    }
-
-    fn encode_value<W: Writer>(&self, writer: &mut W) -> Result<(), Error> {
-        field_refs!(
-            self,
-            (
-                version,
-                digest_algorithms,
-                content_info,
-                certificates,
-                crls,
-                signer_infos
-            )
-        )
-        .encode(writer)
-    }
-
-    fn value_len_before(&self) -> Option<u32> {
-        field_refs!(
-            self,
-            (
-                version,
-                digest_algorithms,
-                content_info,
-                certificates,
-                crls,
-                signer_infos
-            )
-        )
-        .len_before()
-    }
-
-    fn encode_value_before(&self, buf: &mut [u8], end: u32) -> u32 {
-        field_refs!(
-            self,
-            (
-                version,
-                digest_algorithms,
-                content_info,
-                certificates,
-                crls,
-                signer_infos
-            )
-        )
-        .encode_before(buf, end)
     }
 }
 

@@ -10,8 +10,8 @@ ghost use Rattle.der_asn1.specs.Meaning.{alternative, field, sequence, sequence_
 use crate::asn1::content_type::ContentType;
 use crate::asn1::signed_data::SignedData;
 use der::{
-    Decode, DecodeValue, Encode, EncodeValue, Error, FromFields, Header, IsValue, Lends, Length,
-    Reader, Sequence, SliceReader, Writer, decode_sequence, field_refs,
+    Decode, DecodeValue, Encode, Error, FieldsCall, FromFields, HasFields, Header, IsValue, Lends,
+    Reader, Sequence, SliceReader, decode_sequence, field_refs,
 };
 use der_asn1::{BorrowedItem, DecodeItem, Described, Explicit, Item, Nestable};
 use std::alloc::Global;
@@ -73,27 +73,20 @@ impl<'a> IsValue for SignedMessage<'a> {
 }
 
 /// Writes the fields one after the other, with the errors of every [`Sequence`].
-impl<'a> EncodeValue for SignedMessage<'a> {
-    ghost value_size = { λ v. ⟦<SignedMessageFields<'a> as Encode>⟧.size
+impl<'a> HasFields for SignedMessage<'a> {
+    ghost fields_size = { λ v. ⟦<SignedMessageFields<'a> as Encode>⟧.size
         (⟦<SignedMessage<'a> as FromFields<SignedMessageFields<'a>>>⟧.fields v) };
 
-    ghost encode_value_answers = { λ v. ⟦<SignedMessageFields<'a> as Encode>⟧.encode_answers
+    ghost fields_answers = { λ v. ⟦<SignedMessageFields<'a> as Encode>⟧.encode_answers
         (⟦<SignedMessage<'a> as FromFields<SignedMessageFields<'a>>>⟧.fields v) };
 
-    fn value_len(&self) -> Result<Length, Error> {
-        field_refs!(self, (content_type, content)).encoded_len()
-    }
-
-    fn encode_value<W: Writer>(&self, writer: &mut W) -> Result<(), Error> {
-        field_refs!(self, (content_type, content)).encode(writer)
-    }
-
-    fn value_len_before(&self) -> Option<u32> {
-        field_refs!(self, (content_type, content)).len_before()
-    }
-
-    fn encode_value_before(&self, buf: &mut [u8], end: u32) -> u32 {
-        field_refs!(self, (content_type, content)).encode_before(buf, end)
+    fn call_fields<S, C: FieldsCall<S>>(
+        &self,
+        call: &C,
+        state: &mut S,
+        buf: &mut [u8],
+    ) -> C::Output {
+        call.call(&field_refs!(self, (content_type, content)), state, buf)
     }
 }
 

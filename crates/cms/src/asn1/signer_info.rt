@@ -11,8 +11,8 @@ ghost use Rattle.der_asn1.specs.TupleFields.{seven_fields};
 use crate::asn1::cms_version::CmsVersion;
 use crate::asn1::signer_identifier::SignerIdentifier;
 use der::{
-    Decode, DecodeValue, Encode, EncodeValue, Error, FromFields, Header, IsValue, Lends, Length,
-    Reader, Sequence, SliceReader, Writer, decode_sequence, field_refs,
+    Decode, DecodeValue, Encode, Error, FieldsCall, FromFields, HasFields, Header, IsValue, Lends,
+    Reader, Sequence, SliceReader, decode_sequence, field_refs,
 };
 use der_asn1::{
     BorrowedItem, DecodeItem, Described, DescribedChoice, Implicit, Item, Nestable, OctetStringRef,
@@ -137,75 +137,35 @@ impl<'a> IsValue for SignerInfo<'a> {
 }
 
 /// Writes the fields one after the other, with the errors of every [`Sequence`].
-impl<'a> EncodeValue for SignerInfo<'a> {
-    ghost value_size = { λ v. ⟦<SignerInfoFields<'a> as Encode>⟧.size
+impl<'a> HasFields for SignerInfo<'a> {
+    ghost fields_size = { λ v. ⟦<SignerInfoFields<'a> as Encode>⟧.size
         (⟦<SignerInfo<'a> as FromFields<SignerInfoFields<'a>>>⟧.fields v) };
 
-    ghost encode_value_answers = { λ v. ⟦<SignerInfoFields<'a> as Encode>⟧.encode_answers
+    ghost fields_answers = { λ v. ⟦<SignerInfoFields<'a> as Encode>⟧.encode_answers
         (⟦<SignerInfo<'a> as FromFields<SignerInfoFields<'a>>>⟧.fields v) };
 
-    fn value_len(&self) -> Result<Length, Error> {
-        field_refs!(
-            self,
-            (
-                version,
-                sid,
-                digest_algorithm,
-                signed_attrs,
-                signature_algorithm,
-                signature,
-                unsigned_attrs
-            )
+    fn call_fields<S, C: FieldsCall<S>>(
+        &self,
+        call: &C,
+        state: &mut S,
+        buf: &mut [u8],
+    ) -> C::Output {
+        call.call(
+            &field_refs!(
+                self,
+                (
+                    version,
+                    sid,
+                    digest_algorithm,
+                    signed_attrs,
+                    signature_algorithm,
+                    signature,
+                    unsigned_attrs
+                )
+            ),
+            state,
+            buf,
         )
-        .encoded_len()
-    }
-
-    fn encode_value<W: Writer>(&self, writer: &mut W) -> Result<(), Error> {
-        field_refs!(
-            self,
-            (
-                version,
-                sid,
-                digest_algorithm,
-                signed_attrs,
-                signature_algorithm,
-                signature,
-                unsigned_attrs
-            )
-        )
-        .encode(writer)
-    }
-
-    fn value_len_before(&self) -> Option<u32> {
-        field_refs!(
-            self,
-            (
-                version,
-                sid,
-                digest_algorithm,
-                signed_attrs,
-                signature_algorithm,
-                signature,
-                unsigned_attrs
-            )
-        )
-        .len_before()
-    }
-
-    fn encode_value_before(&self, buf: &mut [u8], end: u32) -> u32 {
-        field_refs!(
-            self,
-            (
-                version,
-                sid,
-                digest_algorithm,
-                signed_attrs,
-                signature_algorithm,
-                signature,
-                unsigned_attrs
-            )
-        )
-        .encode_before(buf, end)
     }
 }
 

@@ -11,8 +11,8 @@ ghost use Rattle.der_asn1.specs.TupleFields.{six_fields};
 use crate::asn1::message_imprint::MessageImprint;
 use crate::asn1::tsa_policy_id::TsaPolicyId;
 use der::{
-    Decode, DecodeValue, Encode, EncodeValue, Error, FromFields, Header, IsValue, Lends, Length,
-    Reader, Sequence, SliceReader, Writer, decode_sequence, field_refs,
+    Decode, DecodeValue, Encode, Error, FieldsCall, FromFields, HasFields, Header, IsValue, Lends,
+    Reader, Sequence, SliceReader, decode_sequence, field_refs,
 };
 use der_asn1::{
     BooleanRef, BorrowedItem, DecodeItem, DefaultValue, Defaulted, Described, Implicit, IntRef,
@@ -118,71 +118,34 @@ impl<'a> IsValue for TimeStampReq<'a> {
 }
 
 /// Writes the fields one after the other, with the errors of every [`Sequence`].
-impl<'a> EncodeValue for TimeStampReq<'a> {
-    ghost value_size = { λ v. ⟦<TimeStampReqFields<'a> as Encode>⟧.size
+impl<'a> HasFields for TimeStampReq<'a> {
+    ghost fields_size = { λ v. ⟦<TimeStampReqFields<'a> as Encode>⟧.size
         (⟦<TimeStampReq<'a> as FromFields<TimeStampReqFields<'a>>>⟧.fields v) };
 
-    ghost encode_value_answers = { λ v. ⟦<TimeStampReqFields<'a> as Encode>⟧.encode_answers
+    ghost fields_answers = { λ v. ⟦<TimeStampReqFields<'a> as Encode>⟧.encode_answers
         (⟦<TimeStampReq<'a> as FromFields<TimeStampReqFields<'a>>>⟧.fields v) };
 
-    fn value_len(&self) -> Result<Length, Error> {
-        field_refs!(
-            self,
-            (
-                version,
-                message_imprint,
-                req_policy,
-                nonce,
-                cert_req,
-                extensions
-            )
+    fn call_fields<S, C: FieldsCall<S>>(
+        &self,
+        call: &C,
+        state: &mut S,
+        buf: &mut [u8],
+    ) -> C::Output {
+        call.call(
+            &field_refs!(
+                self,
+                (
+                    version,
+                    message_imprint,
+                    req_policy,
+                    nonce,
+                    cert_req,
+                    extensions
+                )
+            ),
+            state,
+            buf,
         )
-        .encoded_len()
-    }
-
-    fn encode_value<W: Writer>(&self, writer: &mut W) -> Result<(), Error> {
-        field_refs!(
-            self,
-            (
-                version,
-                message_imprint,
-                req_policy,
-                nonce,
-                cert_req,
-                extensions
-            )
-        )
-        .encode(writer)
-    }
-
-    fn value_len_before(&self) -> Option<u32> {
-        field_refs!(
-            self,
-            (
-                version,
-                message_imprint,
-                req_policy,
-                nonce,
-                cert_req,
-                extensions
-            )
-        )
-        .len_before()
-    }
-
-    fn encode_value_before(&self, buf: &mut [u8], end: u32) -> u32 {
-        field_refs!(
-            self,
-            (
-                version,
-                message_imprint,
-                req_policy,
-                nonce,
-                cert_req,
-                extensions
-            )
-        )
-        .encode_before(buf, end)
     }
 }
 

@@ -13,8 +13,8 @@ use crate::asn1::general_name_tagged::GeneralNameTagged;
 use crate::asn1::message_imprint::MessageImprint;
 use crate::asn1::tsa_policy_id::TsaPolicyId;
 use der::{
-    Decode, DecodeValue, Encode, EncodeValue, Error, FromFields, Header, IsValue, Lends, Length,
-    Reader, Sequence, SliceReader, Writer, decode_sequence, field_refs,
+    Decode, DecodeValue, Encode, Error, FieldsCall, FromFields, HasFields, Header, IsValue, Lends,
+    Reader, Sequence, SliceReader, decode_sequence, field_refs,
 };
 use der_asn1::{
     BooleanRef, BorrowedItem, DecodeItem, DefaultValue, Defaulted, Described, GeneralizedTime,
@@ -162,87 +162,38 @@ impl<'a> IsValue for TstInfo<'a> {
 }
 
 /// Writes the fields one after the other, with the errors of every [`Sequence`].
-impl<'a> EncodeValue for TstInfo<'a> {
-    ghost value_size = { λ v. ⟦<TstInfoFields<'a> as Encode>⟧.size
+impl<'a> HasFields for TstInfo<'a> {
+    ghost fields_size = { λ v. ⟦<TstInfoFields<'a> as Encode>⟧.size
         (⟦<TstInfo<'a> as FromFields<TstInfoFields<'a>>>⟧.fields v) };
 
-    ghost encode_value_answers = { λ v. ⟦<TstInfoFields<'a> as Encode>⟧.encode_answers
+    ghost fields_answers = { λ v. ⟦<TstInfoFields<'a> as Encode>⟧.encode_answers
         (⟦<TstInfo<'a> as FromFields<TstInfoFields<'a>>>⟧.fields v) };
 
-    fn value_len(&self) -> Result<Length, Error> {
-        field_refs!(
-            self,
-            (
-                version,
-                policy,
-                message_imprint,
-                serial_number,
-                gen_time,
-                accuracy,
-                ordering,
-                nonce,
-                tsa,
-                extensions
-            )
+    fn call_fields<S, C: FieldsCall<S>>(
+        &self,
+        call: &C,
+        state: &mut S,
+        buf: &mut [u8],
+    ) -> C::Output {
+        call.call(
+            &field_refs!(
+                self,
+                (
+                    version,
+                    policy,
+                    message_imprint,
+                    serial_number,
+                    gen_time,
+                    accuracy,
+                    ordering,
+                    nonce,
+                    tsa,
+                    extensions
+                )
+            ),
+            state,
+            buf,
         )
-        .encoded_len()
-    }
-
-    fn encode_value<W: Writer>(&self, writer: &mut W) -> Result<(), Error> {
-        field_refs!(
-            self,
-            (
-                version,
-                policy,
-                message_imprint,
-                serial_number,
-                gen_time,
-                accuracy,
-                ordering,
-                nonce,
-                tsa,
-                extensions
-            )
-        )
-        .encode(writer)
-    }
-
-    fn value_len_before(&self) -> Option<u32> {
-        field_refs!(
-            self,
-            (
-                version,
-                policy,
-                message_imprint,
-                serial_number,
-                gen_time,
-                accuracy,
-                ordering,
-                nonce,
-                tsa,
-                extensions
-            )
-        )
-        .len_before()
-    }
-
-    fn encode_value_before(&self, buf: &mut [u8], end: u32) -> u32 {
-        field_refs!(
-            self,
-            (
-                version,
-                policy,
-                message_imprint,
-                serial_number,
-                gen_time,
-                accuracy,
-                ordering,
-                nonce,
-                tsa,
-                extensions
-            )
-        )
-        .encode_before(buf, end)
     }
 }
 

@@ -11,8 +11,8 @@ ghost use Rattle.der_asn1.specs.TupleFields.{four_fields};
 use crate::asn1::certificates::Certificates;
 use crate::asn1::response_data::ResponseData;
 use der::{
-    Decode, DecodeValue, Encode, EncodeValue, Error, FromFields, Header, IsValue, Lends, Length,
-    Reader, Sequence, SliceReader, Writer, decode_sequence, field_refs,
+    Decode, DecodeValue, Encode, Error, FieldsCall, FromFields, HasFields, Header, IsValue, Lends,
+    Reader, Sequence, SliceReader, decode_sequence, field_refs,
 };
 use der_asn1::{
     BitStringRef, BorrowedItem, DecodeItem, Described, Explicit, Item, Nestable, Optional,
@@ -94,43 +94,27 @@ impl<'a> IsValue for BasicOcspResponse<'a> {
 }
 
 /// Writes the fields one after the other, with the errors of every [`Sequence`].
-impl<'a> EncodeValue for BasicOcspResponse<'a> {
-    ghost value_size = { λ v. ⟦<BasicOcspResponseFields<'a> as Encode>⟧.size
+impl<'a> HasFields for BasicOcspResponse<'a> {
+    ghost fields_size = { λ v. ⟦<BasicOcspResponseFields<'a> as Encode>⟧.size
         (⟦<BasicOcspResponse<'a> as FromFields<BasicOcspResponseFields<'a>>>⟧.fields v) };
 
-    ghost encode_value_answers = { λ v. ⟦<BasicOcspResponseFields<'a> as Encode>⟧.encode_answers
+    ghost fields_answers = { λ v. ⟦<BasicOcspResponseFields<'a> as Encode>⟧.encode_answers
         (⟦<BasicOcspResponse<'a> as FromFields<BasicOcspResponseFields<'a>>>⟧.fields v) };
 
-    fn value_len(&self) -> Result<Length, Error> {
-        field_refs!(
-            self,
-            (tbs_response_data, signature_algorithm, signature, certs)
+    fn call_fields<S, C: FieldsCall<S>>(
+        &self,
+        call: &C,
+        state: &mut S,
+        buf: &mut [u8],
+    ) -> C::Output {
+        call.call(
+            &field_refs!(
+                self,
+                (tbs_response_data, signature_algorithm, signature, certs)
+            ),
+            state,
+            buf,
         )
-        .encoded_len()
-    }
-
-    fn encode_value<W: Writer>(&self, writer: &mut W) -> Result<(), Error> {
-        field_refs!(
-            self,
-            (tbs_response_data, signature_algorithm, signature, certs)
-        )
-        .encode(writer)
-    }
-
-    fn value_len_before(&self) -> Option<u32> {
-        field_refs!(
-            self,
-            (tbs_response_data, signature_algorithm, signature, certs)
-        )
-        .len_before()
-    }
-
-    fn encode_value_before(&self, buf: &mut [u8], end: u32) -> u32 {
-        field_refs!(
-            self,
-            (tbs_response_data, signature_algorithm, signature, certs)
-        )
-        .encode_before(buf, end)
     }
 }
 

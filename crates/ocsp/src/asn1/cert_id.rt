@@ -9,8 +9,8 @@ ghost use Rattle.der_asn1.specs.Meaning.{alternative, field, sequence, sequence_
 ghost use Rattle.der_asn1.specs.TupleFields.{four_fields};
 
 use der::{
-    Decode, DecodeValue, Encode, EncodeValue, Error, FromFields, Header, IsValue, Lends, Length,
-    Reader, Sequence, SliceReader, Writer, decode_sequence, field_refs,
+    Decode, DecodeValue, Encode, Error, FieldsCall, FromFields, HasFields, Header, IsValue, Lends,
+    Reader, Sequence, SliceReader, decode_sequence, field_refs,
 };
 use der_asn1::{BorrowedItem, DecodeItem, Described, Item, Nestable, OctetStringRef};
 use spki::AlgorithmIdentifierRef;
@@ -94,63 +94,32 @@ impl<'a> IsValue for CertId<'a> {
 }
 
 /// Writes the fields one after the other, with the errors of every [`Sequence`].
-impl<'a> EncodeValue for CertId<'a> {
-    ghost value_size = { λ v. ⟦<CertIdFields<'a> as Encode>⟧.size
+impl<'a> HasFields for CertId<'a> {
+    ghost fields_size = { λ v. ⟦<CertIdFields<'a> as Encode>⟧.size
         (⟦<CertId<'a> as FromFields<CertIdFields<'a>>>⟧.fields v) };
 
-    ghost encode_value_answers = { λ v. ⟦<CertIdFields<'a> as Encode>⟧.encode_answers
+    ghost fields_answers = { λ v. ⟦<CertIdFields<'a> as Encode>⟧.encode_answers
         (⟦<CertId<'a> as FromFields<CertIdFields<'a>>>⟧.fields v) };
 
-    fn value_len(&self) -> Result<Length, Error> {
-        field_refs!(
-            self,
-            (
-                hash_algorithm,
-                issuer_name_hash,
-                issuer_key_hash,
-                serial_number
-            )
+    fn call_fields<S, C: FieldsCall<S>>(
+        &self,
+        call: &C,
+        state: &mut S,
+        buf: &mut [u8],
+    ) -> C::Output {
+        call.call(
+            &field_refs!(
+                self,
+                (
+                    hash_algorithm,
+                    issuer_name_hash,
+                    issuer_key_hash,
+                    serial_number
+                )
+            ),
+            state,
+            buf,
         )
-        .encoded_len()
-    }
-
-    fn encode_value<W: Writer>(&self, writer: &mut W) -> Result<(), Error> {
-        field_refs!(
-            self,
-            (
-                hash_algorithm,
-                issuer_name_hash,
-                issuer_key_hash,
-                serial_number
-            )
-        )
-        .encode(writer)
-    }
-
-    fn value_len_before(&self) -> Option<u32> {
-        field_refs!(
-            self,
-            (
-                hash_algorithm,
-                issuer_name_hash,
-                issuer_key_hash,
-                serial_number
-            )
-        )
-        .len_before()
-    }
-
-    fn encode_value_before(&self, buf: &mut [u8], end: u32) -> u32 {
-        field_refs!(
-            self,
-            (
-                hash_algorithm,
-                issuer_name_hash,
-                issuer_key_hash,
-                serial_number
-            )
-        )
-        .encode_before(buf, end)
     }
 }
 

@@ -10,8 +10,8 @@ ghost use Rattle.der_asn1.specs.Meaning.{alternative, field, optional, sequence,
 use crate::asn1::ocsp_response_status::OcspResponseStatus;
 use crate::asn1::response_bytes::ResponseBytes;
 use der::{
-    Decode, DecodeValue, Encode, EncodeValue, Error, FromFields, Header, IsValue, Lends, Length,
-    Reader, Sequence, SliceReader, Writer, decode_sequence, field_refs,
+    Decode, DecodeValue, Encode, Error, FieldsCall, FromFields, HasFields, Header, IsValue, Lends,
+    Reader, Sequence, SliceReader, decode_sequence, field_refs,
 };
 use der_asn1::{
     BorrowedItem, DecodeItem, Described, Enumerated, Explicit, Item, Nestable, Optional,
@@ -81,27 +81,24 @@ impl<'a> IsValue for OcspResponse<'a> {
 }
 
 /// Writes the fields one after the other, with the errors of every [`Sequence`].
-impl<'a> EncodeValue for OcspResponse<'a> {
-    ghost value_size = { λ v. ⟦<OcspResponseFields<'a> as Encode>⟧.size
+impl<'a> HasFields for OcspResponse<'a> {
+    ghost fields_size = { λ v. ⟦<OcspResponseFields<'a> as Encode>⟧.size
         (⟦<OcspResponse<'a> as FromFields<OcspResponseFields<'a>>>⟧.fields v) };
 
-    ghost encode_value_answers = { λ v. ⟦<OcspResponseFields<'a> as Encode>⟧.encode_answers
+    ghost fields_answers = { λ v. ⟦<OcspResponseFields<'a> as Encode>⟧.encode_answers
         (⟦<OcspResponse<'a> as FromFields<OcspResponseFields<'a>>>⟧.fields v) };
 
-    fn value_len(&self) -> Result<Length, Error> {
-        field_refs!(self, (response_status, response_bytes)).encoded_len()
-    }
-
-    fn encode_value<W: Writer>(&self, writer: &mut W) -> Result<(), Error> {
-        field_refs!(self, (response_status, response_bytes)).encode(writer)
-    }
-
-    fn value_len_before(&self) -> Option<u32> {
-        field_refs!(self, (response_status, response_bytes)).len_before()
-    }
-
-    fn encode_value_before(&self, buf: &mut [u8], end: u32) -> u32 {
-        field_refs!(self, (response_status, response_bytes)).encode_before(buf, end)
+    fn call_fields<S, C: FieldsCall<S>>(
+        &self,
+        call: &C,
+        state: &mut S,
+        buf: &mut [u8],
+    ) -> C::Output {
+        call.call(
+            &field_refs!(self, (response_status, response_bytes)),
+            state,
+            buf,
+        )
     }
 }
 

@@ -8,8 +8,8 @@ ghost use Rattle.der_asn1.specs.Item.{decodes_same};
 ghost use Rattle.der_asn1.specs.Meaning.{alternative, field, optional, sequence, sequence_is_item, sequence_item, two_fields};
 
 use der::{
-    Decode, DecodeValue, Encode, EncodeValue, Error, FromFields, Header, IsValue, Lends, Length,
-    Reader, Sequence, SliceReader, Writer, decode_sequence, field_refs,
+    Decode, DecodeValue, Encode, Error, FieldsCall, FromFields, HasFields, Header, IsValue, Lends,
+    Reader, Sequence, SliceReader, decode_sequence, field_refs,
 };
 use der_asn1::{
     BorrowedItem, DecodeItem, Described, Enumerated, Explicit, GeneralizedTime, Item, Nestable,
@@ -80,27 +80,24 @@ impl IsValue for RevokedInfo {
 }
 
 /// Writes the fields one after the other, with the errors of every [`Sequence`].
-impl EncodeValue for RevokedInfo {
-    ghost value_size = { λ v. ⟦<RevokedInfoFields as Encode>⟧.size
+impl HasFields for RevokedInfo {
+    ghost fields_size = { λ v. ⟦<RevokedInfoFields as Encode>⟧.size
         (⟦<RevokedInfo as FromFields<RevokedInfoFields>>⟧.fields v) };
 
-    ghost encode_value_answers = { λ v. ⟦<RevokedInfoFields as Encode>⟧.encode_answers
+    ghost fields_answers = { λ v. ⟦<RevokedInfoFields as Encode>⟧.encode_answers
         (⟦<RevokedInfo as FromFields<RevokedInfoFields>>⟧.fields v) };
 
-    fn value_len(&self) -> Result<Length, Error> {
-        field_refs!(self, (revocation_time, revocation_reason)).encoded_len()
-    }
-
-    fn encode_value<W: Writer>(&self, writer: &mut W) -> Result<(), Error> {
-        field_refs!(self, (revocation_time, revocation_reason)).encode(writer)
-    }
-
-    fn value_len_before(&self) -> Option<u32> {
-        field_refs!(self, (revocation_time, revocation_reason)).len_before()
-    }
-
-    fn encode_value_before(&self, buf: &mut [u8], end: u32) -> u32 {
-        field_refs!(self, (revocation_time, revocation_reason)).encode_before(buf, end)
+    fn call_fields<S, C: FieldsCall<S>>(
+        &self,
+        call: &C,
+        state: &mut S,
+        buf: &mut [u8],
+    ) -> C::Output {
+        call.call(
+            &field_refs!(self, (revocation_time, revocation_reason)),
+            state,
+            buf,
+        )
     }
 }
 

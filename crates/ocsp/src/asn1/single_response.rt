@@ -11,8 +11,8 @@ ghost use Rattle.der_asn1.specs.TupleFields.{five_fields};
 use crate::asn1::cert_id::CertId;
 use crate::asn1::cert_status::CertStatus;
 use der::{
-    Decode, DecodeValue, Encode, EncodeValue, Error, FromFields, Header, IsValue, Lends, Length,
-    Reader, Sequence, SliceReader, Writer, decode_sequence, field_refs,
+    Decode, DecodeValue, Encode, Error, FieldsCall, FromFields, HasFields, Header, IsValue, Lends,
+    Reader, Sequence, SliceReader, decode_sequence, field_refs,
 };
 use der_asn1::{
     BorrowedItem, DecodeItem, Described, DescribedChoice, Explicit, GeneralizedTime, Item,
@@ -113,67 +113,33 @@ impl<'a> IsValue for SingleResponse<'a> {
 }
 
 /// Writes the fields one after the other, with the errors of every [`Sequence`].
-impl<'a> EncodeValue for SingleResponse<'a> {
-    ghost value_size = { λ v. ⟦<SingleResponseFields<'a> as Encode>⟧.size
+impl<'a> HasFields for SingleResponse<'a> {
+    ghost fields_size = { λ v. ⟦<SingleResponseFields<'a> as Encode>⟧.size
         (⟦<SingleResponse<'a> as FromFields<SingleResponseFields<'a>>>⟧.fields v) };
 
-    ghost encode_value_answers = { λ v. ⟦<SingleResponseFields<'a> as Encode>⟧.encode_answers
+    ghost fields_answers = { λ v. ⟦<SingleResponseFields<'a> as Encode>⟧.encode_answers
         (⟦<SingleResponse<'a> as FromFields<SingleResponseFields<'a>>>⟧.fields v) };
 
-    fn value_len(&self) -> Result<Length, Error> {
-        field_refs!(
-            self,
-            (
-                cert_id,
-                cert_status,
-                this_update,
-                next_update,
-                single_extensions
-            )
+    fn call_fields<S, C: FieldsCall<S>>(
+        &self,
+        call: &C,
+        state: &mut S,
+        buf: &mut [u8],
+    ) -> C::Output {
+        call.call(
+            &field_refs!(
+                self,
+                (
+                    cert_id,
+                    cert_status,
+                    this_update,
+                    next_update,
+                    single_extensions
+                )
+            ),
+            state,
+            buf,
         )
-        .encoded_len()
-    }
-
-    fn encode_value<W: Writer>(&self, writer: &mut W) -> Result<(), Error> {
-        field_refs!(
-            self,
-            (
-                cert_id,
-                cert_status,
-                this_update,
-                next_update,
-                single_extensions
-            )
-        )
-        .encode(writer)
-    }
-
-    fn value_len_before(&self) -> Option<u32> {
-        field_refs!(
-            self,
-            (
-                cert_id,
-                cert_status,
-                this_update,
-                next_update,
-                single_extensions
-            )
-        )
-        .len_before()
-    }
-
-    fn encode_value_before(&self, buf: &mut [u8], end: u32) -> u32 {
-        field_refs!(
-            self,
-            (
-                cert_id,
-                cert_status,
-                this_update,
-                next_update,
-                single_extensions
-            )
-        )
-        .encode_before(buf, end)
     }
 }
 

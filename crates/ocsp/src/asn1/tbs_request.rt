@@ -11,8 +11,8 @@ ghost use Rattle.der_asn1.specs.TupleFields.{four_fields};
 use crate::asn1::general_name_tagged::GeneralNameTagged;
 use crate::asn1::request::Request;
 use der::{
-    Decode, DecodeValue, Encode, EncodeValue, Error, FromFields, Header, IsValue, Lends, Length,
-    Reader, Sequence, SliceReader, Writer, decode_sequence, field_refs,
+    Decode, DecodeValue, Encode, Error, FieldsCall, FromFields, HasFields, Header, IsValue, Lends,
+    Reader, Sequence, SliceReader, decode_sequence, field_refs,
 };
 use der_asn1::{
     BorrowedItem, DecodeItem, DefaultU64, DefaultValue, Defaulted, Described, Explicit, Implicit,
@@ -100,43 +100,27 @@ impl<'a> IsValue for TbsRequest<'a> {
 }
 
 /// Writes the fields one after the other, with the errors of every [`Sequence`].
-impl<'a> EncodeValue for TbsRequest<'a> {
-    ghost value_size = { λ v. ⟦<TbsRequestFields<'a> as Encode>⟧.size
+impl<'a> HasFields for TbsRequest<'a> {
+    ghost fields_size = { λ v. ⟦<TbsRequestFields<'a> as Encode>⟧.size
         (⟦<TbsRequest<'a> as FromFields<TbsRequestFields<'a>>>⟧.fields v) };
 
-    ghost encode_value_answers = { λ v. ⟦<TbsRequestFields<'a> as Encode>⟧.encode_answers
+    ghost fields_answers = { λ v. ⟦<TbsRequestFields<'a> as Encode>⟧.encode_answers
         (⟦<TbsRequest<'a> as FromFields<TbsRequestFields<'a>>>⟧.fields v) };
 
-    fn value_len(&self) -> Result<Length, Error> {
-        field_refs!(
-            self,
-            (version, requestor_name, request_list, request_extensions)
+    fn call_fields<S, C: FieldsCall<S>>(
+        &self,
+        call: &C,
+        state: &mut S,
+        buf: &mut [u8],
+    ) -> C::Output {
+        call.call(
+            &field_refs!(
+                self,
+                (version, requestor_name, request_list, request_extensions)
+            ),
+            state,
+            buf,
         )
-        .encoded_len()
-    }
-
-    fn encode_value<W: Writer>(&self, writer: &mut W) -> Result<(), Error> {
-        field_refs!(
-            self,
-            (version, requestor_name, request_list, request_extensions)
-        )
-        .encode(writer)
-    }
-
-    fn value_len_before(&self) -> Option<u32> {
-        field_refs!(
-            self,
-            (version, requestor_name, request_list, request_extensions)
-        )
-        .len_before()
-    }
-
-    fn encode_value_before(&self, buf: &mut [u8], end: u32) -> u32 {
-        field_refs!(
-            self,
-            (version, requestor_name, request_list, request_extensions)
-        )
-        .encode_before(buf, end)
     }
 }
 

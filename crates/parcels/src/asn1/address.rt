@@ -9,8 +9,8 @@ ghost use Rattle.der_asn1.specs.Meaning.{alternative, field, optional, sequence,
 ghost use Rattle.der_asn1.specs.TupleFields.{five_fields};
 
 use der::{
-    Decode, DecodeValue, Encode, EncodeValue, Error, FromFields, Header, IsValue, Lends, Length,
-    Reader, Sequence, SliceReader, Writer, decode_sequence, field_refs,
+    Decode, DecodeValue, Encode, Error, FieldsCall, FromFields, HasFields, Header, IsValue, Lends,
+    Reader, Sequence, SliceReader, decode_sequence, field_refs,
 };
 use der_asn1::{
     Application, BmpStringRef, BorrowedItem, DecodeItem, Described, Ia5StringRef, Implicit, Item,
@@ -102,27 +102,24 @@ impl<'a> IsValue for Address<'a> {
 }
 
 /// Writes the fields one after the other, with the errors of every [`Sequence`].
-impl<'a> EncodeValue for Address<'a> {
-    ghost value_size = { λ v. ⟦<AddressFields<'a> as Encode>⟧.size
+impl<'a> HasFields for Address<'a> {
+    ghost fields_size = { λ v. ⟦<AddressFields<'a> as Encode>⟧.size
         (⟦<Address<'a> as FromFields<AddressFields<'a>>>⟧.fields v) };
 
-    ghost encode_value_answers = { λ v. ⟦<AddressFields<'a> as Encode>⟧.encode_answers
+    ghost fields_answers = { λ v. ⟦<AddressFields<'a> as Encode>⟧.encode_answers
         (⟦<Address<'a> as FromFields<AddressFields<'a>>>⟧.fields v) };
 
-    fn value_len(&self) -> Result<Length, Error> {
-        field_refs!(self, (name, street, code, type_, note)).encoded_len()
-    }
-
-    fn encode_value<W: Writer>(&self, writer: &mut W) -> Result<(), Error> {
-        field_refs!(self, (name, street, code, type_, note)).encode(writer)
-    }
-
-    fn value_len_before(&self) -> Option<u32> {
-        field_refs!(self, (name, street, code, type_, note)).len_before()
-    }
-
-    fn encode_value_before(&self, buf: &mut [u8], end: u32) -> u32 {
-        field_refs!(self, (name, street, code, type_, note)).encode_before(buf, end)
+    fn call_fields<S, C: FieldsCall<S>>(
+        &self,
+        call: &C,
+        state: &mut S,
+        buf: &mut [u8],
+    ) -> C::Output {
+        call.call(
+            &field_refs!(self, (name, street, code, type_, note)),
+            state,
+            buf,
+        )
     }
 }
 

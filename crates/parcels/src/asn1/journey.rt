@@ -12,8 +12,8 @@ use crate::asn1::address::Address;
 use crate::asn1::property::Property;
 use crate::asn1::stop::Stop;
 use der::{
-    Decode, DecodeValue, Encode, EncodeValue, Error, FromFields, Header, IsValue, Lends, Length,
-    Reader, Sequence, SliceReader, Writer, decode_sequence, field_refs,
+    Decode, DecodeValue, Encode, Error, FieldsCall, FromFields, HasFields, Header, IsValue, Lends,
+    Reader, Sequence, SliceReader, decode_sequence, field_refs,
 };
 use der_asn1::{
     BorrowedItem, DecodeItem, DefaultU64, DefaultValue, Defaulted, Described, Implicit, IntegerOf,
@@ -105,27 +105,24 @@ impl<'a> IsValue for Journey<'a> {
 }
 
 /// Writes the fields one after the other, with the errors of every [`Sequence`].
-impl<'a> EncodeValue for Journey<'a> {
-    ghost value_size = { λ v. ⟦<JourneyFields<'a> as Encode>⟧.size
+impl<'a> HasFields for Journey<'a> {
+    ghost fields_size = { λ v. ⟦<JourneyFields<'a> as Encode>⟧.size
         (⟦<Journey<'a> as FromFields<JourneyFields<'a>>>⟧.fields v) };
 
-    ghost encode_value_answers = { λ v. ⟦<JourneyFields<'a> as Encode>⟧.encode_answers
+    ghost fields_answers = { λ v. ⟦<JourneyFields<'a> as Encode>⟧.encode_answers
         (⟦<Journey<'a> as FromFields<JourneyFields<'a>>>⟧.fields v) };
 
-    fn value_len(&self) -> Result<Length, Error> {
-        field_refs!(self, (sender, receiver, stops, properties, attempts)).encoded_len()
-    }
-
-    fn encode_value<W: Writer>(&self, writer: &mut W) -> Result<(), Error> {
-        field_refs!(self, (sender, receiver, stops, properties, attempts)).encode(writer)
-    }
-
-    fn value_len_before(&self) -> Option<u32> {
-        field_refs!(self, (sender, receiver, stops, properties, attempts)).len_before()
-    }
-
-    fn encode_value_before(&self, buf: &mut [u8], end: u32) -> u32 {
-        field_refs!(self, (sender, receiver, stops, properties, attempts)).encode_before(buf, end)
+    fn call_fields<S, C: FieldsCall<S>>(
+        &self,
+        call: &C,
+        state: &mut S,
+        buf: &mut [u8],
+    ) -> C::Output {
+        call.call(
+            &field_refs!(self, (sender, receiver, stops, properties, attempts)),
+            state,
+            buf,
+        )
     }
 }
 

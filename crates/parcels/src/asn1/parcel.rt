@@ -15,8 +15,8 @@ use crate::asn1::label::Label;
 use crate::asn1::packing::Packing;
 use crate::asn1::version::Version;
 use der::{
-    Decode, DecodeValue, Encode, EncodeValue, Error, FromFields, Header, IsValue, Lends, Length,
-    Reader, Sequence, SliceReader, Writer, decode_sequence, field_refs,
+    Decode, DecodeValue, Encode, Error, FieldsCall, FromFields, HasFields, Header, IsValue, Lends,
+    Reader, Sequence, SliceReader, decode_sequence, field_refs,
 };
 use der_asn1::{
     BooleanRef, BorrowedItem, DecodeItem, DefaultOf, DefaultValue, Defaulted, Described,
@@ -139,51 +139,29 @@ impl<'a> IsValue for Parcel<'a> {
 }
 
 /// Writes the fields one after the other, with the errors of every [`Sequence`].
-impl<'a> EncodeValue for Parcel<'a> {
-    ghost value_size = { λ v. ⟦<ParcelFields<'a> as Encode>⟧.size
+impl<'a> HasFields for Parcel<'a> {
+    ghost fields_size = { λ v. ⟦<ParcelFields<'a> as Encode>⟧.size
         (⟦<Parcel<'a> as FromFields<ParcelFields<'a>>>⟧.fields v) };
 
-    ghost encode_value_answers = { λ v. ⟦<ParcelFields<'a> as Encode>⟧.encode_answers
+    ghost fields_answers = { λ v. ⟦<ParcelFields<'a> as Encode>⟧.encode_answers
         (⟦<Parcel<'a> as FromFields<ParcelFields<'a>>>⟧.fields v) };
 
-    fn value_len(&self) -> Result<Length, Error> {
-        field_refs!(
-            self,
-            (
-                version, number, weight, packing, handling, opened, journey, label
-            )
+    fn call_fields<S, C: FieldsCall<S>>(
+        &self,
+        call: &C,
+        state: &mut S,
+        buf: &mut [u8],
+    ) -> C::Output {
+        call.call(
+            &field_refs!(
+                self,
+                (
+                    version, number, weight, packing, handling, opened, journey, label
+                )
+            ),
+            state,
+            buf,
         )
-        .encoded_len()
-    }
-
-    fn encode_value<W: Writer>(&self, writer: &mut W) -> Result<(), Error> {
-        field_refs!(
-            self,
-            (
-                version, number, weight, packing, handling, opened, journey, label
-            )
-        )
-        .encode(writer)
-    }
-
-    fn value_len_before(&self) -> Option<u32> {
-        field_refs!(
-            self,
-            (
-                version, number, weight, packing, handling, opened, journey, label
-            )
-        )
-        .len_before()
-    }
-
-    fn encode_value_before(&self, buf: &mut [u8], end: u32) -> u32 {
-        field_refs!(
-            self,
-            (
-                version, number, weight, packing, handling, opened, journey, label
-            )
-        )
-        .encode_before(buf, end)
     }
 }
 

@@ -10,8 +10,8 @@ ghost use Rattle.der_asn1.specs.TupleFields.{three_fields};
 
 use crate::asn1::text_tagged::TextTagged;
 use der::{
-    Decode, DecodeValue, Encode, EncodeValue, Error, FromFields, Header, IsValue, Lends, Length,
-    Reader, Sequence, SliceReader, Writer, decode_sequence, field_refs,
+    Decode, DecodeValue, Encode, Error, FieldsCall, FromFields, HasFields, Header, IsValue, Lends,
+    Reader, Sequence, SliceReader, decode_sequence, field_refs,
 };
 use der_asn1::{AnyRef, BorrowedItem, DecodeItem, Described, Implicit, Item, Nestable, Optional};
 use spki::AlgorithmIdentifierRef;
@@ -84,27 +84,20 @@ impl<'a> IsValue for Seal<'a> {
 }
 
 /// Writes the fields one after the other, with the errors of every [`Sequence`].
-impl<'a> EncodeValue for Seal<'a> {
-    ghost value_size = { λ v. ⟦<SealFields<'a> as Encode>⟧.size
+impl<'a> HasFields for Seal<'a> {
+    ghost fields_size = { λ v. ⟦<SealFields<'a> as Encode>⟧.size
         (⟦<Seal<'a> as FromFields<SealFields<'a>>>⟧.fields v) };
 
-    ghost encode_value_answers = { λ v. ⟦<SealFields<'a> as Encode>⟧.encode_answers
+    ghost fields_answers = { λ v. ⟦<SealFields<'a> as Encode>⟧.encode_answers
         (⟦<Seal<'a> as FromFields<SealFields<'a>>>⟧.fields v) };
 
-    fn value_len(&self) -> Result<Length, Error> {
-        field_refs!(self, (algorithm, text, extra)).encoded_len()
-    }
-
-    fn encode_value<W: Writer>(&self, writer: &mut W) -> Result<(), Error> {
-        field_refs!(self, (algorithm, text, extra)).encode(writer)
-    }
-
-    fn value_len_before(&self) -> Option<u32> {
-        field_refs!(self, (algorithm, text, extra)).len_before()
-    }
-
-    fn encode_value_before(&self, buf: &mut [u8], end: u32) -> u32 {
-        field_refs!(self, (algorithm, text, extra)).encode_before(buf, end)
+    fn call_fields<S, C: FieldsCall<S>>(
+        &self,
+        call: &C,
+        state: &mut S,
+        buf: &mut [u8],
+    ) -> C::Output {
+        call.call(&field_refs!(self, (algorithm, text, extra)), state, buf)
     }
 }
 

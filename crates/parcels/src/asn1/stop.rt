@@ -10,8 +10,8 @@ ghost use Rattle.der_asn1.specs.Meaning.{alternative, field, sequence, sequence_
 use crate::asn1::text::Text;
 use crate::asn1::time::Time;
 use der::{
-    Decode, DecodeValue, Encode, EncodeValue, Error, FromFields, Header, IsValue, Lends, Length,
-    Reader, Sequence, SliceReader, Writer, decode_sequence, field_refs,
+    Decode, DecodeValue, Encode, Error, FieldsCall, FromFields, HasFields, Header, IsValue, Lends,
+    Reader, Sequence, SliceReader, decode_sequence, field_refs,
 };
 use der_asn1::{BorrowedItem, DecodeItem, Described, DescribedChoice, Item, Nestable};
 use std::alloc::Global;
@@ -78,27 +78,20 @@ impl<'a> IsValue for Stop<'a> {
 }
 
 /// Writes the fields one after the other, with the errors of every [`Sequence`].
-impl<'a> EncodeValue for Stop<'a> {
-    ghost value_size = { λ v. ⟦<StopFields<'a> as Encode>⟧.size
+impl<'a> HasFields for Stop<'a> {
+    ghost fields_size = { λ v. ⟦<StopFields<'a> as Encode>⟧.size
         (⟦<Stop<'a> as FromFields<StopFields<'a>>>⟧.fields v) };
 
-    ghost encode_value_answers = { λ v. ⟦<StopFields<'a> as Encode>⟧.encode_answers
+    ghost fields_answers = { λ v. ⟦<StopFields<'a> as Encode>⟧.encode_answers
         (⟦<Stop<'a> as FromFields<StopFields<'a>>>⟧.fields v) };
 
-    fn value_len(&self) -> Result<Length, Error> {
-        field_refs!(self, (place, time)).encoded_len()
-    }
-
-    fn encode_value<W: Writer>(&self, writer: &mut W) -> Result<(), Error> {
-        field_refs!(self, (place, time)).encode(writer)
-    }
-
-    fn value_len_before(&self) -> Option<u32> {
-        field_refs!(self, (place, time)).len_before()
-    }
-
-    fn encode_value_before(&self, buf: &mut [u8], end: u32) -> u32 {
-        field_refs!(self, (place, time)).encode_before(buf, end)
+    fn call_fields<S, C: FieldsCall<S>>(
+        &self,
+        call: &C,
+        state: &mut S,
+        buf: &mut [u8],
+    ) -> C::Output {
+        call.call(&field_refs!(self, (place, time)), state, buf)
     }
 }
 

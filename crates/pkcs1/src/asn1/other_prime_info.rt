@@ -9,8 +9,8 @@ ghost use Rattle.der_asn1.specs.Meaning.{alternative, field, sequence, sequence_
 ghost use Rattle.der_asn1.specs.TupleFields.{three_fields};
 
 use der::{
-    Decode, DecodeValue, Encode, EncodeValue, Error, FromFields, Header, IsValue, Lends, Length,
-    Reader, Sequence, SliceReader, Writer, decode_sequence, field_refs,
+    Decode, DecodeValue, Encode, Error, FieldsCall, FromFields, HasFields, Header, IsValue, Lends,
+    Reader, Sequence, SliceReader, decode_sequence, field_refs,
 };
 use der_asn1::{BorrowedItem, DecodeItem, Described, IntRef, Item, Nestable};
 use std::alloc::Global;
@@ -78,27 +78,24 @@ impl<'a> IsValue for OtherPrimeInfo<'a> {
 }
 
 /// Writes the fields one after the other, with the errors of every [`Sequence`].
-impl<'a> EncodeValue for OtherPrimeInfo<'a> {
-    ghost value_size = { λ v. ⟦<OtherPrimeInfoFields<'a> as Encode>⟧.size
+impl<'a> HasFields for OtherPrimeInfo<'a> {
+    ghost fields_size = { λ v. ⟦<OtherPrimeInfoFields<'a> as Encode>⟧.size
         (⟦<OtherPrimeInfo<'a> as FromFields<OtherPrimeInfoFields<'a>>>⟧.fields v) };
 
-    ghost encode_value_answers = { λ v. ⟦<OtherPrimeInfoFields<'a> as Encode>⟧.encode_answers
+    ghost fields_answers = { λ v. ⟦<OtherPrimeInfoFields<'a> as Encode>⟧.encode_answers
         (⟦<OtherPrimeInfo<'a> as FromFields<OtherPrimeInfoFields<'a>>>⟧.fields v) };
 
-    fn value_len(&self) -> Result<Length, Error> {
-        field_refs!(self, (prime, exponent, coefficient)).encoded_len()
-    }
-
-    fn encode_value<W: Writer>(&self, writer: &mut W) -> Result<(), Error> {
-        field_refs!(self, (prime, exponent, coefficient)).encode(writer)
-    }
-
-    fn value_len_before(&self) -> Option<u32> {
-        field_refs!(self, (prime, exponent, coefficient)).len_before()
-    }
-
-    fn encode_value_before(&self, buf: &mut [u8], end: u32) -> u32 {
-        field_refs!(self, (prime, exponent, coefficient)).encode_before(buf, end)
+    fn call_fields<S, C: FieldsCall<S>>(
+        &self,
+        call: &C,
+        state: &mut S,
+        buf: &mut [u8],
+    ) -> C::Output {
+        call.call(
+            &field_refs!(self, (prime, exponent, coefficient)),
+            state,
+            buf,
+        )
     }
 }
 

@@ -11,8 +11,8 @@ ghost use Rattle.der_asn1.specs.TupleFields.{three_fields};
 
 use crate::{EmptyLabelDefault, Mgf1Sha1Default, Sha1Default};
 use der::{
-    Decode, DecodeValue, Encode, EncodeValue, Error, FromFields, Header, IsValue, Lends, Length,
-    Reader, Sequence, SliceReader, Writer, decode_sequence, field_refs,
+    Decode, DecodeValue, Encode, Error, FieldsCall, FromFields, HasFields, Header, IsValue, Lends,
+    Reader, Sequence, SliceReader, decode_sequence, field_refs,
 };
 use der_asn1::{
     BorrowedItem, DecodeItem, DefaultOf, DefaultedTo, Described, Explicit, Item, Nestable,
@@ -89,27 +89,20 @@ impl<'a> IsValue for RsaOaepParams<'a> {
 }
 
 /// Writes the fields one after the other, with the errors of every [`Sequence`].
-impl<'a> EncodeValue for RsaOaepParams<'a> {
-    ghost value_size = { λ v. ⟦<RsaOaepParamsFields<'a> as Encode>⟧.size
+impl<'a> HasFields for RsaOaepParams<'a> {
+    ghost fields_size = { λ v. ⟦<RsaOaepParamsFields<'a> as Encode>⟧.size
         (⟦<RsaOaepParams<'a> as FromFields<RsaOaepParamsFields<'a>>>⟧.fields v) };
 
-    ghost encode_value_answers = { λ v. ⟦<RsaOaepParamsFields<'a> as Encode>⟧.encode_answers
+    ghost fields_answers = { λ v. ⟦<RsaOaepParamsFields<'a> as Encode>⟧.encode_answers
         (⟦<RsaOaepParams<'a> as FromFields<RsaOaepParamsFields<'a>>>⟧.fields v) };
 
-    fn value_len(&self) -> Result<Length, Error> {
-        field_refs!(self, (hash, mask_gen, p_source)).encoded_len()
-    }
-
-    fn encode_value<W: Writer>(&self, writer: &mut W) -> Result<(), Error> {
-        field_refs!(self, (hash, mask_gen, p_source)).encode(writer)
-    }
-
-    fn value_len_before(&self) -> Option<u32> {
-        field_refs!(self, (hash, mask_gen, p_source)).len_before()
-    }
-
-    fn encode_value_before(&self, buf: &mut [u8], end: u32) -> u32 {
-        field_refs!(self, (hash, mask_gen, p_source)).encode_before(buf, end)
+    fn call_fields<S, C: FieldsCall<S>>(
+        &self,
+        call: &C,
+        state: &mut S,
+        buf: &mut [u8],
+    ) -> C::Output {
+        call.call(&field_refs!(self, (hash, mask_gen, p_source)), state, buf)
     }
 }
 

@@ -10,8 +10,8 @@ ghost use Rattle.der_asn1.specs.TupleFields.{ten_fields};
 
 use crate::asn1::other_prime_infos::OtherPrimeInfos;
 use der::{
-    Decode, DecodeValue, Encode, EncodeValue, Error, FromFields, Header, IsValue, Lends, Length,
-    Reader, Sequence, SliceReader, Writer, decode_sequence, field_refs,
+    Decode, DecodeValue, Encode, Error, FieldsCall, FromFields, HasFields, Header, IsValue, Lends,
+    Reader, Sequence, SliceReader, decode_sequence, field_refs,
 };
 use der_asn1::{BorrowedItem, DecodeItem, Described, IntRef, Item, Nestable, Optional};
 use std::alloc::Global;
@@ -148,87 +148,38 @@ impl<'a> IsValue for RsaPrivateKey<'a> {
 }
 
 /// Writes the fields one after the other, with the errors of every [`Sequence`].
-impl<'a> EncodeValue for RsaPrivateKey<'a> {
-    ghost value_size = { λ v. ⟦<RsaPrivateKeyFields<'a> as Encode>⟧.size
+impl<'a> HasFields for RsaPrivateKey<'a> {
+    ghost fields_size = { λ v. ⟦<RsaPrivateKeyFields<'a> as Encode>⟧.size
         (⟦<RsaPrivateKey<'a> as FromFields<RsaPrivateKeyFields<'a>>>⟧.fields v) };
 
-    ghost encode_value_answers = { λ v. ⟦<RsaPrivateKeyFields<'a> as Encode>⟧.encode_answers
+    ghost fields_answers = { λ v. ⟦<RsaPrivateKeyFields<'a> as Encode>⟧.encode_answers
         (⟦<RsaPrivateKey<'a> as FromFields<RsaPrivateKeyFields<'a>>>⟧.fields v) };
 
-    fn value_len(&self) -> Result<Length, Error> {
-        field_refs!(
-            self,
-            (
-                version,
-                modulus,
-                public_exponent,
-                private_exponent,
-                prime1,
-                prime2,
-                exponent1,
-                exponent2,
-                coefficient,
-                other_prime_infos
-            )
+    fn call_fields<S, C: FieldsCall<S>>(
+        &self,
+        call: &C,
+        state: &mut S,
+        buf: &mut [u8],
+    ) -> C::Output {
+        call.call(
+            &field_refs!(
+                self,
+                (
+                    version,
+                    modulus,
+                    public_exponent,
+                    private_exponent,
+                    prime1,
+                    prime2,
+                    exponent1,
+                    exponent2,
+                    coefficient,
+                    other_prime_infos
+                )
+            ),
+            state,
+            buf,
         )
-        .encoded_len()
-    }
-
-    fn encode_value<W: Writer>(&self, writer: &mut W) -> Result<(), Error> {
-        field_refs!(
-            self,
-            (
-                version,
-                modulus,
-                public_exponent,
-                private_exponent,
-                prime1,
-                prime2,
-                exponent1,
-                exponent2,
-                coefficient,
-                other_prime_infos
-            )
-        )
-        .encode(writer)
-    }
-
-    fn value_len_before(&self) -> Option<u32> {
-        field_refs!(
-            self,
-            (
-                version,
-                modulus,
-                public_exponent,
-                private_exponent,
-                prime1,
-                prime2,
-                exponent1,
-                exponent2,
-                coefficient,
-                other_prime_infos
-            )
-        )
-        .len_before()
-    }
-
-    fn encode_value_before(&self, buf: &mut [u8], end: u32) -> u32 {
-        field_refs!(
-            self,
-            (
-                version,
-                modulus,
-                public_exponent,
-                private_exponent,
-                prime1,
-                prime2,
-                exponent1,
-                exponent2,
-                coefficient,
-                other_prime_infos
-            )
-        )
-        .encode_before(buf, end)
     }
 }
 

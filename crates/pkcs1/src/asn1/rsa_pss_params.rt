@@ -11,8 +11,8 @@ ghost use Rattle.der_asn1.specs.TupleFields.{four_fields};
 
 use crate::{Mgf1Sha1Default, Sha1Default};
 use der::{
-    Decode, DecodeValue, Encode, EncodeValue, Error, FromFields, Header, IsValue, Lends, Length,
-    Reader, Sequence, SliceReader, Writer, decode_sequence, field_refs,
+    Decode, DecodeValue, Encode, Error, FieldsCall, FromFields, HasFields, Header, IsValue, Lends,
+    Reader, Sequence, SliceReader, decode_sequence, field_refs,
 };
 use der_asn1::{
     BorrowedItem, DecodeItem, DefaultOf, DefaultU64, DefaultValue, Defaulted, DefaultedTo,
@@ -102,27 +102,24 @@ impl<'a> IsValue for RsaPssParams<'a> {
 }
 
 /// Writes the fields one after the other, with the errors of every [`Sequence`].
-impl<'a> EncodeValue for RsaPssParams<'a> {
-    ghost value_size = { λ v. ⟦<RsaPssParamsFields<'a> as Encode>⟧.size
+impl<'a> HasFields for RsaPssParams<'a> {
+    ghost fields_size = { λ v. ⟦<RsaPssParamsFields<'a> as Encode>⟧.size
         (⟦<RsaPssParams<'a> as FromFields<RsaPssParamsFields<'a>>>⟧.fields v) };
 
-    ghost encode_value_answers = { λ v. ⟦<RsaPssParamsFields<'a> as Encode>⟧.encode_answers
+    ghost fields_answers = { λ v. ⟦<RsaPssParamsFields<'a> as Encode>⟧.encode_answers
         (⟦<RsaPssParams<'a> as FromFields<RsaPssParamsFields<'a>>>⟧.fields v) };
 
-    fn value_len(&self) -> Result<Length, Error> {
-        field_refs!(self, (hash, mask_gen, salt_len, trailer_field)).encoded_len()
-    }
-
-    fn encode_value<W: Writer>(&self, writer: &mut W) -> Result<(), Error> {
-        field_refs!(self, (hash, mask_gen, salt_len, trailer_field)).encode(writer)
-    }
-
-    fn value_len_before(&self) -> Option<u32> {
-        field_refs!(self, (hash, mask_gen, salt_len, trailer_field)).len_before()
-    }
-
-    fn encode_value_before(&self, buf: &mut [u8], end: u32) -> u32 {
-        field_refs!(self, (hash, mask_gen, salt_len, trailer_field)).encode_before(buf, end)
+    fn call_fields<S, C: FieldsCall<S>>(
+        &self,
+        call: &C,
+        state: &mut S,
+        buf: &mut [u8],
+    ) -> C::Output {
+        call.call(
+            &field_refs!(self, (hash, mask_gen, salt_len, trailer_field)),
+            state,
+            buf,
+        )
     }
 }
 

@@ -11,8 +11,8 @@ ghost use Rattle.der_asn1.specs.TupleFields.{three_fields};
 use crate::asn1::mac_data::MacData;
 use cms::ContentInfo;
 use der::{
-    Decode, DecodeValue, Encode, EncodeValue, Error, FromFields, Header, IsValue, Lends, Length,
-    Reader, Sequence, SliceReader, Writer, decode_sequence, field_refs,
+    Decode, DecodeValue, Encode, Error, FieldsCall, FromFields, HasFields, Header, IsValue, Lends,
+    Reader, Sequence, SliceReader, decode_sequence, field_refs,
 };
 use der_asn1::{BorrowedItem, DecodeItem, Described, IntRef, Item, Nestable, Optional};
 use std::alloc::Global;
@@ -83,27 +83,24 @@ impl<'a> IsValue for Pfx<'a> {
 }
 
 /// Writes the fields one after the other, with the errors of every [`Sequence`].
-impl<'a> EncodeValue for Pfx<'a> {
-    ghost value_size = { λ v. ⟦<PfxFields<'a> as Encode>⟧.size
+impl<'a> HasFields for Pfx<'a> {
+    ghost fields_size = { λ v. ⟦<PfxFields<'a> as Encode>⟧.size
         (⟦<Pfx<'a> as FromFields<PfxFields<'a>>>⟧.fields v) };
 
-    ghost encode_value_answers = { λ v. ⟦<PfxFields<'a> as Encode>⟧.encode_answers
+    ghost fields_answers = { λ v. ⟦<PfxFields<'a> as Encode>⟧.encode_answers
         (⟦<Pfx<'a> as FromFields<PfxFields<'a>>>⟧.fields v) };
 
-    fn value_len(&self) -> Result<Length, Error> {
-        field_refs!(self, (version, auth_safe, mac_data)).encoded_len()
-    }
-
-    fn encode_value<W: Writer>(&self, writer: &mut W) -> Result<(), Error> {
-        field_refs!(self, (version, auth_safe, mac_data)).encode(writer)
-    }
-
-    fn value_len_before(&self) -> Option<u32> {
-        field_refs!(self, (version, auth_safe, mac_data)).len_before()
-    }
-
-    fn encode_value_before(&self, buf: &mut [u8], end: u32) -> u32 {
-        field_refs!(self, (version, auth_safe, mac_data)).encode_before(buf, end)
+    fn call_fields<S, C: FieldsCall<S>>(
+        &self,
+        call: &C,
+        state: &mut S,
+        buf: &mut [u8],
+    ) -> C::Output {
+        call.call(
+            &field_refs!(self, (version, auth_safe, mac_data)),
+            state,
+            buf,
+        )
     }
 }
 

@@ -12,8 +12,8 @@ ghost use Rattle.der_asn1.specs.TupleFields.{four_fields};
 use crate::HmacWithSha1Default;
 use crate::asn1::pbkdf2_salt::Pbkdf2Salt;
 use der::{
-    Decode, DecodeValue, Encode, EncodeValue, Error, FromFields, Header, IsValue, Lends, Length,
-    Reader, Sequence, SliceReader, Writer, decode_sequence, field_refs,
+    Decode, DecodeValue, Encode, Error, FieldsCall, FromFields, HasFields, Header, IsValue, Lends,
+    Reader, Sequence, SliceReader, decode_sequence, field_refs,
 };
 use der_asn1::{
     BorrowedItem, DecodeItem, DefaultOf, DefaultedTo, Described, DescribedChoice, IntRef, Item,
@@ -101,27 +101,24 @@ impl<'a> IsValue for Pbkdf2Params<'a> {
 }
 
 /// Writes the fields one after the other, with the errors of every [`Sequence`].
-impl<'a> EncodeValue for Pbkdf2Params<'a> {
-    ghost value_size = { λ v. ⟦<Pbkdf2ParamsFields<'a> as Encode>⟧.size
+impl<'a> HasFields for Pbkdf2Params<'a> {
+    ghost fields_size = { λ v. ⟦<Pbkdf2ParamsFields<'a> as Encode>⟧.size
         (⟦<Pbkdf2Params<'a> as FromFields<Pbkdf2ParamsFields<'a>>>⟧.fields v) };
 
-    ghost encode_value_answers = { λ v. ⟦<Pbkdf2ParamsFields<'a> as Encode>⟧.encode_answers
+    ghost fields_answers = { λ v. ⟦<Pbkdf2ParamsFields<'a> as Encode>⟧.encode_answers
         (⟦<Pbkdf2Params<'a> as FromFields<Pbkdf2ParamsFields<'a>>>⟧.fields v) };
 
-    fn value_len(&self) -> Result<Length, Error> {
-        field_refs!(self, (salt, iteration_count, key_length, prf)).encoded_len()
-    }
-
-    fn encode_value<W: Writer>(&self, writer: &mut W) -> Result<(), Error> {
-        field_refs!(self, (salt, iteration_count, key_length, prf)).encode(writer)
-    }
-
-    fn value_len_before(&self) -> Option<u32> {
-        field_refs!(self, (salt, iteration_count, key_length, prf)).len_before()
-    }
-
-    fn encode_value_before(&self, buf: &mut [u8], end: u32) -> u32 {
-        field_refs!(self, (salt, iteration_count, key_length, prf)).encode_before(buf, end)
+    fn call_fields<S, C: FieldsCall<S>>(
+        &self,
+        call: &C,
+        state: &mut S,
+        buf: &mut [u8],
+    ) -> C::Output {
+        call.call(
+            &field_refs!(self, (salt, iteration_count, key_length, prf)),
+            state,
+            buf,
+        )
     }
 }
 

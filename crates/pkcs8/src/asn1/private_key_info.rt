@@ -11,8 +11,8 @@ ghost use Rattle.der_asn1.specs.TupleFields.{five_fields};
 use crate::asn1::private_key_attributes::PrivateKeyAttributes;
 use crate::asn1::version::Version;
 use der::{
-    Decode, DecodeValue, Encode, EncodeValue, Error, FromFields, Header, IsValue, Lends, Length,
-    Reader, Sequence, SliceReader, Writer, decode_sequence, field_refs,
+    Decode, DecodeValue, Encode, Error, FieldsCall, FromFields, HasFields, Header, IsValue, Lends,
+    Reader, Sequence, SliceReader, decode_sequence, field_refs,
 };
 use der_asn1::{
     BitStringRef, BorrowedItem, DecodeItem, Described, Implicit, Item, NamedInteger, Nestable,
@@ -112,67 +112,33 @@ impl<'a> IsValue for PrivateKeyInfo<'a> {
 }
 
 /// Writes the fields one after the other, with the errors of every [`Sequence`].
-impl<'a> EncodeValue for PrivateKeyInfo<'a> {
-    ghost value_size = { λ v. ⟦<PrivateKeyInfoFields<'a> as Encode>⟧.size
+impl<'a> HasFields for PrivateKeyInfo<'a> {
+    ghost fields_size = { λ v. ⟦<PrivateKeyInfoFields<'a> as Encode>⟧.size
         (⟦<PrivateKeyInfo<'a> as FromFields<PrivateKeyInfoFields<'a>>>⟧.fields v) };
 
-    ghost encode_value_answers = { λ v. ⟦<PrivateKeyInfoFields<'a> as Encode>⟧.encode_answers
+    ghost fields_answers = { λ v. ⟦<PrivateKeyInfoFields<'a> as Encode>⟧.encode_answers
         (⟦<PrivateKeyInfo<'a> as FromFields<PrivateKeyInfoFields<'a>>>⟧.fields v) };
 
-    fn value_len(&self) -> Result<Length, Error> {
-        field_refs!(
-            self,
-            (
-                version,
-                private_key_algorithm,
-                private_key,
-                attributes,
-                public_key
-            )
+    fn call_fields<S, C: FieldsCall<S>>(
+        &self,
+        call: &C,
+        state: &mut S,
+        buf: &mut [u8],
+    ) -> C::Output {
+        call.call(
+            &field_refs!(
+                self,
+                (
+                    version,
+                    private_key_algorithm,
+                    private_key,
+                    attributes,
+                    public_key
+                )
+            ),
+            state,
+            buf,
         )
-        .encoded_len()
-    }
-
-    fn encode_value<W: Writer>(&self, writer: &mut W) -> Result<(), Error> {
-        field_refs!(
-            self,
-            (
-                version,
-                private_key_algorithm,
-                private_key,
-                attributes,
-                public_key
-            )
-        )
-        .encode(writer)
-    }
-
-    fn value_len_before(&self) -> Option<u32> {
-        field_refs!(
-            self,
-            (
-                version,
-                private_key_algorithm,
-                private_key,
-                attributes,
-                public_key
-            )
-        )
-        .len_before()
-    }
-
-    fn encode_value_before(&self, buf: &mut [u8], end: u32) -> u32 {
-        field_refs!(
-            self,
-            (
-                version,
-                private_key_algorithm,
-                private_key,
-                attributes,
-                public_key
-            )
-        )
-        .encode_before(buf, end)
     }
 }
 

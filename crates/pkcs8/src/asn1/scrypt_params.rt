@@ -9,8 +9,8 @@ ghost use Rattle.der_asn1.specs.Meaning.{alternative, field, optional, sequence,
 ghost use Rattle.der_asn1.specs.TupleFields.{five_fields};
 
 use der::{
-    Decode, DecodeValue, Encode, EncodeValue, Error, FromFields, Header, IsValue, Lends, Length,
-    Reader, Sequence, SliceReader, Writer, decode_sequence, field_refs,
+    Decode, DecodeValue, Encode, Error, FieldsCall, FromFields, HasFields, Header, IsValue, Lends,
+    Reader, Sequence, SliceReader, decode_sequence, field_refs,
 };
 use der_asn1::{
     BorrowedItem, DecodeItem, Described, IntRef, Item, Nestable, OctetStringRef, Optional,
@@ -104,67 +104,33 @@ impl<'a> IsValue for ScryptParams<'a> {
 }
 
 /// Writes the fields one after the other, with the errors of every [`Sequence`].
-impl<'a> EncodeValue for ScryptParams<'a> {
-    ghost value_size = { λ v. ⟦<ScryptParamsFields<'a> as Encode>⟧.size
+impl<'a> HasFields for ScryptParams<'a> {
+    ghost fields_size = { λ v. ⟦<ScryptParamsFields<'a> as Encode>⟧.size
         (⟦<ScryptParams<'a> as FromFields<ScryptParamsFields<'a>>>⟧.fields v) };
 
-    ghost encode_value_answers = { λ v. ⟦<ScryptParamsFields<'a> as Encode>⟧.encode_answers
+    ghost fields_answers = { λ v. ⟦<ScryptParamsFields<'a> as Encode>⟧.encode_answers
         (⟦<ScryptParams<'a> as FromFields<ScryptParamsFields<'a>>>⟧.fields v) };
 
-    fn value_len(&self) -> Result<Length, Error> {
-        field_refs!(
-            self,
-            (
-                salt,
-                cost_parameter,
-                block_size,
-                parallelization,
-                key_length
-            )
+    fn call_fields<S, C: FieldsCall<S>>(
+        &self,
+        call: &C,
+        state: &mut S,
+        buf: &mut [u8],
+    ) -> C::Output {
+        call.call(
+            &field_refs!(
+                self,
+                (
+                    salt,
+                    cost_parameter,
+                    block_size,
+                    parallelization,
+                    key_length
+                )
+            ),
+            state,
+            buf,
         )
-        .encoded_len()
-    }
-
-    fn encode_value<W: Writer>(&self, writer: &mut W) -> Result<(), Error> {
-        field_refs!(
-            self,
-            (
-                salt,
-                cost_parameter,
-                block_size,
-                parallelization,
-                key_length
-            )
-        )
-        .encode(writer)
-    }
-
-    fn value_len_before(&self) -> Option<u32> {
-        field_refs!(
-            self,
-            (
-                salt,
-                cost_parameter,
-                block_size,
-                parallelization,
-                key_length
-            )
-        )
-        .len_before()
-    }
-
-    fn encode_value_before(&self, buf: &mut [u8], end: u32) -> u32 {
-        field_refs!(
-            self,
-            (
-                salt,
-                cost_parameter,
-                block_size,
-                parallelization,
-                key_length
-            )
-        )
-        .encode_before(buf, end)
     }
 }
 

@@ -9,8 +9,8 @@ ghost use Rattle.der_asn1.specs.Meaning.{alternative, any_element, field, sequen
 ghost use Rattle.der_asn1.specs.TupleFields.{three_fields};
 
 use der::{
-    Decode, DecodeValue, Encode, EncodeValue, Error, FromFields, Header, IsValue, Lends, Length,
-    Reader, Sequence, SliceReader, Writer, decode_sequence, field_refs,
+    Decode, DecodeValue, Encode, Error, FieldsCall, FromFields, HasFields, Header, IsValue, Lends,
+    Reader, Sequence, SliceReader, decode_sequence, field_refs,
 };
 use der_asn1::{
     AnyRef, BorrowedItem, DecodeItem, Described, IntRef, Item, Nestable, ObjectIdentifierRef,
@@ -79,27 +79,20 @@ impl<'a> IsValue for CharacteristicTwo<'a> {
 }
 
 /// Writes the fields one after the other, with the errors of every [`Sequence`].
-impl<'a> EncodeValue for CharacteristicTwo<'a> {
-    ghost value_size = { λ v. ⟦<CharacteristicTwoFields<'a> as Encode>⟧.size
+impl<'a> HasFields for CharacteristicTwo<'a> {
+    ghost fields_size = { λ v. ⟦<CharacteristicTwoFields<'a> as Encode>⟧.size
         (⟦<CharacteristicTwo<'a> as FromFields<CharacteristicTwoFields<'a>>>⟧.fields v) };
 
-    ghost encode_value_answers = { λ v. ⟦<CharacteristicTwoFields<'a> as Encode>⟧.encode_answers
+    ghost fields_answers = { λ v. ⟦<CharacteristicTwoFields<'a> as Encode>⟧.encode_answers
         (⟦<CharacteristicTwo<'a> as FromFields<CharacteristicTwoFields<'a>>>⟧.fields v) };
 
-    fn value_len(&self) -> Result<Length, Error> {
-        field_refs!(self, (m, basis, parameters)).encoded_len()
-    }
-
-    fn encode_value<W: Writer>(&self, writer: &mut W) -> Result<(), Error> {
-        field_refs!(self, (m, basis, parameters)).encode(writer)
-    }
-
-    fn value_len_before(&self) -> Option<u32> {
-        field_refs!(self, (m, basis, parameters)).len_before()
-    }
-
-    fn encode_value_before(&self, buf: &mut [u8], end: u32) -> u32 {
-        field_refs!(self, (m, basis, parameters)).encode_before(buf, end)
+    fn call_fields<S, C: FieldsCall<S>>(
+        &self,
+        call: &C,
+        state: &mut S,
+        buf: &mut [u8],
+    ) -> C::Output {
+        call.call(&field_refs!(self, (m, basis, parameters)), state, buf)
     }
 }
 

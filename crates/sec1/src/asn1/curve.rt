@@ -10,8 +10,8 @@ ghost use Rattle.der_asn1.specs.TupleFields.{three_fields};
 
 use crate::asn1::field_element::FieldElement;
 use der::{
-    Decode, DecodeValue, Encode, EncodeValue, Error, FromFields, Header, IsValue, Lends, Length,
-    Reader, Sequence, SliceReader, Writer, decode_sequence, field_refs,
+    Decode, DecodeValue, Encode, Error, FieldsCall, FromFields, HasFields, Header, IsValue, Lends,
+    Reader, Sequence, SliceReader, decode_sequence, field_refs,
 };
 use der_asn1::{BitStringRef, BorrowedItem, DecodeItem, Described, Item, Nestable, Optional};
 use std::alloc::Global;
@@ -80,27 +80,20 @@ impl<'a> IsValue for Curve<'a> {
 }
 
 /// Writes the fields one after the other, with the errors of every [`Sequence`].
-impl<'a> EncodeValue for Curve<'a> {
-    ghost value_size = { λ v. ⟦<CurveFields<'a> as Encode>⟧.size
+impl<'a> HasFields for Curve<'a> {
+    ghost fields_size = { λ v. ⟦<CurveFields<'a> as Encode>⟧.size
         (⟦<Curve<'a> as FromFields<CurveFields<'a>>>⟧.fields v) };
 
-    ghost encode_value_answers = { λ v. ⟦<CurveFields<'a> as Encode>⟧.encode_answers
+    ghost fields_answers = { λ v. ⟦<CurveFields<'a> as Encode>⟧.encode_answers
         (⟦<Curve<'a> as FromFields<CurveFields<'a>>>⟧.fields v) };
 
-    fn value_len(&self) -> Result<Length, Error> {
-        field_refs!(self, (a, b, seed)).encoded_len()
-    }
-
-    fn encode_value<W: Writer>(&self, writer: &mut W) -> Result<(), Error> {
-        field_refs!(self, (a, b, seed)).encode(writer)
-    }
-
-    fn value_len_before(&self) -> Option<u32> {
-        field_refs!(self, (a, b, seed)).len_before()
-    }
-
-    fn encode_value_before(&self, buf: &mut [u8], end: u32) -> u32 {
-        field_refs!(self, (a, b, seed)).encode_before(buf, end)
+    fn call_fields<S, C: FieldsCall<S>>(
+        &self,
+        call: &C,
+        state: &mut S,
+        buf: &mut [u8],
+    ) -> C::Output {
+        call.call(&field_refs!(self, (a, b, seed)), state, buf)
     }
 }
 

@@ -10,8 +10,8 @@ ghost use Rattle.der_asn1.specs.TupleFields.{four_fields};
 
 use crate::asn1::ec_parameters_tagged::EcParametersTagged;
 use der::{
-    Decode, DecodeValue, Encode, EncodeValue, Error, FromFields, Header, IsValue, Lends, Length,
-    Reader, Sequence, SliceReader, Writer, decode_sequence, field_refs,
+    Decode, DecodeValue, Encode, Error, FieldsCall, FromFields, HasFields, Header, IsValue, Lends,
+    Reader, Sequence, SliceReader, decode_sequence, field_refs,
 };
 use der_asn1::{
     BitStringRef, BorrowedItem, DecodeItem, Described, Explicit, Implicit, IntRef, Item, Nestable,
@@ -95,27 +95,24 @@ impl<'a> IsValue for EcPrivateKey<'a> {
 }
 
 /// Writes the fields one after the other, with the errors of every [`Sequence`].
-impl<'a> EncodeValue for EcPrivateKey<'a> {
-    ghost value_size = { λ v. ⟦<EcPrivateKeyFields<'a> as Encode>⟧.size
+impl<'a> HasFields for EcPrivateKey<'a> {
+    ghost fields_size = { λ v. ⟦<EcPrivateKeyFields<'a> as Encode>⟧.size
         (⟦<EcPrivateKey<'a> as FromFields<EcPrivateKeyFields<'a>>>⟧.fields v) };
 
-    ghost encode_value_answers = { λ v. ⟦<EcPrivateKeyFields<'a> as Encode>⟧.encode_answers
+    ghost fields_answers = { λ v. ⟦<EcPrivateKeyFields<'a> as Encode>⟧.encode_answers
         (⟦<EcPrivateKey<'a> as FromFields<EcPrivateKeyFields<'a>>>⟧.fields v) };
 
-    fn value_len(&self) -> Result<Length, Error> {
-        field_refs!(self, (version, private_key, parameters, public_key)).encoded_len()
-    }
-
-    fn encode_value<W: Writer>(&self, writer: &mut W) -> Result<(), Error> {
-        field_refs!(self, (version, private_key, parameters, public_key)).encode(writer)
-    }
-
-    fn value_len_before(&self) -> Option<u32> {
-        field_refs!(self, (version, private_key, parameters, public_key)).len_before()
-    }
-
-    fn encode_value_before(&self, buf: &mut [u8], end: u32) -> u32 {
-        field_refs!(self, (version, private_key, parameters, public_key)).encode_before(buf, end)
+    fn call_fields<S, C: FieldsCall<S>>(
+        &self,
+        call: &C,
+        state: &mut S,
+        buf: &mut [u8],
+    ) -> C::Output {
+        call.call(
+            &field_refs!(self, (version, private_key, parameters, public_key)),
+            state,
+            buf,
+        )
     }
 }
 

@@ -12,8 +12,8 @@ use crate::asn1::curve::Curve;
 use crate::asn1::ec_point::EcPoint;
 use crate::asn1::field_id::FieldId;
 use der::{
-    Decode, DecodeValue, Encode, EncodeValue, Error, FromFields, Header, IsValue, Lends, Length,
-    Reader, Sequence, SliceReader, Writer, decode_sequence, field_refs,
+    Decode, DecodeValue, Encode, Error, FieldsCall, FromFields, HasFields, Header, IsValue, Lends,
+    Reader, Sequence, SliceReader, decode_sequence, field_refs,
 };
 use der_asn1::{BorrowedItem, DecodeItem, Described, IntRef, Item, Nestable, Optional};
 use spki::AlgorithmIdentifierRef;
@@ -114,43 +114,27 @@ impl<'a> IsValue for SpecifiedEcDomain<'a> {
 }
 
 /// Writes the fields one after the other, with the errors of every [`Sequence`].
-impl<'a> EncodeValue for SpecifiedEcDomain<'a> {
-    ghost value_size = { λ v. ⟦<SpecifiedEcDomainFields<'a> as Encode>⟧.size
+impl<'a> HasFields for SpecifiedEcDomain<'a> {
+    ghost fields_size = { λ v. ⟦<SpecifiedEcDomainFields<'a> as Encode>⟧.size
         (⟦<SpecifiedEcDomain<'a> as FromFields<SpecifiedEcDomainFields<'a>>>⟧.fields v) };
 
-    ghost encode_value_answers = { λ v. ⟦<SpecifiedEcDomainFields<'a> as Encode>⟧.encode_answers
+    ghost fields_answers = { λ v. ⟦<SpecifiedEcDomainFields<'a> as Encode>⟧.encode_answers
         (⟦<SpecifiedEcDomain<'a> as FromFields<SpecifiedEcDomainFields<'a>>>⟧.fields v) };
 
-    fn value_len(&self) -> Result<Length, Error> {
-        field_refs!(
-            self,
-            (version, field_id, curve, base, order, cofactor, hash)
+    fn call_fields<S, C: FieldsCall<S>>(
+        &self,
+        call: &C,
+        state: &mut S,
+        buf: &mut [u8],
+    ) -> C::Output {
+        call.call(
+            &field_refs!(
+                self,
+                (version, field_id, curve, base, order, cofactor, hash)
+            ),
+            state,
+            buf,
         )
-        .encoded_len()
-    }
-
-    fn encode_value<W: Writer>(&self, writer: &mut W) -> Result<(), Error> {
-        field_refs!(
-            self,
-            (version, field_id, curve, base, order, cofactor, hash)
-        )
-        .encode(writer)
-    }
-
-    fn value_len_before(&self) -> Option<u32> {
-        field_refs!(
-            self,
-            (version, field_id, curve, base, order, cofactor, hash)
-        )
-        .len_before()
-    }
-
-    fn encode_value_before(&self, buf: &mut [u8], end: u32) -> u32 {
-        field_refs!(
-            self,
-            (version, field_id, curve, base, order, cofactor, hash)
-        )
-        .encode_before(buf, end)
     }
 }
 

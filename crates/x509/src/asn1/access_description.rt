@@ -9,8 +9,8 @@ ghost use Rattle.der_asn1.specs.Meaning.{alternative, field, sequence, sequence_
 
 use crate::asn1::general_name::GeneralName;
 use der::{
-    Decode, DecodeValue, Encode, EncodeValue, Error, FromFields, Header, IsValue, Lends, Length,
-    Reader, Sequence, SliceReader, Writer, decode_sequence, field_refs,
+    Decode, DecodeValue, Encode, Error, FieldsCall, FromFields, HasFields, Header, IsValue, Lends,
+    Reader, Sequence, SliceReader, decode_sequence, field_refs,
 };
 use der_asn1::{
     BorrowedItem, DecodeItem, Described, DescribedChoice, Item, Nestable, ObjectIdentifierRef,
@@ -84,27 +84,24 @@ impl<'a> IsValue for AccessDescription<'a> {
 }
 
 /// Writes the fields one after the other, with the errors of every [`Sequence`].
-impl<'a> EncodeValue for AccessDescription<'a> {
-    ghost value_size = { λ v. ⟦<AccessDescriptionFields<'a> as Encode>⟧.size
+impl<'a> HasFields for AccessDescription<'a> {
+    ghost fields_size = { λ v. ⟦<AccessDescriptionFields<'a> as Encode>⟧.size
         (⟦<AccessDescription<'a> as FromFields<AccessDescriptionFields<'a>>>⟧.fields v) };
 
-    ghost encode_value_answers = { λ v. ⟦<AccessDescriptionFields<'a> as Encode>⟧.encode_answers
+    ghost fields_answers = { λ v. ⟦<AccessDescriptionFields<'a> as Encode>⟧.encode_answers
         (⟦<AccessDescription<'a> as FromFields<AccessDescriptionFields<'a>>>⟧.fields v) };
 
-    fn value_len(&self) -> Result<Length, Error> {
-        field_refs!(self, (access_method, access_location)).encoded_len()
-    }
-
-    fn encode_value<W: Writer>(&self, writer: &mut W) -> Result<(), Error> {
-        field_refs!(self, (access_method, access_location)).encode(writer)
-    }
-
-    fn value_len_before(&self) -> Option<u32> {
-        field_refs!(self, (access_method, access_location)).len_before()
-    }
-
-    fn encode_value_before(&self, buf: &mut [u8], end: u32) -> u32 {
-        field_refs!(self, (access_method, access_location)).encode_before(buf, end)
+    fn call_fields<S, C: FieldsCall<S>>(
+        &self,
+        call: &C,
+        state: &mut S,
+        buf: &mut [u8],
+    ) -> C::Output {
+        call.call(
+            &field_refs!(self, (access_method, access_location)),
+            state,
+            buf,
+        )
     }
 }
 

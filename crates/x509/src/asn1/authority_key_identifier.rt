@@ -12,8 +12,8 @@ use crate::asn1::certificate_serial_number::CertificateSerialNumber;
 use crate::asn1::general_names::GeneralNames;
 use crate::asn1::key_identifier::KeyIdentifier;
 use der::{
-    Decode, DecodeValue, Encode, EncodeValue, Error, FromFields, Header, IsValue, Lends, Length,
-    Reader, Sequence, SliceReader, Writer, decode_sequence, field_refs,
+    Decode, DecodeValue, Encode, Error, FieldsCall, FromFields, HasFields, Header, IsValue, Lends,
+    Reader, Sequence, SliceReader, decode_sequence, field_refs,
 };
 use der_asn1::{BorrowedItem, DecodeItem, Described, Implicit, Item, Nestable, Optional};
 use std::alloc::Global;
@@ -96,60 +96,31 @@ impl<'a> IsValue for AuthorityKeyIdentifier<'a> {
 }
 
 /// Writes the fields one after the other, with the errors of every [`Sequence`].
-impl<'a> EncodeValue for AuthorityKeyIdentifier<'a> {
-    ghost value_size = { λ v. ⟦<AuthorityKeyIdentifierFields<'a> as Encode>⟧.size
+impl<'a> HasFields for AuthorityKeyIdentifier<'a> {
+    ghost fields_size = { λ v. ⟦<AuthorityKeyIdentifierFields<'a> as Encode>⟧.size
         (⟦<AuthorityKeyIdentifier<'a> as FromFields<AuthorityKeyIdentifierFields<'a>>>⟧.fields v) };
 
-    ghost encode_value_answers = { λ v.
-        ⟦<AuthorityKeyIdentifierFields<'a> as Encode>⟧.encode_answers
+    ghost fields_answers = { λ v. ⟦<AuthorityKeyIdentifierFields<'a> as Encode>⟧.encode_answers
         (⟦<AuthorityKeyIdentifier<'a> as FromFields<AuthorityKeyIdentifierFields<'a>>>⟧.fields v) };
 
-    fn value_len(&self) -> Result<Length, Error> {
-        field_refs!(
-            self,
-            (
-                key_identifier,
-                authority_cert_issuer,
-                authority_cert_serial_number
-            )
+    fn call_fields<S, C: FieldsCall<S>>(
+        &self,
+        call: &C,
+        state: &mut S,
+        buf: &mut [u8],
+    ) -> C::Output {
+        call.call(
+            &field_refs!(
+                self,
+                (
+                    key_identifier,
+                    authority_cert_issuer,
+                    authority_cert_serial_number
+                )
+            ),
+            state,
+            buf,
         )
-        .encoded_len()
-    }
-
-    fn encode_value<W: Writer>(&self, writer: &mut W) -> Result<(), Error> {
-        field_refs!(
-            self,
-            (
-                key_identifier,
-                authority_cert_issuer,
-                authority_cert_serial_number
-            )
-        )
-        .encode(writer)
-    }
-
-    fn value_len_before(&self) -> Option<u32> {
-        field_refs!(
-            self,
-            (
-                key_identifier,
-                authority_cert_issuer,
-                authority_cert_serial_number
-            )
-        )
-        .len_before()
-    }
-
-    fn encode_value_before(&self, buf: &mut [u8], end: u32) -> u32 {
-        field_refs!(
-            self,
-            (
-                key_identifier,
-                authority_cert_issuer,
-                authority_cert_serial_number
-            )
-        )
-        .encode_before(buf, end)
     }
 }
 

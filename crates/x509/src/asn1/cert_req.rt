@@ -10,8 +10,8 @@ ghost use Rattle.der_asn1.specs.TupleFields.{three_fields};
 
 use crate::asn1::cert_req_info::CertReqInfo;
 use der::{
-    Decode, DecodeValue, Encode, EncodeValue, Error, FromFields, Header, IsValue, Lends, Length,
-    Reader, Sequence, SliceReader, Writer, decode_sequence, field_refs,
+    Decode, DecodeValue, Encode, Error, FieldsCall, FromFields, HasFields, Header, IsValue, Lends,
+    Reader, Sequence, SliceReader, decode_sequence, field_refs,
 };
 use der_asn1::{BitStringRef, BorrowedItem, DecodeItem, Described, Item, Nestable};
 use spki::AlgorithmIdentifierRef;
@@ -83,27 +83,20 @@ impl<'a> IsValue for CertReq<'a> {
 }
 
 /// Writes the fields one after the other, with the errors of every [`Sequence`].
-impl<'a> EncodeValue for CertReq<'a> {
-    ghost value_size = { λ v. ⟦<CertReqFields<'a> as Encode>⟧.size
+impl<'a> HasFields for CertReq<'a> {
+    ghost fields_size = { λ v. ⟦<CertReqFields<'a> as Encode>⟧.size
         (⟦<CertReq<'a> as FromFields<CertReqFields<'a>>>⟧.fields v) };
 
-    ghost encode_value_answers = { λ v. ⟦<CertReqFields<'a> as Encode>⟧.encode_answers
+    ghost fields_answers = { λ v. ⟦<CertReqFields<'a> as Encode>⟧.encode_answers
         (⟦<CertReq<'a> as FromFields<CertReqFields<'a>>>⟧.fields v) };
 
-    fn value_len(&self) -> Result<Length, Error> {
-        field_refs!(self, (info, algorithm, signature)).encoded_len()
-    }
-
-    fn encode_value<W: Writer>(&self, writer: &mut W) -> Result<(), Error> {
-        field_refs!(self, (info, algorithm, signature)).encode(writer)
-    }
-
-    fn value_len_before(&self) -> Option<u32> {
-        field_refs!(self, (info, algorithm, signature)).len_before()
-    }
-
-    fn encode_value_before(&self, buf: &mut [u8], end: u32) -> u32 {
-        field_refs!(self, (info, algorithm, signature)).encode_before(buf, end)
+    fn call_fields<S, C: FieldsCall<S>>(
+        &self,
+        call: &C,
+        state: &mut S,
+        buf: &mut [u8],
+    ) -> C::Output {
+        call.call(&field_refs!(self, (info, algorithm, signature)), state, buf)
     }
 }
 

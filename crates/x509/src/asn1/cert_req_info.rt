@@ -12,8 +12,8 @@ use crate::asn1::attributes::Attributes;
 use crate::asn1::cert_req_version::CertReqVersion;
 use crate::asn1::name::Name;
 use der::{
-    Decode, DecodeValue, Encode, EncodeValue, Error, FromFields, Header, IsValue, Lends, Length,
-    Reader, Sequence, SliceReader, Writer, decode_sequence, field_refs,
+    Decode, DecodeValue, Encode, Error, FieldsCall, FromFields, HasFields, Header, IsValue, Lends,
+    Reader, Sequence, SliceReader, decode_sequence, field_refs,
 };
 use der_asn1::{BorrowedItem, DecodeItem, Described, Implicit, Item, NamedInteger, Nestable};
 use spki::SubjectPublicKeyInfoRef;
@@ -93,27 +93,24 @@ impl<'a> IsValue for CertReqInfo<'a> {
 }
 
 /// Writes the fields one after the other, with the errors of every [`Sequence`].
-impl<'a> EncodeValue for CertReqInfo<'a> {
-    ghost value_size = { λ v. ⟦<CertReqInfoFields<'a> as Encode>⟧.size
+impl<'a> HasFields for CertReqInfo<'a> {
+    ghost fields_size = { λ v. ⟦<CertReqInfoFields<'a> as Encode>⟧.size
         (⟦<CertReqInfo<'a> as FromFields<CertReqInfoFields<'a>>>⟧.fields v) };
 
-    ghost encode_value_answers = { λ v. ⟦<CertReqInfoFields<'a> as Encode>⟧.encode_answers
+    ghost fields_answers = { λ v. ⟦<CertReqInfoFields<'a> as Encode>⟧.encode_answers
         (⟦<CertReqInfo<'a> as FromFields<CertReqInfoFields<'a>>>⟧.fields v) };
 
-    fn value_len(&self) -> Result<Length, Error> {
-        field_refs!(self, (version, subject, public_key, attributes)).encoded_len()
-    }
-
-    fn encode_value<W: Writer>(&self, writer: &mut W) -> Result<(), Error> {
-        field_refs!(self, (version, subject, public_key, attributes)).encode(writer)
-    }
-
-    fn value_len_before(&self) -> Option<u32> {
-        field_refs!(self, (version, subject, public_key, attributes)).len_before()
-    }
-
-    fn encode_value_before(&self, buf: &mut [u8], end: u32) -> u32 {
-        field_refs!(self, (version, subject, public_key, attributes)).encode_before(buf, end)
+    fn call_fields<S, C: FieldsCall<S>>(
+        &self,
+        call: &C,
+        state: &mut S,
+        buf: &mut [u8],
+    ) -> C::Output {
+        call.call(
+            &field_refs!(self, (version, subject, public_key, attributes)),
+            state,
+            buf,
+        )
     }
 }
 

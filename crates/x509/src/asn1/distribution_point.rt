@@ -12,8 +12,8 @@ use crate::asn1::distribution_point_name_tagged::DistributionPointNameTagged;
 use crate::asn1::general_names::GeneralNames;
 use crate::asn1::reason_flags::ReasonFlags;
 use der::{
-    Decode, DecodeValue, Encode, EncodeValue, Error, FromFields, Header, IsValue, Lends, Length,
-    Reader, Sequence, SliceReader, Writer, decode_sequence, field_refs,
+    Decode, DecodeValue, Encode, Error, FieldsCall, FromFields, HasFields, Header, IsValue, Lends,
+    Reader, Sequence, SliceReader, decode_sequence, field_refs,
 };
 use der_asn1::{BorrowedItem, DecodeItem, Described, Implicit, Item, Nestable, Optional};
 use std::alloc::Global;
@@ -90,27 +90,24 @@ impl<'a> IsValue for DistributionPoint<'a> {
 }
 
 /// Writes the fields one after the other, with the errors of every [`Sequence`].
-impl<'a> EncodeValue for DistributionPoint<'a> {
-    ghost value_size = { λ v. ⟦<DistributionPointFields<'a> as Encode>⟧.size
+impl<'a> HasFields for DistributionPoint<'a> {
+    ghost fields_size = { λ v. ⟦<DistributionPointFields<'a> as Encode>⟧.size
         (⟦<DistributionPoint<'a> as FromFields<DistributionPointFields<'a>>>⟧.fields v) };
 
-    ghost encode_value_answers = { λ v. ⟦<DistributionPointFields<'a> as Encode>⟧.encode_answers
+    ghost fields_answers = { λ v. ⟦<DistributionPointFields<'a> as Encode>⟧.encode_answers
         (⟦<DistributionPoint<'a> as FromFields<DistributionPointFields<'a>>>⟧.fields v) };
 
-    fn value_len(&self) -> Result<Length, Error> {
-        field_refs!(self, (distribution_point, reasons, crl_issuer)).encoded_len()
-    }
-
-    fn encode_value<W: Writer>(&self, writer: &mut W) -> Result<(), Error> {
-        field_refs!(self, (distribution_point, reasons, crl_issuer)).encode(writer)
-    }
-
-    fn value_len_before(&self) -> Option<u32> {
-        field_refs!(self, (distribution_point, reasons, crl_issuer)).len_before()
-    }
-
-    fn encode_value_before(&self, buf: &mut [u8], end: u32) -> u32 {
-        field_refs!(self, (distribution_point, reasons, crl_issuer)).encode_before(buf, end)
+    fn call_fields<S, C: FieldsCall<S>>(
+        &self,
+        call: &C,
+        state: &mut S,
+        buf: &mut [u8],
+    ) -> C::Output {
+        call.call(
+            &field_refs!(self, (distribution_point, reasons, crl_issuer)),
+            state,
+            buf,
+        )
     }
 }
 

@@ -9,8 +9,8 @@ ghost use Rattle.der_asn1.specs.Meaning.{alternative, field, optional, sequence,
 
 use crate::asn1::directory_string_tagged::DirectoryStringTagged;
 use der::{
-    Decode, DecodeValue, Encode, EncodeValue, Error, FromFields, Header, IsValue, Lends, Length,
-    Reader, Sequence, SliceReader, Writer, decode_sequence, field_refs,
+    Decode, DecodeValue, Encode, Error, FieldsCall, FromFields, HasFields, Header, IsValue, Lends,
+    Reader, Sequence, SliceReader, decode_sequence, field_refs,
 };
 use der_asn1::{BorrowedItem, DecodeItem, Described, Implicit, Item, Nestable, Optional};
 use std::alloc::Global;
@@ -78,27 +78,20 @@ impl<'a> IsValue for EdiPartyName<'a> {
 }
 
 /// Writes the fields one after the other, with the errors of every [`Sequence`].
-impl<'a> EncodeValue for EdiPartyName<'a> {
-    ghost value_size = { λ v. ⟦<EdiPartyNameFields<'a> as Encode>⟧.size
+impl<'a> HasFields for EdiPartyName<'a> {
+    ghost fields_size = { λ v. ⟦<EdiPartyNameFields<'a> as Encode>⟧.size
         (⟦<EdiPartyName<'a> as FromFields<EdiPartyNameFields<'a>>>⟧.fields v) };
 
-    ghost encode_value_answers = { λ v. ⟦<EdiPartyNameFields<'a> as Encode>⟧.encode_answers
+    ghost fields_answers = { λ v. ⟦<EdiPartyNameFields<'a> as Encode>⟧.encode_answers
         (⟦<EdiPartyName<'a> as FromFields<EdiPartyNameFields<'a>>>⟧.fields v) };
 
-    fn value_len(&self) -> Result<Length, Error> {
-        field_refs!(self, (name_assigner, party_name)).encoded_len()
-    }
-
-    fn encode_value<W: Writer>(&self, writer: &mut W) -> Result<(), Error> {
-        field_refs!(self, (name_assigner, party_name)).encode(writer)
-    }
-
-    fn value_len_before(&self) -> Option<u32> {
-        field_refs!(self, (name_assigner, party_name)).len_before()
-    }
-
-    fn encode_value_before(&self, buf: &mut [u8], end: u32) -> u32 {
-        field_refs!(self, (name_assigner, party_name)).encode_before(buf, end)
+    fn call_fields<S, C: FieldsCall<S>>(
+        &self,
+        call: &C,
+        state: &mut S,
+        buf: &mut [u8],
+    ) -> C::Output {
+        call.call(&field_refs!(self, (name_assigner, party_name)), state, buf)
     }
 }
 

@@ -9,8 +9,8 @@ ghost use Rattle.der_asn1.specs.Meaning.{alternative, defaulted, field, sequence
 ghost use Rattle.der_asn1.specs.TupleFields.{three_fields};
 
 use der::{
-    Decode, DecodeValue, Encode, EncodeValue, Error, FromFields, Header, IsValue, Lends, Length,
-    Reader, Sequence, SliceReader, Writer, decode_sequence, field_refs,
+    Decode, DecodeValue, Encode, Error, FieldsCall, FromFields, HasFields, Header, IsValue, Lends,
+    Reader, Sequence, SliceReader, decode_sequence, field_refs,
 };
 use der_asn1::{
     BooleanRef, BorrowedItem, DecodeItem, DefaultValue, Defaulted, Described, Item, Nestable,
@@ -86,27 +86,24 @@ impl<'a> IsValue for Extension<'a> {
 }
 
 /// Writes the fields one after the other, with the errors of every [`Sequence`].
-impl<'a> EncodeValue for Extension<'a> {
-    ghost value_size = { λ v. ⟦<ExtensionFields<'a> as Encode>⟧.size
+impl<'a> HasFields for Extension<'a> {
+    ghost fields_size = { λ v. ⟦<ExtensionFields<'a> as Encode>⟧.size
         (⟦<Extension<'a> as FromFields<ExtensionFields<'a>>>⟧.fields v) };
 
-    ghost encode_value_answers = { λ v. ⟦<ExtensionFields<'a> as Encode>⟧.encode_answers
+    ghost fields_answers = { λ v. ⟦<ExtensionFields<'a> as Encode>⟧.encode_answers
         (⟦<Extension<'a> as FromFields<ExtensionFields<'a>>>⟧.fields v) };
 
-    fn value_len(&self) -> Result<Length, Error> {
-        field_refs!(self, (extn_id, critical, extn_value)).encoded_len()
-    }
-
-    fn encode_value<W: Writer>(&self, writer: &mut W) -> Result<(), Error> {
-        field_refs!(self, (extn_id, critical, extn_value)).encode(writer)
-    }
-
-    fn value_len_before(&self) -> Option<u32> {
-        field_refs!(self, (extn_id, critical, extn_value)).len_before()
-    }
-
-    fn encode_value_before(&self, buf: &mut [u8], end: u32) -> u32 {
-        field_refs!(self, (extn_id, critical, extn_value)).encode_before(buf, end)
+    fn call_fields<S, C: FieldsCall<S>>(
+        &self,
+        call: &C,
+        state: &mut S,
+        buf: &mut [u8],
+    ) -> C::Output {
+        call.call(
+            &field_refs!(self, (extn_id, critical, extn_value)),
+            state,
+            buf,
+        )
     }
 }
 

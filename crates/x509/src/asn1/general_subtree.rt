@@ -11,8 +11,8 @@ ghost use Rattle.der_asn1.specs.TupleFields.{three_fields};
 use crate::asn1::base_distance::BaseDistance;
 use crate::asn1::general_name::GeneralName;
 use der::{
-    Decode, DecodeValue, Encode, EncodeValue, Error, FromFields, Header, IsValue, Lends, Length,
-    Reader, Sequence, SliceReader, Writer, decode_sequence, field_refs,
+    Decode, DecodeValue, Encode, Error, FieldsCall, FromFields, HasFields, Header, IsValue, Lends,
+    Reader, Sequence, SliceReader, decode_sequence, field_refs,
 };
 use der_asn1::{
     BorrowedItem, DecodeItem, DefaultU64, DefaultValue, Defaulted, Described, DescribedChoice,
@@ -102,27 +102,20 @@ impl<'a> IsValue for GeneralSubtree<'a> {
 }
 
 /// Writes the fields one after the other, with the errors of every [`Sequence`].
-impl<'a> EncodeValue for GeneralSubtree<'a> {
-    ghost value_size = { λ v. ⟦<GeneralSubtreeFields<'a> as Encode>⟧.size
+impl<'a> HasFields for GeneralSubtree<'a> {
+    ghost fields_size = { λ v. ⟦<GeneralSubtreeFields<'a> as Encode>⟧.size
         (⟦<GeneralSubtree<'a> as FromFields<GeneralSubtreeFields<'a>>>⟧.fields v) };
 
-    ghost encode_value_answers = { λ v. ⟦<GeneralSubtreeFields<'a> as Encode>⟧.encode_answers
+    ghost fields_answers = { λ v. ⟦<GeneralSubtreeFields<'a> as Encode>⟧.encode_answers
         (⟦<GeneralSubtree<'a> as FromFields<GeneralSubtreeFields<'a>>>⟧.fields v) };
 
-    fn value_len(&self) -> Result<Length, Error> {
-        field_refs!(self, (base, minimum, maximum)).encoded_len()
-    }
-
-    fn encode_value<W: Writer>(&self, writer: &mut W) -> Result<(), Error> {
-        field_refs!(self, (base, minimum, maximum)).encode(writer)
-    }
-
-    fn value_len_before(&self) -> Option<u32> {
-        field_refs!(self, (base, minimum, maximum)).len_before()
-    }
-
-    fn encode_value_before(&self, buf: &mut [u8], end: u32) -> u32 {
-        field_refs!(self, (base, minimum, maximum)).encode_before(buf, end)
+    fn call_fields<S, C: FieldsCall<S>>(
+        &self,
+        call: &C,
+        state: &mut S,
+        buf: &mut [u8],
+    ) -> C::Output {
+        call.call(&field_refs!(self, (base, minimum, maximum)), state, buf)
     }
 }
 

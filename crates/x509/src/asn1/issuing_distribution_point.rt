@@ -11,8 +11,8 @@ ghost use Rattle.der_asn1.specs.TupleFields.{six_fields};
 use crate::asn1::distribution_point_name_tagged::DistributionPointNameTagged;
 use crate::asn1::reason_flags::ReasonFlags;
 use der::{
-    Decode, DecodeValue, Encode, EncodeValue, Error, FromFields, Header, IsValue, Lends, Length,
-    Reader, Sequence, SliceReader, Writer, decode_sequence, field_refs,
+    Decode, DecodeValue, Encode, Error, FieldsCall, FromFields, HasFields, Header, IsValue, Lends,
+    Reader, Sequence, SliceReader, decode_sequence, field_refs,
 };
 use der_asn1::{
     BooleanRef, BorrowedItem, DecodeItem, DefaultValue, Defaulted, Described, Implicit, Item,
@@ -127,72 +127,34 @@ impl<'a> IsValue for IssuingDistributionPoint<'a> {
 }
 
 /// Writes the fields one after the other, with the errors of every [`Sequence`].
-impl<'a> EncodeValue for IssuingDistributionPoint<'a> {
-    ghost value_size = { λ v. ⟦<IssuingDistributionPointFields<'a> as Encode>⟧.size
+impl<'a> HasFields for IssuingDistributionPoint<'a> {
+    ghost fields_size = { λ v. ⟦<IssuingDistributionPointFields<'a> as Encode>⟧.size
         (⟦<IssuingDistributionPoint<'a> as FromFields<IssuingDistributionPointFields<'a>>>⟧.fields v) };
 
-    ghost encode_value_answers = { λ v.
-        ⟦<IssuingDistributionPointFields<'a> as Encode>⟧.encode_answers
+    ghost fields_answers = { λ v. ⟦<IssuingDistributionPointFields<'a> as Encode>⟧.encode_answers
         (⟦<IssuingDistributionPoint<'a> as FromFields<IssuingDistributionPointFields<'a>>>⟧.fields v) };
 
-    fn value_len(&self) -> Result<Length, Error> {
-        field_refs!(
-            self,
-            (
-                distribution_point,
-                only_contains_user_certs,
-                only_contains_ca_certs,
-                only_some_reasons,
-                indirect_crl,
-                only_contains_attribute_certs
-            )
+    fn call_fields<S, C: FieldsCall<S>>(
+        &self,
+        call: &C,
+        state: &mut S,
+        buf: &mut [u8],
+    ) -> C::Output {
+        call.call(
+            &field_refs!(
+                self,
+                (
+                    distribution_point,
+                    only_contains_user_certs,
+                    only_contains_ca_certs,
+                    only_some_reasons,
+                    indirect_crl,
+                    only_contains_attribute_certs
+                )
+            ),
+            state,
+            buf,
         )
-        .encoded_len()
-    }
-
-    fn encode_value<W: Writer>(&self, writer: &mut W) -> Result<(), Error> {
-        field_refs!(
-            self,
-            (
-                distribution_point,
-                only_contains_user_certs,
-                only_contains_ca_certs,
-                only_some_reasons,
-                indirect_crl,
-                only_contains_attribute_certs
-            )
-        )
-        .encode(writer)
-    }
-
-    fn value_len_before(&self) -> Option<u32> {
-        field_refs!(
-            self,
-            (
-                distribution_point,
-                only_contains_user_certs,
-                only_contains_ca_certs,
-                only_some_reasons,
-                indirect_crl,
-                only_contains_attribute_certs
-            )
-        )
-        .len_before()
-    }
-
-    fn encode_value_before(&self, buf: &mut [u8], end: u32) -> u32 {
-        field_refs!(
-            self,
-            (
-                distribution_point,
-                only_contains_user_certs,
-                only_contains_ca_certs,
-                only_some_reasons,
-                indirect_crl,
-                only_contains_attribute_certs
-            )
-        )
-        .encode_before(buf, end)
     }
 }
 

@@ -9,8 +9,8 @@ ghost use Rattle.der_asn1.specs.Meaning.{alternative, field, optional, sequence,
 
 use crate::asn1::policy_qualifier_info::PolicyQualifierInfo;
 use der::{
-    Decode, DecodeValue, Encode, EncodeValue, Error, FromFields, Header, IsValue, Lends, Length,
-    Reader, Sequence, SliceReader, Writer, decode_sequence, field_refs,
+    Decode, DecodeValue, Encode, Error, FieldsCall, FromFields, HasFields, Header, IsValue, Lends,
+    Reader, Sequence, SliceReader, decode_sequence, field_refs,
 };
 use der_asn1::{
     BorrowedItem, DecodeItem, Described, Item, Nestable, ObjectIdentifierRef, Optional, SequenceOf,
@@ -79,27 +79,24 @@ impl<'a> IsValue for PolicyInformation<'a> {
 }
 
 /// Writes the fields one after the other, with the errors of every [`Sequence`].
-impl<'a> EncodeValue for PolicyInformation<'a> {
-    ghost value_size = { λ v. ⟦<PolicyInformationFields<'a> as Encode>⟧.size
+impl<'a> HasFields for PolicyInformation<'a> {
+    ghost fields_size = { λ v. ⟦<PolicyInformationFields<'a> as Encode>⟧.size
         (⟦<PolicyInformation<'a> as FromFields<PolicyInformationFields<'a>>>⟧.fields v) };
 
-    ghost encode_value_answers = { λ v. ⟦<PolicyInformationFields<'a> as Encode>⟧.encode_answers
+    ghost fields_answers = { λ v. ⟦<PolicyInformationFields<'a> as Encode>⟧.encode_answers
         (⟦<PolicyInformation<'a> as FromFields<PolicyInformationFields<'a>>>⟧.fields v) };
 
-    fn value_len(&self) -> Result<Length, Error> {
-        field_refs!(self, (policy_identifier, policy_qualifiers)).encoded_len()
-    }
-
-    fn encode_value<W: Writer>(&self, writer: &mut W) -> Result<(), Error> {
-        field_refs!(self, (policy_identifier, policy_qualifiers)).encode(writer)
-    }
-
-    fn value_len_before(&self) -> Option<u32> {
-        field_refs!(self, (policy_identifier, policy_qualifiers)).len_before()
-    }
-
-    fn encode_value_before(&self, buf: &mut [u8], end: u32) -> u32 {
-        field_refs!(self, (policy_identifier, policy_qualifiers)).encode_before(buf, end)
+    fn call_fields<S, C: FieldsCall<S>>(
+        &self,
+        call: &C,
+        state: &mut S,
+        buf: &mut [u8],
+    ) -> C::Output {
+        call.call(
+            &field_refs!(self, (policy_identifier, policy_qualifiers)),
+            state,
+            buf,
+        )
     }
 }
 

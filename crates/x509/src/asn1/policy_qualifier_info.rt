@@ -8,8 +8,8 @@ ghost use Rattle.der_asn1.specs.Item.{decodes_same};
 ghost use Rattle.der_asn1.specs.Meaning.{alternative, any_element, field, sequence, sequence_is_item, sequence_item, two_fields};
 
 use der::{
-    Decode, DecodeValue, Encode, EncodeValue, Error, FromFields, Header, IsValue, Lends, Length,
-    Reader, Sequence, SliceReader, Writer, decode_sequence, field_refs,
+    Decode, DecodeValue, Encode, Error, FieldsCall, FromFields, HasFields, Header, IsValue, Lends,
+    Reader, Sequence, SliceReader, decode_sequence, field_refs,
 };
 use der_asn1::{AnyRef, BorrowedItem, DecodeItem, Described, Item, Nestable, ObjectIdentifierRef};
 use std::alloc::Global;
@@ -71,27 +71,24 @@ impl<'a> IsValue for PolicyQualifierInfo<'a> {
 }
 
 /// Writes the fields one after the other, with the errors of every [`Sequence`].
-impl<'a> EncodeValue for PolicyQualifierInfo<'a> {
-    ghost value_size = { λ v. ⟦<PolicyQualifierInfoFields<'a> as Encode>⟧.size
+impl<'a> HasFields for PolicyQualifierInfo<'a> {
+    ghost fields_size = { λ v. ⟦<PolicyQualifierInfoFields<'a> as Encode>⟧.size
         (⟦<PolicyQualifierInfo<'a> as FromFields<PolicyQualifierInfoFields<'a>>>⟧.fields v) };
 
-    ghost encode_value_answers = { λ v. ⟦<PolicyQualifierInfoFields<'a> as Encode>⟧.encode_answers
+    ghost fields_answers = { λ v. ⟦<PolicyQualifierInfoFields<'a> as Encode>⟧.encode_answers
         (⟦<PolicyQualifierInfo<'a> as FromFields<PolicyQualifierInfoFields<'a>>>⟧.fields v) };
 
-    fn value_len(&self) -> Result<Length, Error> {
-        field_refs!(self, (policy_qualifier_id, qualifier)).encoded_len()
-    }
-
-    fn encode_value<W: Writer>(&self, writer: &mut W) -> Result<(), Error> {
-        field_refs!(self, (policy_qualifier_id, qualifier)).encode(writer)
-    }
-
-    fn value_len_before(&self) -> Option<u32> {
-        field_refs!(self, (policy_qualifier_id, qualifier)).len_before()
-    }
-
-    fn encode_value_before(&self, buf: &mut [u8], end: u32) -> u32 {
-        field_refs!(self, (policy_qualifier_id, qualifier)).encode_before(buf, end)
+    fn call_fields<S, C: FieldsCall<S>>(
+        &self,
+        call: &C,
+        state: &mut S,
+        buf: &mut [u8],
+    ) -> C::Output {
+        call.call(
+            &field_refs!(self, (policy_qualifier_id, qualifier)),
+            state,
+            buf,
+        )
     }
 }
 

@@ -12,8 +12,8 @@ use crate::asn1::certificate_serial_number::CertificateSerialNumber;
 use crate::asn1::extensions::Extensions;
 use crate::asn1::time::Time;
 use der::{
-    Decode, DecodeValue, Encode, EncodeValue, Error, FromFields, Header, IsValue, Lends, Length,
-    Reader, Sequence, SliceReader, Writer, decode_sequence, field_refs,
+    Decode, DecodeValue, Encode, Error, FieldsCall, FromFields, HasFields, Header, IsValue, Lends,
+    Reader, Sequence, SliceReader, decode_sequence, field_refs,
 };
 use der_asn1::{BorrowedItem, DecodeItem, Described, DescribedChoice, Item, Nestable, Optional};
 use std::alloc::Global;
@@ -90,43 +90,27 @@ impl<'a> IsValue for RevokedCertificate<'a> {
 }
 
 /// Writes the fields one after the other, with the errors of every [`Sequence`].
-impl<'a> EncodeValue for RevokedCertificate<'a> {
-    ghost value_size = { λ v. ⟦<RevokedCertificateFields<'a> as Encode>⟧.size
+impl<'a> HasFields for RevokedCertificate<'a> {
+    ghost fields_size = { λ v. ⟦<RevokedCertificateFields<'a> as Encode>⟧.size
         (⟦<RevokedCertificate<'a> as FromFields<RevokedCertificateFields<'a>>>⟧.fields v) };
 
-    ghost encode_value_answers = { λ v. ⟦<RevokedCertificateFields<'a> as Encode>⟧.encode_answers
+    ghost fields_answers = { λ v. ⟦<RevokedCertificateFields<'a> as Encode>⟧.encode_answers
         (⟦<RevokedCertificate<'a> as FromFields<RevokedCertificateFields<'a>>>⟧.fields v) };
 
-    fn value_len(&self) -> Result<Length, Error> {
-        field_refs!(
-            self,
-            (user_certificate, revocation_date, crl_entry_extensions)
+    fn call_fields<S, C: FieldsCall<S>>(
+        &self,
+        call: &C,
+        state: &mut S,
+        buf: &mut [u8],
+    ) -> C::Output {
+        call.call(
+            &field_refs!(
+                self,
+                (user_certificate, revocation_date, crl_entry_extensions)
+            ),
+            state,
+            buf,
         )
-        .encoded_len()
-    }
-
-    fn encode_value<W: Writer>(&self, writer: &mut W) -> Result<(), Error> {
-        field_refs!(
-            self,
-            (user_certificate, revocation_date, crl_entry_extensions)
-        )
-        .encode(writer)
-    }
-
-    fn value_len_before(&self) -> Option<u32> {
-        field_refs!(
-            self,
-            (user_certificate, revocation_date, crl_entry_extensions)
-        )
-        .len_before()
-    }
-
-    fn encode_value_before(&self, buf: &mut [u8], end: u32) -> u32 {
-        field_refs!(
-            self,
-            (user_certificate, revocation_date, crl_entry_extensions)
-        )
-        .encode_before(buf, end)
     }
 }
 

@@ -14,8 +14,8 @@ use crate::asn1::name::Name;
 use crate::asn1::revoked_certificates::RevokedCertificates;
 use crate::asn1::time::Time;
 use der::{
-    Decode, DecodeValue, Encode, EncodeValue, Error, FromFields, Header, IsValue, Lends, Length,
-    Reader, Sequence, SliceReader, Writer, decode_sequence, field_refs,
+    Decode, DecodeValue, Encode, Error, FieldsCall, FromFields, HasFields, Header, IsValue, Lends,
+    Reader, Sequence, SliceReader, decode_sequence, field_refs,
 };
 use der_asn1::{
     BorrowedItem, DecodeItem, Described, DescribedChoice, Explicit, Item, Nestable, Optional,
@@ -145,75 +145,35 @@ impl<'a> IsValue for TbsCertList<'a> {
 }
 
 /// Writes the fields one after the other, with the errors of every [`Sequence`].
-impl<'a> EncodeValue for TbsCertList<'a> {
-    ghost value_size = { λ v. ⟦<TbsCertListFields<'a> as Encode>⟧.size
+impl<'a> HasFields for TbsCertList<'a> {
+    ghost fields_size = { λ v. ⟦<TbsCertListFields<'a> as Encode>⟧.size
         (⟦<TbsCertList<'a> as FromFields<TbsCertListFields<'a>>>⟧.fields v) };
 
-    ghost encode_value_answers = { λ v. ⟦<TbsCertListFields<'a> as Encode>⟧.encode_answers
+    ghost fields_answers = { λ v. ⟦<TbsCertListFields<'a> as Encode>⟧.encode_answers
         (⟦<TbsCertList<'a> as FromFields<TbsCertListFields<'a>>>⟧.fields v) };
 
-    fn value_len(&self) -> Result<Length, Error> {
-        field_refs!(
-            self,
-            (
-                version,
-                signature,
-                issuer,
-                this_update,
-                next_update,
-                revoked_certificates,
-                crl_extensions
-            )
+    fn call_fields<S, C: FieldsCall<S>>(
+        &self,
+        call: &C,
+        state: &mut S,
+        buf: &mut [u8],
+    ) -> C::Output {
+        call.call(
+            &field_refs!(
+                self,
+                (
+                    version,
+                    signature,
+                    issuer,
+                    this_update,
+                    next_update,
+                    revoked_certificates,
+                    crl_extensions
+                )
+            ),
+            state,
+            buf,
         )
-        .encoded_len()
-    }
-
-    fn encode_value<W: Writer>(&self, writer: &mut W) -> Result<(), Error> {
-        field_refs!(
-            self,
-            (
-                version,
-                signature,
-                issuer,
-                this_update,
-                next_update,
-                revoked_certificates,
-                crl_extensions
-            )
-        )
-        .encode(writer)
-    }
-
-    fn value_len_before(&self) -> Option<u32> {
-        field_refs!(
-            self,
-            (
-                version,
-                signature,
-                issuer,
-                this_update,
-                next_update,
-                revoked_certificates,
-                crl_extensions
-            )
-        )
-        .len_before()
-    }
-
-    fn encode_value_before(&self, buf: &mut [u8], end: u32) -> u32 {
-        field_refs!(
-            self,
-            (
-                version,
-                signature,
-                issuer,
-                this_update,
-                next_update,
-                revoked_certificates,
-                crl_extensions
-            )
-        )
-        .encode_before(buf, end)
     }
 }
 

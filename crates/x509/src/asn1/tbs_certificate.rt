@@ -14,8 +14,8 @@ use crate::asn1::extensions::Extensions;
 use crate::asn1::name::Name;
 use crate::asn1::validity::Validity;
 use der::{
-    Decode, DecodeValue, Encode, EncodeValue, Error, FromFields, Header, IsValue, Lends, Length,
-    Reader, Sequence, SliceReader, Writer, decode_sequence, field_refs,
+    Decode, DecodeValue, Encode, Error, FieldsCall, FromFields, HasFields, Header, IsValue, Lends,
+    Reader, Sequence, SliceReader, decode_sequence, field_refs,
 };
 use der_asn1::{
     BitStringRef, BorrowedItem, DecodeItem, DefaultValue, Defaulted, Described, Explicit, Implicit,
@@ -162,87 +162,38 @@ impl<'a> IsValue for TbsCertificate<'a> {
 }
 
 /// Writes the fields one after the other, with the errors of every [`Sequence`].
-impl<'a> EncodeValue for TbsCertificate<'a> {
-    ghost value_size = { λ v. ⟦<TbsCertificateFields<'a> as Encode>⟧.size
+impl<'a> HasFields for TbsCertificate<'a> {
+    ghost fields_size = { λ v. ⟦<TbsCertificateFields<'a> as Encode>⟧.size
         (⟦<TbsCertificate<'a> as FromFields<TbsCertificateFields<'a>>>⟧.fields v) };
 
-    ghost encode_value_answers = { λ v. ⟦<TbsCertificateFields<'a> as Encode>⟧.encode_answers
+    ghost fields_answers = { λ v. ⟦<TbsCertificateFields<'a> as Encode>⟧.encode_answers
         (⟦<TbsCertificate<'a> as FromFields<TbsCertificateFields<'a>>>⟧.fields v) };
 
-    fn value_len(&self) -> Result<Length, Error> {
-        field_refs!(
-            self,
-            (
-                version,
-                serial_number,
-                signature,
-                issuer,
-                validity,
-                subject,
-                subject_public_key_info,
-                issuer_unique_id,
-                subject_unique_id,
-                extensions
-            )
+    fn call_fields<S, C: FieldsCall<S>>(
+        &self,
+        call: &C,
+        state: &mut S,
+        buf: &mut [u8],
+    ) -> C::Output {
+        call.call(
+            &field_refs!(
+                self,
+                (
+                    version,
+                    serial_number,
+                    signature,
+                    issuer,
+                    validity,
+                    subject,
+                    subject_public_key_info,
+                    issuer_unique_id,
+                    subject_unique_id,
+                    extensions
+                )
+            ),
+            state,
+            buf,
         )
-        .encoded_len()
-    }
-
-    fn encode_value<W: Writer>(&self, writer: &mut W) -> Result<(), Error> {
-        field_refs!(
-            self,
-            (
-                version,
-                serial_number,
-                signature,
-                issuer,
-                validity,
-                subject,
-                subject_public_key_info,
-                issuer_unique_id,
-                subject_unique_id,
-                extensions
-            )
-        )
-        .encode(writer)
-    }
-
-    fn value_len_before(&self) -> Option<u32> {
-        field_refs!(
-            self,
-            (
-                version,
-                serial_number,
-                signature,
-                issuer,
-                validity,
-                subject,
-                subject_public_key_info,
-                issuer_unique_id,
-                subject_unique_id,
-                extensions
-            )
-        )
-        .len_before()
-    }
-
-    fn encode_value_before(&self, buf: &mut [u8], end: u32) -> u32 {
-        field_refs!(
-            self,
-            (
-                version,
-                serial_number,
-                signature,
-                issuer,
-                validity,
-                subject,
-                subject_public_key_info,
-                issuer_unique_id,
-                subject_unique_id,
-                extensions
-            )
-        )
-        .encode_before(buf, end)
     }
 }
 

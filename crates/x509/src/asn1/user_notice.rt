@@ -10,8 +10,8 @@ ghost use Rattle.der_asn1.specs.Meaning.{alternative, optional, sequence, sequen
 use crate::asn1::display_text::DisplayText;
 use crate::asn1::notice_reference::NoticeReference;
 use der::{
-    Decode, DecodeValue, Encode, EncodeValue, Error, FromFields, Header, IsValue, Lends, Length,
-    Reader, Sequence, SliceReader, Writer, decode_sequence, field_refs,
+    Decode, DecodeValue, Encode, Error, FieldsCall, FromFields, HasFields, Header, IsValue, Lends,
+    Reader, Sequence, SliceReader, decode_sequence, field_refs,
 };
 use der_asn1::{BorrowedItem, DecodeItem, Described, DescribedChoice, Item, Nestable, Optional};
 use std::alloc::Global;
@@ -82,27 +82,20 @@ impl<'a> IsValue for UserNotice<'a> {
 }
 
 /// Writes the fields one after the other, with the errors of every [`Sequence`].
-impl<'a> EncodeValue for UserNotice<'a> {
-    ghost value_size = { λ v. ⟦<UserNoticeFields<'a> as Encode>⟧.size
+impl<'a> HasFields for UserNotice<'a> {
+    ghost fields_size = { λ v. ⟦<UserNoticeFields<'a> as Encode>⟧.size
         (⟦<UserNotice<'a> as FromFields<UserNoticeFields<'a>>>⟧.fields v) };
 
-    ghost encode_value_answers = { λ v. ⟦<UserNoticeFields<'a> as Encode>⟧.encode_answers
+    ghost fields_answers = { λ v. ⟦<UserNoticeFields<'a> as Encode>⟧.encode_answers
         (⟦<UserNotice<'a> as FromFields<UserNoticeFields<'a>>>⟧.fields v) };
 
-    fn value_len(&self) -> Result<Length, Error> {
-        field_refs!(self, (notice_ref, explicit_text)).encoded_len()
-    }
-
-    fn encode_value<W: Writer>(&self, writer: &mut W) -> Result<(), Error> {
-        field_refs!(self, (notice_ref, explicit_text)).encode(writer)
-    }
-
-    fn value_len_before(&self) -> Option<u32> {
-        field_refs!(self, (notice_ref, explicit_text)).len_before()
-    }
-
-    fn encode_value_before(&self, buf: &mut [u8], end: u32) -> u32 {
-        field_refs!(self, (notice_ref, explicit_text)).encode_before(buf, end)
+    fn call_fields<S, C: FieldsCall<S>>(
+        &self,
+        call: &C,
+        state: &mut S,
+        buf: &mut [u8],
+    ) -> C::Output {
+        call.call(&field_refs!(self, (notice_ref, explicit_text)), state, buf)
     }
 }
 

@@ -9,8 +9,8 @@ ghost use Rattle.der_asn1.specs.Meaning.{alternative, field, sequence, sequence_
 
 use crate::asn1::time::Time;
 use der::{
-    Decode, DecodeValue, Encode, EncodeValue, Error, FromFields, Header, IsValue, Lends, Length,
-    Reader, Sequence, SliceReader, Writer, decode_sequence, field_refs,
+    Decode, DecodeValue, Encode, Error, FieldsCall, FromFields, HasFields, Header, IsValue, Lends,
+    Reader, Sequence, SliceReader, decode_sequence, field_refs,
 };
 use der_asn1::{BorrowedItem, DecodeItem, Described, DescribedChoice, Item, Nestable};
 use std::alloc::Global;
@@ -78,27 +78,20 @@ impl IsValue for Validity {
 }
 
 /// Writes the fields one after the other, with the errors of every [`Sequence`].
-impl EncodeValue for Validity {
-    ghost value_size = { λ v. ⟦<ValidityFields as Encode>⟧.size
+impl HasFields for Validity {
+    ghost fields_size = { λ v. ⟦<ValidityFields as Encode>⟧.size
         (⟦<Validity as FromFields<ValidityFields>>⟧.fields v) };
 
-    ghost encode_value_answers = { λ v. ⟦<ValidityFields as Encode>⟧.encode_answers
+    ghost fields_answers = { λ v. ⟦<ValidityFields as Encode>⟧.encode_answers
         (⟦<Validity as FromFields<ValidityFields>>⟧.fields v) };
 
-    fn value_len(&self) -> Result<Length, Error> {
-        field_refs!(self, (not_before, not_after)).encoded_len()
-    }
-
-    fn encode_value<W: Writer>(&self, writer: &mut W) -> Result<(), Error> {
-        field_refs!(self, (not_before, not_after)).encode(writer)
-    }
-
-    fn value_len_before(&self) -> Option<u32> {
-        field_refs!(self, (not_before, not_after)).len_before()
-    }
-
-    fn encode_value_before(&self, buf: &mut [u8], end: u32) -> u32 {
-        field_refs!(self, (not_before, not_after)).encode_before(buf, end)
+    fn call_fields<S, C: FieldsCall<S>>(
+        &self,
+        call: &C,
+        state: &mut S,
+        buf: &mut [u8],
+    ) -> C::Output {
+        call.call(&field_refs!(self, (not_before, not_after)), state, buf)
     }
 }
 
