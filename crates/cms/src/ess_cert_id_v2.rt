@@ -10,8 +10,8 @@ ghost use Rattle.der_asn1.specs.Meaning.{alternative, field, optional, sequence,
 use crate::asn1::IssuerSerial;
 use crate::sha256_default::Sha256Default;
 use der::{
-    Decode, DecodeValue, Encode, EncodeValue, Error, FromFields, Header, IsValue, Lends, Length,
-    Reader, Sequence, SliceReader, Writer, decode_sequence, field_refs,
+    Decode, DecodeValue, Encode, Error, FieldsCall, FromFields, HasFields, Header, IsValue, Lends,
+    Reader, Sequence, SliceReader, decode_sequence, field_refs,
 };
 use der_asn1::{
     BorrowedItem, DecodeItem, DefaultOf, DefaultedTo, Described, Item, Nestable, OctetStringRef,
@@ -91,27 +91,24 @@ impl<'a> IsValue for EssCertIdV2<'a> {
 }
 
 /// Writes the fields one after the other, with the errors of every [`Sequence`].
-impl<'a> EncodeValue for EssCertIdV2<'a> {
-    ghost value_size = { λ v. ⟦<EssCertIdV2Fields<'a> as Encode>⟧.size
+impl<'a> HasFields for EssCertIdV2<'a> {
+    ghost fields_size = { λ v. ⟦<EssCertIdV2Fields<'a> as Encode>⟧.size
         (⟦<EssCertIdV2<'a> as FromFields<EssCertIdV2Fields<'a>>>⟧.fields v) };
 
-    ghost encode_value_answers = { λ v. ⟦<EssCertIdV2Fields<'a> as Encode>⟧.encode_answers
+    ghost fields_answers = { λ v. ⟦<EssCertIdV2Fields<'a> as Encode>⟧.encode_answers
         (⟦<EssCertIdV2<'a> as FromFields<EssCertIdV2Fields<'a>>>⟧.fields v) };
 
-    fn value_len(&self) -> Result<Length, Error> {
-        field_refs!(self, ((hash_algorithm, cert_hash), issuer_serial)).encoded_len()
-    }
-
-    fn encode_value<W: Writer>(&self, writer: &mut W) -> Result<(), Error> {
-        field_refs!(self, ((hash_algorithm, cert_hash), issuer_serial)).encode(writer)
-    }
-
-    fn value_len_before(&self) -> Option<u32> {
-        field_refs!(self, ((hash_algorithm, cert_hash), issuer_serial)).len_before()
-    }
-
-    fn encode_value_before(&self, buf: &mut [u8], end: u32) -> u32 {
-        field_refs!(self, ((hash_algorithm, cert_hash), issuer_serial)).encode_before(buf, end)
+    fn call_fields<S, C: FieldsCall<S>>(
+        &self,
+        call: &C,
+        state: &mut S,
+        buf: &mut [u8],
+    ) -> C::Output {
+        call.call(
+            &field_refs!(self, ((hash_algorithm, cert_hash), issuer_serial)),
+            state,
+            buf,
+        )
     }
 }
 

@@ -6,8 +6,8 @@ ghost use Rattle.der_uses.specs.AlgorithmIdentifier.{AlgorithmRead, algorithm_el
 use crate::my_octets::MyOctets;
 use der::example::MyByteMonth;
 use der::{
-    DecodeValue, Encode, EncodeRef, EncodeValue, Error, FromFields, Header, Lends, Length, Reader,
-    Sequence, Writer, decode_sequence,
+    DecodeValue, Error, FieldsCall, FromFields, HasFields, Header, Lends, Reader, Sequence,
+    decode_sequence, field_refs,
 };
 use std::alloc::Global;
 
@@ -47,28 +47,18 @@ impl<'a, R: Lends<Borrowed = &'a [u8]>> DecodeValue<R> for AlgorithmIdentifier<'
     }
 }
 
-impl<'a> EncodeValue for AlgorithmIdentifier<'a> {
-    ghost value_size = { algorithm_size };
+impl<'a> HasFields for AlgorithmIdentifier<'a> {
+    ghost fields_size = { algorithm_size };
 
-    ghost encode_value_answers = { AlgorithmWritten };
-
-    #[inline(always)]
-    fn value_len(&self) -> Result<Length, Error> {
-        (EncodeRef(&self.algorithm), EncodeRef(&self.month)).encoded_len()
-    }
+    ghost fields_answers = { AlgorithmWritten };
 
     #[inline(always)]
-    fn encode_value<W: Writer>(&self, writer: &mut W) -> Result<(), Error> {
-        (EncodeRef(&self.algorithm), EncodeRef(&self.month)).encode(writer)
-    }
-
-    #[inline(always)]
-    fn value_len_before(&self) -> Option<u32> {
-        (EncodeRef(&self.algorithm), EncodeRef(&self.month)).len_before()
-    }
-
-    #[inline(always)]
-    fn encode_value_before(&self, buf: &mut [u8], end: u32) -> u32 {
-        (EncodeRef(&self.algorithm), EncodeRef(&self.month)).encode_before(buf, end)
+    fn call_fields<S, C: FieldsCall<S>>(
+        &self,
+        call: &C,
+        state: &mut S,
+        buf: &mut [u8],
+    ) -> C::Output {
+        call.call(&field_refs!(self, (algorithm, month)), state, buf)
     }
 }

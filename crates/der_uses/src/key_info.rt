@@ -7,8 +7,8 @@ ghost use Rattle.der_uses.specs.KeyInfo.{IsKeyInfo, KeyInfoRead, key_info_conten
 use crate::algorithm_identifier::AlgorithmIdentifier;
 use crate::my_octets::MyOctets;
 use der::{
-    DecodeBytes, DecodeValue, Encode, EncodeRef, EncodeValue, Error, FromFields, Header, Lends,
-    Length, Reader, Sequence, Writer, decode_sequence,
+    DecodeValue, Encode, Error, FieldsCall, FromFields, HasFields, Header, Lends, Reader, Sequence,
+    decode_sequence, field_refs,
 };
 use std::alloc::Global;
 
@@ -48,29 +48,19 @@ impl<'a, R: Lends<Borrowed = &'a [u8]>> DecodeValue<R> for KeyInfo<'a> {
     }
 }
 
-impl<'a> EncodeValue for KeyInfo<'a> {
-    ghost value_size = { key_info_size };
+impl<'a> HasFields for KeyInfo<'a> {
+    ghost fields_size = { key_info_size };
 
-    ghost encode_value_answers = { KeyInfoWritten };
-
-    #[inline(always)]
-    fn value_len(&self) -> Result<Length, Error> {
-        (EncodeRef(&self.algorithm), EncodeRef(&self.key)).encoded_len()
-    }
+    ghost fields_answers = { KeyInfoWritten };
 
     #[inline(always)]
-    fn encode_value<W: Writer>(&self, writer: &mut W) -> Result<(), Error> {
-        (EncodeRef(&self.algorithm), EncodeRef(&self.key)).encode(writer)
-    }
-
-    #[inline(always)]
-    fn value_len_before(&self) -> Option<u32> {
-        (EncodeRef(&self.algorithm), EncodeRef(&self.key)).len_before()
-    }
-
-    #[inline(always)]
-    fn encode_value_before(&self, buf: &mut [u8], end: u32) -> u32 {
-        (EncodeRef(&self.algorithm), EncodeRef(&self.key)).encode_before(buf, end)
+    fn call_fields<S, C: FieldsCall<S>>(
+        &self,
+        call: &C,
+        state: &mut S,
+        buf: &mut [u8],
+    ) -> C::Output {
+        call.call(&field_refs!(self, (algorithm, key)), state, buf)
     }
 }
 
