@@ -111,7 +111,7 @@ const ENCODED_PART: &str = "⟦<@N@L as FromFields<@NFields@L>>⟧.fields (@Q v)
 /// The most fields of a part.
 const PART: usize = 12;
 
-/// The greatest weight of the fields of a part: with more the checker stops at its limit of steps.
+/// The greatest weight of the fields of a part. Heavier ones were not tried.
 const WEIGHT: usize = 20;
 
 impl SequenceText {
