@@ -7,8 +7,8 @@ ghost use Rattle.der_uses.specs.KeyInfo.{IsKeyInfo, KeyInfoRead, key_info_conten
 use crate::algorithm_identifier::AlgorithmIdentifier;
 use crate::my_octets::MyOctets;
 use der::{
-    DecodeValue, Encode, Error, FieldsCall, FromFields, HasFields, Header, Lends, Reader, Sequence,
-    decode_sequence, field_refs,
+    DecodeBytes, DecodeValue, Encode, Error, FieldsCall, FromFields, HasFields, Header, Lends,
+    Reader, Sequence, decode_sequence, field_refs,
 };
 use std::alloc::Global;
 
