@@ -124,8 +124,7 @@ fn values_are_written_from_the_end_of_a_buffer(rt: HostRuntime) -> Result<(), Fa
     match compiled(alloc, &Vec::new(alloc), text.as_str()) {
         Ok(files) => {
             let (a, c, l) = ("src/asn1/a.rt", "src/asn1/c.rt", "src/asn1/l.rt");
-            has_text(&rt, &files, a, "field_refs!(self, (a, b)).len_before()");
-            has_text(&rt, &files, a, "field_refs!(self, (a, b)).encode_before(buf, end)");
+            has_text(&rt, &files, a, "call.call(&field_refs!(self, (a, b)), state, buf)");
             has_text(&rt, &files, c, "C::B(value) => value.len_before(),");
             has_text(&rt, &files, c, "C::B(value) => value.encode_before(buf, end),");
             has_text(&rt, &files, l, "self.all.value_len_before()");
