@@ -9,6 +9,8 @@ mod journey;
 mod label;
 mod packing;
 mod parcel;
+mod parcel_part1;
+mod parcel_part2;
 mod plan;
 mod property;
 mod property_known;

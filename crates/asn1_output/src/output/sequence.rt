@@ -111,8 +111,8 @@ const ENCODED_PART: &str = "⟦<@N@L as FromFields<@NFields@L>>⟧.fields (@Q v)
 /// The most fields of a part.
 const PART: usize = 12;
 
-/// The greatest weight of the fields of a part. Heavier ones were not tried.
-const WEIGHT: usize = 20;
+/// The greatest weight of the fields of a part. With 20 the checker stops at its limit of steps.
+const WEIGHT: usize = 17;
 
 impl SequenceText {
     /// A SEQUENCE with this name.

@@ -6,13 +6,15 @@ ghost use Rattle.std.proofs.Common.{arith, refl};
 ghost use Rattle.der.specs.Prelude.{map_ok};
 ghost use Rattle.der_asn1.specs.Integer.{integer_octets};
 ghost use Rattle.der_asn1.specs.Item.{decodes_same};
-ghost use Rattle.der_asn1.specs.Meaning.{alternative, defaulted, field, optional, sequence, sequence_is_item, sequence_item};
-ghost use Rattle.der_asn1.specs.TupleFields.{eight_fields};
+ghost use Rattle.der_asn1.specs.Meaning.{alternative, defaulted, field, optional, seen, sequence, sequence_is_item, sequence_item, two_fields};
+ghost use Rattle.der_asn1.specs.TupleFields.{four_fields};
 
 use crate::asn1::handling::Handling;
 use crate::asn1::journey::Journey;
 use crate::asn1::label::Label;
 use crate::asn1::packing::Packing;
+use crate::asn1::parcel_part1::{ParcelPart1, ParcelPart1Fields};
+use crate::asn1::parcel_part2::{ParcelPart2, ParcelPart2Fields};
 use crate::asn1::version::Version;
 use der::{
     Decode, DecodeValue, Encode, Error, FieldsCall, FromFields, HasFields, Header, IsValue, Lends,
@@ -47,46 +49,42 @@ pub struct Parcel<'a> {
 }
 
 /// The fields of a [`Parcel`], in the order in which they are encoded.
-pub type ParcelFields<'a> = (
-    Defaulted<Explicit<WithDefault<NamedInteger<Version>, ParcelVersionDefault>, 0>>,
-    IntRef<'a>,
-    IntegerIn<1, 30000>,
-    Defaulted<WithDefault<Enumerated<Packing>, ParcelPackingDefault>>,
-    Optional<Handling<'a>>,
-    Defaulted<BooleanRef<'a>>,
-    Journey<'a>,
-    Optional<Implicit<Label<'a>, 4>>,
-);
+pub type ParcelFields<'a> = (ParcelPart1Fields<'a>, ParcelPart2Fields<'a>);
 
-impl<'a> FromFields<ParcelFields<'a>> for Parcel<'a> {
+impl<'a> FromFields<(ParcelPart1<'a>, ParcelPart2<'a>)> for Parcel<'a> {
     ghost fields = { λ v. (
-      v.version,
-      v.number,
-      v.weight,
-      v.packing,
-      v.handling,
-      v.opened,
-      v.journey,
-      v.label,
+      record {
+        version = v.version;
+        number = v.number;
+        weight = v.weight;
+        packing = v.packing;
+      },
+      record {
+        handling = v.handling;
+        opened = v.opened;
+        journey = v.journey;
+        label = v.label;
+      },
     ) };
 
-    fn from_fields(fields: ParcelFields<'a>) -> Self {
-        let (version, number, weight, packing, handling, opened, journey, label) = fields;
+    fn from_fields(fields: (ParcelPart1<'a>, ParcelPart2<'a>)) -> Self {
+        let (part1, part2) = fields;
         Parcel {
-            version,
-            number,
-            weight,
-            packing,
-            handling,
-            opened,
-            journey,
-            label,
+            version: part1.version,
+            number: part1.number,
+            weight: part1.weight,
+            packing: part1.packing,
+            handling: part2.handling,
+            opened: part2.opened,
+            journey: part2.journey,
+            label: part2.label,
         }
     }
 }
 
 impl<'a> Sequence for Parcel<'a> {
-    ghost meaning = { sequence (eight_fields (defaulted
+    ghost meaning = { sequence (two_fields (seen
+        ⟦<ParcelPart1<'a> as FromFields<ParcelPart1Fields<'a>>>⟧.fields (four_fields (defaulted
         ⟦<Explicit<WithDefault<NamedInteger<Version>, ParcelVersionDefault>, 0> as DefaultValue>⟧.is_default
         (alternative
         ⟦<Explicit<WithDefault<NamedInteger<Version>, ParcelVersionDefault>, 0> as Described>⟧.element))
@@ -94,13 +92,14 @@ impl<'a> Sequence for Parcel<'a> {
         ⟦<IntegerIn<1, 30000> as Described>⟧.element)) (defaulted
         ⟦<WithDefault<Enumerated<Packing>, ParcelPackingDefault> as DefaultValue>⟧.is_default
         (alternative
-        ⟦<WithDefault<Enumerated<Packing>, ParcelPackingDefault> as Described>⟧.element)) (optional
+        ⟦<WithDefault<Enumerated<Packing>, ParcelPackingDefault> as Described>⟧.element)))) (seen
+        ⟦<ParcelPart2<'a> as FromFields<ParcelPart2Fields<'a>>>⟧.fields (four_fields (optional
         (alternative ⟦<Handling<'a> as Described>⟧.element)) (defaulted
         ⟦<BooleanRef<'a> as DefaultValue>⟧.is_default (alternative
         ⟦<BooleanRef<'a> as Described>⟧.element)) (field (alternative
         ⟦<Journey<'a> as Described>⟧.element)) (optional (alternative
-        ⟦<Implicit<Label<'a>, 4> as Described>⟧.element)))
-        ⟦<Parcel<'a> as FromFields<ParcelFields<'a>>>⟧.fields };
+        ⟦<Implicit<Label<'a>, 4> as Described>⟧.element)))))
+        ⟦<Parcel<'a> as FromFields<(ParcelPart1<'a>, ParcelPart2<'a>)>>⟧.fields };
 
     ghost fits = { (refl, refl) };
 }
@@ -110,14 +109,14 @@ impl<'a, R: Lends<Borrowed = &'a [u8]>> DecodeValue<R> for Parcel<'a> {
     type Error = Error;
 
     ghost decode_value_answers = { λ h s result t.
-        ⟦<ParcelFields<'a> as Decode<SliceReader<'a>>>⟧.decode_answers s (map_ok
-        ⟦<Parcel<'a> as FromFields<ParcelFields<'a>>>⟧.fields result) t };
+        ⟦<(ParcelPart1<'a>, ParcelPart2<'a>) as Decode<SliceReader<'a>>>⟧.decode_answers s (map_ok
+        ⟦<Parcel<'a> as FromFields<(ParcelPart1<'a>, ParcelPart2<'a>)>>⟧.fields result) t };
 
     fn decode_value(alloc: Global, reader: &mut R, header: Header) -> Result<Self, Error>
     where
         R: Reader,
     {
-        decode_sequence::<R, ParcelFields<'a>, Self>(alloc, reader, header)
+        decode_sequence::<R, (ParcelPart1<'a>, ParcelPart2<'a>), Self>(alloc, reader, header)
     }
 }
 
@@ -140,11 +139,19 @@ impl<'a> IsValue for Parcel<'a> {
 
 /// Writes the fields one after the other, with the errors of every [`Sequence`].
 impl<'a> HasFields for Parcel<'a> {
-    ghost fields_size = { λ v. ⟦<ParcelFields<'a> as Encode>⟧.size
-        (⟦<Parcel<'a> as FromFields<ParcelFields<'a>>>⟧.fields v) };
+    ghost fields_size = { λ v. ⟦<ParcelFields<'a> as Encode>⟧.size (
+      ⟦<ParcelPart1<'a> as FromFields<ParcelPart1Fields<'a>>>⟧.fields
+          (⟦<Parcel<'a> as FromFields<(ParcelPart1<'a>, ParcelPart2<'a>)>>⟧.fields v).0,
+      ⟦<ParcelPart2<'a> as FromFields<ParcelPart2Fields<'a>>>⟧.fields
+          (⟦<Parcel<'a> as FromFields<(ParcelPart1<'a>, ParcelPart2<'a>)>>⟧.fields v).1,
+    ) };
 
-    ghost fields_answers = { λ v. ⟦<ParcelFields<'a> as Encode>⟧.encode_answers
-        (⟦<Parcel<'a> as FromFields<ParcelFields<'a>>>⟧.fields v) };
+    ghost fields_answers = { λ v. ⟦<ParcelFields<'a> as Encode>⟧.encode_answers (
+      ⟦<ParcelPart1<'a> as FromFields<ParcelPart1Fields<'a>>>⟧.fields
+          (⟦<Parcel<'a> as FromFields<(ParcelPart1<'a>, ParcelPart2<'a>)>>⟧.fields v).0,
+      ⟦<ParcelPart2<'a> as FromFields<ParcelPart2Fields<'a>>>⟧.fields
+          (⟦<Parcel<'a> as FromFields<(ParcelPart1<'a>, ParcelPart2<'a>)>>⟧.fields v).1,
+    ) };
 
     fn call_fields<S, C: FieldsCall<S>>(
         &self,
@@ -156,7 +163,8 @@ impl<'a> HasFields for Parcel<'a> {
             &field_refs!(
                 self,
                 (
-                    version, number, weight, packing, handling, opened, journey, label
+                    (version, number, weight, packing),
+                    (handling, opened, journey, label)
                 )
             ),
             state,
