@@ -11,6 +11,8 @@ mod packing;
 mod parcel;
 mod parcel_part1;
 mod parcel_part2;
+mod parcel_part3;
+mod parcel_part4;
 mod plan;
 mod property;
 mod property_known;

@@ -57,6 +57,8 @@ impl Field {
             FieldPresence::Required => 1,
             FieldPresence::Optional if self.of.text.contains("Tagged<") => 3,
             FieldPresence::Optional | FieldPresence::Additions => 2,
+            FieldPresence::Defaulted if self.of.text.contains("WithDefault<NamedInteger<") => 14,
+            FieldPresence::Defaulted if self.of.text.contains("WithDefault<Enumerated<") => 14,
             FieldPresence::Defaulted if self.of.text.contains("WithDefault") => 5,
             FieldPresence::Defaulted | FieldPresence::DefaultedTo(_) => 3,
         }

@@ -15,6 +15,8 @@ use crate::asn1::label::Label;
 use crate::asn1::packing::Packing;
 use crate::asn1::parcel_part1::{ParcelPart1, ParcelPart1Fields};
 use crate::asn1::parcel_part2::{ParcelPart2, ParcelPart2Fields};
+use crate::asn1::parcel_part3::{ParcelPart3, ParcelPart3Fields};
+use crate::asn1::parcel_part4::{ParcelPart4, ParcelPart4Fields};
 use crate::asn1::version::Version;
 use der::{
     Decode, DecodeValue, Encode, Error, FieldsCall, FromFields, HasFields, Header, IsValue, Lends,
@@ -49,57 +51,73 @@ pub struct Parcel<'a> {
 }
 
 /// The fields of a [`Parcel`], in the order in which they are encoded.
-pub type ParcelFields<'a> = (ParcelPart1Fields<'a>, ParcelPart2Fields<'a>);
+pub type ParcelFields<'a> = (
+    ParcelPart1Fields<'a>,
+    ParcelPart2Fields,
+    ParcelPart3Fields<'a>,
+    ParcelPart4Fields<'a>,
+);
 
-impl<'a> FromFields<(ParcelPart1<'a>, ParcelPart2<'a>)> for Parcel<'a> {
+impl<'a> FromFields<
+    (
+        ParcelPart1<'a>,
+        ParcelPart2,
+        ParcelPart3<'a>,
+        ParcelPart4<'a>,
+    ),
+> for Parcel<'a> {
     ghost fields = { λ v. (
-      record {
-        version = v.version;
-        number = v.number;
-        weight = v.weight;
-        packing = v.packing;
-      },
+      record { version = v.version; number = v.number },
+      record { weight = v.weight; packing = v.packing },
       record {
         handling = v.handling;
         opened = v.opened;
-        journey = v.journey;
-        label = v.label;
       },
+      record { journey = v.journey; label = v.label },
     ) };
 
-    fn from_fields(fields: (ParcelPart1<'a>, ParcelPart2<'a>)) -> Self {
-        let (part1, part2) = fields;
+    fn from_fields(
+        fields: (
+            ParcelPart1<'a>,
+            ParcelPart2,
+            ParcelPart3<'a>,
+            ParcelPart4<'a>,
+        ),
+    ) -> Self {
+        let (part1, part2, part3, part4) = fields;
         Parcel {
             version: part1.version,
             number: part1.number,
-            weight: part1.weight,
-            packing: part1.packing,
-            handling: part2.handling,
-            opened: part2.opened,
-            journey: part2.journey,
-            label: part2.label,
+            weight: part2.weight,
+            packing: part2.packing,
+            handling: part3.handling,
+            opened: part3.opened,
+            journey: part4.journey,
+            label: part4.label,
         }
     }
 }
 
 impl<'a> Sequence for Parcel<'a> {
-    ghost meaning = { sequence (two_fields (seen
-        ⟦<ParcelPart1<'a> as FromFields<ParcelPart1Fields<'a>>>⟧.fields (four_fields (defaulted
+    ghost meaning = { sequence (four_fields (seen
+        ⟦<ParcelPart1<'a> as FromFields<ParcelPart1Fields<'a>>>⟧.fields (two_fields (defaulted
         ⟦<Explicit<WithDefault<NamedInteger<Version>, ParcelVersionDefault>, 0> as DefaultValue>⟧.is_default
         (alternative
         ⟦<Explicit<WithDefault<NamedInteger<Version>, ParcelVersionDefault>, 0> as Described>⟧.element))
-        (field (alternative ⟦<IntRef<'a> as Described>⟧.element)) (field (alternative
+        (field (alternative ⟦<IntRef<'a> as Described>⟧.element)))) (seen
+        ⟦<ParcelPart2 as FromFields<ParcelPart2Fields>>⟧.fields (two_fields (field (alternative
         ⟦<IntegerIn<1, 30000> as Described>⟧.element)) (defaulted
         ⟦<WithDefault<Enumerated<Packing>, ParcelPackingDefault> as DefaultValue>⟧.is_default
         (alternative
         ⟦<WithDefault<Enumerated<Packing>, ParcelPackingDefault> as Described>⟧.element)))) (seen
-        ⟦<ParcelPart2<'a> as FromFields<ParcelPart2Fields<'a>>>⟧.fields (four_fields (optional
+        ⟦<ParcelPart3<'a> as FromFields<ParcelPart3Fields<'a>>>⟧.fields (two_fields (optional
         (alternative ⟦<Handling<'a> as Described>⟧.element)) (defaulted
         ⟦<BooleanRef<'a> as DefaultValue>⟧.is_default (alternative
-        ⟦<BooleanRef<'a> as Described>⟧.element)) (field (alternative
-        ⟦<Journey<'a> as Described>⟧.element)) (optional (alternative
+        ⟦<BooleanRef<'a> as Described>⟧.element)))) (seen
+        ⟦<ParcelPart4<'a> as FromFields<ParcelPart4Fields<'a>>>⟧.fields (two_fields (field
+        (alternative ⟦<Journey<'a> as Described>⟧.element)) (optional (alternative
         ⟦<Implicit<Label<'a>, 4> as Described>⟧.element)))))
-        ⟦<Parcel<'a> as FromFields<(ParcelPart1<'a>, ParcelPart2<'a>)>>⟧.fields };
+        ⟦<Parcel<'a> as FromFields<(ParcelPart1<'a>, ParcelPart2, ParcelPart3<'a>, ParcelPart4<'a>)>>⟧.fields };
 
     ghost fits = { (refl, refl) };
 }
@@ -109,14 +127,24 @@ impl<'a, R: Lends<Borrowed = &'a [u8]>> DecodeValue<R> for Parcel<'a> {
     type Error = Error;
 
     ghost decode_value_answers = { λ h s result t.
-        ⟦<(ParcelPart1<'a>, ParcelPart2<'a>) as Decode<SliceReader<'a>>>⟧.decode_answers s (map_ok
-        ⟦<Parcel<'a> as FromFields<(ParcelPart1<'a>, ParcelPart2<'a>)>>⟧.fields result) t };
+        ⟦<(ParcelPart1<'a>, ParcelPart2, ParcelPart3<'a>, ParcelPart4<'a>) as Decode<SliceReader<'a>>>⟧.decode_answers s
+        (map_ok
+        ⟦<Parcel<'a> as FromFields<(ParcelPart1<'a>, ParcelPart2, ParcelPart3<'a>, ParcelPart4<'a>)>>⟧.fields result) t };
 
     fn decode_value(alloc: Global, reader: &mut R, header: Header) -> Result<Self, Error>
     where
         R: Reader,
     {
-        decode_sequence::<R, (ParcelPart1<'a>, ParcelPart2<'a>), Self>(alloc, reader, header)
+        decode_sequence::<
+            R,
+            (
+                ParcelPart1<'a>,
+                ParcelPart2,
+                ParcelPart3<'a>,
+                ParcelPart4<'a>,
+            ),
+            Self,
+        >(alloc, reader, header)
     }
 }
 
@@ -141,16 +169,24 @@ impl<'a> IsValue for Parcel<'a> {
 impl<'a> HasFields for Parcel<'a> {
     ghost fields_size = { λ v. ⟦<ParcelFields<'a> as Encode>⟧.size (
       ⟦<ParcelPart1<'a> as FromFields<ParcelPart1Fields<'a>>>⟧.fields
-          (⟦<Parcel<'a> as FromFields<(ParcelPart1<'a>, ParcelPart2<'a>)>>⟧.fields v).0,
-      ⟦<ParcelPart2<'a> as FromFields<ParcelPart2Fields<'a>>>⟧.fields
-          (⟦<Parcel<'a> as FromFields<(ParcelPart1<'a>, ParcelPart2<'a>)>>⟧.fields v).1,
+          (⟦<Parcel<'a> as FromFields<(ParcelPart1<'a>, ParcelPart2, ParcelPart3<'a>, ParcelPart4<'a>)>>⟧.fields v).0,
+      ⟦<ParcelPart2 as FromFields<ParcelPart2Fields>>⟧.fields
+          (⟦<Parcel<'a> as FromFields<(ParcelPart1<'a>, ParcelPart2, ParcelPart3<'a>, ParcelPart4<'a>)>>⟧.fields v).1,
+      ⟦<ParcelPart3<'a> as FromFields<ParcelPart3Fields<'a>>>⟧.fields
+          (⟦<Parcel<'a> as FromFields<(ParcelPart1<'a>, ParcelPart2, ParcelPart3<'a>, ParcelPart4<'a>)>>⟧.fields v).2,
+      ⟦<ParcelPart4<'a> as FromFields<ParcelPart4Fields<'a>>>⟧.fields
+          (⟦<Parcel<'a> as FromFields<(ParcelPart1<'a>, ParcelPart2, ParcelPart3<'a>, ParcelPart4<'a>)>>⟧.fields v).3,
     ) };
 
     ghost fields_answers = { λ v. ⟦<ParcelFields<'a> as Encode>⟧.encode_answers (
       ⟦<ParcelPart1<'a> as FromFields<ParcelPart1Fields<'a>>>⟧.fields
-          (⟦<Parcel<'a> as FromFields<(ParcelPart1<'a>, ParcelPart2<'a>)>>⟧.fields v).0,
-      ⟦<ParcelPart2<'a> as FromFields<ParcelPart2Fields<'a>>>⟧.fields
-          (⟦<Parcel<'a> as FromFields<(ParcelPart1<'a>, ParcelPart2<'a>)>>⟧.fields v).1,
+          (⟦<Parcel<'a> as FromFields<(ParcelPart1<'a>, ParcelPart2, ParcelPart3<'a>, ParcelPart4<'a>)>>⟧.fields v).0,
+      ⟦<ParcelPart2 as FromFields<ParcelPart2Fields>>⟧.fields
+          (⟦<Parcel<'a> as FromFields<(ParcelPart1<'a>, ParcelPart2, ParcelPart3<'a>, ParcelPart4<'a>)>>⟧.fields v).1,
+      ⟦<ParcelPart3<'a> as FromFields<ParcelPart3Fields<'a>>>⟧.fields
+          (⟦<Parcel<'a> as FromFields<(ParcelPart1<'a>, ParcelPart2, ParcelPart3<'a>, ParcelPart4<'a>)>>⟧.fields v).2,
+      ⟦<ParcelPart4<'a> as FromFields<ParcelPart4Fields<'a>>>⟧.fields
+          (⟦<Parcel<'a> as FromFields<(ParcelPart1<'a>, ParcelPart2, ParcelPart3<'a>, ParcelPart4<'a>)>>⟧.fields v).3,
     ) };
 
     fn call_fields<S, C: FieldsCall<S>>(
@@ -163,8 +199,10 @@ impl<'a> HasFields for Parcel<'a> {
             &field_refs!(
                 self,
                 (
-                    (version, number, weight, packing),
-                    (handling, opened, journey, label)
+                    (version, number),
+                    (weight, packing),
+                    (handling, opened),
+                    (journey, label)
                 )
             ),
             state,

@@ -4,11 +4,10 @@
 ghost use Rattle.std.specs.Prelude.{false};
 ghost use Rattle.der.specs.Prelude.{map_ok};
 
-use crate::asn1::packing::Packing;
-use crate::asn1::parcel::{ParcelPackingDefault, ParcelVersionDefault};
+use crate::asn1::parcel::ParcelVersionDefault;
 use crate::asn1::version::Version;
 use der::{Decode, Error, FromFields, Lends, Reader, SliceReader, decode_fields};
-use der_asn1::{Defaulted, Enumerated, Explicit, IntRef, IntegerIn, NamedInteger, WithDefault};
+use der_asn1::{Defaulted, Explicit, IntRef, NamedInteger, WithDefault};
 use std::alloc::Global;
 
 // Some fields of a Parcel.
@@ -18,29 +17,20 @@ pub(crate) struct ParcelPart1<'a> {
         Explicit<WithDefault<NamedInteger<Version>, ParcelVersionDefault>, 0>,
     >,
     pub(crate) number: IntRef<'a>,
-    pub(crate) weight: IntegerIn<1, 30000>,
-    pub(crate) packing: Defaulted<WithDefault<Enumerated<Packing>, ParcelPackingDefault>>,
 }
 
 // The fields, in the order in which they are encoded.
 pub(crate) type ParcelPart1Fields<'a> = (
     Defaulted<Explicit<WithDefault<NamedInteger<Version>, ParcelVersionDefault>, 0>>,
     IntRef<'a>,
-    IntegerIn<1, 30000>,
-    Defaulted<WithDefault<Enumerated<Packing>, ParcelPackingDefault>>,
 );
 
 impl<'a> FromFields<ParcelPart1Fields<'a>> for ParcelPart1<'a> {
-    ghost fields = { λ v. (v.version, v.number, v.weight, v.packing) };
+    ghost fields = { λ v. (v.version, v.number) };
 
     fn from_fields(fields: ParcelPart1Fields<'a>) -> Self {
-        let (version, number, weight, packing) = fields;
-        ParcelPart1 {
-            version,
-            number,
-            weight,
-            packing,
-        }
+        let (version, number) = fields;
+        ParcelPart1 { version, number }
     }
 }
 
