@@ -6,7 +6,7 @@ pub field_ends : (h f tail octets : List ℕ) → octets ≡ h ++ (f ++ tail)
     → (front : List ℕ) × (octets ≡ front ++ tail)
 field_ends h f tail octets is = (h ++ f, is ∙ simp append_assoc refl)
 
--- `f` and `s` are in front of the field `t`, `v` and `u` behind it
-pub middle_ends : (h f s t v u octets : List ℕ) → octets ≡ h ++ (f ++ ((s ++ (t ++ v)) ++ u))
-    → (front : List ℕ) × (octets ≡ front ++ (t ++ (v ++ u)))
-middle_ends h f s t v u octets is = (h ++ (f ++ s), is ∙ simp append_assoc refl)
+-- `f` and `s` are in front of the field
+pub middle_ends : (h f s tail octets : List ℕ) → octets ≡ h ++ (f ++ (s ++ tail))
+    → (front : List ℕ) × (octets ≡ front ++ tail)
+middle_ends h f s tail octets is = (h ++ (f ++ s), is ∙ simp append_assoc refl)

@@ -134,11 +134,13 @@ fn certificate_key_of<'a>(octets: &'a [u8], signed: &TbsCertificate<'a>) -> DerP
     let key = &signed.subject_public_key_info;
     let whole = field_in_middle(
         octets,
-        &field_refs!(signed, ((version, serial_number), (signature, issuer))),
-        &field_refs!(signed, (validity, subject)),
+        &field_refs!(
+            signed,
+            (version, serial_number, signature, issuer, validity)
+        ),
+        &EncodeRef(&signed.subject),
         key,
-        &EncodeRef(&signed.issuer_unique_id),
-        &field_refs!(signed, (subject_unique_id, extensions)),
+        &field_refs!(signed, (issuer_unique_id, subject_unique_id, extensions)),
     );
     public_key_of(whole.octets, key)
 }

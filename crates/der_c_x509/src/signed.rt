@@ -2,7 +2,7 @@
 ghost use Rattle.std.specs.Prelude.{◌≡◌, ◌<◌, ◌^◌, ◌++◌, ℕ, List, length};
 ghost use Rattle.der.specs.Prelude.{Sequence, element_octets, header_octets};
 
-use der::{Encode, EncodeRef};
+use der::Encode;
 use der_c_core::DerSpan;
 
 // The octets of the signed part. `octets` are a SEQUENCE that begins with it; `rest` are the other
@@ -44,25 +44,22 @@ pub(crate) fn field_between<'a, F: Encode, T: Encode, U: Encode>(
 }
 
 // The octets of a field of a SEQUENCE: `value`, with the fields `first` and `second` in front of
-// it, and `third` and `rest` behind it. The fields in the middle are encoded in two pairs.
-pub(crate) fn field_in_middle<'a, F: Encode, S: Encode, T: Encode, V: Encode, U: Encode>(
+// it, and `rest` behind it.
+pub(crate) fn field_in_middle<'a, F: Encode, S: Encode, T: Encode, U: Encode>(
     octets: &'a [u8],
     _first: &F,
     _second: &S,
     value: &T,
-    third: &V,
     rest: &U,
 ) -> DerSpan<'a>
     requires whole { octets.now ≡ element_octets Sequence (F.encoding _first.now
-        ++ ((S.encoding _second.now ++ (T.encoding value.now ++ V.encoding third.now))
-        ++ U.encoding rest.now)) }
+        ++ (S.encoding _second.now ++ (T.encoding value.now ++ U.encoding rest.now))) }
     requires short { length octets.now < 2 ^ 32 }
     requires value { T.encodable value.now }
-    requires third { V.encodable third.now }
     requires rest { U.encodable rest.now }
     ensures { result.octets.now ≡ T.encoding value.now }
 {
-    part_before(octets, value, &(EncodeRef(third), EncodeRef(rest)))
+    part_before(octets, value, rest)
 }
 
 // The octets of a value in front of `rest`, with which `octets` end.

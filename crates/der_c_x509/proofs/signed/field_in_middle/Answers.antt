@@ -5,4 +5,4 @@ use Rattle.der_c_x509.proofs.signed.field_in_middle.Goals as goal
 
 pub part_before-requires-clause-ends : goal.part_before-requires-clause-ends
 part_before-requires-clause-ends g c =
-    middle_ends (header_octets Sequence (length ((g.F.Encode.encoding c.args._first.now) ++ (((g.S.Encode.encoding c.args._second.now) ++ ((g.T.Encode.encoding c.args.value.now) ++ (g.V.Encode.encoding c.args.third.now))) ++ (g.U.Encode.encoding c.args.rest.now))))) (g.F.Encode.encoding c.args._first.now) (g.S.Encode.encoding c.args._second.now) (g.T.Encode.encoding c.args.value.now) (g.V.Encode.encoding c.args.third.now) (g.U.Encode.encoding c.args.rest.now) _ c.requires.whole
+    middle_ends (header_octets Sequence (length ((g.F.Encode.encoding c.args._first.now) ++ ((g.S.Encode.encoding c.args._second.now) ++ ((g.T.Encode.encoding c.args.value.now) ++ (g.U.Encode.encoding c.args.rest.now)))))) (g.F.Encode.encoding c.args._first.now) (g.S.Encode.encoding c.args._second.now) ((g.T.Encode.encoding c.args.value.now) ++ (g.U.Encode.encoding c.args.rest.now)) _ c.requires.whole
