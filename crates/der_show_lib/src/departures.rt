@@ -18,9 +18,9 @@ const PRINTED: usize = 100;
 
 /// A value, and where it departs from the Distinguished Encoding Rules.
 #[derive(Clone, Copy)]
-pub struct Departures<'a> {
+pub struct Departures<'i, 'a> {
     /// Where it departs.
-    pub items: &'a [Departure],
+    pub items: &'i [Departure],
     /// The octets that offsets count in.
     pub octets: &'a [u8],
     /// The elements, if there is a tree of them.
@@ -29,7 +29,7 @@ pub struct Departures<'a> {
     pub base: usize,
 }
 
-impl<'a> Departures<'a> {
+impl<'i, 'a> Departures<'i, 'a> {
     /// Counts the departures, and prints a line for each, where the options want it.
     pub fn put(self, show: &mut Show<'_>, place: &Place<'_>) {
         if self.items.is_empty() {
@@ -77,7 +77,7 @@ impl<'a> Departures<'a> {
         self.put_more(out, "");
     }
 
-    fn shown(self) -> &'a [Departure] {
+    fn shown(self) -> &'i [Departure] {
         self.items.get(..PRINTED).unwrap_or(self.items)
     }
 

@@ -70,7 +70,7 @@ pub fn put_json_value(
     place: &Place<'_>,
     target: Target,
     value: Cursor<'_>,
-    departures: Departures<'_>,
+    departures: Departures<'_, '_>,
 ) {
     begin_value(show, place, word_of(target), departures.base);
     if matches!(target, Target::Kind(Kind::Certificate)) && show.options.is_lint {

@@ -141,17 +141,18 @@ fn run_with<R: Files + Input + AllocGlobal>(
             return finish_run(1, out, errors);
         }
     };
-    let mut show = new_show(rt.alloc(), &schema, command.options, out, errors);
+    let mut node = None;
     if let Some(name) = command.type_name {
-        show.node = schema.find_node(name);
-        if show.node.is_none() {
-            show.errors
-                .put("error: the table has no type of this name: ");
-            put_plain(&mut show.errors, name);
-            show.errors.put("\n");
-            return finish_run(1, show.page.out, show.errors);
+        node = schema.find_node(name);
+        if node.is_none() {
+            errors.put("error: the table has no type of this name: ");
+            put_plain(&mut errors, name);
+            errors.put("\n");
+            return finish_run(1, out, errors);
         }
     }
+    let mut show = new_show(rt.alloc(), &schema, command.options, out, errors);
+    show.node = node;
     match command.files.as_slice() {
         [] => show_file(rt, &mut show, "-"),
         files => show_files(rt, &mut show, files),

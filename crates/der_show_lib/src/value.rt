@@ -70,7 +70,7 @@ fn put_root(
     target: Target,
     root: Cursor<'_>,
     written: &[u8],
-    departures: Departures<'_>,
+    departures: Departures<'_, '_>,
 ) {
     match (show.options.shown, target) {
         (Shown::Text, _) if !is_read(root, departures.items) => {
