@@ -6,7 +6,9 @@ ghost use Rattle.der.specs.Prelude.{map_ok};
 ghost use Rattle.der_asn1.specs.Meaning.{alternative, choice_of, either};
 
 use der::{Decode, Encode, Error, FromFields, Lends, Length, Reader, SliceReader, Tag, Writer};
-use der_asn1::{Choice, Described, DescribedChoice, Either, Implicit, SequenceRef, decode_choice};
+use der_asn1::{
+    Choice, DecodeChoice, Described, DescribedChoice, Either, Implicit, SequenceRef, decode_choice,
+};
 use std::alloc::Global;
 use x509::Certificate;
 
@@ -57,14 +59,16 @@ impl<'a, R: Lends<Borrowed = &'a [u8]>> Decode<R> for CertificateChoicesPart1<'a
     }
 }
 
-impl<'a, R: Lends<Borrowed = &'a [u8]>> Choice<R> for CertificateChoicesPart1<'a> {
+impl<'a> Choice for CertificateChoicesPart1<'a> {
     ghost chooses = { ⟦<CertificateChoicesPart1<'a> as DescribedChoice>⟧.alternative.tags };
 
     #[inline(always)]
     fn can_decode(tag: Tag) -> bool {
-        <CertificateChoicesPart1Alternatives<'a> as Choice<R>>::can_decode(tag)
+        <CertificateChoicesPart1Alternatives<'a> as Choice>::can_decode(tag)
     }
+}
 
+impl<'a, R: Lends<Borrowed = &'a [u8]>> DecodeChoice<R> for CertificateChoicesPart1<'a> {
     ghost begins = { ⟦<CertificateChoicesPart1<'a> as DescribedChoice>⟧.alternative.begins };
 }
 

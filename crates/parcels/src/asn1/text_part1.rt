@@ -7,7 +7,8 @@ ghost use Rattle.der_asn1.specs.Meaning.{alternative, choice_of, either};
 
 use der::{Decode, Encode, Error, FromFields, Lends, Length, Reader, SliceReader, Tag, Writer};
 use der_asn1::{
-    Choice, Described, DescribedChoice, Either, PrintableStringRef, Utf8StringRef, decode_choice,
+    Choice, DecodeChoice, Described, DescribedChoice, Either, PrintableStringRef, Utf8StringRef,
+    decode_choice,
 };
 use std::alloc::Global;
 
@@ -56,14 +57,16 @@ impl<'a, R: Lends<Borrowed = &'a [u8]>> Decode<R> for TextPart1<'a> {
     }
 }
 
-impl<'a, R: Lends<Borrowed = &'a [u8]>> Choice<R> for TextPart1<'a> {
+impl<'a> Choice for TextPart1<'a> {
     ghost chooses = { ⟦<TextPart1<'a> as DescribedChoice>⟧.alternative.tags };
 
     #[inline(always)]
     fn can_decode(tag: Tag) -> bool {
-        <TextPart1Alternatives<'a> as Choice<R>>::can_decode(tag)
+        <TextPart1Alternatives<'a> as Choice>::can_decode(tag)
     }
+}
 
+impl<'a, R: Lends<Borrowed = &'a [u8]>> DecodeChoice<R> for TextPart1<'a> {
     ghost begins = { ⟦<TextPart1<'a> as DescribedChoice>⟧.alternative.begins };
 }
 

@@ -16,6 +16,7 @@ use der::{
 };
 use der_asn1::{
     BorrowedItem, DecodeItem, DefaultOf, DefaultedTo, Described, Explicit, Item, Nestable,
+    WrittenItem,
 };
 use spki::AlgorithmIdentifierRef;
 use std::alloc::Global;
@@ -119,6 +120,12 @@ impl<'a, R: Lends<Borrowed = &'a [u8]>> DecodeItem<R> for RsaOaepParams<'a> {
 
 impl<'a> BorrowedItem for RsaOaepParams<'a> {
     ghost borrowed = { refl };
+}
+
+impl<'a> WrittenItem for RsaOaepParams<'a> {
+    ghost written = { λ v. refl };
+
+    ghost writes_valid = { λ v is. is };
 }
 
 impl<'a> Nestable for RsaOaepParams<'a> {

@@ -16,7 +16,7 @@ use der::{
 };
 use der_asn1::{
     BorrowedItem, DecodeItem, DefaultOf, DefaultU64, DefaultValue, Defaulted, DefaultedTo,
-    Described, Explicit, IntegerOf, Item, Nestable, WithDefault,
+    Described, Explicit, IntegerOf, Item, Nestable, WithDefault, WrittenItem,
 };
 use spki::AlgorithmIdentifierRef;
 use std::alloc::Global;
@@ -136,6 +136,12 @@ impl<'a, R: Lends<Borrowed = &'a [u8]>> DecodeItem<R> for RsaPssParams<'a> {
 
 impl<'a> BorrowedItem for RsaPssParams<'a> {
     ghost borrowed = { refl };
+}
+
+impl<'a> WrittenItem for RsaPssParams<'a> {
+    ghost written = { λ v. refl };
+
+    ghost writes_valid = { λ v is. is };
 }
 
 impl<'a> Nestable for RsaPssParams<'a> {

@@ -17,7 +17,7 @@ use der::{
 };
 use der_asn1::{
     BorrowedItem, DecodeItem, DefaultOf, DefaultedTo, Described, DescribedChoice, IntRef, Item,
-    Nestable, Optional,
+    Nestable, Optional, WrittenItem,
 };
 use spki::AlgorithmIdentifierRef;
 use std::alloc::Global;
@@ -135,6 +135,12 @@ impl<'a, R: Lends<Borrowed = &'a [u8]>> DecodeItem<R> for Pbkdf2Params<'a> {
 
 impl<'a> BorrowedItem for Pbkdf2Params<'a> {
     ghost borrowed = { refl };
+}
+
+impl<'a> WrittenItem for Pbkdf2Params<'a> {
+    ghost written = { λ v. refl };
+
+    ghost writes_valid = { λ v is. is };
 }
 
 impl<'a> Nestable for Pbkdf2Params<'a> {

@@ -7,7 +7,9 @@ ghost use Rattle.der_asn1.specs.Meaning.{alternative, choice_of, either};
 
 use crate::asn1::other_name::OtherName;
 use der::{Decode, Encode, Error, FromFields, Lends, Length, Reader, SliceReader, Tag, Writer};
-use der_asn1::{Choice, Described, DescribedChoice, Either, Ia5StringRef, Implicit, decode_choice};
+use der_asn1::{
+    Choice, DecodeChoice, Described, DescribedChoice, Either, Ia5StringRef, Implicit, decode_choice,
+};
 use std::alloc::Global;
 
 // Some alternatives of a GeneralName.
@@ -59,14 +61,16 @@ impl<'a, R: Lends<Borrowed = &'a [u8]>> Decode<R> for GeneralNamePart1<'a> {
     }
 }
 
-impl<'a, R: Lends<Borrowed = &'a [u8]>> Choice<R> for GeneralNamePart1<'a> {
+impl<'a> Choice for GeneralNamePart1<'a> {
     ghost chooses = { ⟦<GeneralNamePart1<'a> as DescribedChoice>⟧.alternative.tags };
 
     #[inline(always)]
     fn can_decode(tag: Tag) -> bool {
-        <GeneralNamePart1Alternatives<'a> as Choice<R>>::can_decode(tag)
+        <GeneralNamePart1Alternatives<'a> as Choice>::can_decode(tag)
     }
+}
 
+impl<'a, R: Lends<Borrowed = &'a [u8]>> DecodeChoice<R> for GeneralNamePart1<'a> {
     ghost begins = { ⟦<GeneralNamePart1<'a> as DescribedChoice>⟧.alternative.begins };
 }
 
