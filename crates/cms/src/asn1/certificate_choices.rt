@@ -118,7 +118,10 @@ impl<'a, R: Lends<Borrowed = &'a [u8]>> Decode<R> for CertificateChoices<'a> {
 impl<'a> Choice for CertificateChoices<'a> {
     ghost chooses = { ⟦<CertificateChoices<'a> as DescribedChoice>⟧.alternative.tags };
 
-    fn can_decode(tag: Tag) -> bool {
+    fn can_decode(tag: Tag) -> bool
+        ensures { IsTrue result ↔
+            ⟦<CertificateChoices<'a> as DescribedChoice>⟧.alternative.tags tag }
+    {
         <CertificateChoicesAlternatives<'a> as Choice>::can_decode(tag)
     }
 }

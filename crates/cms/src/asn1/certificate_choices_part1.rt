@@ -63,7 +63,10 @@ impl<'a> Choice for CertificateChoicesPart1<'a> {
     ghost chooses = { ⟦<CertificateChoicesPart1<'a> as DescribedChoice>⟧.alternative.tags };
 
     #[inline(always)]
-    fn can_decode(tag: Tag) -> bool {
+    fn can_decode(tag: Tag) -> bool
+        ensures { IsTrue result ↔
+            ⟦<CertificateChoicesPart1<'a> as DescribedChoice>⟧.alternative.tags tag }
+    {
         <CertificateChoicesPart1Alternatives<'a> as Choice>::can_decode(tag)
     }
 }

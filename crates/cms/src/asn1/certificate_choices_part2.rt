@@ -63,7 +63,10 @@ impl<'a> Choice for CertificateChoicesPart2<'a> {
     ghost chooses = { ⟦<CertificateChoicesPart2<'a> as DescribedChoice>⟧.alternative.tags };
 
     #[inline(always)]
-    fn can_decode(tag: Tag) -> bool {
+    fn can_decode(tag: Tag) -> bool
+        ensures { IsTrue result ↔
+            ⟦<CertificateChoicesPart2<'a> as DescribedChoice>⟧.alternative.tags tag }
+    {
         <CertificateChoicesPart2Alternatives<'a> as Choice>::can_decode(tag)
     }
 }

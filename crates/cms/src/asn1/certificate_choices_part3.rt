@@ -58,7 +58,10 @@ impl<'a> Choice for CertificateChoicesPart3<'a> {
     ghost chooses = { ⟦<CertificateChoicesPart3<'a> as DescribedChoice>⟧.alternative.tags };
 
     #[inline(always)]
-    fn can_decode(tag: Tag) -> bool {
+    fn can_decode(tag: Tag) -> bool
+        ensures { IsTrue result ↔
+            ⟦<CertificateChoicesPart3<'a> as DescribedChoice>⟧.alternative.tags tag }
+    {
         <CertificateChoicesPart3Alternatives<'a> as Choice>::can_decode(tag)
     }
 }

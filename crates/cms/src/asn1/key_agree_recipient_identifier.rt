@@ -81,7 +81,10 @@ impl<'a, R: Lends<Borrowed = &'a [u8]>> Decode<R> for KeyAgreeRecipientIdentifie
 impl<'a> Choice for KeyAgreeRecipientIdentifier<'a> {
     ghost chooses = { ⟦<KeyAgreeRecipientIdentifier<'a> as DescribedChoice>⟧.alternative.tags };
 
-    fn can_decode(tag: Tag) -> bool {
+    fn can_decode(tag: Tag) -> bool
+        ensures { IsTrue result ↔
+            ⟦<KeyAgreeRecipientIdentifier<'a> as DescribedChoice>⟧.alternative.tags tag }
+    {
         <KeyAgreeRecipientIdentifierAlternatives<'a> as Choice>::can_decode(tag)
     }
 }

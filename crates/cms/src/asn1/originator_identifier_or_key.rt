@@ -96,7 +96,10 @@ impl<'a, R: Lends<Borrowed = &'a [u8]>> Decode<R> for OriginatorIdentifierOrKey<
 impl<'a> Choice for OriginatorIdentifierOrKey<'a> {
     ghost chooses = { ⟦<OriginatorIdentifierOrKey<'a> as DescribedChoice>⟧.alternative.tags };
 
-    fn can_decode(tag: Tag) -> bool {
+    fn can_decode(tag: Tag) -> bool
+        ensures { IsTrue result ↔
+            ⟦<OriginatorIdentifierOrKey<'a> as DescribedChoice>⟧.alternative.tags tag }
+    {
         <OriginatorIdentifierOrKeyAlternatives<'a> as Choice>::can_decode(tag)
     }
 }

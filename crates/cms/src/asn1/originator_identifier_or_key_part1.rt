@@ -64,7 +64,10 @@ impl<'a> Choice for OriginatorIdentifierOrKeyPart1<'a> {
     ghost chooses = { ⟦<OriginatorIdentifierOrKeyPart1<'a> as DescribedChoice>⟧.alternative.tags };
 
     #[inline(always)]
-    fn can_decode(tag: Tag) -> bool {
+    fn can_decode(tag: Tag) -> bool
+        ensures { IsTrue result ↔
+            ⟦<OriginatorIdentifierOrKeyPart1<'a> as DescribedChoice>⟧.alternative.tags tag }
+    {
         <OriginatorIdentifierOrKeyPart1Alternatives<'a> as Choice>::can_decode(tag)
     }
 }

@@ -62,7 +62,10 @@ impl<'a> Choice for OriginatorIdentifierOrKeyPart2<'a> {
     ghost chooses = { ⟦<OriginatorIdentifierOrKeyPart2<'a> as DescribedChoice>⟧.alternative.tags };
 
     #[inline(always)]
-    fn can_decode(tag: Tag) -> bool {
+    fn can_decode(tag: Tag) -> bool
+        ensures { IsTrue result ↔
+            ⟦<OriginatorIdentifierOrKeyPart2<'a> as DescribedChoice>⟧.alternative.tags tag }
+    {
         <OriginatorIdentifierOrKeyPart2Alternatives<'a> as Choice>::can_decode(tag)
     }
 }

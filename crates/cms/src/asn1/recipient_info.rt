@@ -120,7 +120,9 @@ impl<'a, R: Lends<Borrowed = &'a [u8]>> Decode<R> for RecipientInfo<'a> {
 impl<'a> Choice for RecipientInfo<'a> {
     ghost chooses = { ⟦<RecipientInfo<'a> as DescribedChoice>⟧.alternative.tags };
 
-    fn can_decode(tag: Tag) -> bool {
+    fn can_decode(tag: Tag) -> bool
+        ensures { IsTrue result ↔ ⟦<RecipientInfo<'a> as DescribedChoice>⟧.alternative.tags tag }
+    {
         <RecipientInfoAlternatives<'a> as Choice>::can_decode(tag)
     }
 }

@@ -63,7 +63,10 @@ impl<'a> Choice for RecipientInfoPart1<'a> {
     ghost chooses = { ⟦<RecipientInfoPart1<'a> as DescribedChoice>⟧.alternative.tags };
 
     #[inline(always)]
-    fn can_decode(tag: Tag) -> bool {
+    fn can_decode(tag: Tag) -> bool
+        ensures { IsTrue result ↔
+            ⟦<RecipientInfoPart1<'a> as DescribedChoice>⟧.alternative.tags tag }
+    {
         <RecipientInfoPart1Alternatives<'a> as Choice>::can_decode(tag)
     }
 }

@@ -63,7 +63,10 @@ impl<'a> Choice for RecipientInfoPart2<'a> {
     ghost chooses = { ⟦<RecipientInfoPart2<'a> as DescribedChoice>⟧.alternative.tags };
 
     #[inline(always)]
-    fn can_decode(tag: Tag) -> bool {
+    fn can_decode(tag: Tag) -> bool
+        ensures { IsTrue result ↔
+            ⟦<RecipientInfoPart2<'a> as DescribedChoice>⟧.alternative.tags tag }
+    {
         <RecipientInfoPart2Alternatives<'a> as Choice>::can_decode(tag)
     }
 }

@@ -58,7 +58,10 @@ impl<'a> Choice for RecipientInfoPart3<'a> {
     ghost chooses = { ⟦<RecipientInfoPart3<'a> as DescribedChoice>⟧.alternative.tags };
 
     #[inline(always)]
-    fn can_decode(tag: Tag) -> bool {
+    fn can_decode(tag: Tag) -> bool
+        ensures { IsTrue result ↔
+            ⟦<RecipientInfoPart3<'a> as DescribedChoice>⟧.alternative.tags tag }
+    {
         <RecipientInfoPart3Alternatives<'a> as Choice>::can_decode(tag)
     }
 }

@@ -80,7 +80,10 @@ impl<'a, R: Lends<Borrowed = &'a [u8]>> Decode<R> for RevocationInfoChoice<'a> {
 impl<'a> Choice for RevocationInfoChoice<'a> {
     ghost chooses = { ⟦<RevocationInfoChoice<'a> as DescribedChoice>⟧.alternative.tags };
 
-    fn can_decode(tag: Tag) -> bool {
+    fn can_decode(tag: Tag) -> bool
+        ensures { IsTrue result ↔
+            ⟦<RevocationInfoChoice<'a> as DescribedChoice>⟧.alternative.tags tag }
+    {
         <RevocationInfoChoiceAlternatives<'a> as Choice>::can_decode(tag)
     }
 }

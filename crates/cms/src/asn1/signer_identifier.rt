@@ -79,7 +79,9 @@ impl<'a, R: Lends<Borrowed = &'a [u8]>> Decode<R> for SignerIdentifier<'a> {
 impl<'a> Choice for SignerIdentifier<'a> {
     ghost chooses = { ⟦<SignerIdentifier<'a> as DescribedChoice>⟧.alternative.tags };
 
-    fn can_decode(tag: Tag) -> bool {
+    fn can_decode(tag: Tag) -> bool
+        ensures { IsTrue result ↔ ⟦<SignerIdentifier<'a> as DescribedChoice>⟧.alternative.tags tag }
+    {
         <SignerIdentifierAlternatives<'a> as Choice>::can_decode(tag)
     }
 }

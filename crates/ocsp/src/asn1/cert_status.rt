@@ -89,7 +89,9 @@ impl<'a, R: Lends<Borrowed = &'a [u8]>> Decode<R> for CertStatus<'a> {
 impl<'a> Choice for CertStatus<'a> {
     ghost chooses = { ⟦<CertStatus<'a> as DescribedChoice>⟧.alternative.tags };
 
-    fn can_decode(tag: Tag) -> bool {
+    fn can_decode(tag: Tag) -> bool
+        ensures { IsTrue result ↔ ⟦<CertStatus<'a> as DescribedChoice>⟧.alternative.tags tag }
+    {
         <CertStatusAlternatives<'a> as Choice>::can_decode(tag)
     }
 }

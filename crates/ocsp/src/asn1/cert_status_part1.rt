@@ -64,7 +64,9 @@ impl<'a> Choice for CertStatusPart1<'a> {
     ghost chooses = { ⟦<CertStatusPart1<'a> as DescribedChoice>⟧.alternative.tags };
 
     #[inline(always)]
-    fn can_decode(tag: Tag) -> bool {
+    fn can_decode(tag: Tag) -> bool
+        ensures { IsTrue result ↔ ⟦<CertStatusPart1<'a> as DescribedChoice>⟧.alternative.tags tag }
+    {
         <CertStatusPart1Alternatives<'a> as Choice>::can_decode(tag)
     }
 }

@@ -58,7 +58,9 @@ impl<'a> Choice for CertStatusPart2<'a> {
     ghost chooses = { ⟦<CertStatusPart2<'a> as DescribedChoice>⟧.alternative.tags };
 
     #[inline(always)]
-    fn can_decode(tag: Tag) -> bool {
+    fn can_decode(tag: Tag) -> bool
+        ensures { IsTrue result ↔ ⟦<CertStatusPart2<'a> as DescribedChoice>⟧.alternative.tags tag }
+    {
         <CertStatusPart2Alternatives<'a> as Choice>::can_decode(tag)
     }
 }

@@ -76,7 +76,9 @@ impl<'a, R: Lends<Borrowed = &'a [u8]>> Decode<R> for ResponderId<'a> {
 impl<'a> Choice for ResponderId<'a> {
     ghost chooses = { ⟦<ResponderId<'a> as DescribedChoice>⟧.alternative.tags };
 
-    fn can_decode(tag: Tag) -> bool {
+    fn can_decode(tag: Tag) -> bool
+        ensures { IsTrue result ↔ ⟦<ResponderId<'a> as DescribedChoice>⟧.alternative.tags tag }
+    {
         <ResponderIdAlternatives<'a> as Choice>::can_decode(tag)
     }
 }

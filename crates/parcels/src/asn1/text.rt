@@ -100,7 +100,9 @@ impl<'a, R: Lends<Borrowed = &'a [u8]>> Decode<R> for Text<'a> {
 impl<'a> Choice for Text<'a> {
     ghost chooses = { ⟦<Text<'a> as DescribedChoice>⟧.alternative.tags };
 
-    fn can_decode(tag: Tag) -> bool {
+    fn can_decode(tag: Tag) -> bool
+        ensures { IsTrue result ↔ ⟦<Text<'a> as DescribedChoice>⟧.alternative.tags tag }
+    {
         <TextAlternatives<'a> as Choice>::can_decode(tag)
     }
 }

@@ -61,7 +61,9 @@ impl<'a> Choice for TextPart1<'a> {
     ghost chooses = { ⟦<TextPart1<'a> as DescribedChoice>⟧.alternative.tags };
 
     #[inline(always)]
-    fn can_decode(tag: Tag) -> bool {
+    fn can_decode(tag: Tag) -> bool
+        ensures { IsTrue result ↔ ⟦<TextPart1<'a> as DescribedChoice>⟧.alternative.tags tag }
+    {
         <TextPart1Alternatives<'a> as Choice>::can_decode(tag)
     }
 }

@@ -61,7 +61,9 @@ impl<'a> Choice for TextPart2<'a> {
     ghost chooses = { ⟦<TextPart2<'a> as DescribedChoice>⟧.alternative.tags };
 
     #[inline(always)]
-    fn can_decode(tag: Tag) -> bool {
+    fn can_decode(tag: Tag) -> bool
+        ensures { IsTrue result ↔ ⟦<TextPart2<'a> as DescribedChoice>⟧.alternative.tags tag }
+    {
         <TextPart2Alternatives<'a> as Choice>::can_decode(tag)
     }
 }

@@ -87,7 +87,9 @@ impl<'a, R: Lends<Borrowed = &'a [u8]>> Decode<R> for Time<'a> {
 impl<'a> Choice for Time<'a> {
     ghost chooses = { ⟦<Time<'a> as DescribedChoice>⟧.alternative.tags };
 
-    fn can_decode(tag: Tag) -> bool {
+    fn can_decode(tag: Tag) -> bool
+        ensures { IsTrue result ↔ ⟦<Time<'a> as DescribedChoice>⟧.alternative.tags tag }
+    {
         <TimeAlternatives<'a> as Choice>::can_decode(tag)
     }
 }

@@ -60,7 +60,9 @@ impl Choice for TimePart1 {
     ghost chooses = { ⟦<TimePart1 as DescribedChoice>⟧.alternative.tags };
 
     #[inline(always)]
-    fn can_decode(tag: Tag) -> bool {
+    fn can_decode(tag: Tag) -> bool
+        ensures { IsTrue result ↔ ⟦<TimePart1 as DescribedChoice>⟧.alternative.tags tag }
+    {
         <TimePart1Alternatives as Choice>::can_decode(tag)
     }
 }

@@ -57,7 +57,9 @@ impl<'a> Choice for TimePart2<'a> {
     ghost chooses = { ⟦<TimePart2<'a> as DescribedChoice>⟧.alternative.tags };
 
     #[inline(always)]
-    fn can_decode(tag: Tag) -> bool {
+    fn can_decode(tag: Tag) -> bool
+        ensures { IsTrue result ↔ ⟦<TimePart2<'a> as DescribedChoice>⟧.alternative.tags tag }
+    {
         <TimePart2Alternatives<'a> as Choice>::can_decode(tag)
     }
 }

@@ -22,7 +22,7 @@ use spki::AlgorithmIdentifierRef;
 use std::alloc::Global;
 
 /// The parameters of encryption with OAEP (RFC 8017, A.2.1; RFC 4055, 4.1), borrowed from the input.
-#[derive(Drop)]
+#[derive(Debug, Drop, PartialEq, Eq)]
 pub struct RsaOaepParams<'a> {
     /// The hash algorithm. The default is SHA-1.
     pub hash: DefaultedTo<Explicit<AlgorithmIdentifierRef<'a>, 0>, Sha1Default>,

@@ -24,7 +24,7 @@ use std::alloc::Global;
 
 /// The parameters of PBKDF2 (RFC 8018, A.2), borrowed from the input. The RFC requires that the
 /// numbers are positive, which decoding does not check.
-#[derive(Drop)]
+#[derive(Debug, Drop, PartialEq, Eq)]
 pub struct Pbkdf2Params<'a> {
     /// The salt.
     pub salt: Pbkdf2Salt<'a>,

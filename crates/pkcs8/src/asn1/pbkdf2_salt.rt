@@ -75,7 +75,9 @@ impl<'a, R: Lends<Borrowed = &'a [u8]>> Decode<R> for Pbkdf2Salt<'a> {
 impl<'a> Choice for Pbkdf2Salt<'a> {
     ghost chooses = { ⟦<Pbkdf2Salt<'a> as DescribedChoice>⟧.alternative.tags };
 
-    fn can_decode(tag: Tag) -> bool {
+    fn can_decode(tag: Tag) -> bool
+        ensures { IsTrue result ↔ ⟦<Pbkdf2Salt<'a> as DescribedChoice>⟧.alternative.tags tag }
+    {
         <Pbkdf2SaltAlternatives<'a> as Choice>::can_decode(tag)
     }
 }

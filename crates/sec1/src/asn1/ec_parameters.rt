@@ -91,7 +91,9 @@ impl<'a, R: Lends<Borrowed = &'a [u8]>> Decode<R> for EcParameters<'a> {
 impl<'a> Choice for EcParameters<'a> {
     ghost chooses = { ⟦<EcParameters<'a> as DescribedChoice>⟧.alternative.tags };
 
-    fn can_decode(tag: Tag) -> bool {
+    fn can_decode(tag: Tag) -> bool
+        ensures { IsTrue result ↔ ⟦<EcParameters<'a> as DescribedChoice>⟧.alternative.tags tag }
+    {
         <EcParametersAlternatives<'a> as Choice>::can_decode(tag)
     }
 }

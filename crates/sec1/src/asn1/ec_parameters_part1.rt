@@ -61,7 +61,10 @@ impl<'a> Choice for EcParametersPart1<'a> {
     ghost chooses = { ⟦<EcParametersPart1<'a> as DescribedChoice>⟧.alternative.tags };
 
     #[inline(always)]
-    fn can_decode(tag: Tag) -> bool {
+    fn can_decode(tag: Tag) -> bool
+        ensures { IsTrue result ↔
+            ⟦<EcParametersPart1<'a> as DescribedChoice>⟧.alternative.tags tag }
+    {
         <EcParametersPart1Alternatives<'a> as Choice>::can_decode(tag)
     }
 }

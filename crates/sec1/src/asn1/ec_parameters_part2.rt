@@ -58,7 +58,10 @@ impl<'a> Choice for EcParametersPart2<'a> {
     ghost chooses = { ⟦<EcParametersPart2<'a> as DescribedChoice>⟧.alternative.tags };
 
     #[inline(always)]
-    fn can_decode(tag: Tag) -> bool {
+    fn can_decode(tag: Tag) -> bool
+        ensures { IsTrue result ↔
+            ⟦<EcParametersPart2<'a> as DescribedChoice>⟧.alternative.tags tag }
+    {
         <EcParametersPart2Alternatives<'a> as Choice>::can_decode(tag)
     }
 }

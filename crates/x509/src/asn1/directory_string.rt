@@ -104,7 +104,9 @@ impl<'a, R: Lends<Borrowed = &'a [u8]>> Decode<R> for DirectoryString<'a> {
 impl<'a> Choice for DirectoryString<'a> {
     ghost chooses = { ⟦<DirectoryString<'a> as DescribedChoice>⟧.alternative.tags };
 
-    fn can_decode(tag: Tag) -> bool {
+    fn can_decode(tag: Tag) -> bool
+        ensures { IsTrue result ↔ ⟦<DirectoryString<'a> as DescribedChoice>⟧.alternative.tags tag }
+    {
         <DirectoryStringAlternatives<'a> as Choice>::can_decode(tag)
     }
 }

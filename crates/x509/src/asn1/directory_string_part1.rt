@@ -64,7 +64,10 @@ impl<'a> Choice for DirectoryStringPart1<'a> {
     ghost chooses = { ⟦<DirectoryStringPart1<'a> as DescribedChoice>⟧.alternative.tags };
 
     #[inline(always)]
-    fn can_decode(tag: Tag) -> bool {
+    fn can_decode(tag: Tag) -> bool
+        ensures { IsTrue result ↔
+            ⟦<DirectoryStringPart1<'a> as DescribedChoice>⟧.alternative.tags tag }
+    {
         <DirectoryStringPart1Alternatives<'a> as Choice>::can_decode(tag)
     }
 }

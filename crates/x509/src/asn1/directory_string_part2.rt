@@ -60,7 +60,10 @@ impl<'a> Choice for DirectoryStringPart2<'a> {
     ghost chooses = { ⟦<DirectoryStringPart2<'a> as DescribedChoice>⟧.alternative.tags };
 
     #[inline(always)]
-    fn can_decode(tag: Tag) -> bool {
+    fn can_decode(tag: Tag) -> bool
+        ensures { IsTrue result ↔
+            ⟦<DirectoryStringPart2<'a> as DescribedChoice>⟧.alternative.tags tag }
+    {
         <DirectoryStringPart2Alternatives<'a> as Choice>::can_decode(tag)
     }
 }

@@ -100,7 +100,9 @@ impl<'a, R: Lends<Borrowed = &'a [u8]>> Decode<R> for DisplayText<'a> {
 impl<'a> Choice for DisplayText<'a> {
     ghost chooses = { ⟦<DisplayText<'a> as DescribedChoice>⟧.alternative.tags };
 
-    fn can_decode(tag: Tag) -> bool {
+    fn can_decode(tag: Tag) -> bool
+        ensures { IsTrue result ↔ ⟦<DisplayText<'a> as DescribedChoice>⟧.alternative.tags tag }
+    {
         <DisplayTextAlternatives<'a> as Choice>::can_decode(tag)
     }
 }

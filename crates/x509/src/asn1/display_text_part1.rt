@@ -60,7 +60,9 @@ impl<'a> Choice for DisplayTextPart1<'a> {
     ghost chooses = { ⟦<DisplayTextPart1<'a> as DescribedChoice>⟧.alternative.tags };
 
     #[inline(always)]
-    fn can_decode(tag: Tag) -> bool {
+    fn can_decode(tag: Tag) -> bool
+        ensures { IsTrue result ↔ ⟦<DisplayTextPart1<'a> as DescribedChoice>⟧.alternative.tags tag }
+    {
         <DisplayTextPart1Alternatives<'a> as Choice>::can_decode(tag)
     }
 }

@@ -60,7 +60,9 @@ impl<'a> Choice for DisplayTextPart2<'a> {
     ghost chooses = { ⟦<DisplayTextPart2<'a> as DescribedChoice>⟧.alternative.tags };
 
     #[inline(always)]
-    fn can_decode(tag: Tag) -> bool {
+    fn can_decode(tag: Tag) -> bool
+        ensures { IsTrue result ↔ ⟦<DisplayTextPart2<'a> as DescribedChoice>⟧.alternative.tags tag }
+    {
         <DisplayTextPart2Alternatives<'a> as Choice>::can_decode(tag)
     }
 }

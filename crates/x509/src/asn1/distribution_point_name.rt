@@ -81,7 +81,10 @@ impl<'a, R: Lends<Borrowed = &'a [u8]>> Decode<R> for DistributionPointName<'a> 
 impl<'a> Choice for DistributionPointName<'a> {
     ghost chooses = { ⟦<DistributionPointName<'a> as DescribedChoice>⟧.alternative.tags };
 
-    fn can_decode(tag: Tag) -> bool {
+    fn can_decode(tag: Tag) -> bool
+        ensures { IsTrue result ↔
+            ⟦<DistributionPointName<'a> as DescribedChoice>⟧.alternative.tags tag }
+    {
         <DistributionPointNameAlternatives<'a> as Choice>::can_decode(tag)
     }
 }

@@ -161,7 +161,9 @@ impl<'a, R: Lends<Borrowed = &'a [u8]>> Decode<R> for GeneralName<'a> {
 impl<'a> Choice for GeneralName<'a> {
     ghost chooses = { ⟦<GeneralName<'a> as DescribedChoice>⟧.alternative.tags };
 
-    fn can_decode(tag: Tag) -> bool {
+    fn can_decode(tag: Tag) -> bool
+        ensures { IsTrue result ↔ ⟦<GeneralName<'a> as DescribedChoice>⟧.alternative.tags tag }
+    {
         <GeneralNameAlternatives<'a> as Choice>::can_decode(tag)
     }
 }

@@ -65,7 +65,9 @@ impl<'a> Choice for GeneralNamePart1<'a> {
     ghost chooses = { ⟦<GeneralNamePart1<'a> as DescribedChoice>⟧.alternative.tags };
 
     #[inline(always)]
-    fn can_decode(tag: Tag) -> bool {
+    fn can_decode(tag: Tag) -> bool
+        ensures { IsTrue result ↔ ⟦<GeneralNamePart1<'a> as DescribedChoice>⟧.alternative.tags tag }
+    {
         <GeneralNamePart1Alternatives<'a> as Choice>::can_decode(tag)
     }
 }

@@ -67,7 +67,9 @@ impl<'a> Choice for GeneralNamePart2<'a> {
     ghost chooses = { ⟦<GeneralNamePart2<'a> as DescribedChoice>⟧.alternative.tags };
 
     #[inline(always)]
-    fn can_decode(tag: Tag) -> bool {
+    fn can_decode(tag: Tag) -> bool
+        ensures { IsTrue result ↔ ⟦<GeneralNamePart2<'a> as DescribedChoice>⟧.alternative.tags tag }
+    {
         <GeneralNamePart2Alternatives<'a> as Choice>::can_decode(tag)
     }
 }

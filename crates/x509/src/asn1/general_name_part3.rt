@@ -65,7 +65,9 @@ impl<'a> Choice for GeneralNamePart3<'a> {
     ghost chooses = { ⟦<GeneralNamePart3<'a> as DescribedChoice>⟧.alternative.tags };
 
     #[inline(always)]
-    fn can_decode(tag: Tag) -> bool {
+    fn can_decode(tag: Tag) -> bool
+        ensures { IsTrue result ↔ ⟦<GeneralNamePart3<'a> as DescribedChoice>⟧.alternative.tags tag }
+    {
         <GeneralNamePart3Alternatives<'a> as Choice>::can_decode(tag)
     }
 }

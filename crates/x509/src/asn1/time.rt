@@ -74,7 +74,9 @@ impl<'a, R: Lends<Borrowed = &'a [u8]>> Decode<R> for Time {
 impl Choice for Time {
     ghost chooses = { ⟦<Time as DescribedChoice>⟧.alternative.tags };
 
-    fn can_decode(tag: Tag) -> bool {
+    fn can_decode(tag: Tag) -> bool
+        ensures { IsTrue result ↔ ⟦<Time as DescribedChoice>⟧.alternative.tags tag }
+    {
         <TimeAlternatives as Choice>::can_decode(tag)
     }
 }
