@@ -30,8 +30,11 @@ pub enum Either<A, B> {
 /// - `TagUnexpected` without an expected tag, at the reader's position, if no value of either type
 ///   begins with the next tag; the reader has failed then.
 /// - The errors of decoding the value.
-impl<R: Lends, A: DecodeChoice<R>, B: DecodeChoice<R> + Decode<R, Error = <A as Decode<R>>::Error>> Decode<R>
-    for Either<A, B> {
+impl<
+    R: Lends,
+    A: DecodeChoice<R>,
+    B: DecodeChoice<R> + Decode<R, Error = <A as Decode<R>>::Error>,
+> Decode<R> for Either<A, B> {
     type Error = <A as Decode<R>>::Error;
 
     ghost is_next = { EitherNext A.chooses A.is_next B.is_next };
@@ -121,7 +124,10 @@ impl<A: Choice, B: Choice> Choice for Either<A, B> {
     }
 }
 
-impl<R: Lends, A: DecodeChoice<R>, B: DecodeChoice<R> + Decode<R, Error = <A as Decode<R>>::Error>> DecodeChoice<R>
-    for Either<A, B> {
+impl<
+    R: Lends,
+    A: DecodeChoice<R>,
+    B: DecodeChoice<R> + Decode<R, Error = <A as Decode<R>>::Error>,
+> DecodeChoice<R> for Either<A, B> {
     ghost begins = { either_begins A.begins B.begins };
 }

@@ -1,5 +1,5 @@
 //! Reading of an OCTET STRING with an IMPLICIT tag.
-ghost use Rattle.std.specs.Prelude.{false};
+ghost use Rattle.std.specs.Prelude.{◌↔◌, IsTrue, false};
 ghost use Rattle.der_segments.specs.ImplicitSegmented.{ReadsAs, string_of_form};
 
 use crate::constructed_segmented::ConstructedSegmented;

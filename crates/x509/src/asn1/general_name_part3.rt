@@ -1,7 +1,7 @@
 //! Written by asn1_compile from the module X509: change the module instead.
 //!
 //! GeneralNamePart3.
-ghost use Rattle.std.specs.Prelude.{false};
+ghost use Rattle.std.specs.Prelude.{◌↔◌, IsTrue, false};
 ghost use Rattle.der.specs.Prelude.{map_ok};
 ghost use Rattle.der_asn1.specs.Meaning.{alternative, choice_of, either};
 
