@@ -1,5 +1,6 @@
 //! Types that are read in the place of names.
 
+use super::next_assignment::{closes, opens};
 use super::places::{Back, Parameter, Place};
 use super::{Parser, unsupported};
 use crate::constraint::Constraint;
@@ -80,9 +81,9 @@ impl<'a> Parser<'a> {
         let mut depth = 0u64;
         for at in self.at..end {
             let item = self.item_at(at);
-            if super::next_assignment::opens(item) {
+            if opens(item) {
                 depth = depth.saturating_add(1);
-            } else if super::next_assignment::closes(item) {
+            } else if closes(item) {
                 depth = depth.saturating_sub(1);
             } else if depth == 0 && item.is(",") {
                 return at;
@@ -127,9 +128,9 @@ impl<'a> Parser<'a> {
         let mut depth = 0u64;
         for at in from..end {
             let item = self.item_at(at);
-            if super::next_assignment::opens(item) {
+            if opens(item) {
                 depth = depth.saturating_add(1);
-            } else if super::next_assignment::closes(item) {
+            } else if closes(item) {
                 depth = depth.saturating_sub(1);
             } else if depth == 0 && item.is(",") {
                 return at.saturating_add(1);
