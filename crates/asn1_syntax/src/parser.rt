@@ -105,10 +105,7 @@ pub fn parse_module<'a>(alloc: Global, text: &'a str) -> Result<ParsedModule<'a>
 }
 
 /// The modules of a text, whose assignments are not parsed.
-pub fn outline_of<'a>(
-    alloc: Global,
-    text: &'a str,
-) -> Result<Vec<ModuleOutline<'a>>, Failure<'a>> {
+pub fn outline_of<'a>(alloc: Global, text: &'a str) -> Result<Vec<ModuleOutline<'a>>, Failure<'a>> {
     let mut parser = parser_of(alloc, text)?;
     parser.outline()?;
     Ok(parser.modules)
@@ -197,7 +194,12 @@ impl<'a> Parser<'a> {
             return Item::END;
         };
         match self.frames.get(self.frame) {
-            Some(Frame { offset: Some(offset), .. }) => Item {
+            Some(
+                Frame {
+                    offset: Some(offset),
+                    ..
+                },
+            ) => Item {
                 offset: *offset,
                 ..*item
             },
@@ -368,7 +370,13 @@ impl<'a> Parser<'a> {
         match self.nodes.get(of) {
             Some(node) => {
                 let is_name = matches!(node.form, TypeForm::Reference);
-                is_name && !node.item.text.as_bytes().iter().any(|octet| is_lower(*octet))
+                is_name
+                    && !node
+                        .item
+                        .text
+                        .as_bytes()
+                        .iter()
+                        .any(|octet| is_lower(*octet))
             }
             None => false,
         }

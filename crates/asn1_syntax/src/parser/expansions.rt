@@ -62,12 +62,11 @@ impl<'a> Parser<'a> {
             return Err(unsupported(item, "arguments behind a type with parameters"));
         }
         let mut parameters = Vec::new(self.alloc);
-        let end = self.end_of_group(self.at.saturating_sub(1)).saturating_sub(1);
+        let end = self
+            .end_of_group(self.at.saturating_sub(1))
+            .saturating_sub(1);
         for name in names.iter() {
-            parameters.push(Parameter {
-                name,
-                at: self.at,
-            })?;
+            parameters.push(Parameter { name, at: self.at })?;
             self.at = self.end_of_argument(end).saturating_add(1);
         }
         if self.at != end.saturating_add(1) {

@@ -71,7 +71,9 @@ impl<'a> Parser<'a> {
         let form = ValueForm::Unread;
         for _ in 0..self.items.len() {
             let behind = self.peek_second();
-            if self.peek().is("-") || self.is_unread_value(self.peek()) && !behind.is(":") && !behind.is(".") {
+            if self.peek().is("-")
+                || self.is_unread_value(self.peek()) && !behind.is(":") && !behind.is(".")
+            {
                 self.at = self.at.saturating_add(1);
             } else if behind.is(":") || behind.is(".") {
                 self.at = self.at.saturating_add(2);
