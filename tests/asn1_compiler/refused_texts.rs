@@ -63,7 +63,7 @@ fn forms_that_are_not_supported(rt: HostRuntime) -> Result<(), Fail> {
         ("A ::= SET { a NULL, b NULL }", (2, 21, "b")),
         ("A ::= SEQUENCE { COMPONENTS OF B }", (2, 32, "B")),
         ("A { T } ::= SEQUENCE { a A { T } OPTIONAL } B ::= A { NULL }", (2, 51, "A")),
-        ("A ::= SEQUENCE { COMPONENTS OF A }", (2, 32, "A")),
+        ("A ::= SEQUENCE { COMPONENTS OF A }", (2, 32, "{")),
         ("A ::= SEQUENCE { a NULL, [[ b NULL ]] }", (2, 26, "[[")),
         ("A ::= SEQUENCE { a NULL, ..., [[ b NULL }", (2, 41, "}")),
         ("A ::= SEQUENCE { a NULL, ..., [[ b NULL, [[ c NULL ]] ]] }", (2, 42, "[[")),
