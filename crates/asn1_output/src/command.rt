@@ -15,6 +15,8 @@ pub struct CompileCommand<'a> {
     pub only: Vec<&'a str>,
     /// The modules that other crates hold.
     pub with: Vec<With<'a>>,
+    /// The folder beneath which the modules are from which the module imports, if there is one.
+    pub modules: Option<&'a str>,
 }
 
 /// A module that another crate holds.
@@ -53,6 +55,7 @@ impl<'a> CompileCommand<'a> {
             file: matches.get_str("file").unwrap_or(""),
             only,
             with,
+            modules: matches.get_str("modules"),
         })
     }
 
@@ -87,12 +90,17 @@ fn command<'a>(alloc: Global, version: &'a str) -> Result<Command<'a>, AllocErro
         .value_name("TYPE")
         .action(ArgAction::Append)
         .help("A type that is compiled, with those that it names; without it all are");
+    let modules = Arg::new(alloc, "modules")
+        .long("modules")
+        .value_name("FOLDER")
+        .help("The folder beneath which the files *.asn and *.asn1 are from which FILE imports");
     Command::new(alloc, "asn1_compile")
         .version(version)
         .about(ABOUT)
         .arg(out)?
         .arg(file)?
         .arg(with)?
+        .arg(modules)?
         .arg(only)
 }
 

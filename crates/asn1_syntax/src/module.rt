@@ -1,8 +1,10 @@
 //! Modules.
 
+use crate::information_object::InformationObject;
 use crate::item::Item;
 use crate::left_out::LeftOut;
 use crate::module_index::ModuleIndex;
+use crate::object_set::{ObjectSet, TableUse};
 use crate::tagging::TagDefault;
 use crate::type_node::TypeNode;
 use crate::value::Value;
@@ -16,7 +18,9 @@ pub struct ParsedModule<'a> {
     pub name: Item<'a>,
     /// What it says of its tags.
     pub tags: TagDefault,
-    /// The names that it imports.
+    /// The index of the first octet behind it. What stands there is of modules from which it imports.
+    pub end: usize,
+    /// The names that it imports, and those that the modules behind it import, from others than these.
     pub imports: Vec<Import<'a>>,
     /// The names that it exports.
     pub exports: Vec<Item<'a>>,
@@ -24,6 +28,12 @@ pub struct ParsedModule<'a> {
     pub types: Vec<TypeAssignment<'a>>,
     /// The values that it names, in their order.
     pub values: Vec<ValueAssignment<'a>>,
+    /// The objects of classes that it has, in their order.
+    pub objects: Vec<InformationObject<'a>>,
+    /// The sets of objects that it names.
+    pub sets: Vec<ObjectSet<'a>>,
+    /// What constraints say of fields of classes.
+    pub tables: Vec<TableUse<'a>>,
     /// All types of the module, also those without a name.
     pub nodes: Vec<TypeNode<'a>>,
     /// Where it has what it names.

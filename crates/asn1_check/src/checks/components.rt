@@ -1,27 +1,29 @@
 //! Tags of components and of alternatives.
 
+use super::recursion::recursive_name;
 use super::tags::copy_at;
 use crate::module::Module;
 use crate::tag_set::TagSet;
-use asn1_syntax::{Component, Failure, Presence, Refusal, Tag, TagClass, TagDefault, TypeForm};
+use asn1_syntax::{Component, Failure, Presence, Refusal, Tag, TagClass};
 use std::alloc::{AllocError, Global};
 
-/// The tags of all alternatives; refuses one whose tags an alternative before it has (X.680, 29.3).
+/// The tags of all alternatives, or components of a SET; refuses one whose tags one before it has
+/// (X.680, 27.3 and 29.3).
 pub fn check_alternatives<'a>(
     alloc: Global,
     module: &Module<'a>,
     table: &Vec<TagSet>,
     alternatives: &Vec<Component<'a>>,
 ) -> Result<TagSet, Failure<'a>> {
-    let are_numbered = are_numbered(module, alternatives);
-    check_additions(module, alternatives, are_numbered)?;
+    let are_numbered = are_numbered(alternatives);
     let mut before = TagSet::empty(alloc);
     for (count, alternative) in alternatives.iter().enumerate() {
         let number = automatic_number(alternatives, count);
         let tags = component_tags(alloc, table, alternative, are_numbered, number)?;
         if !before.is_distinct_from(&tags) {
             let expected = "an alternative whose tag no other one has";
-            return Err(Failure::Refused(Refusal::of(alternative.name, expected)));
+            let refusal = Refusal::of(alternative.name, expected);
+            return Err(not_distinct(module, alternatives, refusal));
         }
         before.add(&tags)?;
     }
@@ -36,15 +38,15 @@ pub fn check_sequence<'a>(
     table: &Vec<TagSet>,
     components: &Vec<Component<'a>>,
 ) -> Result<(), Failure<'a>> {
-    let are_numbered = are_numbered(module, components);
-    check_additions(module, components, are_numbered)?;
+    let are_numbered = are_numbered(components);
     let mut before = TagSet::empty(alloc);
     for (count, component) in components.iter().enumerate() {
         let number = automatic_number(components, count);
         let tags = component_tags(alloc, table, component, are_numbered, number)?;
         if !before.is_distinct_from(&tags) {
             let expected = "a component whose tag no optional one in front of it has";
-            return Err(Failure::Refused(Refusal::of(component.name, expected)));
+            let refusal = Refusal::of(component.name, expected);
+            return Err(not_distinct(module, components, refusal));
         }
         match component.presence {
             Presence::Required => before = TagSet::empty(alloc),
@@ -52,6 +54,21 @@ pub fn check_sequence<'a>(
         }
     }
     Ok(())
+}
+
+// The failure of components whose tags are not distinct. With a type that leads back to itself, whose
+// element may have any tag, they are not supported.
+fn not_distinct<'a>(
+    module: &Module<'a>,
+    components: &Vec<Component<'a>>,
+    refusal: Refusal<'a>,
+) -> Failure<'a> {
+    for component in components.iter() {
+        if recursive_name(module, component.of).is_some() {
+            return Failure::Unsupported(refusal);
+        }
+    }
+    Failure::Refused(refusal)
 }
 
 /// The tags that values of a component begin with.
@@ -74,58 +91,18 @@ pub fn component_tags(
     )
 }
 
-// Checks that additions have no tags where components get tags by their numbers (X.680, 25).
-fn check_additions<'a>(
-    module: &Module<'a>,
-    components: &Vec<Component<'a>>,
-    are_numbered: bool,
-) -> Result<(), Refusal<'a>> {
-    for component in components.iter() {
-        if are_numbered && is_tagged(module, component.of) {
-            let expected =
-                "an addition without a tag, since the components in front of it have none";
-            return Err(Refusal::of(component.name, expected));
-        }
-    }
-    Ok(())
-}
-
 /// The number of the component with this index, where components get tags by their numbers: those
 /// that are no additions are counted first (X.680, 25.7).
 pub fn automatic_number(components: &Vec<Component<'_>>, index: usize) -> usize {
-    let is_addition = match components.get(index) {
-        Some(component) => component.is_addition,
-        None => false,
-    };
-    let before = components
+    match components.get(index) {
+        Some(component) => component.number.unwrap_or(0),
+        None => 0,
+    }
+}
+
+/// Whether these components get tags by their numbers (X.680, 25.2).
+pub fn are_numbered(components: &Vec<Component<'_>>) -> bool {
+    components
         .iter()
-        .take(index)
-        .filter(|other| other.is_addition == is_addition)
-        .count();
-    if !is_addition {
-        return before;
-    }
-    let roots = components.iter().filter(|other| !other.is_addition).count();
-    before.saturating_add(roots)
-}
-
-/// Whether these components get tags by their numbers: the module has AUTOMATIC TAGS, and none of
-/// them is written with a tag, additions aside (X.680, 25.2).
-pub fn are_numbered(module: &Module<'_>, components: &Vec<Component<'_>>) -> bool {
-    if module.tags != TagDefault::Automatic {
-        return false;
-    }
-    for component in components.iter() {
-        if !component.is_addition && is_tagged(module, component.of) {
-            return false;
-        }
-    }
-    true
-}
-
-fn is_tagged(module: &Module<'_>, index: usize) -> bool {
-    match module.nodes.get(index) {
-        Some(node) => matches!(&node.form, TypeForm::Tagged(_, _)),
-        None => false,
-    }
+        .any(|component| component.number.is_some())
 }

@@ -1,5 +1,6 @@
 //! Types.
 
+use super::places::Back;
 use super::{Parser, refused, unsupported};
 use crate::component::{Component, Presence};
 use crate::constraint::Constraint;
@@ -10,8 +11,14 @@ use crate::reserved::is_reserved;
 use crate::simple_type::SimpleType;
 use crate::tag::{Tag, TagPrefix};
 use crate::tag_class::TagClass;
-use crate::tagging::Tagging;
+use crate::tagging::{TagDefault, Tagging};
 use crate::type_node::{Mark, TypeForm, TypeNode};
+use std::alloc::AllocError;
+
+const NO_STRUCTURE: &str = "a SEQUENCE or a SET of a module that is given";
+
+const TAGGED_ADDITION: &str =
+    "an addition without a tag, since the components in front of it have none";
 
 impl<'a> Parser<'a> {
     /// Parses a type in which types may stand at so many levels, and returns its index.
@@ -19,18 +26,47 @@ impl<'a> Parser<'a> {
     pub(super) fn type_at(&mut self, depth: u32) -> Result<usize, Failure<'a>> {
         let item = self.next();
         if depth == 0 {
-            return Err(refused(item, "at most 64 types around a type"));
+            return Err(self.too_deep(item));
         }
         let mut constraints = Vec::new(self.alloc);
+        if let Some(back) = self.expand(item)? {
+            let of = self.type_at(depth - 1)?;
+            self.come_back(back);
+            self.constraint_behind(&mut constraints, depth - 1)?;
+            self.add_constraints(of, constraints)?;
+            return Ok(of);
+        }
         let mut mark = None;
         let form = self.form(item, &mut constraints, &mut mark, depth - 1)?;
         self.constraint_behind(&mut constraints, depth - 1)?;
+        let item = self.name_of(item, &form)?;
         self.add(TypeNode {
             item,
             form,
             constraints,
             mark,
         })
+    }
+
+    // The failure of a type that has too many around it, or leads back to itself by what stands in the
+    // place of names.
+    fn too_deep(&self, item: Item<'a>) -> Failure<'a> {
+        let expected = "at most 64 types around a type";
+        if self.frame < self.modules.len() {
+            return refused(item, expected);
+        }
+        unsupported(item, expected)
+    }
+
+    // The first item of a type that is made so; the name that no other module has, if it is a name.
+    fn name_of(&mut self, item: Item<'a>, form: &TypeForm<'a>) -> Result<Item<'a>, Failure<'a>> {
+        if !matches!(form, TypeForm::Reference) {
+            return Ok(item);
+        }
+        if self.find(item.text).is_none() {
+            self.import(item)?;
+        }
+        self.own_name(item)
     }
 
     // Parses how a type is made. The size of a list, which stands in front of its items, goes to
@@ -50,6 +86,9 @@ impl<'a> Parser<'a> {
         if item.is("CHOICE") {
             return Ok(TypeForm::Choice(self.components(true, mark, depth)?));
         }
+        if item.is("SET") && self.peek().is("{") {
+            return Ok(TypeForm::Set(self.components(false, mark, depth)?));
+        }
         if item.is("SET") {
             return Ok(TypeForm::SetOf(self.list_of(constraints, depth)?));
         }
@@ -67,11 +106,12 @@ impl<'a> Parser<'a> {
 
     // Whether `{ ... }` stands here: a SEQUENCE of which no component is known. If so, moves past it.
     fn takes_unread(&mut self) -> bool {
-        let is_unread = self.peek().is("{")
-            && self.peek_second().is("...")
-            && self.item_at(self.at.saturating_add(2)).is("}");
+        let at = self.at;
+        let is_unread = self.item_at(at).is("{")
+            && self.item_at(at.saturating_add(1)).is("...")
+            && self.item_at(at.saturating_add(2)).is("}");
         if is_unread {
-            self.at = self.at.saturating_add(3);
+            self.at = at.saturating_add(3);
         }
         is_unread
     }
@@ -87,7 +127,7 @@ impl<'a> Parser<'a> {
             constraints.push(size)?;
         }
         self.expect("OF")?;
-        if self.peek().kind == ItemKind::LowerName {
+        if self.peek().kind == ItemKind::LowerName && !self.peek_second().is("<") {
             self.at = self.at.saturating_add(1);
         }
         self.type_at(depth)
@@ -95,9 +135,6 @@ impl<'a> Parser<'a> {
 
     // Parses the size of a list, if there is one.
     fn list_size(&mut self) -> Result<Option<Constraint<'a>>, Failure<'a>> {
-        if self.peek().is("{") {
-            return Err(unsupported(self.peek(), "OF (a SET with components is not supported)"));
-        }
         if self.peek().is("SIZE") {
             return Ok(Some(self.constraint()?));
         }
@@ -130,7 +167,9 @@ impl<'a> Parser<'a> {
             if self.takes_version(marks.len() == 1)? {
                 continue;
             }
-            if self.peek().is("...") {
+            if self.peek().is("COMPONENTS") && !is_choice {
+                self.components_of(&mut components, depth)?;
+            } else if self.peek().is("...") {
                 let insertion = components.len();
                 let item = self.component_mark(marks.len(), is_choice, insertion == 0)?;
                 marks.push(Mark { item, insertion })?;
@@ -142,6 +181,7 @@ impl<'a> Parser<'a> {
             self.component_end()?;
         }
         self.versions = versions;
+        self.number_components(&mut components)?;
         *mark = mark_of(&marks, components.len());
         if !is_choice {
             self.check_defined_by(start, &components)?;
@@ -171,7 +211,8 @@ impl<'a> Parser<'a> {
         is_addition: bool,
         depth: u32,
     ) -> Result<Component<'a>, Failure<'a>> {
-        let name = self.component_name()?;
+        let name = self.expect_kind(ItemKind::LowerName, "the name of a component")?;
+        let is_tagged = self.peek().is("[");
         let of = self.type_at(depth)?;
         let presence = if is_choice {
             Presence::Required
@@ -183,14 +224,88 @@ impl<'a> Parser<'a> {
             of,
             presence,
             is_addition,
+            number: written_number(is_tagged),
         })
     }
 
-    fn component_name(&mut self) -> Result<Item<'a>, Failure<'a>> {
-        if self.peek().is("COMPONENTS") {
-            return Err(unsupported(self.peek(), "no COMPONENTS OF, which is not supported"));
+    // Parses COMPONENTS OF a type, and adds the components of that, but for additions (X.680, 25.5).
+    #[cycle(types)]
+    fn components_of(
+        &mut self,
+        components: &mut Vec<Component<'a>>,
+        depth: u32,
+    ) -> Result<(), Failure<'a>> {
+        let Some(back) = self.to_components()? else {
+            return Err(unsupported(self.peek(), NO_STRUCTURE));
+        };
+        if depth == 0 {
+            return Err(unsupported(self.peek(), NO_STRUCTURE));
         }
-        self.expect_kind(ItemKind::LowerName, "the name of a component")
+        let mut mark = None;
+        let mut more = self.components(false, &mut mark, depth - 1)?;
+        unnumber(&mut more);
+        self.come_back(back);
+        let at = self.at;
+        if self.peek().is("(") {
+            self.at = self.end_of_group(at);
+        }
+        Ok(add_roots(components, more)?)
+    }
+
+    // Moves to the components of the type behind COMPONENTS OF, if its module is given.
+    fn to_components(&mut self) -> Result<Option<Back>, Failure<'a>> {
+        self.at = self.at.saturating_add(1);
+        self.expect("OF")?;
+        let name = self.peek();
+        let Some(place) = self.structure(name) else {
+            return Ok(None);
+        };
+        self.at = self.at.saturating_add(1);
+        self.count_expansion(name)?;
+        Ok(Some(self.go(place, name, Vec::new(self.alloc))?))
+    }
+
+    // Numbers components in a module with AUTOMATIC TAGS, unless one of them is written with a tag:
+    // first those that are no additions (X.680, 25.2 and 25.7). Additions have no tags then.
+    fn number_components(&self, components: &mut Vec<Component<'a>>) -> Result<(), Failure<'a>> {
+        let mut is_numbered = self.module_tags() == TagDefault::Automatic;
+        for component in components.iter() {
+            is_numbered = is_numbered && (component.number.is_some() || component.is_addition);
+        }
+        let mut roots = 0usize;
+        for component in components.iter() {
+            if !component.is_addition {
+                roots = roots.saturating_add(1);
+            } else if is_numbered && component.number.is_none() {
+                return Err(refused(component.name, TAGGED_ADDITION));
+            }
+        }
+        let (mut root, mut addition) = (0usize, roots);
+        for component in components.iter_mut() {
+            let number = if component.is_addition {
+                addition
+            } else {
+                root
+            };
+            component.number = if is_numbered { Some(number) } else { None };
+            if component.is_addition {
+                addition = addition.saturating_add(1);
+            } else {
+                root = root.saturating_add(1);
+            }
+        }
+        Ok(())
+    }
+
+    // What the module says of tags in which stands what is read.
+    fn module_tags(&self) -> TagDefault {
+        let Some(frame) = self.frames.get(self.frame) else {
+            return TagDefault::Explicit;
+        };
+        match self.modules.get(frame.module) {
+            Some(outline) => outline.tags,
+            None => TagDefault::Explicit,
+        }
     }
 
     // Parses whether a component may be absent, as any addition may: senders that know a former
@@ -215,12 +330,16 @@ impl<'a> Parser<'a> {
         constraints: &mut Vec<Constraint<'a>>,
         depth: u32,
     ) -> Result<(), Failure<'a>> {
+        let field = self.field.take();
         for _ in 0..self.items.len() {
             if !self.takes("(") {
                 break;
             }
             if self.takes("CONTAINING") {
                 constraints.push(Constraint::Containing(self.type_at(depth)?))?;
+                self.encoded_by()?;
+            } else if let Some(table) = self.table(field)? {
+                constraints.push(table)?;
             } else {
                 constraints.push(self.constraint()?)?;
             }
@@ -241,17 +360,19 @@ impl<'a> Parser<'a> {
             TagClass::Application
         } else if self.takes("PRIVATE") {
             TagClass::Private
-        } else if self.peek().is("UNIVERSAL") {
-            return Err(unsupported(self.peek(), "APPLICATION, PRIVATE or a number"));
+        } else if self.takes("UNIVERSAL") {
+            TagClass::Universal
         } else {
             TagClass::ContextSpecific
         };
-        let number = self.number()?;
+        let number = self.tag_number()?;
         self.expect("]")?;
         let tagging = if self.takes("EXPLICIT") {
             Some(Tagging::Explicit)
         } else if self.takes("IMPLICIT") {
             Some(Tagging::Implicit)
+        } else if self.module_tags() == TagDefault::Explicit {
+            Some(Tagging::Explicit)
         } else {
             None
         };
@@ -267,8 +388,8 @@ impl<'a> Parser<'a> {
         item: Item<'a>,
         mark: &mut Option<Mark<'a>>,
     ) -> Result<TypeForm<'a>, Failure<'a>> {
-        if item.kind == ItemKind::LowerName && self.peek().is("<") {
-            return Err(unsupported(item, "no alternative of a CHOICE, which is not supported"));
+        if let Some(simple) = self.field_type.take() {
+            return Ok(TypeForm::Simple(simple));
         }
         if item.kind != ItemKind::UpperName {
             return Err(refused(item, "a type"));
@@ -290,6 +411,19 @@ impl<'a> Parser<'a> {
                 Ok(TypeForm::Simple(SimpleType::ObjectIdentifier))
             }
             "ANY" => self.any(),
+            "EMBEDDED" => {
+                self.expect("PDV")?;
+                Ok(TypeForm::Simple(SimpleType::Unknown(11)))
+            }
+            "CHARACTER" => {
+                self.expect("STRING")?;
+                Ok(TypeForm::Simple(SimpleType::Unknown(29)))
+            }
+            "INSTANCE" => {
+                self.expect("OF")?;
+                self.at = self.at.saturating_add(1);
+                Ok(TypeForm::Simple(SimpleType::Unknown(8)))
+            }
             word => match SimpleType::of(word) {
                 Some(simple) => Ok(TypeForm::Simple(simple)),
                 None => self.reference(item),
@@ -315,23 +449,42 @@ impl<'a> Parser<'a> {
 
     fn reference(&mut self, item: Item<'a>) -> Result<TypeForm<'a>, Failure<'a>> {
         match item.text {
-            "CLASS" => Err(unsupported(item, "no class, which is not supported")),
-            "INSTANCE"
-            | "EXTERNAL"
-            | "EMBEDDED"
-            | "CHARACTER"
-            | "RELATIVE-OID"
-            | "ObjectDescriptor" => { Err(unsupported(item, "a type that is supported")) }
+            "CLASS" => Err(unsupported(item, "no class, which stands for no type")),
             word if is_reserved(word) => Err(refused(item, "a type")),
             _ if self.peek().is("{") => {
-                Err(unsupported(self.peek(), "no parameters, which are not supported"))
+                Err(unsupported(item, "a type with parameters of a module that is given"))
             }
-            _ if self.peek().is(".") => {
-                Err(unsupported(self.peek(), "no field of a class, which is not supported"))
+            _ if self.class_named(item).is_some() => {
+                Err(unsupported(item, "no class, which stands for no type"))
             }
             _ => Ok(TypeForm::Reference),
         }
     }
+}
+
+// The number of a component that gets one, unless it is written with a tag.
+fn written_number(is_tagged: bool) -> Option<usize> {
+    if is_tagged { None } else { Some(0) }
+}
+
+// Lets components get numbers, which are not written where they are added.
+fn unnumber(components: &mut Vec<Component<'_>>) {
+    for component in components.iter_mut() {
+        component.number = written_number(false);
+    }
+}
+
+// Adds the components that are no additions.
+fn add_roots<'a>(
+    components: &mut Vec<Component<'a>>,
+    more: Vec<Component<'a>>,
+) -> Result<(), AllocError> {
+    for component in more.into_iter() {
+        if !component.is_addition {
+            components.push(component)?;
+        }
+    }
+    Ok(())
 }
 
 // Whether one of these components has this name.
