@@ -3,6 +3,7 @@
 use crate::command::CompileCommand;
 use crate::compiled::Compiled;
 use crate::output::{OutputFile, compile, read_external};
+use crate::schema::run_schema;
 use anyhow::{Error, Result};
 use asn1_check::External;
 use asn1_syntax::{Failure, Position, Refusal};
@@ -20,6 +21,9 @@ const VERSION: &str = "0.2.0";
 /// in modules of other crates, each of which may import from those before it. Prints to `errors`
 /// what is wrong, if anything is, and returns the exit status:
 ///
+/// With `--schema` it compiles the modules in all files, writes a table of their types, and prints a line to
+/// `out` for each type: the name of its module, a point, its name, and the index of its node.
+///
 /// - 0 on success, or if the help or the version is printed to `out`;
 /// - 1 if a file cannot be read, if a module is refused, or if a file cannot be written. Nothing is
 ///   written for a module that is refused. It is refused if nothing of it is supported, or a type that
@@ -35,6 +39,9 @@ pub fn run_compile<R: Files + AllocGlobal, W: Write, E: Write>(
 ) -> Result<u8> {
     let words: Vec<String> = given?.collect(rt.alloc())?;
     let error = match CompileCommand::parse(rt.alloc(), VERSION, &words) {
+        Ok(command) if !command.schema.is_empty() => {
+            return run_schema(rt, &command, out, errors);
+        }
         Ok(command) => return run_command(rt, &command, errors),
         Err(error) => error,
     };
@@ -71,15 +78,15 @@ fn run_command<R: Files + AllocGlobal, W: Write>(
     }
 }
 
-// Prints that a file or a folder cannot be read or written, and why.
-fn say_file<W: Write>(path: &str, error: &io::Error, out: &mut W) -> Result<u8> {
+/// Prints that a file or a folder cannot be read or written, and why.
+pub fn say_file<W: Write>(path: &str, error: &io::Error, out: &mut W) -> Result<u8> {
     write!(out, "error: {path}: {error}\n")?;
     out.flush()?;
     Ok(1)
 }
 
-// The text in a file.
-fn read_text<R: Files + AllocGlobal>(rt: &R, path: &str) -> io::Result<String> {
+/// The text in a file.
+pub fn read_text<R: Files + AllocGlobal>(rt: &R, path: &str) -> io::Result<String> {
     let octets = fs::read(rt, path)?;
     match str::from_utf8(octets.as_slice()) {
         Ok(text) => Ok(String::from_str(rt.alloc(), text)?),
@@ -198,7 +205,7 @@ fn left_out_of(
 }
 
 /// Prints why the module in the file `name` is refused.
-fn say_failure<R: AllocGlobal, W: Write>(
+pub fn say_failure<R: AllocGlobal, W: Write>(
     rt: &R,
     failure: &Failure<'_>,
     name: &str,
@@ -256,8 +263,8 @@ fn write_file<R: Files + AllocGlobal>(rt: &R, folder: &str, file: &OutputFile) -
     fs::write(rt, path.as_str(), file.text.as_str())
 }
 
-// Prints `text` to `out`, and returns `status`.
-fn say<W: Write>(text: &str, status: u8, out: &mut W) -> Result<u8> {
+/// Prints `text` to `out`, and returns `status`.
+pub fn say<W: Write>(text: &str, status: u8, out: &mut W) -> Result<u8> {
     out.write_all(text.as_bytes())?;
     out.flush()?;
     Ok(status)

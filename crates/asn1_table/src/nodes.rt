@@ -1,0 +1,406 @@
+//! The nodes of types.
+
+use crate::choices::Choice;
+use crate::fields::fields_of;
+use crate::library::Library;
+use crate::limits::{ends_of, known_number};
+use crate::opener::Opener;
+use crate::place::Place;
+use crate::reach::{place_in, reach};
+use crate::rows::{EMPTY, Rows, span_from};
+use crate::wanted::{Wanted, numbers_of};
+use crate::wrong::Wrong;
+use asn1_schema::{LimitKind, Name, Node, NodeKind, OpenType, Span};
+use asn1_syntax::{NamedNumber, SimpleType, Tag, TypeForm, TypeNode};
+use ber::Universal;
+use der_base::Class;
+use std::alloc::{AllocError, Global};
+
+/// The index of the node of the type at this place.
+pub fn node_at<'a>(
+    alloc: Global,
+    library: &Library<'a>,
+    rows: &mut Rows<'a>,
+    place: Place,
+    opener: Opener<'a>,
+) -> Result<u32, Wrong<'a>> {
+    let wanted = reach(library, place, None, opener)?;
+    Ok(add(alloc, library, rows, wanted)?)
+}
+
+/// The index of a node, which is added if it is not there.
+pub fn add<'a>(
+    alloc: Global,
+    library: &Library<'a>,
+    rows: &mut Rows<'a>,
+    wanted: Wanted<'a>,
+) -> Result<u32, AllocError> {
+    let wanted = settled(library, wanted);
+    let key = key_of(alloc, library, &wanted)?;
+    rows.add_node(key, wanted)
+}
+
+// The node without what means nothing for its type.
+fn settled<'a>(library: &Library<'a>, wanted: Wanted<'a>) -> Wanted<'a> {
+    let Some(node) = library.node(wanted.place) else {
+        return wanted;
+    };
+    match &node.form {
+        _ if wanted.is_around => wanted,
+        TypeForm::SequenceOf(_) | TypeForm::SetOf(_) | TypeForm::Tagged(_, _) => wanted,
+        TypeForm::Simple(SimpleType::Any) => Wanted {
+            name: wanted.name,
+            ..Wanted::any(wanted.opener)
+        },
+        TypeForm::Simple(SimpleType::OctetString) | TypeForm::BitString(_) => wanted,
+        _ => Wanted {
+            opener: Opener::NONE,
+            ..wanted
+        },
+    }
+}
+
+// What is the same for types that have one node: types without names and parts, and one type at the same
+// place under the same tag, in the same component.
+fn key_of(alloc: Global, library: &Library<'_>, wanted: &Wanted<'_>) -> Result<String, AllocError> {
+    let (class, number) = wanted.tag_or(0);
+    let (is_tagged, is_around) = (wanted.tag.is_some(), wanted.is_around);
+    let (low, high) = ends_at(library, wanted);
+    let (module, index) = (wanted.place.module, wanted.place.index);
+    if let Some(of) = leaf_number(library, wanted) {
+        return format!(in alloc; "{of} {class} {number} {is_tagged} {low} {high}");
+    }
+    let Opener {
+        chooser,
+        table,
+        is_string,
+        own,
+    } = wanted.opener;
+    let chooser = match chooser {
+        Some(field) => i64::from(field),
+        None => -1,
+    };
+    let own = own.unwrap_or(wanted.place);
+    let (own_module, own_index) = (own.module, own.index);
+    let name = wanted.name;
+    format!(in alloc; "{module} {index} {class} {number} {is_tagged} {is_around} {low} {high} {chooser} {is_string} {own_module} {own_index} {name} {table}")
+}
+
+// The ends of the limits of a node.
+fn ends_at(library: &Library<'_>, wanted: &Wanted<'_>) -> (i64, i64) {
+    match library.node(wanted.place) {
+        Some(node) => limit_of(wanted, node).unwrap_or((i64::MIN, i64::MAX)),
+        None => (i64::MIN, i64::MAX),
+    }
+}
+
+fn limit_of(wanted: &Wanted<'_>, node: &TypeNode<'_>) -> Option<(i64, i64)> {
+    match (&node.form, wanted.limits.value, wanted.limits.size) {
+        (TypeForm::Integer(names) | TypeForm::Enumerated(names), Some(range), _) => {
+            ends_of(&range, names)
+        }
+        (TypeForm::Integer(_) | TypeForm::Enumerated(_), None, _) => None,
+        (TypeForm::BitString(names), _, Some(range)) => ends_of(&range, names),
+        (_, _, Some(range)) => range_ends(&range),
+        _ => None,
+    }
+}
+
+// The ends of a range without names.
+fn range_ends(range: &asn1_syntax::Range<'_>) -> Option<(i64, i64)> {
+    let low = known_number(range.low)?;
+    let high = known_number(range.high)?;
+    if low == i64::MIN && high == i64::MAX {
+        return None;
+    }
+    Some((low, high))
+}
+
+// The number of the universal tag of a type without a name, without names of numbers and without parts.
+fn leaf_number(library: &Library<'_>, wanted: &Wanted<'_>) -> Option<u64> {
+    if wanted.is_around
+        || wanted.contained.is_some()
+        || wanted.opener.is_string
+        || !wanted.name.is_empty()
+    {
+        return None;
+    }
+    let node = library.node(wanted.place)?;
+    match &node.form {
+        TypeForm::Simple(SimpleType::Unread | SimpleType::Any) => None,
+        TypeForm::Simple(simple) => simple.tag_number(),
+        TypeForm::Integer(names) if names.is_empty() => Some(2),
+        TypeForm::BitString(names) if names.is_empty() => Some(3),
+        _ => None,
+    }
+}
+
+/// Fills the node with this index.
+pub fn lay<'a>(
+    alloc: Global,
+    library: &Library<'a>,
+    choices: &Vec<Choice<'a>>,
+    rows: &mut Rows<'a>,
+    index: usize,
+) -> Result<(), Wrong<'a>> {
+    let Some(wanted) = rows.wanted.get(index) else {
+        return Ok(());
+    };
+    let wanted = *wanted;
+    let name = rows.text(wanted.name)?;
+    let node = Node {
+        name,
+        ..filled(alloc, library, choices, rows, &wanted)?
+    };
+    if let Some(place) = rows.nodes.get_mut(index) {
+        *place = node;
+    }
+    Ok(())
+}
+
+fn filled<'a>(
+    alloc: Global,
+    library: &Library<'a>,
+    choices: &Vec<Choice<'a>>,
+    rows: &mut Rows<'a>,
+    wanted: &Wanted<'a>,
+) -> Result<Node, Wrong<'a>> {
+    if let Some(tag) = wanted.tag
+        && wanted.is_around
+    {
+        let inside = Wanted {
+            tag: None,
+            is_around: false,
+            ..*wanted
+        };
+        return Ok(explicit(tag, add(alloc, library, rows, inside)?));
+    }
+    let Some(node) = library.node(wanted.place) else {
+        return any(alloc, library, choices, rows, wanted.opener);
+    };
+    match &node.form {
+        TypeForm::Tagged(prefix, of) => {
+            let inside = place_in(wanted.place, *of);
+            let inner = node_at(alloc, library, rows, inside, wanted.opener)?;
+            Ok(explicit(wanted.tag.unwrap_or(prefix.tag), inner))
+        }
+        TypeForm::SequenceOf(of) => list(alloc, library, rows, wanted, node, *of, false),
+        TypeForm::SetOf(of) => list(alloc, library, rows, wanted, node, *of, true),
+        TypeForm::Sequence(_) | TypeForm::Choice(_) => {
+            with_fields(alloc, library, rows, wanted, node)
+        }
+        _ => simple(alloc, library, rows, wanted, node),
+    }
+}
+
+// A node with these properties, and no others.
+fn plain(kind: NodeKind, numbers: (u32, u32)) -> Node {
+    let (class, number) = numbers;
+    Node {
+        kind,
+        class: class_of(class),
+        number,
+        extensible: false,
+        name: EMPTY,
+        inner: None,
+        parts: EMPTY,
+        limits: EMPTY,
+        chooser: 0,
+    }
+}
+
+fn class_of(number: u32) -> Class {
+    match number {
+        0 => Class::Universal,
+        1 => Class::Application,
+        2 => Class::ContextSpecific,
+        _ => Class::Private,
+    }
+}
+
+// The node of a type inside an EXPLICIT tag.
+fn explicit(tag: Tag, inner: u32) -> Node {
+    Node {
+        inner: Some(inner),
+        ..plain(NodeKind::Explicit, numbers_of(tag))
+    }
+}
+
+// The node of any type, or of an open type.
+fn any<'a>(
+    alloc: Global,
+    library: &Library<'a>,
+    choices: &Vec<Choice<'a>>,
+    rows: &mut Rows<'a>,
+    opener: Opener<'a>,
+) -> Result<Node, Wrong<'a>> {
+    let Some(chooser) = opener.chooser else {
+        return Ok(plain(NodeKind::Any, (0, 0)));
+    };
+    Ok(Node {
+        parts: types_of(alloc, library, choices, rows, opener.table)?,
+        chooser,
+        ..plain(NodeKind::Open, (0, 0))
+    })
+}
+
+// The rows of the open type with this name.
+fn types_of<'a>(
+    alloc: Global,
+    library: &Library<'a>,
+    choices: &Vec<Choice<'a>>,
+    rows: &mut Rows<'a>,
+    table: &'a str,
+) -> Result<Span, Wrong<'a>> {
+    if let Some(span) = rows.types_of(table) {
+        return Ok(span);
+    }
+    let mut types = Vec::new(alloc);
+    for choice in choices.iter() {
+        if choice.table == table {
+            let identifier = rows.octets(choice.identifier.as_slice())?;
+            let node = node_at(alloc, library, rows, choice.place, Opener::NONE)?;
+            types.push(OpenType { identifier, node })?;
+        }
+    }
+    Ok(rows.add_types(table, types)?)
+}
+
+// The node of a SEQUENCE OF or a SET OF.
+fn list<'a>(
+    alloc: Global,
+    library: &Library<'a>,
+    rows: &mut Rows<'a>,
+    wanted: &Wanted<'a>,
+    node: &TypeNode<'a>,
+    of: usize,
+    is_set: bool,
+) -> Result<Node, Wrong<'a>> {
+    let (kind, number) = if is_set {
+        (NodeKind::SetOf, 17)
+    } else {
+        (NodeKind::SequenceOf, 16)
+    };
+    let items = Opener {
+        is_string: false,
+        ..wanted.opener
+    };
+    Ok(Node {
+        inner: Some(node_at(alloc, library, rows, place_in(wanted.place, of), items)?),
+        limits: limits_of(rows, wanted, node)?,
+        ..plain(kind, wanted.tag_or(number))
+    })
+}
+
+// The node of a SEQUENCE or a CHOICE.
+fn with_fields<'a>(
+    alloc: Global,
+    library: &Library<'a>,
+    rows: &mut Rows<'a>,
+    wanted: &Wanted<'a>,
+    node: &TypeNode<'a>,
+) -> Result<Node, Wrong<'a>> {
+    let (kind, components) = match &node.form {
+        TypeForm::Sequence(components) => (NodeKind::Universal(Universal::Sequence), components),
+        TypeForm::Choice(components) => (NodeKind::Choice, components),
+        _ => return Ok(plain(NodeKind::Any, (0, 0))),
+    };
+    let is_choice = kind == NodeKind::Choice;
+    let parts = fields_of(alloc, library, rows, wanted.place.module, components, is_choice)?;
+    let chooser = match node.mark {
+        Some(mark) if !is_choice => crate::rows::count_of(mark.insertion),
+        _ => 0,
+    };
+    Ok(Node {
+        extensible: node.mark.is_some(),
+        parts,
+        chooser,
+        ..plain(kind, if is_choice { (0, 0) } else { wanted.tag_or(16) })
+    })
+}
+
+// The node of a type without components and items.
+fn simple<'a>(
+    alloc: Global,
+    library: &Library<'a>,
+    rows: &mut Rows<'a>,
+    wanted: &Wanted<'a>,
+    node: &TypeNode<'a>,
+) -> Result<Node, Wrong<'a>> {
+    let number = match &node.form {
+        TypeForm::Simple(simple) => crate::rows::count_of(simple.tag_number().unwrap_or(0) as usize),
+        TypeForm::Integer(_) => 2,
+        TypeForm::BitString(_) => 3,
+        _ => 10,
+    };
+    let Some(universal) = Universal::from_number(number) else {
+        return Ok(plain(NodeKind::Any, (0, 0)));
+    };
+    let is_unread = matches!(&node.form, TypeForm::Simple(SimpleType::Unread));
+    Ok(Node {
+        extensible: node.mark.is_some() || is_unread,
+        inner: contents_of(alloc, library, rows, wanted)?,
+        parts: names_of(rows, node)?,
+        limits: limits_of(rows, wanted, node)?,
+        ..plain(NodeKind::Universal(universal), wanted.tag_or(number))
+    })
+}
+
+// The node of the value in a string.
+fn contents_of<'a>(
+    alloc: Global,
+    library: &Library<'a>,
+    rows: &mut Rows<'a>,
+    wanted: &Wanted<'a>,
+) -> Result<Option<u32>, Wrong<'a>> {
+    if wanted.opener.is_string {
+        let opener = Opener {
+            is_string: false,
+            ..wanted.opener
+        };
+        return Ok(Some(add(alloc, library, rows, Wanted::any(opener))?));
+    }
+    match wanted.contained {
+        Some(place) => Ok(Some(node_at(alloc, library, rows, place, wanted.opener)?)),
+        None => Ok(None),
+    }
+}
+
+// The rows of the names of a type.
+fn names_of<'a>(rows: &mut Rows<'a>, node: &TypeNode<'a>) -> Result<Span, AllocError> {
+    let start = rows.names.len();
+    match &node.form {
+        TypeForm::Integer(names) | TypeForm::BitString(names) | TypeForm::Enumerated(names) => {
+            add_names(rows, names)?;
+        }
+        _ => {}
+    }
+    Ok(span_from(start, rows.names.len().saturating_sub(start)))
+}
+
+fn add_names<'a>(rows: &mut Rows<'a>, names: &Vec<NamedNumber<'a>>) -> Result<(), AllocError> {
+    for named in names.iter() {
+        if let Some(end) = named.number
+            && let Some(number) = known_number(end)
+        {
+            let name = rows.text(named.name.text)?;
+            rows.names.push(Name { number, name })?;
+        }
+    }
+    Ok(())
+}
+
+// The rows of the limits of a type.
+fn limits_of<'a>(
+    rows: &mut Rows<'a>,
+    wanted: &Wanted<'a>,
+    node: &TypeNode<'a>,
+) -> Result<Span, AllocError> {
+    let start = rows.limits.len();
+    let kind = match &node.form {
+        TypeForm::Integer(_) | TypeForm::Enumerated(_) => LimitKind::Value,
+        _ => LimitKind::Size,
+    };
+    rows.add_limit(kind, limit_of(wanted, node))?;
+    Ok(span_from(start, rows.limits.len().saturating_sub(start)))
+}
