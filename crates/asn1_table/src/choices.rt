@@ -2,7 +2,7 @@
 
 use crate::directives::type_in;
 use crate::library::Library;
-use crate::oid_octets::oid_octets;
+use crate::identifiers::oid_octets;
 use crate::place::Place;
 use crate::wrong::Wrong;
 use asn1_check::{Constant, Module};

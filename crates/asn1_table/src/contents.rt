@@ -1,9 +1,9 @@
 //! Contents octets of values without parts.
 
-use crate::integer_octets::integer_octets;
+use crate::integers::integer_octets;
 use crate::library::Library;
 use crate::limits::known_number;
-use crate::oid_octets::oid_octets;
+use crate::identifiers::oid_octets;
 use crate::values::{Words, WordsForm};
 use asn1_check::Constant;
 use asn1_syntax::{Endpoint, Item, ItemKind, NamedNumber, SimpleType};

@@ -34,13 +34,14 @@ mod directives;
 mod external;
 mod fields;
 mod heights;
-mod integer_octets;
+mod identifiers;
+mod integers;
 mod library;
 mod linked;
 mod limits;
 mod nodes;
 mod octets;
-mod oid_octets;
+
 mod opener;
 mod order;
 mod place;
@@ -54,7 +55,7 @@ mod wrong;
 
 pub use compiled_table::{CompiledTable, Root};
 pub use directives::is_schema_line;
-pub use integer_octets::integer_octets;
-pub use oid_octets::oid_octets;
+pub use integers::integer_octets;
+pub use identifiers::oid_octets;
 pub use table::table_of;
 pub use wrong::Wrong;

@@ -61,7 +61,7 @@ fn attempts<'a>(
     }
     for _ in 0..=count {
         let library = linked(alloc, texts, &known)?;
-        let found = match attempt(alloc, &library, only)? {
+        let found = match try_table(alloc, &library, only)? {
             Attempt::Table(table) => return Ok(table),
             Attempt::Failures(found) => found,
         };
@@ -97,7 +97,7 @@ enum Attempt<'a> {
     Failures(Vec<(usize, Refusal<'a>)>),
 }
 
-fn attempt<'a>(
+fn try_table<'a>(
     alloc: Global,
     library: &Library<'a>,
     only: &[&str],
