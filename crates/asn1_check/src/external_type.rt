@@ -60,6 +60,7 @@ pub fn bare_form<'a>(alloc: Global, form: &TypeForm<'a>) -> Result<TypeForm<'a>,
         TypeForm::Tagged(prefix, _) => Ok(TypeForm::Tagged(*prefix, usize::MAX)),
         TypeForm::Reference => Ok(TypeForm::Reference),
         TypeForm::Sequence(_) => Ok(TypeForm::Sequence(Vec::new(alloc))),
+        TypeForm::Set(_) => Ok(TypeForm::Set(Vec::new(alloc))),
     }
 }
 

@@ -1,9 +1,9 @@
-//! Components of a SEQUENCE and alternatives of a CHOICE.
+//! Components of a SEQUENCE or SET and alternatives of a CHOICE.
 
 use crate::item::Item;
 use crate::value::Value;
 
-/// A component of a SEQUENCE, or an alternative of a CHOICE.
+/// A component of a SEQUENCE or a SET, or an alternative of a CHOICE.
 #[derive(Drop)]
 pub struct Component<'a> {
     /// The name, with the comments in front of it.
@@ -15,6 +15,8 @@ pub struct Component<'a> {
     /// Whether it is an addition: whether it stands behind a first extension mark, and in front of
     /// a second one.
     pub is_addition: bool,
+    /// The number of the tag that it gets from AUTOMATIC TAGS (X.680, 25.2); `None` if it gets none.
+    pub number: Option<usize>,
 }
 
 /// Whether a component may be absent.

@@ -1,8 +1,10 @@
 //! Modules.
 
+use crate::information_object::InformationObject;
 use crate::item::Item;
 use crate::left_out::LeftOut;
 use crate::module_index::ModuleIndex;
+use crate::object_set::{ObjectSet, TableUse};
 use crate::tagging::TagDefault;
 use crate::type_node::TypeNode;
 use crate::value::Value;
@@ -24,6 +26,12 @@ pub struct ParsedModule<'a> {
     pub types: Vec<TypeAssignment<'a>>,
     /// The values that it names, in their order.
     pub values: Vec<ValueAssignment<'a>>,
+    /// The objects of classes that it has, in their order.
+    pub objects: Vec<InformationObject<'a>>,
+    /// The sets of objects that it names.
+    pub sets: Vec<ObjectSet<'a>>,
+    /// What constraints say of fields of classes.
+    pub tables: Vec<TableUse<'a>>,
     /// All types of the module, also those without a name.
     pub nodes: Vec<TypeNode<'a>>,
     /// Where it has what it names.

@@ -1,35 +1,48 @@
 //! The parser.
 
+mod classes;
 mod constraints;
 mod digits;
+mod expansions;
 mod header;
 mod marks;
 mod next_assignment;
 mod numbers;
+mod objects;
+mod outlines;
+mod places;
 mod types;
 mod values;
 
+use crate::constraint::Constraint;
 use crate::failure::Failure;
+use crate::information_object::InformationObject;
 use crate::item::Item;
 use crate::item_kind::ItemKind;
 use crate::items::items_of;
 use crate::left_out::LeftOut;
-use crate::module::{ParsedModule, TypeAssignment, ValueAssignment};
+use crate::lines::push_line;
+use crate::module::{Import, ParsedModule, TypeAssignment, ValueAssignment};
+use crate::name_index::NameIndex;
+use crate::object_set::TableUse;
+use crate::outline::ModuleOutline;
 use crate::refusal::Refusal;
 use crate::reserved::is_reserved;
 use crate::simple_type::SimpleType;
 use crate::type_node::TypeNode;
 use crate::warning::Warning;
 use digits::check_digits;
-use std::alloc::Global;
+use places::Frame;
+use std::alloc::{AllocError, Global};
 
 /// The greatest number of types around a type.
 const MAX_DEPTH: u32 = 64;
 
-/// A walk over the items of a module.
+/// A walk over the items of a text.
 #[derive(Drop)]
 struct Parser<'a> {
     alloc: Global,
+    text: &'a str,
     items: Vec<Item<'a>>,
     at: usize,
     nodes: Vec<TypeNode<'a>>,
@@ -38,32 +51,120 @@ struct Parser<'a> {
     // How many brackets `[[` of the components that are being parsed are open.
     versions: u32,
     warnings: Vec<Warning<'a>>,
+    // The modules of the text, and the number of each name.
+    modules: Vec<ModuleOutline<'a>>,
+    numbers: NameIndex<'a>,
+    // The number of the module to which each name belongs, and the names of others for theirs.
+    owners: NameIndex<'a>,
+    own_names: NameIndex<'a>,
+    // The names that stand for others: the first frames are those of the modules.
+    frames: Vec<Frame<'a>>,
+    frame: usize,
+    // How many names of the assignment were replaced by types.
+    expansions: u32,
+    // The field of a class that was read, and its type if its class has it nowhere.
+    field: Option<Item<'a>>,
+    field_type: Option<SimpleType>,
+    imports: Vec<Import<'a>>,
+    objects: Vec<InformationObject<'a>>,
+    tables: Vec<TableUse<'a>>,
 }
 
-/// Parses a module. Names are not looked up.
+/// Parses the first module of a text, with the modules behind it, from which it may import. What
+/// these have gets other names where the first module, or one in front, has the same: those that
+/// [`own_names`] returns, which stand behind the last module. Names are not looked up. What is wrong
+/// in an assignment of another module than the first one is left out.
 pub fn parse_module<'a>(alloc: Global, text: &'a str) -> Result<ParsedModule<'a>, Failure<'a>> {
+    let mut parser = parser_of(alloc, text)?;
+    parser.outline()?;
+    let mut module = parser.first_module()?;
+    for import in module.imports.iter() {
+        parser.imports.push(*import)?;
+    }
+    for number in 0..parser.modules.len() {
+        parser.assignments_of(number, &mut module)?;
+    }
+    let Parser {
+        nodes,
+        warnings,
+        imports,
+        objects,
+        tables,
+        ..
+    } = parser;
+    module.nodes = nodes;
+    module.warnings = warnings;
+    module.imports = imports;
+    module.objects = objects;
+    module.tables = tables;
+    module.look_up_names(alloc)?;
+    Ok(module)
+}
+
+/// The modules of a text, whose assignments are not parsed.
+pub fn outline_of<'a>(
+    alloc: Global,
+    text: &'a str,
+) -> Result<Vec<ModuleOutline<'a>>, Failure<'a>> {
+    let mut parser = parser_of(alloc, text)?;
+    parser.outline()?;
+    Ok(parser.modules)
+}
+
+/// The names that assignments of a text get since a module in front has the same: comments, each on
+/// a line. They have to stand behind the last module.
+pub fn own_names<'a>(alloc: Global, text: &'a str) -> Result<String, Failure<'a>> {
+    let mut parser = parser_of(alloc, text)?;
+    parser.outline()?;
+    let mut lines = String::new(alloc);
+    for (number, outline) in parser.modules.iter().enumerate() {
+        add_own_names(alloc, &parser.owners, number, outline, &mut lines)?;
+    }
+    Ok(lines)
+}
+
+fn add_own_names(
+    alloc: Global,
+    owners: &NameIndex<'_>,
+    number: usize,
+    outline: &ModuleOutline<'_>,
+    lines: &mut String,
+) -> Result<(), AllocError> {
+    let of = outline.name.text;
+    for name in outline.definitions.names.iter() {
+        if owners.find(name) != Some(number) {
+            let line = format!(in alloc; "-- {name}-{of}")?;
+            push_line(lines, line.as_str())?;
+        }
+    }
+    Ok(())
+}
+
+fn parser_of<'a>(alloc: Global, text: &'a str) -> Result<Parser<'a>, Failure<'a>> {
     let items = items_of(alloc, text)?;
     check_digits(&items)?;
-    let mut parser = Parser {
+    Ok(Parser {
         alloc,
+        text,
         items,
         at: 0,
         nodes: Vec::new(alloc),
         defined_by: Vec::new(alloc),
         versions: 0,
         warnings: Vec::new(alloc),
-    };
-    let mut module = parser.head()?;
-    parser.assignments(&mut module)?;
-    let Parser {
-        nodes,
-        warnings,
-        ..
-    } = parser;
-    module.nodes = nodes;
-    module.warnings = warnings;
-    module.look_up_names(alloc)?;
-    Ok(module)
+        modules: Vec::new(alloc),
+        numbers: NameIndex::new(alloc),
+        owners: NameIndex::new(alloc),
+        own_names: NameIndex::new(alloc),
+        frames: Vec::new(alloc),
+        frame: 0,
+        expansions: 0,
+        field: None,
+        field_type: None,
+        imports: Vec::new(alloc),
+        objects: Vec::new(alloc),
+        tables: Vec::new(alloc),
+    })
 }
 
 /// The failure of an item that stands where something else is expected.
@@ -87,10 +188,17 @@ impl<'a> Parser<'a> {
         self.item_at(self.at.saturating_add(1))
     }
 
+    // The item with this number. In the place of a name, it has the offset of that.
     fn item_at(&self, at: usize) -> Item<'a> {
-        match self.items.get(at) {
-            Some(item) => *item,
-            None => Item::END,
+        let Some(item) = self.items.get(at) else {
+            return Item::END;
+        };
+        match self.frames.get(self.frame) {
+            Some(Frame { offset: Some(offset), .. }) => Item {
+                offset: *offset,
+                ..*item
+            },
+            _ => *item,
         }
     }
 
@@ -140,54 +248,96 @@ impl<'a> Parser<'a> {
         Ok(())
     }
 
-    /// Parses assignments up to `END`, and the end of the file.
-    fn assignments(&mut self, module: &mut ParsedModule<'a>) -> Result<(), Failure<'a>> {
+    /// Parses the assignments of a module, up to what stands behind its `END`.
+    fn assignments_of(
+        &mut self,
+        number: usize,
+        module: &mut ParsedModule<'a>,
+    ) -> Result<(), Failure<'a>> {
+        if let Some(outline) = self.modules.get(number) {
+            self.at = outline.start;
+        }
         for _ in 0..self.items.len() {
-            if self.takes("END") {
+            if self.peek().kind == ItemKind::End && number > 0 || self.takes("END") {
                 break;
             }
-            self.supported_assignment(module)?;
+            self.supported_assignment(number, module)?;
+        }
+        if number > 0 || self.begins_module() {
+            return Ok(());
         }
         self.expect_end()
     }
 
-    // Parses an assignment. One that is not supported is left out.
-    fn supported_assignment(&mut self, module: &mut ParsedModule<'a>) -> Result<(), Failure<'a>> {
+    // Parses an assignment. It is left out if it is not supported, or wrong in another module than the
+    // first one.
+    fn supported_assignment(
+        &mut self,
+        number: usize,
+        module: &mut ParsedModule<'a>,
+    ) -> Result<(), Failure<'a>> {
         let (start, nodes) = (self.at, self.nodes.len());
-        let warnings = self.warnings.len();
+        let (warnings, objects) = (self.warnings.len(), self.objects.len());
+        self.frame = number;
+        self.expansions = 0;
         let name = self.next();
-        match self.assignment(name, module) {
-            Err(Failure::Unsupported(refusal)) => {
-                self.nodes.truncate(nodes);
-                self.warnings.truncate(warnings);
-                self.defined_by.truncate(0);
-                self.versions = 0;
-                module.left_out.push(LeftOut { name, refusal })?;
-                self.to_next_assignment(start);
-                Ok(())
-            }
-            parsed => parsed,
+        let refusal = match self.assignment(number, name, module) {
+            Err(Failure::Unsupported(refusal)) => refusal,
+            Err(Failure::Refused(refusal)) if number > 0 => refusal,
+            parsed => return parsed,
+        };
+        self.nodes.truncate(nodes);
+        self.warnings.truncate(warnings);
+        self.objects.truncate(objects);
+        self.defined_by.truncate(0);
+        self.frames.truncate(self.modules.len());
+        self.frame = number;
+        self.versions = 0;
+        self.field = None;
+        self.field_type = None;
+        if let Ok(name) = self.name_in(number, name) {
+            module.left_out.push(LeftOut { name, refusal })?;
         }
+        self.to_next_assignment(start);
+        Ok(())
     }
 
-    /// Parses what follows the name of a type or of a value.
+    /// Parses what follows the name of an assignment. Classes, macros and what has parameters are
+    /// passed over: they are read where they are used.
     fn assignment(
         &mut self,
+        number: usize,
         name: Item<'a>,
         module: &mut ParsedModule<'a>,
     ) -> Result<(), Failure<'a>> {
-        match name.kind {
-            ItemKind::UpperName => {
-                let first = self.nodes.len();
-                let of = self.type_assigned(name)?;
-                module.types.push(TypeAssignment { name, of, first })?;
-            }
-            ItemKind::LowerName => {
-                let value = self.value_assigned(name)?;
-                module.values.push(value)?;
-            }
-            _ => return Err(refused(name, "an assignment or END")),
+        if !matches!(name.kind, ItemKind::UpperName | ItemKind::LowerName) {
+            return Err(refused(name, "an assignment or END"));
         }
+        let is_type = name.kind == ItemKind::UpperName;
+        if is_type && (is_reserved(name.text) || SimpleType::of(name.text).is_some()) {
+            return Err(refused(name, "an assignment or END"));
+        }
+        if self.peek().is("{") || self.peek().is("MACRO") || is_type && self.is_class() {
+            self.to_next_assignment(self.at.saturating_sub(1));
+            return Ok(());
+        }
+        let name = self.name_in(number, name)?;
+        if !is_type {
+            return self.value_or_object(name, module);
+        }
+        let first = self.nodes.len();
+        let of = if self.peek().is("::=") {
+            self.at = self.at.saturating_add(1);
+            self.whole_type()?
+        } else if self.is_set_assignment() {
+            match self.set_assigned(name, module)? {
+                Some(of) => of,
+                None => return Ok(()),
+            }
+        } else {
+            return Err(refused(self.peek(), "::="));
+        };
+        module.types.push(TypeAssignment { name, of, first })?;
         Ok(())
     }
 
@@ -196,24 +346,6 @@ impl<'a> Parser<'a> {
             ItemKind::End => Ok(()),
             _ => Err(refused(self.peek(), "the end of the file")),
         }
-    }
-
-    /// Parses what follows the name of a type.
-    fn type_assigned(&mut self, name: Item<'a>) -> Result<usize, Failure<'a>> {
-        if is_reserved(name.text) || SimpleType::of(name.text).is_some() {
-            return Err(refused(name, "an assignment or END"));
-        }
-        if self.peek().is("{") {
-            return Err(unsupported(self.peek(), "no parameters, which are not supported"));
-        }
-        if self.peek().is("MACRO") {
-            return Err(unsupported(self.peek(), "no macro, which is not supported"));
-        }
-        if self.is_set_assignment() {
-            return Err(unsupported(self.peek(), "no set of values, which is not supported"));
-        }
-        self.expect("::=")?;
-        self.whole_type()
     }
 
     // Parses a type that no other type is around.
@@ -225,20 +357,49 @@ impl<'a> Parser<'a> {
         }
     }
 
-    /// Parses what follows the name of a value.
-    fn value_assigned(&mut self, name: Item<'a>) -> Result<ValueAssignment<'a>, Failure<'a>> {
-        if self.peek().is("{") {
-            return Err(unsupported(self.peek(), "no parameters, which are not supported"));
+    // Parses what follows the name of a value, or of an object.
+    fn value_or_object(
+        &mut self,
+        name: Item<'a>,
+        module: &mut ParsedModule<'a>,
+    ) -> Result<(), Failure<'a>> {
+        if let Some(class) = self.class_named(self.peek()) {
+            self.at = self.at.saturating_add(1);
+            self.expect("::=")?;
+            return self.object(name, class);
         }
         let first = self.nodes.len();
         let of = self.whole_type()?;
         self.expect("::=")?;
         let value = self.value()?;
-        Ok(ValueAssignment {
+        module.values.push(ValueAssignment {
             name,
             of,
             first,
             value,
-        })
+        })?;
+        Ok(())
+    }
+
+    // Parses what follows the name of a set, and returns the type if it is a set of values, which are
+    // not read.
+    fn set_assigned(
+        &mut self,
+        name: Item<'a>,
+        module: &mut ParsedModule<'a>,
+    ) -> Result<Option<usize>, Failure<'a>> {
+        if let Some(class) = self.class_named(self.peek()) {
+            self.at = self.at.saturating_add(1);
+            self.expect("::=")?;
+            let set = self.object_set(name, class)?;
+            module.sets.push(set)?;
+            return Ok(None);
+        }
+        let of = self.whole_type()?;
+        self.expect("::=")?;
+        let constraint = Constraint::Unread(self.peek());
+        self.braces()?;
+        self.add_constraints(of, vec![in self.alloc; constraint]?)?;
+        Ok(Some(of))
     }
 }

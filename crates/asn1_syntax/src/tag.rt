@@ -17,6 +17,7 @@ pub struct Tag {
 pub struct TagPrefix {
     /// The tag.
     pub tag: Tag,
-    /// Whether the tag of the type behind it is kept; `None` if neither word is written.
+    /// Whether the tag of the type behind it is kept. `None` says that it is not, unless the type has
+    /// none: neither word is written, and the module does not say that tags are explicit.
     pub tagging: Option<Tagging>,
 }

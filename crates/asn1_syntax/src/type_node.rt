@@ -16,7 +16,7 @@ pub struct TypeNode<'a> {
     pub form: TypeForm<'a>,
     /// The constraints behind it, and the size in front of the items of a list.
     pub constraints: Vec<Constraint<'a>>,
-    /// The extension mark of an ENUMERATED, a SEQUENCE or a CHOICE, if it has one.
+    /// The extension mark of an ENUMERATED, a SEQUENCE, a SET or a CHOICE, if it has one.
     pub mark: Option<Mark<'a>>,
 }
 
@@ -45,6 +45,8 @@ pub enum TypeForm<'a> {
     Reference,
     /// A SEQUENCE of these components.
     Sequence(Vec<Component<'a>>),
+    /// A SET of these components, in the order in which they are written.
+    Set(Vec<Component<'a>>),
     /// A CHOICE of these alternatives.
     Choice(Vec<Component<'a>>),
     /// A SEQUENCE OF the type with this index.

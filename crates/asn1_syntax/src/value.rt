@@ -23,6 +23,8 @@ pub enum ValueForm<'a> {
     Negative(u64),
     /// As items in braces.
     Braces(Vec<Item<'a>>),
+    /// In another form, which is not read.
+    Unread,
 }
 
 impl<'a> Value<'a> {
@@ -31,8 +33,10 @@ impl<'a> Value<'a> {
     pub fn is_written_for(&self, form: &TypeForm<'a>) -> bool {
         match (&self.form, form) {
             (_, TypeForm::Simple(SimpleType::Any | SimpleType::Unknown(_))) => true,
+            (ValueForm::Unread, _) => true,
             (ValueForm::Negative(_), _) => false,
             (ValueForm::Braces(_), TypeForm::Sequence(_) | TypeForm::BitString(_)) => true,
+            (ValueForm::Braces(_), TypeForm::Set(_)) => true,
             (ValueForm::Braces(_), TypeForm::SequenceOf(_) | TypeForm::SetOf(_)) => true,
             (ValueForm::Braces(_), TypeForm::Simple(simple)) => simple.is_text(),
             (ValueForm::Braces(_), _) => false,

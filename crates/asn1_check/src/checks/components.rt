@@ -3,17 +3,18 @@
 use super::tags::copy_at;
 use crate::module::Module;
 use crate::tag_set::TagSet;
-use asn1_syntax::{Component, Failure, Presence, Refusal, Tag, TagClass, TagDefault, TypeForm};
+use asn1_syntax::{Component, Failure, Presence, Refusal, Tag, TagClass, TypeForm};
 use std::alloc::{AllocError, Global};
 
-/// The tags of all alternatives; refuses one whose tags an alternative before it has (X.680, 29.3).
+/// The tags of all alternatives, or components of a SET; refuses one whose tags one before it has
+/// (X.680, 27.3 and 29.3).
 pub fn check_alternatives<'a>(
     alloc: Global,
     module: &Module<'a>,
     table: &Vec<TagSet>,
     alternatives: &Vec<Component<'a>>,
 ) -> Result<TagSet, Failure<'a>> {
-    let are_numbered = are_numbered(module, alternatives);
+    let are_numbered = are_numbered(alternatives);
     check_additions(module, alternatives, are_numbered)?;
     let mut before = TagSet::empty(alloc);
     for (count, alternative) in alternatives.iter().enumerate() {
@@ -36,7 +37,7 @@ pub fn check_sequence<'a>(
     table: &Vec<TagSet>,
     components: &Vec<Component<'a>>,
 ) -> Result<(), Failure<'a>> {
-    let are_numbered = are_numbered(module, components);
+    let are_numbered = are_numbered(components);
     check_additions(module, components, are_numbered)?;
     let mut before = TagSet::empty(alloc);
     for (count, component) in components.iter().enumerate() {
@@ -81,7 +82,7 @@ fn check_additions<'a>(
     are_numbered: bool,
 ) -> Result<(), Refusal<'a>> {
     for component in components.iter() {
-        if are_numbered && is_tagged(module, component.of) {
+        if are_numbered && component.is_addition && is_tagged(module, component.of) {
             let expected =
                 "an addition without a tag, since the components in front of it have none";
             return Err(Refusal::of(component.name, expected));
@@ -93,34 +94,15 @@ fn check_additions<'a>(
 /// The number of the component with this index, where components get tags by their numbers: those
 /// that are no additions are counted first (X.680, 25.7).
 pub fn automatic_number(components: &Vec<Component<'_>>, index: usize) -> usize {
-    let is_addition = match components.get(index) {
-        Some(component) => component.is_addition,
-        None => false,
-    };
-    let before = components
-        .iter()
-        .take(index)
-        .filter(|other| other.is_addition == is_addition)
-        .count();
-    if !is_addition {
-        return before;
+    match components.get(index) {
+        Some(component) => component.number.unwrap_or(0),
+        None => 0,
     }
-    let roots = components.iter().filter(|other| !other.is_addition).count();
-    before.saturating_add(roots)
 }
 
-/// Whether these components get tags by their numbers: the module has AUTOMATIC TAGS, and none of
-/// them is written with a tag, additions aside (X.680, 25.2).
-pub fn are_numbered(module: &Module<'_>, components: &Vec<Component<'_>>) -> bool {
-    if module.tags != TagDefault::Automatic {
-        return false;
-    }
-    for component in components.iter() {
-        if !component.is_addition && is_tagged(module, component.of) {
-            return false;
-        }
-    }
-    true
+/// Whether these components get tags by their numbers (X.680, 25.2).
+pub fn are_numbered(components: &Vec<Component<'_>>) -> bool {
+    components.iter().any(|component| component.number.is_some())
 }
 
 fn is_tagged(module: &Module<'_>, index: usize) -> bool {

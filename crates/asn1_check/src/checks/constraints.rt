@@ -27,7 +27,7 @@ fn check_node<'a>(
             Constraint::Range(range) => check_range(module, index, form, range)?,
             Constraint::Size(size) => check_size(form, size)?,
             Constraint::Containing(_) if has_contents(form) => {}
-            Constraint::Unread(_) => {}
+            Constraint::Unread(_) | Constraint::Table(_) => {}
             Constraint::Containing(_) => {
                 return Err(Refusal::of(
                     node.item,

@@ -61,9 +61,10 @@ fn check_node<'a>(
 ) -> Result<(), Failure<'a>> {
     match &node.form {
         TypeForm::Reference => Ok(check_reference(module, node.item)?),
-        TypeForm::Sequence(components) | TypeForm::Choice(components) => {
+        TypeForm::Sequence(components) | TypeForm::Set(components) => {
             check_components(alloc, components)
         }
+        TypeForm::Choice(components) => check_components(alloc, components),
         TypeForm::Integer(numbers) => check_numbers(alloc, module, numbers, true),
         TypeForm::BitString(numbers) => check_numbers(alloc, module, numbers, true),
         TypeForm::Enumerated(numbers) => check_numbers(alloc, module, numbers, false),

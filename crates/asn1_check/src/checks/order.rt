@@ -123,9 +123,9 @@ fn part_of(module: &Module<'_>, ready: &Vec<bool>, index: usize) -> usize {
     }
     match &node.form {
         TypeForm::Reference => find_type(module, node.item.text).unwrap_or(index),
-        TypeForm::Sequence(components) | TypeForm::Choice(components) => {
-            component_of(ready, components).unwrap_or(index)
-        }
+        TypeForm::Sequence(components)
+        | TypeForm::Set(components)
+        | TypeForm::Choice(components) => component_of(ready, components).unwrap_or(index),
         TypeForm::SequenceOf(of) | TypeForm::SetOf(of) | TypeForm::Tagged(_, of) => *of,
         _ => index,
     }

@@ -46,9 +46,9 @@ impl Parts {
                 Some(of) => self.add(index, of),
                 None => Ok(()),
             },
-            TypeForm::Sequence(components) | TypeForm::Choice(components) => {
-                self.add_components(index, components)
-            }
+            TypeForm::Sequence(components)
+            | TypeForm::Set(components)
+            | TypeForm::Choice(components) => self.add_components(index, components),
             TypeForm::SequenceOf(of) | TypeForm::SetOf(of) | TypeForm::Tagged(_, of) => {
                 self.add(index, *of)
             }

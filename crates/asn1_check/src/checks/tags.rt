@@ -50,6 +50,10 @@ fn tags_of<'a>(
             check_sequence(alloc, module, table, components)?;
             Ok(tags_of_form(alloc, &node.form)?)
         }
+        TypeForm::Set(components) => {
+            check_alternatives(alloc, module, table, components)?;
+            Ok(tags_of_form(alloc, &node.form)?)
+        }
         form => Ok(tags_of_form(alloc, form)?),
     }
 }
@@ -70,7 +74,7 @@ fn tag_number(form: &TypeForm<'_>) -> Option<u64> {
         TypeForm::BitString(_) => Some(3),
         TypeForm::Enumerated(_) => Some(10),
         TypeForm::Sequence(_) | TypeForm::SequenceOf(_) => Some(16),
-        TypeForm::SetOf(_) => Some(17),
+        TypeForm::Set(_) | TypeForm::SetOf(_) => Some(17),
         _ => None,
     }
 }

@@ -96,6 +96,7 @@ fn resolved_constraints<'a>(
             Constraint::Range(range) => Constraint::Range(resolved_range(scope, index, range)?),
             Constraint::Size(size) => Constraint::Size(resolved_range(scope, usize::MAX, size)?),
             Constraint::Containing(of) => Constraint::Containing(of),
+            Constraint::Table(number) => Constraint::Table(number),
             Constraint::Unread(item) => Constraint::Unread(item),
         })?;
     }

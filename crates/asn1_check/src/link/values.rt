@@ -76,6 +76,9 @@ fn constant_of<'a>(
 ) -> Result<Option<Constant>, Failure<'a>> {
     let scope = Scope { module, known };
     let value = &assigned.value;
+    if matches!(value.form, ValueForm::Unread) {
+        return Ok(Some(Constant::Other));
+    }
     match base_form(module, assigned.of) {
         Some(TypeForm::Integer(numbers)) => Ok(integer(&scope, numbers, value)?),
         Some(TypeForm::Simple(SimpleType::Boolean)) => Ok(boolean(&scope, value)?),

@@ -64,7 +64,9 @@ impl<'a> Used<'a> {
         }
         match &node.form {
             TypeForm::Reference => self.names.push(node.item)?,
-            TypeForm::Sequence(components) => self.add_defaults(components)?,
+            TypeForm::Sequence(components) | TypeForm::Set(components) => {
+                self.add_defaults(components)?;
+            }
             TypeForm::Integer(numbers) | TypeForm::BitString(numbers) => {
                 self.add_numbers(numbers)?;
             }

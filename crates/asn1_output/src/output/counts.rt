@@ -1,8 +1,8 @@
-//! How many components the compiler takes.
+//! Types for which there is text, and how many components they have.
 
 use super::directive::own_type;
 use asn1_check::Module;
-use asn1_syntax::{Component, Refusal, TypeForm, TypeNode};
+use asn1_syntax::{Component, Refusal, TagClass, TypeForm, TypeNode};
 use std::alloc::AllocError;
 
 /// The most fields of a SEQUENCE: the checker proves no more.
@@ -11,8 +11,8 @@ const MOST_FIELDS: usize = 10;
 /// The most alternatives of a CHOICE.
 const MOST_ALTERNATIVES: usize = 25;
 
-/// Adds the refusal of each SEQUENCE and each CHOICE that has too many components, unless its type
-/// of Rust is written by hand.
+/// Adds the refusal of each SEQUENCE and each CHOICE that has too many components, and of each type
+/// for which there is no text, unless its type of Rust is written by hand.
 pub fn add_counts<'a>(module: &Module<'a>, found: &mut Vec<Refusal<'a>>) -> Result<(), AllocError> {
     for (index, node) in module.nodes.iter().enumerate() {
         if own_type(module, index).is_none()
@@ -33,6 +33,10 @@ fn check_node<'a>(node: &TypeNode<'a>) -> Result<(), Refusal<'a>> {
         TypeForm::Choice(components) => {
             let expected = "a CHOICE of 1 to 25 alternatives";
             check_count(node, components, MOST_ALTERNATIVES, expected)
+        }
+        TypeForm::Set(_) => Err(Refusal::of(node.item, "no SET with components")),
+        TypeForm::Tagged(prefix, _) if prefix.tag.class == TagClass::Universal => {
+            Err(Refusal::of(node.item, "no tag of the class UNIVERSAL"))
         }
         _ => Ok(()),
     }

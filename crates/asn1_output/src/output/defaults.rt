@@ -86,7 +86,7 @@ pub fn default_type<'a>(
         return Err(not_written(value));
     };
     let text = match place.numbered {
-        Some(prefix) => behind_tag(alloc, module, prefix, text.as_str())?,
+        Some(prefix) => behind_tag(alloc, prefix, text.as_str())?,
         None => text,
     };
     Ok(DefaultType {

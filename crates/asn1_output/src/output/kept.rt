@@ -73,7 +73,7 @@ fn tags_around(
     components: &Vec<Component<'_>>,
     insertion: usize,
 ) -> Result<TagSet, AllocError> {
-    let are_numbered = are_numbered(module, components);
+    let are_numbered = are_numbered(components);
     let mut known = TagSet::empty(alloc);
     for (count, component) in components.iter().enumerate() {
         let number = automatic_number(components, count);
@@ -97,12 +97,12 @@ fn closed_choices(alloc: Global, module: &Module<'_>) -> Result<Vec<bool>, Alloc
     let mut closed = vec![in alloc; false; module.nodes.len()]?;
     for node in module.nodes.iter() {
         match &node.form {
-            TypeForm::Choice(parts) if !are_numbered(module, parts) => {
+            TypeForm::Choice(parts) if !are_numbered(parts) => {
                 for part in parts.iter() {
                     close(module, &mut closed, part.of);
                 }
             }
-            TypeForm::Sequence(parts) if !are_numbered(module, parts) => {
+            TypeForm::Sequence(parts) if !are_numbered(parts) => {
                 close_parts(module, &mut closed, node, parts);
             }
             _ => {}

@@ -193,7 +193,7 @@ impl<'m, 'a> Written<'m, 'a> {
         pieces: &mut Pieces,
         components: &Vec<Component<'a>>,
     ) -> Result<(), Failure<'a>> {
-        if are_numbered(self.module, components) {
+        if are_numbered(components) {
             for component in components.iter() {
                 self.add_tagged_choice(alloc, pieces, component.of)?;
             }

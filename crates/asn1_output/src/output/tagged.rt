@@ -3,7 +3,7 @@
 use super::directive::{name_of_type, own_type};
 use super::numbers::bounds;
 use asn1_check::{Module, RustKind, RustType, base_of, find_type};
-use asn1_syntax::{Tag, TagClass, TagDefault, TagPrefix, Tagging, TypeForm};
+use asn1_syntax::{Tag, TagClass, TagPrefix, Tagging, TypeForm};
 use std::alloc::{AllocError, Global};
 
 /// The type of a tag in front of the type with the index `of`.
@@ -21,7 +21,7 @@ pub fn tagged(
         RustKind::Choice => tagged_choice(alloc, found, prefix.tag),
         RustKind::Any => wrapped(alloc, "ExplicitAny", "'a", prefix.tag),
         RustKind::Element => {
-            let word = word_of(tagging(module, prefix.tagging));
+            let word = word_of(tagging(prefix.tagging));
             wrapped(alloc, word, found.text.as_str(), prefix.tag)
         }
     }
@@ -43,12 +43,8 @@ pub fn tagged_name(alloc: Global, choice: &RustType) -> Result<String, AllocErro
 }
 
 // How a tag is put in front of a type with a tag.
-fn tagging(module: &Module<'_>, written: Option<Tagging>) -> Tagging {
-    match (written, module.tags) {
-        (Some(tagging), _) => tagging,
-        (None, TagDefault::Explicit) => Tagging::Explicit,
-        (None, TagDefault::Implicit | TagDefault::Automatic) => Tagging::Implicit,
-    }
+fn tagging(written: Option<Tagging>) -> Tagging {
+    written.unwrap_or(Tagging::Implicit)
 }
 
 fn word_of(tagging: Tagging) -> &'static str {
@@ -94,7 +90,7 @@ pub fn behind_tags(
     };
     let mut text = inside;
     for prefix in prefixes.iter().rev() {
-        text = behind_tag(alloc, module, *prefix, text.as_str())?;
+        text = behind_tag(alloc, *prefix, text.as_str())?;
     }
     Ok(Some(text))
 }
@@ -102,16 +98,10 @@ pub fn behind_tags(
 /// The type of this tag in front of the type of an element.
 pub fn behind_tag(
     alloc: Global,
-    module: &Module<'_>,
     prefix: TagPrefix,
     inside: &str,
 ) -> Result<String, AllocError> {
-    wrapped_text(
-        alloc,
-        word_of(tagging(module, prefix.tagging)),
-        inside,
-        prefix.tag,
-    )
+    wrapped_text(alloc, word_of(tagging(prefix.tagging)), inside, prefix.tag)
 }
 
 // The tags of the type with this index, and of those that it names, the first one first.

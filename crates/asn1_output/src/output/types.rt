@@ -332,7 +332,7 @@ pub fn automatic_tag(
     components: &Vec<Component<'_>>,
     count: usize,
 ) -> Option<TagPrefix> {
-    if !are_numbered(module, components) {
+    if !are_numbered(components) {
         return None;
     }
     Some(numbered(automatic_number(components, count)))

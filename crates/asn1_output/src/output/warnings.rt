@@ -133,6 +133,7 @@ fn add_node<'a>(
                 add_item(alloc, found, node.item, CONTENTS)?;
             }
             Constraint::Containing(_) => {}
+            Constraint::Table(_) => add_item(alloc, found, node.item, UNREAD)?,
             Constraint::Unread(item) => add_item(alloc, found, *item, UNREAD)?,
             Constraint::Range(range) => {
                 add_range(alloc, written.module, found, index, range)?;

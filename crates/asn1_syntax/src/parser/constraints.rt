@@ -1,10 +1,12 @@
 //! Constraints.
 
+use super::places::Place;
 use super::{Parser, refused};
 use crate::constraint::Constraint;
 use crate::failure::Failure;
 use crate::item::Item;
 use crate::item_kind::ItemKind;
+use crate::object_set::TableUse;
 use crate::range::Range;
 
 impl<'a> Parser<'a> {
@@ -24,6 +26,68 @@ impl<'a> Parser<'a> {
             return self.unread(item);
         }
         Ok(constraint)
+    }
+
+    /// Parses a constraint which says that a field of a class stands in the objects of a set, if this is
+    /// one, up to the parenthesis behind it (X.682, 10).
+    pub(super) fn table(
+        &mut self,
+        field: Option<Item<'a>>,
+    ) -> Result<Option<Constraint<'a>>, Failure<'a>> {
+        let (Some(field), true) = (field, self.peek().is("{")) else {
+            return Ok(None);
+        };
+        let members = self.set_members()?;
+        self.braces()?;
+        let mut by = None;
+        if self.peek().is("{") {
+            for item in self.braces()?.iter() {
+                if item.kind == ItemKind::LowerName {
+                    by = Some(*item);
+                }
+            }
+        }
+        let number = self.tables.len();
+        self.tables.push(TableUse { field, members, by })?;
+        Ok(Some(Constraint::Table(number)))
+    }
+
+    // The names of the sets and of the objects in the braces that stand here, or for which a name in
+    // them stands.
+    fn set_members(&self) -> Result<Vec<Item<'a>>, Failure<'a>> {
+        let mut place = Place {
+            at: self.at,
+            frame: self.frame,
+            is_argument: true,
+        };
+        for _ in 0..=self.frames.len() {
+            if self.item_at(place.at).is("{") {
+                place.at = place.at.saturating_add(1);
+            }
+            match self.find_at(place.frame, self.item_at(place.at).text) {
+                Some(argument) if argument.is_argument => place = argument,
+                _ => break,
+            }
+        }
+        let mut members = Vec::new(self.alloc);
+        for at in place.at..self.items.len() {
+            let item = self.item_at(at);
+            if item.kind == ItemKind::LowerName || Parser::is_reference(item) {
+                members.push(self.own_name_at(place.frame, item)?)?;
+            } else if !item.is("|") && !item.is("...") && !item.is("UNION") {
+                break;
+            }
+        }
+        Ok(members)
+    }
+
+    /// Moves past `ENCODED BY` and the value behind it (X.682, 11).
+    pub(super) fn encoded_by(&mut self) -> Result<(), Failure<'a>> {
+        if self.takes("ENCODED") {
+            self.expect("BY")?;
+            self.value()?;
+        }
+        Ok(())
     }
 
     /// Parses the size behind the word SIZE.

@@ -4,34 +4,14 @@ use super::{Parser, refused};
 use crate::failure::Failure;
 use crate::item::Item;
 use crate::item_kind::ItemKind;
-use crate::module::{Import, ParsedModule};
-use crate::module_index::ModuleIndex;
+use crate::module::Import;
 use crate::tagging::TagDefault;
 
 const NO_MARKS: &str = "types get no extension marks: what they do not name is refused";
 
 impl<'a> Parser<'a> {
-    /// Parses up to the first assignment: a module without types and values.
-    pub(super) fn head(&mut self) -> Result<ParsedModule<'a>, Failure<'a>> {
-        let (name, tags) = self.header()?;
-        let exports = self.exports()?;
-        let imports = self.imports()?;
-        Ok(ParsedModule {
-            name,
-            tags,
-            imports,
-            exports,
-            types: Vec::new(self.alloc),
-            values: Vec::new(self.alloc),
-            nodes: Vec::new(self.alloc),
-            left_out: Vec::new(self.alloc),
-            index: ModuleIndex::new(self.alloc),
-            warnings: Vec::new(self.alloc),
-        })
-    }
-
-    // Parses up to `BEGIN`: the name of the module, and what it says of its tags.
-    fn header(&mut self) -> Result<(Item<'a>, TagDefault), Failure<'a>> {
+    /// Parses up to `BEGIN`: the name of the module, and what it says of its tags.
+    pub(super) fn header(&mut self) -> Result<(Item<'a>, TagDefault), Failure<'a>> {
         let name = self.module_name()?;
         self.expect("DEFINITIONS")?;
         let tags = self.tag_default()?;
@@ -58,8 +38,8 @@ impl<'a> Parser<'a> {
         Ok(tags)
     }
 
-    // Parses `EXPORTS`, and returns the names behind it.
-    fn exports(&mut self) -> Result<Vec<Item<'a>>, Failure<'a>> {
+    /// Parses `EXPORTS`, and returns the names behind it.
+    pub(super) fn exports(&mut self) -> Result<Vec<Item<'a>>, Failure<'a>> {
         let mut names = Vec::new(self.alloc);
         if !self.takes("EXPORTS") {
             return Ok(names);
@@ -80,8 +60,8 @@ impl<'a> Parser<'a> {
         Err(refused(self.peek(), ";"))
     }
 
-    // Parses `IMPORTS`.
-    fn imports(&mut self) -> Result<Vec<Import<'a>>, Failure<'a>> {
+    /// Parses `IMPORTS`.
+    pub(super) fn imports(&mut self) -> Result<Vec<Import<'a>>, Failure<'a>> {
         let mut imports = Vec::new(self.alloc);
         if !self.takes("IMPORTS") {
             return Ok(imports);

@@ -126,10 +126,12 @@ impl<'a> Parser<'a> {
     }
 }
 
-fn opens(item: Item<'_>) -> bool {
+/// Whether brackets open at this item.
+pub fn opens(item: Item<'_>) -> bool {
     item.is("{") || item.is("(") || item.is("[") || item.is("[[")
 }
 
-fn closes(item: Item<'_>) -> bool {
+/// Whether brackets close at this item.
+pub fn closes(item: Item<'_>) -> bool {
     item.is("}") || item.is(")") || item.is("]") || item.is("]]")
 }

@@ -1,6 +1,6 @@
 //! Numbers, and names of numbers.
 
-use super::{Parser, refused};
+use super::{Parser, refused, unsupported};
 use crate::endpoint::Endpoint;
 use crate::failure::Failure;
 use crate::item::Item;
@@ -20,6 +20,27 @@ impl<'a> Parser<'a> {
         }
     }
 
+    /// Parses the number of a tag, which may be the name of a number.
+    pub(super) fn tag_number(&mut self) -> Result<u64, Failure<'a>> {
+        let item = self.peek();
+        if item.kind != ItemKind::LowerName {
+            return self.number();
+        }
+        let Some(place) = self.find(item.text) else {
+            return self.number();
+        };
+        self.at = self.at.saturating_add(1);
+        let at = if place.is_argument {
+            self.behind_parameters(place).at
+        } else {
+            place.at.saturating_add(3)
+        };
+        match self.item_at(at).text.parse::<u64>() {
+            Ok(number) => Ok(number),
+            Err(_) => Err(unsupported(item, "a number, or the name of one")),
+        }
+    }
+
     /// Parses an end of a range, or a number that may have a name.
     pub(super) fn endpoint(&mut self) -> Result<Endpoint<'a>, Failure<'a>> {
         if self.takes("MIN") {
@@ -34,12 +55,33 @@ impl<'a> Parser<'a> {
         let item = self.peek();
         if item.kind == ItemKind::LowerName {
             self.at = self.at.saturating_add(1);
-            return Ok(Endpoint::Name(item));
+            return self.named_endpoint(item);
         }
         if item.kind != ItemKind::Number {
             return Err(refused(item, "a number, or the name of one"));
         }
         Ok(Endpoint::Number(self.number()?))
+    }
+
+    // The number for which a name stands: an argument, or a value.
+    fn named_endpoint(&mut self, item: Item<'a>) -> Result<Endpoint<'a>, Failure<'a>> {
+        let argument = match self.find(item.text) {
+            Some(place) if place.is_argument => self.behind_parameters(place),
+            _ => return Ok(Endpoint::Name(self.own_name(item)?)),
+        };
+        let of = Item {
+            offset: item.offset,
+            ..self.item_at(argument.at)
+        };
+        match of.kind {
+            ItemKind::LowerName => Ok(Endpoint::Name(self.own_name_at(argument.frame, of)?)),
+            ItemKind::UpperName if of.text == "MAX" => Ok(Endpoint::Max),
+            ItemKind::UpperName if of.text == "MIN" => Ok(Endpoint::Min),
+            _ => match of.text.parse::<u64>() {
+                Ok(number) => Ok(Endpoint::Number(number)),
+                Err(_) => Err(unsupported(item, "a number, or the name of one")),
+            },
+        }
     }
 
     /// Parses names with numbers in braces: named numbers or named bits.

@@ -10,7 +10,7 @@ use crate::reserved::is_reserved;
 use crate::simple_type::SimpleType;
 use crate::tag::{Tag, TagPrefix};
 use crate::tag_class::TagClass;
-use crate::tagging::Tagging;
+use crate::tagging::{TagDefault, Tagging};
 use crate::type_node::{Mark, TypeForm, TypeNode};
 
 impl<'a> Parser<'a> {
@@ -19,18 +19,47 @@ impl<'a> Parser<'a> {
     pub(super) fn type_at(&mut self, depth: u32) -> Result<usize, Failure<'a>> {
         let item = self.next();
         if depth == 0 {
-            return Err(refused(item, "at most 64 types around a type"));
+            return Err(self.too_deep(item));
         }
         let mut constraints = Vec::new(self.alloc);
+        if let Some(back) = self.expand(item)? {
+            let of = self.type_at(depth - 1)?;
+            self.come_back(back);
+            self.constraint_behind(&mut constraints, depth - 1)?;
+            self.add_constraints(of, constraints)?;
+            return Ok(of);
+        }
         let mut mark = None;
         let form = self.form(item, &mut constraints, &mut mark, depth - 1)?;
         self.constraint_behind(&mut constraints, depth - 1)?;
+        let item = self.name_of(item, &form)?;
         self.add(TypeNode {
             item,
             form,
             constraints,
             mark,
         })
+    }
+
+    // The failure of a type that has too many around it, or leads back to itself by what stands in the
+    // place of names.
+    fn too_deep(&self, item: Item<'a>) -> Failure<'a> {
+        let expected = "at most 64 types around a type";
+        if self.frame < self.modules.len() {
+            return refused(item, expected);
+        }
+        unsupported(item, expected)
+    }
+
+    // The first item of a type that is made so; the name that no other module has, if it is a name.
+    fn name_of(&mut self, item: Item<'a>, form: &TypeForm<'a>) -> Result<Item<'a>, Failure<'a>> {
+        if !matches!(form, TypeForm::Reference) {
+            return Ok(item);
+        }
+        if self.find(item.text).is_none() {
+            self.import(item)?;
+        }
+        self.own_name(item)
     }
 
     // Parses how a type is made. The size of a list, which stands in front of its items, goes to
@@ -49,6 +78,9 @@ impl<'a> Parser<'a> {
         }
         if item.is("CHOICE") {
             return Ok(TypeForm::Choice(self.components(true, mark, depth)?));
+        }
+        if item.is("SET") && self.peek().is("{") {
+            return Ok(TypeForm::Set(self.components(false, mark, depth)?));
         }
         if item.is("SET") {
             return Ok(TypeForm::SetOf(self.list_of(constraints, depth)?));
@@ -95,9 +127,6 @@ impl<'a> Parser<'a> {
 
     // Parses the size of a list, if there is one.
     fn list_size(&mut self) -> Result<Option<Constraint<'a>>, Failure<'a>> {
-        if self.peek().is("{") {
-            return Err(unsupported(self.peek(), "OF (a SET with components is not supported)"));
-        }
         if self.peek().is("SIZE") {
             return Ok(Some(self.constraint()?));
         }
@@ -130,7 +159,9 @@ impl<'a> Parser<'a> {
             if self.takes_version(marks.len() == 1)? {
                 continue;
             }
-            if self.peek().is("...") {
+            if self.peek().is("COMPONENTS") && !is_choice {
+                self.components_of(&mut components, depth)?;
+            } else if self.peek().is("...") {
                 let insertion = components.len();
                 let item = self.component_mark(marks.len(), is_choice, insertion == 0)?;
                 marks.push(Mark { item, insertion })?;
@@ -142,6 +173,7 @@ impl<'a> Parser<'a> {
             self.component_end()?;
         }
         self.versions = versions;
+        self.number_components(&mut components);
         *mark = mark_of(&marks, components.len());
         if !is_choice {
             self.check_defined_by(start, &components)?;
@@ -171,7 +203,7 @@ impl<'a> Parser<'a> {
         is_addition: bool,
         depth: u32,
     ) -> Result<Component<'a>, Failure<'a>> {
-        let name = self.component_name()?;
+        let name = self.expect_kind(ItemKind::LowerName, "the name of a component")?;
         let of = self.type_at(depth)?;
         let presence = if is_choice {
             Presence::Required
@@ -183,14 +215,83 @@ impl<'a> Parser<'a> {
             of,
             presence,
             is_addition,
+            number: None,
         })
     }
 
-    fn component_name(&mut self) -> Result<Item<'a>, Failure<'a>> {
-        if self.peek().is("COMPONENTS") {
-            return Err(unsupported(self.peek(), "no COMPONENTS OF, which is not supported"));
+    // Parses COMPONENTS OF a type, and adds the components of that, but for additions (X.680, 25.5).
+    #[cycle(types)]
+    fn components_of(
+        &mut self,
+        components: &mut Vec<Component<'a>>,
+        depth: u32,
+    ) -> Result<(), Failure<'a>> {
+        self.at = self.at.saturating_add(1);
+        self.expect("OF")?;
+        let name = self.next();
+        let place = self.structure(name);
+        let (Some(place), false) = (place, depth == 0) else {
+            return Err(unsupported(name, "a SEQUENCE or a SET of a module that is given"));
+        };
+        self.count_expansion(name)?;
+        let mut mark = None;
+        let back = self.go(place, name, Vec::new(self.alloc))?;
+        let more = self.components(false, &mut mark, depth - 1)?;
+        self.come_back(back);
+        for component in more.into_iter() {
+            if !component.is_addition {
+                components.push(Component {
+                    number: Some(usize::MAX),
+                    ..component
+                })?;
+            }
         }
-        self.expect_kind(ItemKind::LowerName, "the name of a component")
+        Ok(())
+    }
+
+    // Numbers components in a module with AUTOMATIC TAGS, unless one of them is written with a tag:
+    // first those that are no additions (X.680, 25.2 and 25.7). Those of COMPONENTS OF are written
+    // elsewhere.
+    fn number_components(&self, components: &mut Vec<Component<'a>>) {
+        let mut is_numbered = self.module_tags() == TagDefault::Automatic;
+        for component in components.iter() {
+            let is_tagged = component.number.is_none() && self.is_tagged(component.of);
+            if is_tagged && !component.is_addition {
+                is_numbered = false;
+            }
+        }
+        let mut number = 0usize;
+        for component in components.iter_mut() {
+            component.number = None;
+            if is_numbered && !component.is_addition {
+                component.number = Some(number);
+                number = number.saturating_add(1);
+            }
+        }
+        for component in components.iter_mut() {
+            if is_numbered && component.is_addition {
+                component.number = Some(number);
+                number = number.saturating_add(1);
+            }
+        }
+    }
+
+    fn is_tagged(&self, index: usize) -> bool {
+        match self.nodes.get(index) {
+            Some(node) => matches!(&node.form, TypeForm::Tagged(_, _)),
+            None => false,
+        }
+    }
+
+    // What the module says of tags in which stands what is read.
+    fn module_tags(&self) -> TagDefault {
+        let Some(frame) = self.frames.get(self.frame) else {
+            return TagDefault::Explicit;
+        };
+        match self.modules.get(frame.module) {
+            Some(outline) => outline.tags,
+            None => TagDefault::Explicit,
+        }
     }
 
     // Parses whether a component may be absent, as any addition may: senders that know a former
@@ -215,12 +316,16 @@ impl<'a> Parser<'a> {
         constraints: &mut Vec<Constraint<'a>>,
         depth: u32,
     ) -> Result<(), Failure<'a>> {
+        let field = self.field.take();
         for _ in 0..self.items.len() {
             if !self.takes("(") {
                 break;
             }
             if self.takes("CONTAINING") {
                 constraints.push(Constraint::Containing(self.type_at(depth)?))?;
+                self.encoded_by()?;
+            } else if let Some(table) = self.table(field)? {
+                constraints.push(table)?;
             } else {
                 constraints.push(self.constraint()?)?;
             }
@@ -241,17 +346,19 @@ impl<'a> Parser<'a> {
             TagClass::Application
         } else if self.takes("PRIVATE") {
             TagClass::Private
-        } else if self.peek().is("UNIVERSAL") {
-            return Err(unsupported(self.peek(), "APPLICATION, PRIVATE or a number"));
+        } else if self.takes("UNIVERSAL") {
+            TagClass::Universal
         } else {
             TagClass::ContextSpecific
         };
-        let number = self.number()?;
+        let number = self.tag_number()?;
         self.expect("]")?;
         let tagging = if self.takes("EXPLICIT") {
             Some(Tagging::Explicit)
         } else if self.takes("IMPLICIT") {
             Some(Tagging::Implicit)
+        } else if self.module_tags() == TagDefault::Explicit {
+            Some(Tagging::Explicit)
         } else {
             None
         };
@@ -267,8 +374,8 @@ impl<'a> Parser<'a> {
         item: Item<'a>,
         mark: &mut Option<Mark<'a>>,
     ) -> Result<TypeForm<'a>, Failure<'a>> {
-        if item.kind == ItemKind::LowerName && self.peek().is("<") {
-            return Err(unsupported(item, "no alternative of a CHOICE, which is not supported"));
+        if let Some(simple) = self.field_type.take() {
+            return Ok(TypeForm::Simple(simple));
         }
         if item.kind != ItemKind::UpperName {
             return Err(refused(item, "a type"));
@@ -290,6 +397,19 @@ impl<'a> Parser<'a> {
                 Ok(TypeForm::Simple(SimpleType::ObjectIdentifier))
             }
             "ANY" => self.any(),
+            "EMBEDDED" => {
+                self.expect("PDV")?;
+                Ok(TypeForm::Simple(SimpleType::Unknown(11)))
+            }
+            "CHARACTER" => {
+                self.expect("STRING")?;
+                Ok(TypeForm::Simple(SimpleType::Unknown(29)))
+            }
+            "INSTANCE" => {
+                self.expect("OF")?;
+                self.at = self.at.saturating_add(1);
+                Ok(TypeForm::Simple(SimpleType::Unknown(8)))
+            }
             word => match SimpleType::of(word) {
                 Some(simple) => Ok(TypeForm::Simple(simple)),
                 None => self.reference(item),
@@ -315,19 +435,13 @@ impl<'a> Parser<'a> {
 
     fn reference(&mut self, item: Item<'a>) -> Result<TypeForm<'a>, Failure<'a>> {
         match item.text {
-            "CLASS" => Err(unsupported(item, "no class, which is not supported")),
-            "INSTANCE"
-            | "EXTERNAL"
-            | "EMBEDDED"
-            | "CHARACTER"
-            | "RELATIVE-OID"
-            | "ObjectDescriptor" => { Err(unsupported(item, "a type that is supported")) }
+            "CLASS" => Err(unsupported(item, "no class, which stands for no type")),
             word if is_reserved(word) => Err(refused(item, "a type")),
             _ if self.peek().is("{") => {
-                Err(unsupported(self.peek(), "no parameters, which are not supported"))
+                Err(unsupported(item, "a type with parameters of a module that is given"))
             }
-            _ if self.peek().is(".") => {
-                Err(unsupported(self.peek(), "no field of a class, which is not supported"))
+            _ if self.class_named(item).is_some() => {
+                Err(unsupported(item, "no class, which stands for no type"))
             }
             _ => Ok(TypeForm::Reference),
         }

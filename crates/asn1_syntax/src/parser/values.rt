@@ -11,8 +11,12 @@ impl<'a> Parser<'a> {
     pub(super) fn value(&mut self) -> Result<Value<'a>, Failure<'a>> {
         let item = self.peek();
         if item.is("{") {
-            let form = ValueForm::Braces(self.braces()?);
+            let form = ValueForm::Braces(self.named_items()?);
             return Ok(Value { item, form });
+        }
+        let behind = self.item_at(self.at.saturating_add(2));
+        if self.peek_second().is(":") || self.peek_second().is(".") || behind.is(".") {
+            return self.unread_value(item);
         }
         if self.takes("-") {
             let form = ValueForm::Negative(self.number()?);
@@ -20,15 +24,75 @@ impl<'a> Parser<'a> {
         }
         match item.kind {
             ItemKind::Symbol | ItemKind::End => Err(refused(item, "a value")),
-            _ if self.peek_second().is(":") || self.peek_second().is(".") => {
-                Err(unsupported(item, "a value of one item or in braces"))
-            }
             _ => {
                 self.at = self.at.saturating_add(1);
-                let form = ValueForm::Item;
-                Ok(Value { item, form })
+                self.item_value(item)
             }
         }
+    }
+
+    // The value that is this item, or for which it stands as a parameter.
+    fn item_value(&mut self, item: Item<'a>) -> Result<Value<'a>, Failure<'a>> {
+        let form = ValueForm::Item;
+        if item.kind != ItemKind::LowerName {
+            return Ok(Value { item, form });
+        }
+        let argument = match self.find(item.text) {
+            Some(place) if place.is_argument => self.behind_parameters(place),
+            _ => {
+                let item = self.own_name(item)?;
+                return Ok(Value { item, form });
+            }
+        };
+        let of = Item {
+            offset: item.offset,
+            ..self.item_at(argument.at)
+        };
+        if of.kind == ItemKind::Symbol {
+            let form = ValueForm::Unread;
+            return Ok(Value { item: of, form });
+        }
+        let item = self.own_name_at(argument.frame, of)?;
+        Ok(Value { item, form })
+    }
+
+    // Moves past a value in another form: an alternative of a CHOICE, a real number, or a name with
+    // that of its module.
+    fn unread_value(&mut self, item: Item<'a>) -> Result<Value<'a>, Failure<'a>> {
+        let form = ValueForm::Unread;
+        for _ in 0..self.items.len() {
+            let behind = self.peek_second();
+            if self.peek().is("-") {
+                self.at = self.at.saturating_add(1);
+            } else if behind.is(":") || behind.is(".") {
+                self.at = self.at.saturating_add(2);
+            } else {
+                break;
+            }
+        }
+        if self.peek().is("{") {
+            self.braces()?;
+        } else if self.peek().kind == ItemKind::Symbol || self.peek().kind == ItemKind::End {
+            return Err(unsupported(self.peek(), "a value"));
+        } else {
+            self.at = self.at.saturating_add(1);
+        }
+        Ok(Value { item, form })
+    }
+
+    // Moves past braces, and returns the items between them, with the names of values that no other
+    // module has.
+    fn named_items(&mut self) -> Result<Vec<Item<'a>>, Failure<'a>> {
+        let mut found = Vec::new(self.alloc);
+        let between = self.braces()?;
+        for item in between.iter() {
+            if item.kind == ItemKind::LowerName {
+                found.push(self.own_name(*item)?)?;
+            } else {
+                found.push(*item)?;
+            }
+        }
+        Ok(found)
     }
 
     /// Moves past braces, and returns the items between them.

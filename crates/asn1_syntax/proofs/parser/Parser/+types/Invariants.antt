@@ -18,3 +18,6 @@ decreases-list_of l = 10 * l.depth + 5
 
 abbrev pub decreases-component : goal.decreases-component
 decreases-component l = 10 * l.depth + 5
+
+abbrev pub decreases-components_of : goal.decreases-components_of
+decreases-components_of l = 10 * l.depth + 5

@@ -1,0 +1,103 @@
+//! Classes and their fields (X.681).
+
+use super::places::{Back, Place};
+use super::{Parser, unsupported};
+use crate::failure::Failure;
+use crate::item::Item;
+use crate::item_kind::ItemKind;
+use crate::simple_type::SimpleType;
+
+impl<'a> Parser<'a> {
+    /// Whether a class stands here behind `::=`.
+    pub(super) fn is_class(&self) -> bool {
+        let of = self.peek_second();
+        self.peek().is("::=") && (of.is("CLASS") || self.class_named(of).is_some())
+    }
+
+    /// The brace that opens the fields of the class with this name.
+    pub(super) fn class_named(&self, name: Item<'a>) -> Option<Place> {
+        if !Parser::is_reference(name) {
+            return None;
+        }
+        let mut found = self.find(name.text);
+        for _ in 0..16u32 {
+            let place = found?;
+            let at = if place.is_argument {
+                place.at
+            } else {
+                place.at.saturating_add(2)
+            };
+            if self.item_at(at).is("CLASS") {
+                return Some(Place {
+                    at: at.saturating_add(1),
+                    is_argument: false,
+                    ..place
+                });
+            }
+            found = self.find_at(place.frame, self.item_at(at).text);
+        }
+        None
+    }
+
+    /// Parses a field of a class, as a type. Moves to the type if the class has one for the field; else
+    /// the field has any type.
+    pub(super) fn class_field(&mut self, name: Item<'a>) -> Result<Option<Back>, Failure<'a>> {
+        self.at = self.at.saturating_add(1);
+        if !self.takes("&") {
+            return Err(unsupported(self.peek(), "& and a field of a class"));
+        }
+        let field = self.next();
+        if self.peek().is(".") {
+            return Err(unsupported(self.peek(), "one field of a class"));
+        }
+        self.field = Some(field);
+        let behind = match self.class_named(name) {
+            Some(class) => self.behind_field(class, field),
+            None if name.is("TYPE-IDENTIFIER") || name.is("ABSTRACT-SYNTAX") => {
+                self.field_type = Some(type_of_builtin(field));
+                return Ok(None);
+            }
+            None => return Err(unsupported(name, "a class of a module that is given")),
+        };
+        let Some(place) = behind else {
+            return Err(unsupported(field, "a field of its class"));
+        };
+        if field.kind == ItemKind::UpperName || self.item_at(place.at).is("&") {
+            self.field_type = Some(SimpleType::Any);
+            return Ok(None);
+        }
+        self.count_expansion(name)?;
+        Ok(Some(self.go(place, name, Vec::new(self.alloc))?))
+    }
+
+    /// The place behind the name of a field of the class whose fields stand in these braces.
+    pub(super) fn behind_field(&self, class: Place, field: Item<'a>) -> Option<Place> {
+        let end = self.end_of_group(class.at);
+        for at in class.at..end {
+            if self.item_at(at).is("&")
+                && self.item_at(at.saturating_add(1)).text == field.text
+                && self.begins_field(at)
+            {
+                return Some(Place {
+                    at: at.saturating_add(2),
+                    ..class
+                });
+            }
+        }
+        None
+    }
+
+    // Whether a field of a class, and no use of one, begins at this item.
+    fn begins_field(&self, at: usize) -> bool {
+        let before = self.item_at(at.saturating_sub(1));
+        before.is("{") || before.is(",")
+    }
+}
+
+// The type of a field of a class that is built in.
+fn type_of_builtin(field: Item<'_>) -> SimpleType {
+    match field.text {
+        "id" => SimpleType::ObjectIdentifier,
+        _ => SimpleType::Any,
+    }
+}
