@@ -205,7 +205,7 @@ fn left_out_of(
 }
 
 /// Prints why the module in the file `name` is refused.
-pub fn say_failure<R: AllocGlobal, W: Write>(
+fn say_failure<R: AllocGlobal, W: Write>(
     rt: &R,
     failure: &Failure<'_>,
     name: &str,

@@ -3,9 +3,8 @@
 use crate::directives::type_in;
 use crate::library::Library;
 use crate::identifiers::oid_octets;
-use crate::place::Place;
 use crate::wrong::Wrong;
-use asn1_check::{Constant, Module};
+use asn1_check::Constant;
 use asn1_syntax::{Item, Refusal, ValueAssignment};
 use std::alloc::Global;
 
@@ -20,10 +19,8 @@ pub struct Choice<'a> {
     pub table: &'a str,
     /// The contents octets of the OBJECT IDENTIFIER.
     pub identifier: Vec<u8>,
-    /// The type.
-    pub place: Place,
-    /// The index of the module with the comment.
-    module: usize,
+    /// The index of the type.
+    pub of: usize,
     /// The name of the value.
     name: Item<'a>,
 }
@@ -34,48 +31,32 @@ pub fn choices_of<'a>(
     library: &Library<'a>,
 ) -> Result<Vec<Choice<'a>>, Wrong<'a>> {
     let mut choices = Vec::new(alloc);
-    for (index, given) in library.modules.iter().enumerate() {
-        add_choices(alloc, library, index, &given.module, &mut choices)?;
+    for assigned in library.module.values.iter() {
+        add_value(alloc, library, assigned, &mut choices)?;
     }
     choices.sort_by(|one, other| one.identifier.as_slice().cmp(other.identifier.as_slice()))?;
     check_once(&choices)?;
     Ok(choices)
 }
 
-fn add_choices<'a>(
-    alloc: Global,
-    library: &Library<'a>,
-    index: usize,
-    module: &Module<'a>,
-    choices: &mut Vec<Choice<'a>>,
-) -> Result<(), Wrong<'a>> {
-    for assigned in module.values.iter() {
-        add_value(alloc, library, index, module, assigned, choices)?;
-    }
-    Ok(())
-}
-
 // Adds the types that the comment of a value gives to it.
 fn add_value<'a>(
     alloc: Global,
     library: &Library<'a>,
-    index: usize,
-    module: &Module<'a>,
     assigned: &ValueAssignment<'a>,
     choices: &mut Vec<Choice<'a>>,
 ) -> Result<(), Wrong<'a>> {
     for line in assigned.name.comments.lines() {
         if let Some((name, table)) = type_in(line)
-            && let Some(place) = library.commented(index, name)
+            && let Some(of) = library.commented(assigned.name.offset, name)
         {
-            let Some(Constant::ObjectIdentifier(arcs)) = module.constants.find(assigned.name.text) else {
-                return Err(Wrong::Refused(index, Refusal::of(assigned.name, NO_IDENTIFIER)));
+            let Some(Constant::ObjectIdentifier(arcs)) = library.module.constants.find(assigned.name.text) else {
+                return Err(Wrong::Refused(Refusal::of(assigned.name, NO_IDENTIFIER)));
             };
             choices.push(Choice {
                 table,
                 identifier: oid_octets(alloc, arcs)?,
-                place,
-                module: index,
+                of,
                 name: assigned.name,
             })?;
         }
@@ -87,7 +68,7 @@ fn add_value<'a>(
 fn check_once<'a>(choices: &Vec<Choice<'a>>) -> Result<(), Wrong<'a>> {
     for (at, choice) in choices.iter().enumerate() {
         if is_again(choices, at, choice) {
-            return Err(Wrong::Refused(choice.module, Refusal::of(choice.name, TWICE)));
+            return Err(Wrong::Refused(Refusal::of(choice.name, TWICE)));
         }
     }
     Ok(())

@@ -23,7 +23,7 @@ pub fn simple_contents(
             None => Ok(None),
         },
         (SimpleType::Null, Some(item)) if item.is("NULL") => Ok(Some(Vec::new(alloc))),
-        (SimpleType::ObjectIdentifier, Some(item)) => identifier(alloc, library, words.module, item),
+        (SimpleType::ObjectIdentifier, Some(item)) => identifier(alloc, library, item),
         (SimpleType::OctetString, Some(item)) => match digits_of(alloc, item)? {
             Some((octets, _)) => Ok(Some(octets)),
             None => Ok(None),
@@ -40,7 +40,7 @@ fn truth(library: &Library<'_>, words: Words<'_, '_>) -> Option<bool> {
         "FALSE" => return Some(false),
         _ => {}
     }
-    match library.module(words.module)?.constants.find(item.text)? {
+    match library.module.constants.find(item.text)? {
         Constant::Boolean(is_true) => Some(*is_true),
         _ => None,
     }
@@ -49,13 +49,9 @@ fn truth(library: &Library<'_>, words: Words<'_, '_>) -> Option<bool> {
 fn identifier(
     alloc: Global,
     library: &Library<'_>,
-    module: usize,
     item: Item<'_>,
 ) -> Result<Option<Vec<u8>>, AllocError> {
-    let Some(module) = library.module(module) else {
-        return Ok(None);
-    };
-    match module.constants.find(item.text) {
+    match library.module.constants.find(item.text) {
         Some(Constant::ObjectIdentifier(arcs)) => Ok(Some(oid_octets(alloc, arcs)?)),
         _ => Ok(None),
     }
@@ -106,7 +102,7 @@ fn number_of<'a>(
             return named.number;
         }
     }
-    library.module(words.module)?.constants.find(item.text)?.number()
+    library.module.constants.find(item.text)?.number()
 }
 
 /// The contents of a BIT STRING with these names of bits.

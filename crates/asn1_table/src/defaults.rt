@@ -4,8 +4,7 @@ use crate::contents::{bit_contents, number_contents, simple_contents};
 use crate::fields::wanted_of;
 use crate::library::Library;
 use crate::opener::Opener;
-use crate::place::Place;
-use crate::reach::{place_in, reach};
+use crate::reach::reach;
 use crate::values::{Words, WordsForm, value_named};
 use crate::wanted::{Wanted, numbers_of};
 use crate::wrong::Wrong;
@@ -15,16 +14,15 @@ use std::alloc::{AllocError, Global};
 /// The greatest number of values around a value, counted with names and tags.
 const MAX_DEPTH: u32 = 64;
 
-/// The encoding under DER of a default, which is written in a module; `None` for one that is not known.
+/// The encoding under DER of a default, `None` for one that is not known.
 pub fn default_of<'a>(
     alloc: Global,
     library: &Library<'a>,
     wanted: &Wanted<'a>,
-    module: usize,
     value: &Value<'a>,
 ) -> Result<Option<Vec<u8>>, Wrong<'a>> {
     let one = [value.item];
-    let words = Words::of_value(module, value, &one);
+    let words = Words::of_value(value, &one);
     encoding(alloc, library, *wanted, words, MAX_DEPTH)
 }
 
@@ -37,7 +35,7 @@ fn encoding<'a>(
     words: Words<'_, 'a>,
     depth: u32,
 ) -> Result<Option<Vec<u8>>, Wrong<'a>> {
-    let Some(node) = library.node(wanted.place) else {
+    let Some(node) = library.node(wanted.index) else {
         return Ok(None);
     };
     if depth == 0 {
@@ -54,14 +52,14 @@ fn encoding<'a>(
     }
     match &node.form {
         TypeForm::Tagged(prefix, of) => {
-            let inside = reach(library, place_in(wanted.place, *of), None, Opener::NONE)?;
+            let inside = reach(library, *of, None, Opener::NONE)?;
             let contents = encoding(alloc, library, inside, words, depth - 1)?;
             let tag = numbers_of(wanted.tag.unwrap_or(prefix.tag));
             Ok(element(alloc, tag, true, contents)?)
         }
         TypeForm::Simple(SimpleType::Any) => open_value(alloc, library, words, depth - 1),
         form => {
-            let contents = contents_of(alloc, library, wanted, form, words, depth - 1)?;
+            let contents = contents_of(alloc, library, form, words, depth - 1)?;
             if contents.is_none() && words.name().is_some() {
                 return named(alloc, library, wanted, words, depth - 1);
             }
@@ -86,11 +84,11 @@ fn named<'a>(
     let Some(name) = words.name() else {
         return Ok(None);
     };
-    let Some((module, value)) = value_named(library, words.module, name.text) else {
+    let Some(value) = value_named(library, name.text) else {
         return Ok(None);
     };
     let one = [value.item];
-    encoding(alloc, library, wanted, Words::of_value(module, value, &one), depth - 1)
+    encoding(alloc, library, wanted, Words::of_value(value, &one), depth - 1)
 }
 
 // The encoding of a value with its type in front of it.
@@ -104,7 +102,7 @@ fn open_value<'a>(
     let Some((of, inside)) = split(words.items) else {
         return Ok(None);
     };
-    let Some(words) = Words::of(words.module, inside) else {
+    let Some(words) = Words::of(inside) else {
         return Ok(None);
     };
     if depth == 0 {
@@ -115,9 +113,9 @@ fn open_value<'a>(
         let tag = (0, number_of(&TypeForm::Simple(simple)));
         return Ok(element(alloc, tag, false, contents)?);
     }
-    match library.find(words.module, of.text) {
-        Some(place) => {
-            let wanted = reach(library, place, None, Opener::NONE)?;
+    match library.find_anywhere(of.text) {
+        Some(index) => {
+            let wanted = reach(library, index, None, Opener::NONE)?;
             encoding(alloc, library, wanted, words, depth - 1)
         }
         None => Ok(None),
@@ -147,7 +145,6 @@ fn simple_type(of: Item<'_>) -> Option<SimpleType> {
 fn contents_of<'a>(
     alloc: Global,
     library: &Library<'a>,
-    wanted: Wanted<'a>,
     form: &TypeForm<'a>,
     words: Words<'_, 'a>,
     depth: u32,
@@ -162,7 +159,7 @@ fn contents_of<'a>(
             Ok(Some(Vec::new(alloc)))
         }
         TypeForm::Sequence(components) => {
-            components_of(alloc, library, wanted.place, components, words, depth)
+            components_of(alloc, library, components, words, depth)
         }
         _ => Ok(None),
     }
@@ -173,7 +170,6 @@ fn contents_of<'a>(
 fn components_of<'a>(
     alloc: Global,
     library: &Library<'a>,
-    place: Place,
     components: &Vec<Component<'a>>,
     words: Words<'_, 'a>,
     depth: u32,
@@ -189,8 +185,8 @@ fn components_of<'a>(
             }
             continue;
         };
-        let wanted = wanted_of(library, place.module, components, index, None)?;
-        let Some(octets) = component_value(alloc, library, wanted, words.module, items, depth - 1)?
+        let wanted = wanted_of(library, components, index, 0, None)?;
+        let Some(octets) = component_value(alloc, library, wanted, items, depth - 1)?
         else {
             return Ok(None);
         };
@@ -205,7 +201,6 @@ fn component_value<'a>(
     alloc: Global,
     library: &Library<'a>,
     wanted: Wanted<'a>,
-    module: usize,
     items: &[Item<'a>],
     depth: u32,
 ) -> Result<Option<Vec<u8>>, Wrong<'a>> {
@@ -214,13 +209,12 @@ fn component_value<'a>(
     }
     if split(items).is_some() {
         let words = Words {
-            module,
             form: WordsForm::Braces,
             items,
         };
         return encoding(alloc, library, wanted, words, depth - 1);
     }
-    match Words::of(module, items) {
+    match Words::of(items) {
         Some(words) => encoding(alloc, library, wanted, words, depth - 1),
         None => Ok(None),
     }
@@ -233,7 +227,7 @@ fn number_of(form: &TypeForm<'_>) -> u32 {
         TypeForm::Integer(_) => 2,
         TypeForm::BitString(_) => 3,
         TypeForm::Enumerated(_) => 10,
-        TypeForm::SetOf(_) => 17,
+        TypeForm::SetOf(_) | TypeForm::Set(_) => 17,
         _ => 16,
     }
 }

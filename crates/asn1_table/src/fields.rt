@@ -4,13 +4,12 @@ use crate::defaults::default_of;
 use crate::directives::{opens, own_type};
 use crate::library::Library;
 use crate::nodes::add;
+use crate::objects::{field_at, use_in};
 use crate::opener::Opener;
-use crate::place::Place;
 use crate::reach::{has_no_tag, reach};
-use crate::rows::{EMPTY, Rows};
+use crate::rows::{EMPTY, Rows, count_of};
 use crate::wanted::Wanted;
 use crate::wrong::Wrong;
-use asn1_check::{are_numbered, automatic_number};
 use asn1_schema::{Field, Presence, Span};
 use asn1_syntax::{
     Component, Item, Presence as Written, SimpleType, Tag, TagClass, TypeForm, Warning,
@@ -19,12 +18,11 @@ use std::alloc::Global;
 
 const NOT_COMPUTED: &str = "this default is not checked by the table, which has an OPTIONAL component in its place";
 
-/// The fields of components or of alternatives of this module.
+/// The fields of components or of alternatives.
 pub fn fields_of<'a>(
     alloc: Global,
     library: &Library<'a>,
     rows: &mut Rows<'a>,
-    module: usize,
     components: &Vec<Component<'a>>,
     is_choice: bool,
 ) -> Result<Span, Wrong<'a>> {
@@ -32,14 +30,14 @@ pub fn fields_of<'a>(
     let mut chooser = None;
     let mut addition = 0u32;
     for (count, component) in components.iter().enumerate() {
-        let at = span.start.saturating_add(count as u32);
-        let wanted = wanted_of(library, module, components, count, chooser)?;
+        let at = span.start.saturating_add(count_of(count));
+        let wanted = wanted_of(library, components, count, span.start, chooser)?;
         if component.is_addition {
             addition = addition.saturating_add(1);
         }
         let number = if component.is_addition { addition } else { 0 };
-        let field = field_of(alloc, library, rows, module, component, wanted, number)?;
-        set(rows, at as usize, field, module, component.name);
+        let field = field_of(alloc, library, rows, component, wanted, number)?;
+        set(rows, at as usize, field, component.name);
         if !is_choice && chooser.is_none() && is_identifier(library, &wanted) {
             chooser = Some(at);
         }
@@ -47,73 +45,98 @@ pub fn fields_of<'a>(
     Ok(span)
 }
 
-/// The node of the component with this index, of a module; this field chooses its open types.
+/// The node of the component with this index, of components whose fields begin at `start`; the field `chooser`
+/// chooses its open types, unless a constraint says another one.
 pub fn wanted_of<'a>(
     library: &Library<'a>,
-    module: usize,
     components: &Vec<Component<'a>>,
     index: usize,
+    start: u32,
     chooser: Option<u32>,
 ) -> Result<Wanted<'a>, Wrong<'a>> {
     let Some(component) = components.get(index) else {
         return Ok(Wanted::any(Opener::NONE));
     };
-    let place = Place {
-        module,
-        index: component.of,
-    };
-    let opener = opener_of(library, module, component, chooser);
-    let tag = numbered_tag(library, module, components, index);
-    if tag.is_some() && has_no_tag(library, place) {
+    let opener = by_objects(library, components, index, start, opener_of(library, component, chooser));
+    let tag = numbered_tag(component);
+    if tag.is_some() && has_no_tag(library, component.of) {
         return Ok(Wanted {
             tag,
             is_around: true,
-            ..reach(library, place, None, opener)?
+            ..reach(library, component.of, None, opener)?
         });
     }
-    reach(library, place, tag, opener)
+    reach(library, component.of, tag, opener)
 }
 
 // What the comment of a component says of its open types.
 fn opener_of<'a>(
     library: &Library<'a>,
-    module: usize,
     component: &Component<'a>,
     chooser: Option<u32>,
 ) -> Opener<'a> {
     let comments = component.name.comments;
     let own = match own_type(comments) {
-        Some(name) => library.commented(module, name),
+        Some(name) => library.commented(component.name.offset, name),
         None => None,
     };
     let table = opens(comments);
     Opener {
         chooser,
         table: table.unwrap_or(""),
+        objects: None,
         is_string: table.is_some(),
         own,
     }
 }
 
-// The tag that a component gets by its number, if its module says so.
-fn numbered_tag<'a>(
+// What chooses open types in the component with this index, if a constraint says that objects do which another
+// component in front identifies (X.682, 10).
+fn by_objects<'a>(
     library: &Library<'a>,
-    module: usize,
     components: &Vec<Component<'a>>,
     index: usize,
-) -> Option<Tag> {
-    if !are_numbered(library.module(module)?, components) {
-        return None;
+    start: u32,
+    opener: Opener<'a>,
+) -> Opener<'a> {
+    match chosen_by(library, components, index) {
+        Some((number, by, field)) => Opener {
+            chooser: Some(start.saturating_add(count_of(by))),
+            objects: Some((number, field)),
+            ..opener
+        },
+        None => opener,
     }
+}
+
+// The index of what a constraint in a component says, the index of the component that identifies objects, and the
+// name of the field that is in it.
+fn chosen_by<'a>(
+    library: &Library<'a>,
+    components: &Vec<Component<'a>>,
+    index: usize,
+) -> Option<(usize, usize, &'a str)> {
+    let number = use_in(library, components.get(index)?.of)?;
+    let name = library.tables.get(number)?.by?;
+    for (by, component) in components.iter().enumerate().take(index) {
+        if component.name.text == name.text {
+            return Some((number, by, field_at(library, component.of)?));
+        }
+    }
+    None
+}
+
+// The tag that a component gets by its number, if its module says so.
+fn numbered_tag(component: &Component<'_>) -> Option<Tag> {
     Some(Tag {
         class: TagClass::ContextSpecific,
-        number: automatic_number(components, index) as u64,
+        number: component.number? as u64,
     })
 }
 
 // Whether values of a node are OBJECT IDENTIFIERs.
 fn is_identifier(library: &Library<'_>, wanted: &Wanted<'_>) -> bool {
-    match library.node(wanted.place) {
+    match library.node(wanted.index) {
         Some(node) => {
             !wanted.is_around
                 && matches!(&node.form, TypeForm::Simple(SimpleType::ObjectIdentifier))
@@ -126,7 +149,6 @@ fn field_of<'a>(
     alloc: Global,
     library: &Library<'a>,
     rows: &mut Rows<'a>,
-    module: usize,
     component: &Component<'a>,
     wanted: Wanted<'a>,
     addition: u32,
@@ -136,7 +158,7 @@ fn field_of<'a>(
     match &component.presence {
         Written::Required => {}
         Written::Optional => presence = Presence::Optional,
-        Written::Default(value) => match default_of(alloc, library, &wanted, module, value)? {
+        Written::Default(value) => match default_of(alloc, library, &wanted, value)? {
             Some(octets) => {
                 presence = Presence::Default;
                 default = rows.octets(octets.as_slice())?;
@@ -144,7 +166,7 @@ fn field_of<'a>(
             None => {
                 presence = Presence::Optional;
                 let warning = Warning::of(alloc, value.item, NOT_COMPUTED)?;
-                rows.warnings.push((module, warning))?;
+                rows.warnings.push(warning)?;
             }
         },
     }
@@ -157,11 +179,11 @@ fn field_of<'a>(
     })
 }
 
-fn set<'a>(rows: &mut Rows<'a>, index: usize, field: Field, module: usize, name: Item<'a>) {
+fn set<'a>(rows: &mut Rows<'a>, index: usize, field: Field, name: Item<'a>) {
     if let Some(place) = rows.fields.get_mut(index) {
         *place = field;
     }
     if let Some(place) = rows.components.get_mut(index) {
-        *place = (module, name);
+        *place = name;
     }
 }

@@ -28,9 +28,9 @@ fn too_high<'a>(rows: &Rows<'a>, heights: &Vec<u32>) -> Wrong<'a> {
     for (index, height) in heights.iter().enumerate() {
         if *height > MAX_HEIGHT
             && let Some(node) = rows.nodes.get(index)
-            && let Some((module, name)) = rows.components.get(node.parts.start as usize)
+            && let Some(name) = rows.components.get(node.parts.start as usize)
         {
-            return Wrong::Refused(*module, Refusal::of(*name, IN_ITSELF));
+            return Wrong::Unsupported(Refusal::of(*name, IN_ITSELF));
         }
     }
     Wrong::OutOfMemory

@@ -1,6 +1,6 @@
 //! The types of modules as a table of the crate `asn1_schema`, whose page says its form.
 //!
-//! [`table_of`] makes it of the texts of modules. What one imports is looked up by name among the others. A type that
+//! [`table_of`] makes it of a text with modules. What one imports is looked up by name among the others. A type that
 //! is asked for has a node, and so has each type that it is made of. A node has the last name of its type: that of
 //! the assignment that does not give another name.
 //!
@@ -31,20 +31,16 @@ mod compiled_table;
 mod contents;
 mod defaults;
 mod directives;
-mod external;
 mod fields;
 mod heights;
 mod identifiers;
 mod integers;
 mod library;
-mod linked;
 mod limits;
 mod nodes;
+mod objects;
 mod octets;
-
 mod opener;
-mod order;
-mod place;
 mod reach;
 mod roots;
 mod rows;
@@ -55,7 +51,7 @@ mod wrong;
 
 pub use compiled_table::{CompiledTable, Root};
 pub use directives::is_schema_line;
-pub use integers::integer_octets;
 pub use identifiers::oid_octets;
+pub use integers::integer_octets;
 pub use table::table_of;
 pub use wrong::Wrong;

@@ -5,26 +5,26 @@ use crate::fields::fields_of;
 use crate::library::Library;
 use crate::limits::{ends_of, known_number};
 use crate::opener::Opener;
-use crate::place::Place;
-use crate::reach::{place_in, reach};
-use crate::rows::{EMPTY, Rows, span_from};
+use crate::objects::types_by;
+use crate::reach::reach;
+use crate::rows::{EMPTY, Rows, count_of, span_from};
 use crate::wanted::{Wanted, numbers_of};
 use crate::wrong::Wrong;
 use asn1_schema::{LimitKind, Name, Node, NodeKind, OpenType, Span};
-use asn1_syntax::{NamedNumber, SimpleType, Tag, TypeForm, TypeNode};
+use asn1_syntax::{NamedNumber, Range, SimpleType, Tag, TypeForm, TypeNode};
 use ber::Universal;
 use der_base::Class;
 use std::alloc::{AllocError, Global};
 
-/// The index of the node of the type at this place.
+/// The index of the node of the type with this index.
 pub fn node_at<'a>(
     alloc: Global,
     library: &Library<'a>,
     rows: &mut Rows<'a>,
-    place: Place,
+    index: usize,
     opener: Opener<'a>,
 ) -> Result<u32, Wrong<'a>> {
-    let wanted = reach(library, place, None, opener)?;
+    let wanted = reach(library, index, None, opener)?;
     Ok(add(alloc, library, rows, wanted)?)
 }
 
@@ -42,7 +42,7 @@ pub fn add<'a>(
 
 // The node without what means nothing for its type.
 fn settled<'a>(library: &Library<'a>, wanted: Wanted<'a>) -> Wanted<'a> {
-    let Some(node) = library.node(wanted.place) else {
+    let Some(node) = library.node(wanted.index) else {
         return wanted;
     };
     match &node.form {
@@ -66,29 +66,33 @@ fn key_of(alloc: Global, library: &Library<'_>, wanted: &Wanted<'_>) -> Result<S
     let (class, number) = wanted.tag_or(0);
     let (is_tagged, is_around) = (wanted.tag.is_some(), wanted.is_around);
     let (low, high) = ends_at(library, wanted);
-    let (module, index) = (wanted.place.module, wanted.place.index);
+    let index = wanted.index;
     if let Some(of) = leaf_number(library, wanted) {
         return format!(in alloc; "{of} {class} {number} {is_tagged} {low} {high}");
     }
     let Opener {
         chooser,
         table,
+        objects,
         is_string,
         own,
     } = wanted.opener;
+    let objects = match objects {
+        Some((number, _)) => i64::from(count_of(number)),
+        None => -1,
+    };
     let chooser = match chooser {
         Some(field) => i64::from(field),
         None => -1,
     };
-    let own = own.unwrap_or(wanted.place);
-    let (own_module, own_index) = (own.module, own.index);
+    let own = own.unwrap_or(index);
     let name = wanted.name;
-    format!(in alloc; "{module} {index} {class} {number} {is_tagged} {is_around} {low} {high} {chooser} {is_string} {own_module} {own_index} {name} {table}")
+    format!(in alloc; "{index} {class} {number} {is_tagged} {is_around} {low} {high} {chooser} {objects} {is_string} {own} {name} {table}")
 }
 
 // The ends of the limits of a node.
 fn ends_at(library: &Library<'_>, wanted: &Wanted<'_>) -> (i64, i64) {
-    match library.node(wanted.place) {
+    match library.node(wanted.index) {
         Some(node) => limit_of(wanted, node).unwrap_or((i64::MIN, i64::MAX)),
         None => (i64::MIN, i64::MAX),
     }
@@ -107,7 +111,7 @@ fn limit_of(wanted: &Wanted<'_>, node: &TypeNode<'_>) -> Option<(i64, i64)> {
 }
 
 // The ends of a range without names.
-fn range_ends(range: &asn1_syntax::Range<'_>) -> Option<(i64, i64)> {
+fn range_ends(range: &Range<'_>) -> Option<(i64, i64)> {
     let low = known_number(range.low)?;
     let high = known_number(range.high)?;
     if low == i64::MIN && high == i64::MAX {
@@ -125,7 +129,7 @@ fn leaf_number(library: &Library<'_>, wanted: &Wanted<'_>) -> Option<u64> {
     {
         return None;
     }
-    let node = library.node(wanted.place)?;
+    let node = library.node(wanted.index)?;
     match &node.form {
         TypeForm::Simple(SimpleType::Unread | SimpleType::Any) => None,
         TypeForm::Simple(simple) => simple.tag_number(),
@@ -175,18 +179,17 @@ fn filled<'a>(
         };
         return Ok(explicit(tag, add(alloc, library, rows, inside)?));
     }
-    let Some(node) = library.node(wanted.place) else {
+    let Some(node) = library.node(wanted.index) else {
         return any(alloc, library, choices, rows, wanted.opener);
     };
     match &node.form {
         TypeForm::Tagged(prefix, of) => {
-            let inside = place_in(wanted.place, *of);
-            let inner = node_at(alloc, library, rows, inside, wanted.opener)?;
+            let inner = node_at(alloc, library, rows, *of, wanted.opener)?;
             Ok(explicit(wanted.tag.unwrap_or(prefix.tag), inner))
         }
         TypeForm::SequenceOf(of) => list(alloc, library, rows, wanted, node, *of, false),
         TypeForm::SetOf(of) => list(alloc, library, rows, wanted, node, *of, true),
-        TypeForm::Sequence(_) | TypeForm::Choice(_) => {
+        TypeForm::Sequence(_) | TypeForm::Set(_) | TypeForm::Choice(_) => {
             with_fields(alloc, library, rows, wanted, node)
         }
         _ => simple(alloc, library, rows, wanted, node),
@@ -237,8 +240,12 @@ fn any<'a>(
     let Some(chooser) = opener.chooser else {
         return Ok(plain(NodeKind::Any, (0, 0)));
     };
+    let parts = match opener.objects {
+        Some((number, field)) => object_types(alloc, library, rows, number, field)?,
+        None => types_of(alloc, library, choices, rows, opener.table)?,
+    };
     Ok(Node {
-        parts: types_of(alloc, library, choices, rows, opener.table)?,
+        parts,
         chooser,
         ..plain(NodeKind::Open, (0, 0))
     })
@@ -259,11 +266,28 @@ fn types_of<'a>(
     for choice in choices.iter() {
         if choice.table == table {
             let identifier = rows.octets(choice.identifier.as_slice())?;
-            let node = node_at(alloc, library, rows, choice.place, Opener::NONE)?;
+            let node = node_at(alloc, library, rows, choice.of, Opener::NONE)?;
             types.push(OpenType { identifier, node })?;
         }
     }
     Ok(rows.add_types(table, types)?)
+}
+
+// The rows of the open type that objects choose.
+fn object_types<'a>(
+    alloc: Global,
+    library: &Library<'a>,
+    rows: &mut Rows<'a>,
+    number: usize,
+    field: &str,
+) -> Result<Span, Wrong<'a>> {
+    let mut types = Vec::new(alloc);
+    for (octets, index) in types_by(alloc, library, number, field)?.iter() {
+        let identifier = rows.octets(octets.as_slice())?;
+        let node = node_at(alloc, library, rows, *index, Opener::NONE)?;
+        types.push(OpenType { identifier, node })?;
+    }
+    Ok(rows.add_rows(&types)?)
 }
 
 // The node of a SEQUENCE OF or a SET OF.
@@ -286,13 +310,13 @@ fn list<'a>(
         ..wanted.opener
     };
     Ok(Node {
-        inner: Some(node_at(alloc, library, rows, place_in(wanted.place, of), items)?),
+        inner: Some(node_at(alloc, library, rows, of, items)?),
         limits: limits_of(rows, wanted, node)?,
         ..plain(kind, wanted.tag_or(number))
     })
 }
 
-// The node of a SEQUENCE or a CHOICE.
+// The node of a SEQUENCE, a SET or a CHOICE.
 fn with_fields<'a>(
     alloc: Global,
     library: &Library<'a>,
@@ -302,21 +326,35 @@ fn with_fields<'a>(
 ) -> Result<Node, Wrong<'a>> {
     let (kind, components) = match &node.form {
         TypeForm::Sequence(components) => (NodeKind::Universal(Universal::Sequence), components),
+        TypeForm::Set(components) => (NodeKind::Universal(Universal::Set), components),
         TypeForm::Choice(components) => (NodeKind::Choice, components),
         _ => return Ok(plain(NodeKind::Any, (0, 0))),
     };
     let is_choice = kind == NodeKind::Choice;
-    let parts = fields_of(alloc, library, rows, wanted.place.module, components, is_choice)?;
+    let tag = match &node.form {
+        TypeForm::Sequence(_) => wanted.tag_or(16),
+        TypeForm::Set(_) => wanted.tag_or(17),
+        _ => (0, 0),
+    };
+    let parts = fields_of(alloc, library, rows, components, is_choice)?;
     let chooser = match node.mark {
-        Some(mark) if !is_choice => crate::rows::count_of(mark.insertion),
+        Some(mark) if !is_choice => count_of(mark.insertion),
         _ => 0,
     };
     Ok(Node {
         extensible: node.mark.is_some(),
         parts,
         chooser,
-        ..plain(kind, if is_choice { (0, 0) } else { wanted.tag_or(16) })
+        ..plain(kind, tag)
     })
+}
+
+// The number of a universal tag; 0 for none.
+fn number_of(number: Option<u64>) -> u32 {
+    match number {
+        Some(number) => u32::try_from(number).unwrap_or(0),
+        None => 0,
+    }
 }
 
 // The node of a type without components and items.
@@ -328,7 +366,7 @@ fn simple<'a>(
     node: &TypeNode<'a>,
 ) -> Result<Node, Wrong<'a>> {
     let number = match &node.form {
-        TypeForm::Simple(simple) => crate::rows::count_of(simple.tag_number().unwrap_or(0) as usize),
+        TypeForm::Simple(simple) => number_of(simple.tag_number()),
         TypeForm::Integer(_) => 2,
         TypeForm::BitString(_) => 3,
         _ => 10,
@@ -361,7 +399,7 @@ fn contents_of<'a>(
         return Ok(Some(add(alloc, library, rows, Wanted::any(opener))?));
     }
     match wanted.contained {
-        Some(place) => Ok(Some(node_at(alloc, library, rows, place, wanted.opener)?)),
+        Some(of) => Ok(Some(node_at(alloc, library, rows, of, wanted.opener)?)),
         None => Ok(None),
     }
 }

@@ -3,33 +3,32 @@
 use crate::library::Library;
 use crate::limits::Limits;
 use crate::opener::Opener;
-use crate::place::Place;
 use crate::wanted::Wanted;
 use crate::wrong::Wrong;
 use asn1_check::contained;
-use asn1_syntax::{Refusal, SimpleType, Tag, TagDefault, TagPrefix, Tagging, TypeForm};
+use asn1_syntax::{Refusal, SimpleType, Tag, TagPrefix, Tagging, TypeForm};
 
 const LOOP: &str = "a type that is not made of its own name";
 
-/// The node of the type at this place, under a tag in place of its own or without: what is behind the
+/// The node of the type with this index, under a tag in place of its own or without: what is behind the
 /// names and the implicit tags of the type.
 pub fn reach<'a>(
     library: &Library<'a>,
-    place: Place,
+    index: usize,
     tag: Option<Tag>,
     opener: Opener<'a>,
 ) -> Result<Wanted<'a>, Wrong<'a>> {
     let mut wanted = Wanted {
-        place,
-        name: library.name_at(place),
+        index,
+        name: library.name_at(index),
         tag,
         is_around: false,
         limits: Limits::NONE,
         contained: None,
         opener,
     };
-    for _ in 0..=library.count {
-        let Some(node) = library.node(wanted.place) else {
+    for _ in 0..=library.module.nodes.len() {
+        let Some(node) = library.node(wanted.index) else {
             return Ok(wanted);
         };
         if let Some(own) = wanted.opener.own
@@ -41,73 +40,54 @@ pub fn reach<'a>(
         }
         wanted.limits = wanted.limits.behind(node);
         if let Some(of) = contained(node) {
-            wanted.contained = wanted.contained.or(Some(place_in(wanted.place, of)));
+            wanted.contained = wanted.contained.or(Some(of));
         }
         match &node.form {
             TypeForm::Reference => {
-                let of = library.named(wanted.place.module, node.item)?;
+                let of = library.named(node.item)?;
                 move_to(library, &mut wanted, of);
             }
             TypeForm::Tagged(prefix, of)
-                if is_implicit(library, place_in(wanted.place, *of), *prefix) =>
+                if is_implicit(library, *of, *prefix) =>
             {
                 wanted.tag = wanted.tag.or(Some(prefix.tag));
-                wanted.place.index = *of;
+                wanted.index = *of;
             }
             _ => return Ok(wanted),
         }
     }
-    Err(refused_at(library, place))
+    Err(refused_at(library, index))
 }
 
 // Moves to a type that has a name.
-fn move_to<'a>(library: &Library<'a>, wanted: &mut Wanted<'a>, place: Place) {
-    wanted.place = place;
-    wanted.name = library.name_at(place);
-}
-
-/// The type with this index in the same module.
-pub fn place_in(place: Place, index: usize) -> Place {
-    Place {
-        module: place.module,
-        index,
-    }
+fn move_to<'a>(library: &Library<'a>, wanted: &mut Wanted<'a>, index: usize) {
+    wanted.index = index;
+    wanted.name = library.name_at(index);
 }
 
 // Why a type is no type.
-fn refused_at<'a>(library: &Library<'a>, place: Place) -> Wrong<'a> {
-    match library.node(place) {
-        Some(node) => Wrong::Refused(place.module, Refusal::of(node.item, LOOP)),
+fn refused_at<'a>(library: &Library<'a>, index: usize) -> Wrong<'a> {
+    match library.node(index) {
+        Some(node) => Wrong::Unsupported(Refusal::of(node.item, LOOP)),
         None => Wrong::OutOfMemory,
     }
 }
 
-// Whether a tag takes the place of that of the type at this place behind it (X.680, 31.2.7).
-fn is_implicit(library: &Library<'_>, behind: Place, prefix: TagPrefix) -> bool {
-    let tagging = match prefix.tagging {
-        Some(tagging) => tagging,
-        None => default_tagging(library, behind.module),
-    };
-    tagging == Tagging::Implicit && !has_no_tag(library, behind)
+// Whether a tag takes the place of that of the type with this index behind it (X.680, 31.2.7).
+fn is_implicit(library: &Library<'_>, behind: usize, prefix: TagPrefix) -> bool {
+    prefix.tagging != Some(Tagging::Explicit) && !has_no_tag(library, behind)
 }
 
-fn default_tagging(library: &Library<'_>, module: usize) -> Tagging {
-    match library.module(module) {
-        Some(module) if module.tags != TagDefault::Explicit => Tagging::Implicit,
-        _ => Tagging::Explicit,
-    }
-}
-
-/// Whether the type at this place is a CHOICE or `ANY` without a tag, under any names.
-pub fn has_no_tag(library: &Library<'_>, place: Place) -> bool {
-    let mut place = place;
-    for _ in 0..=library.count {
-        let Some(node) = library.node(place) else {
+/// Whether the type with this index is a CHOICE or `ANY` without a tag, under any names.
+pub fn has_no_tag(library: &Library<'_>, index: usize) -> bool {
+    let mut index = index;
+    for _ in 0..=library.module.nodes.len() {
+        let Some(node) = library.node(index) else {
             return false;
         };
         match &node.form {
-            TypeForm::Reference => match library.find(place.module, node.item.text) {
-                Some(of) => place = of,
+            TypeForm::Reference => match library.module.index.types.find(node.item.text) {
+                Some(of) => index = of,
                 None => return false,
             },
             TypeForm::Choice(_) | TypeForm::Simple(SimpleType::Any) => return true,

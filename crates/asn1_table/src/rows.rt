@@ -18,10 +18,10 @@ pub struct Rows<'a> {
     pub pool: Vec<u8>,
     /// The type of each node.
     pub wanted: Vec<Wanted<'a>>,
-    /// The module and the name of each field.
-    pub components: Vec<(usize, Item<'a>)>,
-    /// What the table does not say, each with its module.
-    pub warnings: Vec<(usize, Warning<'a>)>,
+    /// The name of each field, where it stands.
+    pub components: Vec<Item<'a>>,
+    /// What the table does not say.
+    pub warnings: Vec<Warning<'a>>,
     // The index of the node for each key.
     keys: HashMap<String, u32>,
     // The texts of the pool, each with the index of its range.
@@ -95,7 +95,7 @@ impl<'a> Rows<'a> {
         let start = self.fields.len();
         for _ in 0..count {
             self.fields.push(NO_FIELD)?;
-            self.components.push((0, Item::END))?;
+            self.components.push(Item::END)?;
         }
         Ok(span_from(start, count))
     }
@@ -136,12 +136,18 @@ impl<'a> Rows<'a> {
         self.types.get(self.tables.find(table)?).copied()
     }
 
-    /// Adds the rows of the open type with this name.
-    pub fn add_types(&mut self, table: &'a str, types: Vec<OpenType>) -> Result<Span, AllocError> {
+    /// Adds the rows of an open type.
+    pub fn add_rows(&mut self, types: &Vec<OpenType>) -> Result<Span, AllocError> {
         let span = span_from(self.opens.len(), types.len());
         for of in types.iter() {
             self.opens.push(*of)?;
         }
+        Ok(span)
+    }
+
+    /// Adds the rows of the open type with this name.
+    pub fn add_types(&mut self, table: &'a str, types: Vec<OpenType>) -> Result<Span, AllocError> {
+        let span = self.add_rows(&types)?;
         self.tables.add(table, self.types.len())?;
         self.types.push(span)?;
         Ok(span)

@@ -4,12 +4,9 @@ use crate::choices::{Choice, choices_of};
 use crate::compiled_table::{CompiledTable, Root};
 use crate::heights;
 use crate::library::Library;
-use crate::linked::{linked, names_of, parsed_of};
 use crate::nodes::lay;
 use crate::octets::{octets_of, place_of};
-use crate::order::order_of;
-use crate::place::Place;
-use crate::roots::{places_of, root_at};
+use crate::roots::{root_at, types_of};
 use crate::rows::Rows;
 use crate::wrong::Wrong;
 use asn1_schema::{Fault, FaultKind, Schema};
@@ -21,116 +18,83 @@ const MAX_NODES: usize = 1048576;
 
 const TAG: &str = "a component whose tag no other one has where both may be";
 
-/// Compiles modules, given by their texts, to a table of the types `only`, or of all that are supported if
-/// `only` is empty. A name of `only` may have the name of its module and a point in front.
+/// Compiles the modules of a text to a table of the types `only`, or of all that are supported if `only` is
+/// empty. A name of `only` may have the name of its module and a point in front. The names that
+/// [`asn1_syntax::own_names`] returns have to stand behind the last module.
 ///
 /// # Errors
 ///
 /// A module that is wrong; a name of `only` that is not there, or whose type is not supported.
 pub fn table_of<'a>(
     alloc: Global,
-    texts: &Vec<&'a str>,
-    only: &[&str],
-) -> Result<CompiledTable<'a>, Wrong<'a>> {
-    let parsed = parsed_of(alloc, texts)?;
-    let names = names_of(alloc, &parsed)?;
-    let order = order_of(alloc, &parsed, &names)?;
-    let mut ordered = Vec::new(alloc);
-    for index in order.iter() {
-        if let Some(text) = texts.get(*index) {
-            ordered.push(*text)?;
-        }
-    }
-    match attempts(alloc, &ordered, only) {
-        Ok(table) => Ok(table.in_order(&order)),
-        Err(wrong) => Err(wrong.in_order(&order)),
-    }
-}
-
-// Leaves out what turns out not to be supported, until the rest is.
-fn attempts<'a>(
-    alloc: Global,
-    texts: &Vec<&'a str>,
+    text: &'a str,
     only: &[&str],
 ) -> Result<CompiledTable<'a>, Wrong<'a>> {
     let mut known = Vec::new(alloc);
-    let mut count = 0usize;
-    for text in texts.iter() {
-        known.push(Vec::new(alloc))?;
-        count = count.saturating_add(text.len());
-    }
-    for _ in 0..=count {
-        let library = linked(alloc, texts, &known)?;
-        let found = match try_table(alloc, &library, only)? {
+    for _ in 0..=text.len() {
+        let library = Library::of(alloc, text, &known)?;
+        let found = match try_table(alloc, library, only)? {
             Attempt::Table(table) => return Ok(table),
             Attempt::Failures(found) => found,
         };
-        for (module, refusal) in found.iter() {
-            add_known(&mut known, *module, *refusal)?;
+        for refusal in found.iter() {
+            add_known(&mut known, *refusal)?;
         }
     }
     Err(Wrong::TooLarge)
 }
 
 // Adds what is not supported. One that is there was not left out, so it stands outside of all assignments.
-fn add_known<'a>(
-    known: &mut Vec<Vec<Refusal<'a>>>,
-    module: usize,
-    refusal: Refusal<'a>,
-) -> Result<(), Wrong<'a>> {
-    let Some(list) = known.get_mut(module) else {
-        return Ok(());
-    };
-    for before in list.iter() {
+fn add_known<'a>(known: &mut Vec<Refusal<'a>>, refusal: Refusal<'a>) -> Result<(), Wrong<'a>> {
+    for before in known.iter() {
         if before.offset == refusal.offset {
-            return Err(Wrong::Refused(module, refusal));
+            return Err(Wrong::Refused(refusal));
         }
     }
-    list.push(refusal)?;
+    known.push(refusal)?;
     Ok(())
 }
 
-// A table, or what is not supported, with the modules.
+// A table, or what is not supported.
 #[derive(Drop)]
 enum Attempt<'a> {
     Table(CompiledTable<'a>),
-    Failures(Vec<(usize, Refusal<'a>)>),
+    Failures(Vec<Refusal<'a>>),
 }
 
 fn try_table<'a>(
     alloc: Global,
-    library: &Library<'a>,
+    library: Library<'a>,
     only: &[&str],
 ) -> Result<Attempt<'a>, Wrong<'a>> {
-    let choices = choices_of(alloc, library)?;
-    let places = places_of(alloc, library, only)?;
+    let choices = choices_of(alloc, &library)?;
+    let types = types_of(alloc, &library, only)?;
     let mut rows = Rows::new(alloc);
     let mut failures = Vec::new(alloc);
     let mut roots = Vec::new(alloc);
-    for place in places.iter() {
-        add_root(alloc, library, &mut rows, *place, &mut roots, &mut failures)?;
+    for index in types.iter() {
+        add_root(alloc, &library, &mut rows, *index, &mut roots, &mut failures)?;
     }
-    lay_all(alloc, library, &choices, &mut rows, &mut failures)?;
-    if let Some((module, refusal)) = failures.first() {
-        return match only {
-            [] => Ok(Attempt::Failures(failures)),
-            _ => Err(Wrong::Refused(*module, *refusal)),
-        };
+    lay_all(alloc, &library, &choices, &mut rows, &mut failures)?;
+    let first = failures.first().copied();
+    match (first, only) {
+        (None, _) => finished(alloc, library, rows, roots, only),
+        (Some(_), []) => Ok(Attempt::Failures(failures)),
+        (Some(refusal), _) => Err(Wrong::Refused(refusal)),
     }
-    finished(alloc, library, rows, roots, only)
 }
 
 fn add_root<'a>(
     alloc: Global,
     library: &Library<'a>,
     rows: &mut Rows<'a>,
-    place: Place,
+    index: usize,
     roots: &mut Vec<Root<'a>>,
-    failures: &mut Vec<(usize, Refusal<'a>)>,
+    failures: &mut Vec<Refusal<'a>>,
 ) -> Result<(), Wrong<'a>> {
-    match root_at(alloc, library, rows, place) {
+    match root_at(alloc, library, rows, index) {
         Ok(root) => Ok(roots.push(root)?),
-        Err(Wrong::Unsupported(module, refusal)) => Ok(failures.push((module, refusal))?),
+        Err(Wrong::Unsupported(refusal)) => Ok(failures.push(refusal)?),
         Err(wrong) => Err(wrong),
     }
 }
@@ -141,7 +105,7 @@ fn lay_all<'a>(
     library: &Library<'a>,
     choices: &Vec<Choice<'a>>,
     rows: &mut Rows<'a>,
-    failures: &mut Vec<(usize, Refusal<'a>)>,
+    failures: &mut Vec<Refusal<'a>>,
 ) -> Result<(), Wrong<'a>> {
     for index in 0..MAX_NODES {
         if index >= rows.nodes.len() {
@@ -149,7 +113,7 @@ fn lay_all<'a>(
         }
         match lay(alloc, library, choices, rows, index) {
             Ok(()) => {}
-            Err(Wrong::Unsupported(module, refusal)) => failures.push((module, refusal))?,
+            Err(Wrong::Unsupported(refusal)) => failures.push(refusal)?,
             Err(wrong) => return Err(wrong),
         }
     }
@@ -159,7 +123,7 @@ fn lay_all<'a>(
 // The table with these rows.
 fn finished<'a>(
     alloc: Global,
-    library: &Library<'a>,
+    library: Library<'a>,
     rows: Rows<'a>,
     roots: Vec<Root<'a>>,
     only: &[&str],
@@ -179,14 +143,7 @@ fn finished<'a>(
         })?;
     }
     let Rows { warnings, .. } = rows;
-    let mut left_out = Vec::new(alloc);
-    if only.is_empty() {
-        for (module, given) in library.modules.iter().enumerate() {
-            for one in given.left_out.iter() {
-                left_out.push((module, *one))?;
-            }
-        }
-    }
+    let Library { left_out, .. } = library;
     Ok(Attempt::Table(CompiledTable {
         octets,
         roots: placed,
@@ -204,15 +161,15 @@ fn explained<'a>(
 ) -> Result<Attempt<'a>, Wrong<'a>> {
     let start = rows.nodes.len().saturating_mul(40).saturating_add(32);
     let index = fault.offset.saturating_sub(start) / 28;
-    let Some((module, name)) = rows.components.get(index) else {
+    let Some(name) = rows.components.get(index) else {
         return Err(Wrong::NoTable(fault));
     };
     let refusal = Refusal::of(*name, TAG);
     match (fault.kind, only) {
         (FaultKind::Tag, []) => {
-            Ok(Attempt::Failures(vec![in alloc; (*module, refusal)]?))
+            Ok(Attempt::Failures(vec![in alloc; refusal]?))
         }
-        (FaultKind::Tag, _) => Err(Wrong::Refused(*module, refusal)),
+        (FaultKind::Tag, _) => Err(Wrong::Refused(refusal)),
         _ => Err(Wrong::NoTable(fault)),
     }
 }

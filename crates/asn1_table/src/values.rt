@@ -3,11 +3,9 @@
 use crate::library::Library;
 use asn1_syntax::{Item, ItemKind, Value, ValueForm};
 
-/// A value of a module, as it is written.
+/// A value as it is written.
 #[derive(Clone, Copy, Debug)]
 pub struct Words<'v, 'a> {
-    /// The index of the module.
-    pub module: usize,
     /// How it is written.
     pub form: WordsForm,
     /// Its items: the one, or those between braces.
@@ -26,24 +24,21 @@ pub enum WordsForm {
 }
 
 impl<'v, 'a> Words<'v, 'a> {
-    /// The items of a value in a module; `None` for a form that is none.
-    pub fn of(module: usize, items: &'v [Item<'a>]) -> Option<Self> {
+    /// The items of a value; `None` for a form that is none.
+    pub fn of(items: &'v [Item<'a>]) -> Option<Self> {
         match items {
             [_] => Some(Words {
-                module,
                 form: WordsForm::Item,
                 items,
             }),
             [sign, number] if sign.is("-") => match number.text.parse::<u64>() {
                 Ok(number) => Some(Words {
-                    module,
-                    form: WordsForm::Negative(number),
+                        form: WordsForm::Negative(number),
                     items,
                 }),
                 Err(_) => None,
             },
             [first, inside @ .., last] if first.is("{") && last.is("}") => Some(Words {
-                module,
                 form: WordsForm::Braces,
                 items: inside,
             }),
@@ -52,22 +47,23 @@ impl<'v, 'a> Words<'v, 'a> {
     }
 
     /// A value, of which `one` is the first item alone.
-    pub fn of_value(module: usize, value: &'v Value<'a>, one: &'v [Item<'a>]) -> Self {
+    pub fn of_value(value: &'v Value<'a>, one: &'v [Item<'a>]) -> Self {
         match &value.form {
             ValueForm::Item => Words {
-                module,
                 form: WordsForm::Item,
                 items: one,
             },
             ValueForm::Negative(number) => Words {
-                module,
                 form: WordsForm::Negative(*number),
                 items: one,
             },
             ValueForm::Braces(items) => Words {
-                module,
                 form: WordsForm::Braces,
                 items: items.as_slice(),
+            },
+            ValueForm::Unread => Words {
+                form: WordsForm::Item,
+                items: &[],
             },
         }
     }
@@ -136,26 +132,8 @@ fn is_end(items: &[Item<'_>], start: usize, at: usize) -> bool {
     depth == 0
 }
 
-/// The value with this name in a module, or in the one from which it imports the name, and the index of that
-/// module.
-pub fn value_named<'l, 'a>(
-    library: &'l Library<'a>,
-    module: usize,
-    name: &str,
-) -> Option<(usize, &'l Value<'a>)> {
-    if let Some(value) = own_value(library, module, name) {
-        return Some((module, value));
-    }
-    let (other, name) = library.imported(module, name)?;
-    Some((other, own_value(library, other, name)?))
-}
-
-fn own_value<'l, 'a>(
-    library: &'l Library<'a>,
-    module: usize,
-    name: &str,
-) -> Option<&'l Value<'a>> {
-    let module = library.module(module)?;
-    let assigned = module.values.get(module.index.values.find(name)?)?;
+/// The value with this name.
+pub fn value_named<'l, 'a>(library: &'l Library<'a>, name: &str) -> Option<&'l Value<'a>> {
+    let assigned = library.module.values.get(library.module.index.values.find(name)?)?;
     Some(&assigned.value)
 }

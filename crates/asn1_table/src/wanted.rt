@@ -2,14 +2,13 @@
 
 use crate::limits::Limits;
 use crate::opener::Opener;
-use crate::place::Place;
 use asn1_syntax::{Tag, TagClass};
 
 /// A node that a table needs: a type behind its names and the tags that take the place of others.
 #[derive(Clone, Copy, Debug)]
 pub struct Wanted<'a> {
-    /// The type.
-    pub place: Place,
+    /// The index of the type; that behind the last one for any type.
+    pub index: usize,
     /// Its last name, or none.
     pub name: &'a str,
     /// The tag in place of its own, if it has another one.
@@ -18,8 +17,8 @@ pub struct Wanted<'a> {
     pub is_around: bool,
     /// The limits of the constraints in front of it.
     pub limits: Limits<'a>,
-    /// The type of the value in it, if a constraint CONTAINING says one.
-    pub contained: Option<Place>,
+    /// The index of the type of the value in it, if a constraint CONTAINING says one.
+    pub contained: Option<usize>,
     /// What chooses the open types in it.
     pub opener: Opener<'a>,
 }
@@ -28,10 +27,7 @@ impl<'a> Wanted<'a> {
     /// The node of any type, which an OBJECT IDENTIFIER may choose.
     pub fn any(opener: Opener<'a>) -> Self {
         Wanted {
-            place: Place {
-                module: usize::MAX,
-                index: 0,
-            },
+            index: usize::MAX,
             name: "",
             tag: None,
             is_around: false,
