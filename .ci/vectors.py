@@ -145,7 +145,7 @@ def calls(folder):
         (["none.asn1", "--with", "base=.", "--out", "made"], 1, [f"error: .: {why[errno.EISDIR]}"]),
         (["--out", f"{module}/made", f"{VECTORS}/explicit.asn1"], 1, [f"error: {module}/made: {why[errno.ENOTDIR]}"]),
         (["--out", f"{folder}/all", partly], 0, [
-            f"warning: {partly}:4:24: Missing: Away is left out: expected a module that a --with option gives\n",
+            f"warning: {partly}:4:24: Missing: Away is left out: expected a module that --with or --modules gives\n",
             f"warning: {partly}:6:10: CLASS: KIND is left out: expected no class, which is not supported\n",
             f"warning: {partly}:10:28: .: Lost is left out: expected no field of a class, which is not supported\n",
             f"warning: {partly}:14:1: Loop: Loop is left out: expected a type that does not contain itself\n"]),

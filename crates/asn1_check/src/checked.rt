@@ -1,10 +1,10 @@
 //! From the text of a module to its checks.
 
-use crate::checks::{Checks, check_module, unsupported_types};
+use crate::checks::{Checks, check_module, cut_recursion, unsupported_types};
 use crate::external::External;
 use crate::link::link_module;
 use crate::module::Module;
-use crate::selection::{Selection, select};
+use crate::selection::{Selection, select_first};
 use asn1_syntax::{Failure, LeftOut, Refusal, parse_module};
 use std::alloc::Global;
 
@@ -33,8 +33,8 @@ pub struct Selected<'a> {
     pub left_out: Vec<LeftOut<'a>>,
 }
 
-/// Parses a module, selects what is compiled of it, as [`select`] says, and looks up its names. What
-/// is not supported, and seen by no parser, is added to `known` and left out.
+/// Parses a module, selects what is compiled of it, as [`select_first`] says, and looks up its names. Names
+/// that lead back to the type which they name become types that are not read. What is not supported, and seen by no parser, is added to `known` and left out.
 pub fn selected_module<'a>(
     alloc: Global,
     externals: &Vec<External<'a>>,
@@ -58,7 +58,8 @@ fn linked<'a>(
     only: &[&str],
     known: &Vec<Refusal<'a>>,
 ) -> Result<Selected<'a>, Failure<'a>> {
-    let Selection { parsed, left_out } = select(alloc, externals, text, only, known)?;
-    let module = link_module(alloc, parsed, externals)?;
+    let Selection { parsed, left_out } = select_first(alloc, externals, text, only, known)?;
+    let mut module = link_module(alloc, parsed, externals)?;
+    cut_recursion(alloc, &mut module)?;
     Ok(Selected { module, left_out })
 }

@@ -6,6 +6,7 @@ mod exports;
 mod names;
 mod order;
 mod parts;
+mod recursion;
 mod seen_numbers;
 mod tags;
 mod unknown;
@@ -21,6 +22,7 @@ use crate::tag_set::TagSet;
 use asn1_syntax::{Failure, Refusal};
 pub use components::{are_numbered, automatic_number, component_tags};
 pub use names::{find_type, has_value};
+pub use recursion::{cut_recursion, recursive_name};
 use std::alloc::{AllocError, Global};
 pub use tags::{copy_at, has_no_tag};
 

@@ -19,6 +19,8 @@ pub struct CompileCommand<'a> {
     pub only: Vec<&'a str>,
     /// The modules that other crates hold.
     pub with: Vec<With<'a>>,
+    /// The folder beneath which the modules are from which the module imports, if there is one.
+    pub modules: Option<&'a str>,
 }
 
 /// A module that another crate holds.
@@ -66,6 +68,7 @@ impl<'a> CompileCommand<'a> {
             files,
             only,
             with,
+            modules: matches.get_str("modules"),
         };
         if !parsed.is_whole() {
             return Err(command.error(ErrorKind::ValueValidation, NOT_WHOLE)?);
@@ -117,6 +120,10 @@ fn command<'a>(alloc: Global, version: &'a str) -> Result<Command<'a>, AllocErro
         .value_name("TYPE")
         .action(ArgAction::Append)
         .help("A type that is compiled, with those that it names; without it all are. For a table it may be MODULE.TYPE");
+    let modules = Arg::new(alloc, "modules")
+        .long("modules")
+        .value_name("FOLDER")
+        .help("The folder beneath which the files *.asn and *.asn1 are from which FILE imports");
     Command::new(alloc, "asn1_compile")
         .version(version)
         .about(ABOUT)
@@ -124,6 +131,7 @@ fn command<'a>(alloc: Global, version: &'a str) -> Result<Command<'a>, AllocErro
         .arg(schema)?
         .arg(file)?
         .arg(with)?
+        .arg(modules)?
         .arg(only)
 }
 

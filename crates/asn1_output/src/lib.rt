@@ -4,6 +4,7 @@
 
 mod command;
 mod compiled;
+mod library;
 mod output;
 mod program;
 mod schema;

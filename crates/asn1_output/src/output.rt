@@ -74,7 +74,13 @@ pub fn read_external<'a>(
     for _ in 0..=text.len() {
         let selected = compilable(alloc, externals, text, &[], &mut known)?;
         let module = &selected.module;
-        let checks = check_module(alloc, module)?;
+        let checks = match check_module(alloc, module) {
+            Err(Failure::Unsupported(refusal)) => {
+                add_known(&mut known, refusal)?;
+                continue;
+            }
+            checks => checks?,
+        };
         if is_given(externals, module.name.text) {
             let expected = "a module that no --with option in front gives";
             return Err(Failure::Refused(Refusal::of(module.name, expected)));
@@ -129,7 +135,13 @@ pub fn compile<'a>(
     let mut known = Vec::new(alloc);
     for _ in 0..=text.len() {
         let selected = compilable(alloc, externals, text, only, &mut known)?;
-        let checks = check_module(alloc, &selected.module)?;
+        let checks = match check_module(alloc, &selected.module) {
+            Err(Failure::Unsupported(refusal)) => {
+                add_known(&mut known, refusal)?;
+                continue;
+            }
+            checks => checks?,
+        };
         match compiled_of(alloc, &selected, &checks, krate) {
             Err(Failure::Unsupported(refusal)) => add_known(&mut known, refusal)?,
             compiled => return compiled,

@@ -2,11 +2,12 @@
 
 use crate::command::CompileCommand;
 use crate::compiled::Compiled;
+use crate::library::{Joined, paths_beneath};
 use crate::output::{OutputFile, compile, read_external};
 use crate::schema::run_schema;
 use anyhow::{Error, Result};
 use asn1_check::External;
-use asn1_syntax::{Failure, Position, Refusal};
+use asn1_syntax::{Failure, Position, Refusal, Warning};
 use clap::error::ErrorKind;
 use std::alloc::{AllocError, Global};
 use std::env::Args;
@@ -18,7 +19,8 @@ const VERSION: &str = "0.2.0";
 
 /// Runs the program with the arguments `given`, of which the first one is the name of the program.
 /// Compiles the module in a file, and writes its types to the folder of a crate. What it imports is
-/// in modules of other crates, each of which may import from those before it. Prints to `errors`
+/// in modules of other crates, each of which may import from those before it, or beneath a folder: then
+/// it is compiled into the same crate. Prints to `errors`
 /// what is wrong, if anything is, and returns the exit status:
 ///
 /// With `--schema` it compiles the modules in all files, writes a table of their types, and prints a line to
@@ -31,7 +33,7 @@ const VERSION: &str = "0.2.0";
 /// - 2 if the arguments after the program's name are not a command.
 ///
 /// Fails if `given` is an error, if an allocation fails, or if writing to `out` or `errors` fails.
-pub fn run_compile<R: Files + AllocGlobal, W: Write, E: Write>(
+pub fn run_compile<R: Files + AllocGlobal + Clone + Drop, W: Write, E: Write>(
     rt: &R,
     given: io::Result<Args>,
     out: &mut W,
@@ -60,7 +62,7 @@ fn say_error<W: Write>(error: &clap::Error, status: u8, out: &mut W) -> Result<u
 }
 
 // Reads the modules of other crates, and that in the file.
-fn run_command<R: Files + AllocGlobal, W: Write>(
+fn run_command<R: Files + AllocGlobal + Clone + Drop, W: Write>(
     rt: &R,
     command: &CompileCommand<'_>,
     out: &mut W,
@@ -72,10 +74,34 @@ fn run_command<R: Files + AllocGlobal, W: Write>(
             Err(error) => return say_file(with.file, &error, out),
         }
     }
-    match read_text(rt, command.file) {
-        Ok(text) => run_with(rt, command, &texts, text.as_str(), out),
-        Err(error) => say_file(command.file, &error, out),
+    let text = match read_text(rt, command.file) {
+        Ok(text) => text,
+        Err(error) => return say_file(command.file, &error, out),
+    };
+    let mut joined = Joined::new(rt.alloc(), command.file, text.as_str())?;
+    if let Some(folder) = command.modules
+        && let Err(error) = add_imports(rt, folder, &texts, text.as_str(), &mut joined)
+    {
+        return say_file(folder, &error, out);
     }
+    run_with(rt, command, &texts, &joined, out)
+}
+
+/// Adds the modules beneath a folder from which a text imports, unless they are given.
+pub fn add_imports<R: Files + AllocGlobal + Clone + Drop>(
+    rt: &R,
+    folder: &str,
+    given: &Vec<String>,
+    text: &str,
+    joined: &mut Joined,
+) -> io::Result<()> {
+    let paths = paths_beneath(rt, folder)?;
+    let mut texts = Vec::new(rt.alloc());
+    for path in paths.iter() {
+        texts.push(read_text(rt, path.as_str())?)?;
+    }
+    joined.add_imports(rt.alloc(), text, given, &paths, &texts)?;
+    Ok(())
 }
 
 /// Prints that a file or a folder cannot be read or written, and why.
@@ -107,17 +133,18 @@ fn run_with<'t, R: Files + AllocGlobal, W: Write>(
     rt: &R,
     command: &CompileCommand<'_>,
     others: &'t Vec<String>,
-    text: &'t str,
+    joined: &'t Joined,
     out: &mut W,
 ) -> Result<u8> {
     let mut externals: Vec<External<'t>> = Vec::new(rt.alloc());
     for (with, other) in command.with.iter().zip(others.iter()) {
         let other = other.as_str();
         if let Err(failure) = add_external(rt.alloc(), &mut externals, other, with.krate) {
-            return say_failure(rt, &failure, with.file, other, out);
+            let joined = Joined::new(rt.alloc(), with.file, other)?;
+            return say_failure(rt, &failure, &joined, out);
         }
     }
-    run_compiler(rt, command, &externals, text, out)
+    run_compiler(rt, command, &externals, joined, out)
 }
 
 /// Reads a module that the crate `krate` holds, and adds it to those in front of it.
@@ -137,18 +164,18 @@ fn run_compiler<'t, R: Files + AllocGlobal, W: Write>(
     rt: &R,
     command: &CompileCommand<'_>,
     externals: &Vec<External<'t>>,
-    text: &'t str,
+    joined: &'t Joined,
     out: &mut W,
 ) -> Result<u8> {
     match compile(
         rt.alloc(),
         externals,
-        text,
+        joined.text.as_str(),
         command.crate_name(),
         command.only.as_slice(),
     ) {
-        Ok(compiled) => write_compiled(rt, command, &compiled, text, out),
-        Err(failure) => say_failure(rt, &failure, command.file, text, out),
+        Ok(compiled) => write_compiled(rt, command, &compiled, joined, out),
+        Err(failure) => say_failure(rt, &failure, joined, out),
     }
 }
 
@@ -156,12 +183,12 @@ fn write_compiled<R: Files + AllocGlobal, W: Write>(
     rt: &R,
     command: &CompileCommand<'_>,
     compiled: &Compiled<'_>,
-    text: &str,
+    joined: &Joined,
     out: &mut W,
 ) -> Result<u8> {
     match write_files(rt, command.out, &compiled.files) {
         Ok(()) => {
-            let warnings = warnings_of(rt.alloc(), compiled, command.file, text)?;
+            let warnings = warnings_of(rt.alloc(), compiled, joined)?;
             say(warnings.as_str(), 0, out)
         }
         Err(error) => say_file(command.out, &error, out),
@@ -172,49 +199,74 @@ fn write_compiled<R: Files + AllocGlobal, W: Write>(
 fn warnings_of(
     alloc: Global,
     compiled: &Compiled<'_>,
-    name: &str,
-    text: &str,
+    joined: &Joined,
 ) -> Result<String, AllocError> {
-    let mut lines = left_out_of(alloc, compiled, name, text)?;
-    let mut offset = 0usize;
-    let mut position = Position::of(text.as_bytes(), offset);
-    for warning in compiled.warnings.iter() {
-        let between = text.as_bytes().get(offset..warning.offset).unwrap_or(&[]);
-        position = position.behind(between);
-        offset = warning.offset;
-        lines.push_str(warning.line(alloc, name, position)?.as_str())?;
-    }
+    let mut lines = left_out_of(alloc, compiled, joined)?;
+    push_warnings(alloc, &compiled.warnings, joined, &mut lines)?;
     Ok(lines)
+}
+
+/// Adds the lines of warnings, which ascend by their places.
+pub fn push_warnings(
+    alloc: Global,
+    warnings: &Vec<Warning<'_>>,
+    joined: &Joined,
+    lines: &mut String,
+) -> Result<(), AllocError> {
+    let (mut part, mut offset) = (0usize, 0usize);
+    let mut position = Position::of(&[], 0);
+    for warning in warnings.iter() {
+        let number = joined.part_at(warning.offset);
+        if number != part {
+            part = number;
+            offset = joined.start(number);
+            position = Position::of(&[], 0);
+        }
+        let text = joined.text.as_bytes();
+        position = position.behind(text.get(offset..warning.offset).unwrap_or(&[]));
+        offset = warning.offset;
+        let line = warning.line(alloc, joined.path(number), position)?;
+        lines.push_str(line.as_str())?;
+    }
+    Ok(())
 }
 
 // A line for each alternative that is left out.
 fn left_out_of(
     alloc: Global,
     compiled: &Compiled<'_>,
-    name: &str,
-    text: &str,
+    joined: &Joined,
 ) -> Result<String, AllocError> {
     let mut lines = String::new(alloc);
     for left_out in compiled.left_out.iter() {
         let expected = "a type that the library knows; this alternative is left out";
-        let line = Refusal::of(*left_out, expected).line(alloc, name, text)?;
+        let line = line_of(alloc, &Refusal::of(*left_out, expected), joined)?;
         lines.push_str("warning: ")?;
         lines.push_str(line.as_str())?;
     }
     Ok(lines)
 }
 
-/// Prints why the module in the file `name` is refused.
+/// The line that is printed for a refusal.
+pub fn line_of(alloc: Global, refusal: &Refusal<'_>, joined: &Joined) -> Result<String, AllocError> {
+    let number = joined.part_at(refusal.offset);
+    let inside = Refusal {
+        offset: refusal.offset.saturating_sub(joined.start(number)),
+        ..*refusal
+    };
+    inside.line(alloc, joined.path(number), joined.text_from(number))
+}
+
+/// Prints why a module is refused.
 fn say_failure<R: AllocGlobal, W: Write>(
     rt: &R,
     failure: &Failure<'_>,
-    name: &str,
-    text: &str,
+    joined: &Joined,
     out: &mut W,
 ) -> Result<u8> {
     match failure {
         Failure::Refused(refusal) | Failure::Unsupported(refusal) => {
-            let line = refusal.line(rt.alloc(), name, text)?;
+            let line = line_of(rt.alloc(), refusal, joined)?;
             say(line.as_str(), 1, out)
         }
         Failure::OutOfMemory => Err(Error::from(AllocError)),

@@ -48,7 +48,7 @@ pub fn items_of<'a>(alloc: Global, text: &'a str) -> Result<Vec<Item<'a>>, Failu
         kind: ItemKind::End,
         text: "",
         offset: at,
-        comments: text.get(comments_start..at).unwrap_or(""),
+        comments: text.get(comments_start..).unwrap_or(""),
     })?;
     Ok(items)
 }

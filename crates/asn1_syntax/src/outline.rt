@@ -20,6 +20,8 @@ pub struct ModuleOutline<'a> {
     pub imported: NameIndex<'a>,
     /// The number of the item that begins the first assignment.
     pub start: usize,
+    /// The index of the first octet of its `END`, or the end of the text.
+    pub end: usize,
     /// The number of the item that is the name of each assignment.
     pub definitions: NameIndex<'a>,
 }

@@ -25,11 +25,12 @@ use crate::lines::push_line;
 use crate::module::{Import, ParsedModule, TypeAssignment, ValueAssignment};
 use crate::name_index::NameIndex;
 use crate::object_set::TableUse;
+use crate::octet_class::is_lower;
 use crate::outline::ModuleOutline;
 use crate::refusal::Refusal;
 use crate::reserved::is_reserved;
 use crate::simple_type::SimpleType;
-use crate::type_node::TypeNode;
+use crate::type_node::{TypeForm, TypeNode};
 use crate::warning::Warning;
 use digits::check_digits;
 use places::Frame;
@@ -37,6 +38,8 @@ use std::alloc::{AllocError, Global};
 
 /// The greatest number of types around a type.
 const MAX_DEPTH: u32 = 64;
+
+const NO_MACRO: &str = "no notation of a macro, which is not read";
 
 /// A walk over the items of a text.
 #[derive(Drop)]
@@ -102,10 +105,7 @@ pub fn parse_module<'a>(alloc: Global, text: &'a str) -> Result<ParsedModule<'a>
 }
 
 /// The modules of a text, whose assignments are not parsed.
-pub fn outline_of<'a>(
-    alloc: Global,
-    text: &'a str,
-) -> Result<Vec<ModuleOutline<'a>>, Failure<'a>> {
+pub fn outline_of<'a>(alloc: Global, text: &'a str) -> Result<Vec<ModuleOutline<'a>>, Failure<'a>> {
     let mut parser = parser_of(alloc, text)?;
     parser.outline()?;
     Ok(parser.modules)
@@ -194,7 +194,12 @@ impl<'a> Parser<'a> {
             return Item::END;
         };
         match self.frames.get(self.frame) {
-            Some(Frame { offset: Some(offset), .. }) => Item {
+            Some(
+                Frame {
+                    offset: Some(offset),
+                    ..
+                },
+            ) => Item {
                 offset: *offset,
                 ..*item
             },
@@ -314,8 +319,11 @@ impl<'a> Parser<'a> {
             return Err(refused(name, "an assignment or END"));
         }
         let is_type = name.kind == ItemKind::UpperName;
-        if is_type && (is_reserved(name.text) || SimpleType::of(name.text).is_some()) {
+        if is_type && is_reserved(name.text) {
             return Err(refused(name, "an assignment or END"));
+        }
+        if is_type && SimpleType::of(name.text).is_some() {
+            return Err(unsupported(name, "a name that no type of the notation has"));
         }
         if self.peek().is("{") || self.peek().is("MACRO") || is_type && self.is_class() {
             self.to_next_assignment(self.at.saturating_sub(1));
@@ -328,7 +336,9 @@ impl<'a> Parser<'a> {
         let first = self.nodes.len();
         let of = if self.peek().is("::=") {
             self.at = self.at.saturating_add(1);
-            self.whole_type()?
+            let of = self.whole_type()?;
+            self.check_macro(number, of)?;
+            of
         } else if self.is_set_assignment() {
             match self.set_assigned(name, module)? {
                 Some(of) => of,
@@ -339,6 +349,37 @@ impl<'a> Parser<'a> {
         };
         module.types.push(TypeAssignment { name, of, first })?;
         Ok(())
+    }
+
+    // Checks that no notation of a macro stands behind a type (X.208, Annex A): no assignment begins
+    // there.
+    fn check_macro(&self, number: usize, of: usize) -> Result<(), Failure<'a>> {
+        let item = self.peek();
+        let is_next = match self.modules.get(number) {
+            Some(outline) => outline.definitions.find(item.text).is_some(),
+            None => true,
+        };
+        if is_next || item.is("END") || !self.is_macro(of) {
+            return Ok(());
+        }
+        Err(unsupported(item, NO_MACRO))
+    }
+
+    // Whether this type is a name in capitals, as that of a macro.
+    fn is_macro(&self, of: usize) -> bool {
+        match self.nodes.get(of) {
+            Some(node) => {
+                let is_name = matches!(node.form, TypeForm::Reference);
+                is_name
+                    && !node
+                        .item
+                        .text
+                        .as_bytes()
+                        .iter()
+                        .any(|octet| is_lower(*octet))
+            }
+            None => false,
+        }
     }
 
     fn expect_end(&mut self) -> Result<(), Failure<'a>> {
@@ -370,6 +411,9 @@ impl<'a> Parser<'a> {
         }
         let first = self.nodes.len();
         let of = self.whole_type()?;
+        if !self.peek().is("::=") && self.is_macro(of) {
+            return Err(unsupported(name, NO_MACRO));
+        }
         self.expect("::=")?;
         let value = self.value()?;
         module.values.push(ValueAssignment {

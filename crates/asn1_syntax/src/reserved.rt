@@ -1,6 +1,7 @@
 //! Reserved words.
 
 use crate::lines::is_line_of;
+use crate::octet_class::is_lower;
 
 const RESERVED: &str = "ABSENT
 ALL
@@ -62,5 +63,8 @@ DEFINED";
 
 /// Whether a word is reserved by the notation (X.680, 12.38), and the name of no built-in type.
 pub fn is_reserved(word: &str) -> bool {
-    is_line_of(RESERVED, word)
+    match word.as_bytes() {
+        [_, second, ..] if is_lower(*second) => false,
+        _ => is_line_of(RESERVED, word),
+    }
 }

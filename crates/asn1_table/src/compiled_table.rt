@@ -1,6 +1,6 @@
 //! What modules are compiled to.
 
-use asn1_syntax::{LeftOut, Warning};
+use asn1_syntax::Warning;
 
 /// A table, and what is not in it.
 #[derive(Drop)]
@@ -9,9 +9,7 @@ pub struct CompiledTable<'a> {
     pub octets: Vec<u8>,
     /// The types that were asked for, in their order.
     pub roots: Vec<Root<'a>>,
-    /// The assignments that are left out.
-    pub left_out: Vec<LeftOut<'a>>,
-    /// What the table does not say.
+    /// The assignments that are left out, and what the table does not say, in the order of their places.
     pub warnings: Vec<Warning<'a>>,
 }
 

@@ -10,8 +10,8 @@ use crate::roots::{root_at, types_of};
 use crate::rows::Rows;
 use crate::wrong::Wrong;
 use asn1_schema::{Fault, FaultKind, Schema};
-use asn1_syntax::Refusal;
-use std::alloc::Global;
+use asn1_syntax::{LeftOut, Refusal, Warning};
+use std::alloc::{AllocError, Global};
 
 /// The greatest number of nodes.
 const MAX_NODES: usize = 1048576;
@@ -143,13 +143,33 @@ fn finished<'a>(
         })?;
     }
     let Rows { warnings, .. } = rows;
-    let Library { left_out, .. } = library;
     Ok(Attempt::Table(CompiledTable {
         octets,
         roots: placed,
-        left_out,
-        warnings,
+        warnings: with_left_out(alloc, warnings, &library.left_out, only)?,
     }))
+}
+
+// The warnings, and one for each assignment that is left out, if no types are asked for by name.
+fn with_left_out<'a>(
+    alloc: Global,
+    warnings: Vec<Warning<'a>>,
+    left_out: &Vec<LeftOut<'a>>,
+    only: &[&str],
+) -> Result<Vec<Warning<'a>>, AllocError> {
+    let mut all = warnings;
+    if only.is_empty() {
+        for one in left_out.iter() {
+            let (name, expected) = (one.name.text, one.refusal.expected);
+            all.push(Warning {
+                offset: one.refusal.offset,
+                found: one.refusal.found,
+                text: format!(in alloc; "{name} is left out: expected {expected}")?,
+            })?;
+        }
+    }
+    all.sort_by_key(|warning| warning.offset)?;
+    Ok(all)
 }
 
 // The component whose tag another one has, if that is the fault.

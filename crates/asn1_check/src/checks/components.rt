@@ -1,5 +1,6 @@
 //! Tags of components and of alternatives.
 
+use super::recursion::recursive_name;
 use super::tags::copy_at;
 use crate::module::Module;
 use crate::tag_set::TagSet;
@@ -22,7 +23,8 @@ pub fn check_alternatives<'a>(
         let tags = component_tags(alloc, table, alternative, are_numbered, number)?;
         if !before.is_distinct_from(&tags) {
             let expected = "an alternative whose tag no other one has";
-            return Err(Failure::Refused(Refusal::of(alternative.name, expected)));
+            let refusal = Refusal::of(alternative.name, expected);
+            return Err(not_distinct(module, alternatives, refusal));
         }
         before.add(&tags)?;
     }
@@ -45,7 +47,8 @@ pub fn check_sequence<'a>(
         let tags = component_tags(alloc, table, component, are_numbered, number)?;
         if !before.is_distinct_from(&tags) {
             let expected = "a component whose tag no optional one in front of it has";
-            return Err(Failure::Refused(Refusal::of(component.name, expected)));
+            let refusal = Refusal::of(component.name, expected);
+            return Err(not_distinct(module, components, refusal));
         }
         match component.presence {
             Presence::Required => before = TagSet::empty(alloc),
@@ -53,6 +56,21 @@ pub fn check_sequence<'a>(
         }
     }
     Ok(())
+}
+
+// The failure of components whose tags are not distinct. With a type that leads back to itself, whose
+// element may have any tag, they are not supported.
+fn not_distinct<'a>(
+    module: &Module<'a>,
+    components: &Vec<Component<'a>>,
+    refusal: Refusal<'a>,
+) -> Failure<'a> {
+    for component in components.iter() {
+        if recursive_name(module, component.of).is_some() {
+            return Failure::Unsupported(refusal);
+        }
+    }
+    Failure::Refused(refusal)
 }
 
 /// The tags that values of a component begin with.
@@ -102,7 +120,9 @@ pub fn automatic_number(components: &Vec<Component<'_>>, index: usize) -> usize 
 
 /// Whether these components get tags by their numbers (X.680, 25.2).
 pub fn are_numbered(components: &Vec<Component<'_>>) -> bool {
-    components.iter().any(|component| component.number.is_some())
+    components
+        .iter()
+        .any(|component| component.number.is_some())
 }
 
 fn is_tagged(module: &Module<'_>, index: usize) -> bool {

@@ -34,8 +34,8 @@ pub fn add_loops<'a>(
     Ok(())
 }
 
-// The indices of types that do not contain themselves, each behind those that it is made of.
-fn parts_in_order(alloc: Global, module: &Module<'_>) -> Result<Vec<usize>, AllocError> {
+/// The indices of types that do not contain themselves, each behind those that it is made of.
+pub fn parts_in_order(alloc: Global, module: &Module<'_>) -> Result<Vec<usize>, AllocError> {
     let mut parts = Parts::of(alloc, module)?;
     let mut order = parts.without_parts(alloc)?;
     for at in 0..module.nodes.len() {
@@ -47,7 +47,8 @@ fn parts_in_order(alloc: Global, module: &Module<'_>) -> Result<Vec<usize>, Allo
     Ok(order)
 }
 
-fn marks_of(
+/// Marks for the indices in an order.
+pub fn marks_of(
     alloc: Global,
     module: &Module<'_>,
     order: &Vec<usize>,
@@ -123,9 +124,8 @@ fn part_of(module: &Module<'_>, ready: &Vec<bool>, index: usize) -> usize {
     }
     match &node.form {
         TypeForm::Reference => find_type(module, node.item.text).unwrap_or(index),
-        TypeForm::Sequence(components)
-        | TypeForm::Set(components)
-        | TypeForm::Choice(components) => component_of(ready, components).unwrap_or(index),
+        TypeForm::Sequence(components) | TypeForm::Set(components) | TypeForm::Choice(components) =>
+            component_of(ready, components).unwrap_or(index),
         TypeForm::SequenceOf(of) | TypeForm::SetOf(of) | TypeForm::Tagged(_, of) => *of,
         _ => index,
     }

@@ -65,7 +65,7 @@ fn external_of<'e, 'a>(
             return Ok(external);
         }
     }
-    Err(Refusal::of(import.module, "a module that a --with option gives"))
+    Err(Refusal::of(import.module, "a module that --with or --modules gives"))
 }
 
 fn type_of<'a>(

@@ -19,6 +19,8 @@ pub fn keep<'a>(
     parsed
         .values
         .retain(|assigned| wanted.has(assigned.name.text));
+    parsed.objects.retain(|object| wanted.has(object.name.text));
+    parsed.sets.retain(|set| wanted.has(set.name.text));
     parsed
         .imports
         .retain(|import| missing(externals, import).is_none());
@@ -37,6 +39,11 @@ fn clear_types<'a>(alloc: Global, parsed: &mut ParsedModule<'a>, wanted: &NameIn
     for assigned in parsed.values.iter() {
         if !wanted.has(assigned.name.text) {
             clear(alloc, &mut parsed.nodes, assigned.first, assigned.of);
+        }
+    }
+    for object in parsed.objects.iter() {
+        if !wanted.has(object.name.text) && object.first < object.end {
+            clear(alloc, &mut parsed.nodes, object.first, object.end - 1);
         }
     }
 }

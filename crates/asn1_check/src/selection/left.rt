@@ -5,7 +5,7 @@ use crate::external::External;
 use asn1_syntax::{Failure, Import, Item, LeftOut, NameIndex, ParsedModule, Refusal};
 use std::alloc::{AllocError, Global};
 
-const NOT_GIVEN: &str = "a module that a --with option gives";
+const NOT_GIVEN: &str = "a module that --with or --modules gives";
 
 const NOT_ASSIGNED: &str = "a name that is not left out of its module";
 

@@ -2,44 +2,84 @@
 
 use asn1_syntax::{
     Component, Constraint, Endpoint, Item, ItemKind, NamedNumber, ParsedModule, Presence, Range,
-    TypeForm, TypeNode, Value, ValueForm,
+    Setting, TypeForm, TypeNode, Value, ValueForm,
 };
 use std::alloc::{AllocError, Global};
 
 /// An assignment, with the names in it.
 #[derive(Drop)]
 pub struct Used<'a> {
-    /// The name of the type or the value.
+    /// The name of the type, the value, the object or the set.
     pub name: Item<'a>,
     /// The names of types and of values in it, and other names.
     pub names: Vec<Item<'a>>,
+    /// The names of objects and of sets in it: it is compiled without those that are left out.
+    pub members: Vec<Item<'a>>,
 }
 
-/// The assignments of a module that are supported, in their order.
-pub fn used_by<'a>(alloc: Global, parsed: &ParsedModule<'a>) -> Result<Vec<Used<'a>>, AllocError> {
+/// The assignments that are supported, in their order. Of objects and sets, with `are_types` there are
+/// none.
+pub fn used_by<'a>(
+    alloc: Global,
+    parsed: &ParsedModule<'a>,
+    are_types: bool,
+) -> Result<Vec<Used<'a>>, AllocError> {
     let mut found = Vec::new(alloc);
     for assigned in parsed.types.iter() {
-        let mut used = Used {
-            name: assigned.name,
-            names: Vec::new(alloc),
-        };
+        let mut used = Used::new(alloc, assigned.name);
         used.add_types(parsed, assigned.first, assigned.of)?;
         found.push(used)?;
     }
     for assigned in parsed.values.iter() {
-        let mut used = Used {
-            name: assigned.name,
-            names: Vec::new(alloc),
-        };
+        let mut used = Used::new(alloc, assigned.name);
         used.add_types(parsed, assigned.first, assigned.of)?;
         used.add_value(&assigned.value)?;
         found.push(used)?;
+    }
+    if !are_types {
+        add_members(alloc, parsed, &mut found)?;
     }
     found.sort_by_key(|used| used.name.offset)?;
     Ok(found)
 }
 
+// Adds the objects and the sets.
+fn add_members<'a>(
+    alloc: Global,
+    parsed: &ParsedModule<'a>,
+    found: &mut Vec<Used<'a>>,
+) -> Result<(), AllocError> {
+    for object in parsed.objects.iter() {
+        let mut used = Used::new(alloc, object.name);
+        if object.first < object.end {
+            used.add_types(parsed, object.first, object.end - 1)?;
+        }
+        for field in object.fields.iter() {
+            if let Setting::Value(value) = &field.setting {
+                used.add_value(value)?;
+            }
+        }
+        found.push(used)?;
+    }
+    for set in parsed.sets.iter() {
+        let mut used = Used::new(alloc, set.name);
+        for member in set.members.iter() {
+            used.members.push(*member)?;
+        }
+        found.push(used)?;
+    }
+    Ok(())
+}
+
 impl<'a> Used<'a> {
+    fn new(alloc: Global, name: Item<'a>) -> Self {
+        Used {
+            name,
+            names: Vec::new(alloc),
+            members: Vec::new(alloc),
+        }
+    }
+
     // Adds the names in the types from one index to the other.
     fn add_types(
         &mut self,
@@ -49,16 +89,21 @@ impl<'a> Used<'a> {
     ) -> Result<(), AllocError> {
         for index in first..=last {
             if let Some(node) = parsed.nodes.get(index) {
-                self.add_type(node)?;
+                self.add_type(parsed, node)?;
             }
         }
         Ok(())
     }
 
-    fn add_type(&mut self, node: &TypeNode<'a>) -> Result<(), AllocError> {
+    fn add_type(
+        &mut self,
+        parsed: &ParsedModule<'a>,
+        node: &TypeNode<'a>,
+    ) -> Result<(), AllocError> {
         for constraint in node.constraints.iter() {
             match constraint {
                 Constraint::Range(range) | Constraint::Size(range) => self.add_range(range)?,
+                Constraint::Table(number) => self.add_table(parsed, *number)?,
                 _ => {}
             }
         }
@@ -72,6 +117,15 @@ impl<'a> Used<'a> {
             }
             TypeForm::Enumerated(numbers) => self.add_numbers(numbers)?,
             _ => {}
+        }
+        Ok(())
+    }
+
+    fn add_table(&mut self, parsed: &ParsedModule<'a>, number: usize) -> Result<(), AllocError> {
+        if let Some(table) = parsed.tables.get(number) {
+            for member in table.members.iter() {
+                self.members.push(*member)?;
+            }
         }
         Ok(())
     }

@@ -1,19 +1,21 @@
 //! The names of the assignments that are compiled.
 
 use super::used::Used;
-use asn1_syntax::{Failure, Item, LeftOut, NameIndex, Refusal};
+use asn1_syntax::{Failure, Item, LeftOut, NameIndex, ParsedModule, Refusal};
 use std::alloc::{AllocError, Global};
 
 const NO_TYPE: &str = "a module that has each type of the options --only";
 
-/// The names that are compiled: those that are not left out, of which with `only` those of its types
-/// and of what they name. Refuses a name of `only` that is left out, or not there.
+/// The names that are compiled: those that are not left out, of which with `is_first` those of the
+/// first module and of what they name, and with `only` those of its types and of what they name.
+/// Refuses a name of `only` that is left out, or not there.
 pub fn wanted_of<'a>(
     alloc: Global,
-    module: Item<'a>,
+    parsed: &ParsedModule<'a>,
     used: &Vec<Used<'a>>,
     left_out: &Vec<LeftOut<'a>>,
     only: &[&str],
+    is_first: bool,
 ) -> Result<NameIndex<'a>, Failure<'a>> {
     for name in only {
         for left_out in left_out.iter() {
@@ -23,10 +25,12 @@ pub fn wanted_of<'a>(
         }
     }
     let all = all_of(alloc, used, left_out)?;
-    if only.is_empty() {
+    if only.is_empty() && !is_first {
         return Ok(all);
     }
-    reached(alloc, module, used, &all, only)
+    let mut found = asked_for(alloc, parsed, used, &all, only)?;
+    reach(used, &all, &mut found)?;
+    Ok(found)
 }
 
 // The names that are not left out, with the numbers of their assignments.
@@ -48,10 +52,10 @@ fn all_of<'a>(
     Ok(all)
 }
 
-// The names that are reached from those of `only`, which are among these.
-fn reached<'a>(
+// The names of `only`, which are among these; those of the first module if `only` is empty.
+fn asked_for<'a>(
     alloc: Global,
-    module: Item<'a>,
+    parsed: &ParsedModule<'a>,
     used: &Vec<Used<'a>>,
     all: &NameIndex<'a>,
     only: &[&str],
@@ -59,12 +63,29 @@ fn reached<'a>(
     let mut found = NameIndex::new(alloc);
     for name in only {
         let Some(number) = all.find(name) else {
-            return Err(Failure::Refused(Refusal::of(module, NO_TYPE)));
+            return Err(Failure::Refused(Refusal::of(parsed.name, NO_TYPE)));
         };
         if let Some(assigned) = used.get(number) {
             found.add(assigned.name.text, number)?;
         }
     }
+    if !only.is_empty() {
+        return Ok(found);
+    }
+    for (number, assigned) in used.iter().enumerate() {
+        if assigned.name.offset < parsed.end && all.find(assigned.name.text).is_some() {
+            found.add(assigned.name.text, number)?;
+        }
+    }
+    Ok(found)
+}
+
+// Adds the names that are reached from these.
+fn reach<'a>(
+    used: &Vec<Used<'a>>,
+    all: &NameIndex<'a>,
+    found: &mut NameIndex<'a>,
+) -> Result<(), AllocError> {
     for at in 0..used.len() {
         let Some(name) = found.names.get(at) else {
             break;
@@ -73,19 +94,20 @@ fn reached<'a>(
         if let Some(number) = all.find(name)
             && let Some(assigned) = used.get(number)
         {
-            add_names(assigned, all, &mut found)?;
+            add_names(&assigned.names, all, found)?;
+            add_names(&assigned.members, all, found)?;
         }
     }
-    Ok(found)
+    Ok(())
 }
 
-// Adds the names in an assignment.
+// Adds those of these names that are among all.
 fn add_names<'a>(
-    assigned: &Used<'a>,
+    names: &Vec<Item<'a>>,
     all: &NameIndex<'a>,
     found: &mut NameIndex<'a>,
 ) -> Result<(), AllocError> {
-    for name in assigned.names.iter() {
+    for name in names.iter() {
         if let Some(number) = all.find(name.text) {
             found.add(name.text, number)?;
         }

@@ -1,7 +1,7 @@
 //! Alternatives of a CHOICE.
 
 use super::directive::variant_name;
-use super::docs::doc_of;
+use super::docs::component_doc;
 use super::known::unknown_type;
 use super::taken::{ALONE, Taken};
 use super::template::Places;
@@ -50,7 +50,7 @@ pub fn alternatives<'a>(
             let name = variant_name(alloc, component.name)?;
             found.push(Alternative {
                 name: taken.take_free(alloc, name.as_str(), ALONE, "")?,
-                doc: doc_of(alloc, component.name.comments, "    ", component.name.text)?,
+                doc: component_doc(alloc, module, component)?,
                 of: of.copy(alloc)?,
             })?;
         }

@@ -1,7 +1,8 @@
 //! Comments of the module as documentation.
 
 use super::directive::is_directive;
-use asn1_syntax::comment_text;
+use asn1_check::{Module, recursive_name};
+use asn1_syntax::{Component, comment_text};
 use std::alloc::{AllocError, Global};
 
 /// The comment in front of a name, without its marks, on lines that begin with `indent`; or
@@ -25,6 +26,24 @@ pub fn doc_of(
     }
     if doc.is_empty() {
         push_line(&mut doc, indent, instead)?;
+    }
+    Ok(doc)
+}
+
+/// The documentation of a component. It says that the element of a type which leads back to itself is
+/// kept.
+pub fn component_doc(
+    alloc: Global,
+    module: &Module<'_>,
+    component: &Component<'_>,
+) -> Result<String, AllocError> {
+    let name = component.name;
+    let mut doc = doc_of(alloc, name.comments, "    ", name.text)?;
+    if let Some(of) = recursive_name(module, component.of) {
+        let line = format!(in alloc;
+            "`{of}` leads back to itself here: its element is kept, which `decode_as` of `AnyRef` decodes."
+        )?;
+        push_line(&mut doc, "    ", line.as_str())?;
     }
     Ok(doc)
 }

@@ -3,7 +3,7 @@
 use super::default_place::DefaultPlace;
 use super::defaults::{DefaultType, default_type};
 use super::directive::{field_name, is_word, name_of_type, own_default, variant_name};
-use super::docs::doc_of;
+use super::docs::component_doc;
 use super::field::{Field, FieldPresence};
 use super::known::additions_type;
 use super::naming::text_at;
@@ -11,7 +11,7 @@ use super::pieces::Written;
 use super::sequence::SequenceText;
 use super::taken::{ALONE, Taken};
 use super::types::{automatic_tag, component_types};
-use asn1_check::RustType;
+use asn1_check::{Module, RustType};
 use asn1_syntax::{Component, Failure, Presence};
 use std::alloc::{AllocError, Global};
 
@@ -44,7 +44,7 @@ impl<'m, 'a> Written<'m, 'a> {
             };
             let found = self.field_type(alloc, component, &place)?;
             let name = String::from_str(alloc, text_at(&names, count))?;
-            fields.push(field_of(alloc, component, name, found)?)?;
+            fields.push(field_of(alloc, self.module, component, name, found)?)?;
         }
         if additions == Some(components.len()) {
             fields.push(additions_field(alloc, owner, components)?)?;
@@ -112,6 +112,7 @@ fn additions_field(
 
 fn field_of(
     alloc: Global,
+    module: &Module<'_>,
     component: &Component<'_>,
     name: String,
     found: DefaultType,
@@ -119,7 +120,7 @@ fn field_of(
     let DefaultType { of, own } = found;
     Ok(Field {
         name,
-        doc: doc_of(alloc, component.name.comments, "    ", component.name.text)?,
+        doc: component_doc(alloc, module, component)?,
         of,
         presence: presence_of(alloc, component)?,
         own,

@@ -96,11 +96,7 @@ pub fn behind_tags(
 }
 
 /// The type of this tag in front of the type of an element.
-pub fn behind_tag(
-    alloc: Global,
-    prefix: TagPrefix,
-    inside: &str,
-) -> Result<String, AllocError> {
+pub fn behind_tag(alloc: Global, prefix: TagPrefix, inside: &str) -> Result<String, AllocError> {
     wrapped_text(alloc, word_of(tagging(prefix.tagging)), inside, prefix.tag)
 }
 

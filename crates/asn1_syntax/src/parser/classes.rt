@@ -11,7 +11,8 @@ impl<'a> Parser<'a> {
     /// Whether a class stands here behind `::=`.
     pub(super) fn is_class(&self) -> bool {
         let of = self.peek_second();
-        self.peek().is("::=") && (of.is("CLASS") || self.class_named(of).is_some())
+        let is_builtin = of.is("CLASS") || of.is("TYPE-IDENTIFIER") || of.is("ABSTRACT-SYNTAX");
+        self.peek().is("::=") && (is_builtin || self.class_named(of).is_some())
     }
 
     /// The brace that opens the fields of the class with this name.

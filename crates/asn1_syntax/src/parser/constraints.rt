@@ -111,6 +111,9 @@ impl<'a> Parser<'a> {
     // Whether a range, a single number or name, or a size begins here.
     fn begins_range(&self) -> bool {
         let item = self.peek();
+        if self.peek_second().is("..") && self.item_at(self.at.saturating_add(2)).is("<") {
+            return false;
+        }
         match item.kind {
             ItemKind::UpperName => item.is("SIZE") || item.is("MIN") || item.is("MAX"),
             ItemKind::LowerName => true,
@@ -134,6 +137,7 @@ impl<'a> Parser<'a> {
             || item.is("INTERSECTION")
             || item.is("EXCEPT")
             || item.is("<")
+            || item.is(".")
             || item.is(":")
             || (item.is(",") && self.is_open_end())
             || item.is("!")

@@ -1,5 +1,6 @@
 //! Types that are read in the place of names.
 
+use super::next_assignment::{closes, opens};
 use super::places::{Back, Parameter, Place};
 use super::{Parser, unsupported};
 use crate::constraint::Constraint;
@@ -61,12 +62,11 @@ impl<'a> Parser<'a> {
             return Err(unsupported(item, "arguments behind a type with parameters"));
         }
         let mut parameters = Vec::new(self.alloc);
-        let end = self.end_of_group(self.at.saturating_sub(1)).saturating_sub(1);
+        let end = self
+            .end_of_group(self.at.saturating_sub(1))
+            .saturating_sub(1);
         for name in names.iter() {
-            parameters.push(Parameter {
-                name,
-                at: self.at,
-            })?;
+            parameters.push(Parameter { name, at: self.at })?;
             self.at = self.end_of_argument(end).saturating_add(1);
         }
         if self.at != end.saturating_add(1) {
@@ -80,9 +80,9 @@ impl<'a> Parser<'a> {
         let mut depth = 0u64;
         for at in self.at..end {
             let item = self.item_at(at);
-            if super::next_assignment::opens(item) {
+            if opens(item) {
                 depth = depth.saturating_add(1);
-            } else if super::next_assignment::closes(item) {
+            } else if closes(item) {
                 depth = depth.saturating_sub(1);
             } else if depth == 0 && item.is(",") {
                 return at;
@@ -127,9 +127,9 @@ impl<'a> Parser<'a> {
         let mut depth = 0u64;
         for at in from..end {
             let item = self.item_at(at);
-            if super::next_assignment::opens(item) {
+            if opens(item) {
                 depth = depth.saturating_add(1);
-            } else if super::next_assignment::closes(item) {
+            } else if closes(item) {
                 depth = depth.saturating_sub(1);
             } else if depth == 0 && item.is(",") {
                 return at.saturating_add(1);

@@ -110,7 +110,10 @@ impl<'a> Parser<'a> {
 
     // Whether the name at this place is one that is imported from the next module.
     fn begins_import(&self) -> bool {
-        self.peek_second().is(",") || self.peek_second().is("FROM")
+        let behind = self.peek_second();
+        behind.is(",")
+            || behind.is("FROM")
+            || (behind.is("{") && self.item_at(self.at.saturating_add(2)).is("}"))
     }
 
     // Parses the names that one module defines, and its name.

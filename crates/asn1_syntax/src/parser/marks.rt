@@ -21,7 +21,13 @@ impl<'a> Parser<'a> {
                 self.peek(),
                 "an alternative in front of the extension mark",
             )),
-            (0 | 1, _) => Ok(self.next()),
+            (0 | 1, _) => {
+                let mark = self.next();
+                if self.takes("!") {
+                    self.value()?;
+                }
+                Ok(mark)
+            }
             _ => Err(refused(self.peek(), "at most two extension marks")),
         }
     }

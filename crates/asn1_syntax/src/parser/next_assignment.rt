@@ -49,9 +49,9 @@ impl<'a> Parser<'a> {
         for at in from..self.items.len() {
             let item = self.item_at(at);
             if opens(item) {
-                depth = depth.saturating_add(1);
+                depth = depth.saturating_add(weight(item));
             } else if closes(item) {
-                depth = depth.saturating_sub(1);
+                depth = depth.saturating_sub(weight(item));
             } else if depth == 0 && (item.is("::=") || item.is("END")) {
                 return at;
             }
@@ -62,6 +62,7 @@ impl<'a> Parser<'a> {
     // The index of the name of the assignment whose `::=` has the index `assign`; not below `least`.
     fn name_before(&self, assign: usize, least: usize) -> usize {
         let is_type = self.begins_type(assign.saturating_add(1));
+        let mut has_governor = false;
         let mut at = assign;
         for _ in least..assign {
             if at <= least {
@@ -71,6 +72,10 @@ impl<'a> Parser<'a> {
             if self.is_name(at) && (is_type || self.is_behind_name(at, least)) {
                 return if is_type { at } else { at.saturating_sub(1) };
             }
+            if self.is_name(at) && self.item_at(at.saturating_add(1)).is("{") && has_governor {
+                return at;
+            }
+            has_governor = has_governor || self.is_name(at);
             if self.item_at(at).kind == ItemKind::LowerName && !self.is_field(at) {
                 return at;
             }
@@ -84,10 +89,11 @@ impl<'a> Parser<'a> {
         let mut at = at;
         for _ in least..at {
             at = at.saturating_sub(1);
-            if closes(self.item_at(at)) {
-                depth = depth.saturating_add(1);
-            } else if opens(self.item_at(at)) {
-                depth = depth.saturating_sub(1);
+            let item = self.item_at(at);
+            if closes(item) {
+                depth = depth.saturating_add(weight(item));
+            } else if opens(item) {
+                depth = depth.saturating_sub(weight(item));
             }
             if depth == 0 {
                 break;
@@ -134,4 +140,9 @@ pub fn opens(item: Item<'_>) -> bool {
 /// Whether brackets close at this item.
 pub fn closes(item: Item<'_>) -> bool {
     item.is("}") || item.is(")") || item.is("]") || item.is("]]")
+}
+
+/// How many brackets open or close at this item.
+pub fn weight(item: Item<'_>) -> u64 {
+    if item.is("[[") || item.is("]]") { 2 } else { 1 }
 }

@@ -50,6 +50,8 @@ impl<'a> Parser<'a> {
         }
         let start = self.at;
         let definitions = self.definitions()?;
+        let end = self.peek().offset;
+        self.takes("END");
         Ok(ModuleOutline {
             name,
             tags,
@@ -57,16 +59,17 @@ impl<'a> Parser<'a> {
             imports,
             imported,
             start,
+            end,
             definitions,
         })
     }
 
-    // The names of the assignments from here on. Moves behind END.
+    // The names of the assignments from here on. Moves to END.
     fn definitions(&mut self) -> Result<NameIndex<'a>, Failure<'a>> {
         let mut names = NameIndex::new(self.alloc);
         for _ in 0..self.items.len() {
             let item = self.peek();
-            if item.kind == ItemKind::End || self.takes("END") {
+            if item.kind == ItemKind::End || item.is("END") {
                 break;
             }
             if matches!(item.kind, ItemKind::UpperName | ItemKind::LowerName) {
@@ -117,6 +120,7 @@ impl<'a> Parser<'a> {
         let mut module = ParsedModule {
             name: Item::END,
             tags: TagDefault::Explicit,
+            end: 0,
             imports: Vec::new(self.alloc),
             exports: Vec::new(self.alloc),
             types: Vec::new(self.alloc),
@@ -132,11 +136,16 @@ impl<'a> Parser<'a> {
         if let Some(first) = self.modules.first() {
             module.name = first.name;
             module.tags = first.tags;
+            module.end = first.end;
             for name in first.exports.iter() {
                 module.exports.push(*name)?;
             }
             for import in first.imports.iter() {
-                if self.find_at(0, import.name.text).map_or(0, |place| place.frame) == 0 {
+                if self
+                    .find_at(0, import.name.text)
+                    .map_or(0, |place| place.frame)
+                    == 0
+                {
                     module.imports.push(*import)?;
                 }
             }

@@ -1,10 +1,12 @@
 //! Where names are defined.
 
+use super::next_assignment::{closes, opens, weight};
 use super::{Parser, unsupported};
 use crate::failure::Failure;
 use crate::item::Item;
 use crate::item_kind::ItemKind;
 use crate::module::Import;
+use crate::reserved::is_reserved;
 
 /// The names that stand for others while a type is read in the place of its name.
 #[derive(Drop)]
@@ -209,11 +211,10 @@ impl<'a> Parser<'a> {
         let mut depth = 0u64;
         for end in at..self.items.len() {
             let item = self.item_at(end);
-            let weight = if item.text.len() == 2 { 2 } else { 1 };
-            if super::next_assignment::opens(item) {
-                depth = depth.saturating_add(weight);
-            } else if super::next_assignment::closes(item) {
-                depth = depth.saturating_sub(weight);
+            if opens(item) {
+                depth = depth.saturating_add(weight(item));
+            } else if closes(item) {
+                depth = depth.saturating_sub(weight(item));
             }
             if depth == 0 {
                 return end.saturating_add(1);
@@ -224,6 +225,6 @@ impl<'a> Parser<'a> {
 
     /// Whether this item is the name of a type, a class or a set.
     pub(super) fn is_reference(item: Item<'a>) -> bool {
-        item.kind == ItemKind::UpperName && !crate::reserved::is_reserved(item.text)
+        item.kind == ItemKind::UpperName && !is_reserved(item.text)
     }
 }

@@ -119,7 +119,7 @@ impl<'a> Parser<'a> {
             constraints.push(size)?;
         }
         self.expect("OF")?;
-        if self.peek().kind == ItemKind::LowerName {
+        if self.peek().kind == ItemKind::LowerName && !self.peek_second().is("<") {
             self.at = self.at.saturating_add(1);
         }
         self.type_at(depth)
@@ -238,6 +238,9 @@ impl<'a> Parser<'a> {
         let back = self.go(place, name, Vec::new(self.alloc))?;
         let more = self.components(false, &mut mark, depth - 1)?;
         self.come_back(back);
+        if self.peek().is("(") {
+            self.at = self.end_of_group(self.at);
+        }
         for component in more.into_iter() {
             if !component.is_addition {
                 components.push(Component {

@@ -14,8 +14,7 @@ impl<'a> Parser<'a> {
             let form = ValueForm::Braces(self.named_items()?);
             return Ok(Value { item, form });
         }
-        let behind = self.item_at(self.at.saturating_add(2));
-        if self.peek_second().is(":") || self.peek_second().is(".") || behind.is(".") {
+        if self.is_unread_value(item) {
             return self.unread_value(item);
         }
         if self.takes("-") {
@@ -29,6 +28,16 @@ impl<'a> Parser<'a> {
                 self.item_value(item)
             }
         }
+    }
+
+    // Whether a value of more than one item begins with this one.
+    fn is_unread_value(&self, item: Item<'a>) -> bool {
+        let behind = self.peek_second();
+        let is_open = behind.is("{") || behind.kind == ItemKind::Number;
+        behind.is(":")
+            || behind.is(".")
+            || (item.is("-") && self.item_at(self.at.saturating_add(2)).is("."))
+            || (item.kind == ItemKind::LowerName && is_open)
     }
 
     // The value that is this item, or for which it stands as a parameter.
@@ -62,7 +71,9 @@ impl<'a> Parser<'a> {
         let form = ValueForm::Unread;
         for _ in 0..self.items.len() {
             let behind = self.peek_second();
-            if self.peek().is("-") {
+            if self.peek().is("-")
+                || self.is_unread_value(self.peek()) && !behind.is(":") && !behind.is(".")
+            {
                 self.at = self.at.saturating_add(1);
             } else if behind.is(":") || behind.is(".") {
                 self.at = self.at.saturating_add(2);

@@ -1,0 +1,239 @@
+//! Modules that are found by name in the files beneath a folder.
+
+use asn1_syntax::{Failure, ModuleOutline, NameIndex, outline_of, own_names};
+use std::alloc::{AllocError, Global};
+use std::rt::Files;
+use std::{fs, io};
+
+/// The most folders that are read, and the most modules that are wanted.
+const MOST_FOLDERS: u32 = 100_000;
+
+/// The paths of the files beneath a folder whose names end in `.asn` or `.asn1`, in their order.
+pub fn paths_beneath<R: Files + AllocGlobal + Clone + Drop>(
+    rt: &R,
+    folder: &str,
+) -> io::Result<Vec<String>> {
+    let mut paths = Vec::new(rt.alloc());
+    let mut folders = vec![in rt.alloc(); String::from_str(rt.alloc(), folder)?]?;
+    for _ in 0..MOST_FOLDERS {
+        let Some(next) = folders.pop() else {
+            break;
+        };
+        add_entries(rt, next.as_str(), &mut folders, &mut paths)?;
+    }
+    paths.sort()?;
+    Ok(paths)
+}
+
+// Adds the folders and the files of modules in a folder.
+fn add_entries<R: Files + AllocGlobal + Clone + Drop>(
+    rt: &R,
+    folder: &str,
+    folders: &mut Vec<String>,
+    paths: &mut Vec<String>,
+) -> io::Result<()> {
+    for entry in fs::read_dir(rt, folder)? {
+        let entry = entry?;
+        let path = entry.path();
+        let text = String::from_str(rt.alloc(), path.as_str())?;
+        if entry.file_type()?.is_dir() {
+            folders.push(text)?;
+        } else if is_module(entry.file_name()) {
+            paths.push(text)?;
+        }
+    }
+    Ok(())
+}
+
+fn is_module(name: &str) -> bool {
+    match name.rsplit_once('.') {
+        Some((_, end)) => end.eq_ignore_ascii_case("asn") || end.eq_ignore_ascii_case("asn1"),
+        None => false,
+    }
+}
+
+/// The texts of files, as one.
+#[derive(Drop)]
+pub struct Joined {
+    /// The texts behind each other.
+    pub text: String,
+    parts: Vec<Part>,
+}
+
+// A file, with the index at which its text begins.
+#[derive(Drop)]
+struct Part {
+    path: String,
+    start: usize,
+}
+
+impl Joined {
+    /// The text of one file.
+    pub fn new(alloc: Global, path: &str, text: &str) -> Result<Self, AllocError> {
+        let mut joined = Joined {
+            text: String::new(alloc),
+            parts: Vec::new(alloc),
+        };
+        joined.push(alloc, path, text)?;
+        Ok(joined)
+    }
+
+    /// Adds the text of another file, without the mark of UTF-8 that it may begin with.
+    pub fn push_behind(
+        &mut self,
+        alloc: Global,
+        path: &str,
+        text: &str,
+    ) -> Result<(), AllocError> {
+        self.push(alloc, path, text.strip_prefix(MARK).unwrap_or(text))
+    }
+
+    // Adds the text of a file.
+    fn push(&mut self, alloc: Global, path: &str, text: &str) -> Result<(), AllocError> {
+        if !self.parts.is_empty() {
+            self.text.push('\n')?;
+        }
+        self.parts.push(Part {
+            path: String::from_str(alloc, path)?,
+            start: self.text.len(),
+        })?;
+        self.text.push_str(text)
+    }
+
+    /// Adds the files that a text imports from, also by way of others, and the names that these get.
+    /// The modules of `given` texts are not looked for.
+    pub fn add_imports(
+        &mut self,
+        alloc: Global,
+        main: &str,
+        given: &Vec<String>,
+        paths: &Vec<String>,
+        texts: &Vec<String>,
+    ) -> Result<(), AllocError> {
+        for number in needed(alloc, main, given, texts)?.iter() {
+            if let (Some(path), Some(text)) = (paths.get(*number), texts.get(*number)) {
+                self.push_behind(alloc, path.as_str(), text.as_str())?;
+            }
+        }
+        let names = own_names_of(alloc, self.text.as_str())?;
+        self.text.push('\n')?;
+        self.text.push_str(names.as_str())
+    }
+
+    /// The number of the file that has this index.
+    pub fn part_at(&self, offset: usize) -> usize {
+        let behind = self
+            .parts
+            .iter()
+            .filter(|part| part.start <= offset)
+            .count();
+        behind.saturating_sub(1)
+    }
+
+    /// The path of the file with this number.
+    pub fn path(&self, number: usize) -> &str {
+        match self.parts.get(number) {
+            Some(part) => part.path.as_str(),
+            None => "",
+        }
+    }
+
+    /// The text from the file with this number on.
+    pub fn text_from(&self, number: usize) -> &str {
+        self.text.as_str().get(self.start(number)..).unwrap_or("")
+    }
+
+    /// The index at which the text of the file with this number begins.
+    pub fn start(&self, number: usize) -> usize {
+        match self.parts.get(number) {
+            Some(part) => part.start,
+            None => 0,
+        }
+    }
+}
+
+// The mark of UTF-8 that a text may begin with.
+const MARK: &str = "\u{FEFF}";
+
+// The names that assignments of a text get; none if it is refused, as it is then when it is parsed.
+fn own_names_of(alloc: Global, text: &str) -> Result<String, AllocError> {
+    match own_names(alloc, text) {
+        Ok(names) => Ok(names),
+        Err(Failure::OutOfMemory) => Err(AllocError),
+        Err(_) => Ok(String::new(alloc)),
+    }
+}
+
+// The modules of a text; none if it is refused.
+fn modules_in<'a>(alloc: Global, text: &'a str) -> Result<Vec<ModuleOutline<'a>>, AllocError> {
+    match outline_of(alloc, text) {
+        Ok(modules) => Ok(modules),
+        Err(Failure::OutOfMemory) => Err(AllocError),
+        Err(_) => Ok(Vec::new(alloc)),
+    }
+}
+
+// The numbers of the texts that have the modules from which a text imports, also by way of others.
+fn needed<'l>(
+    alloc: Global,
+    main: &'l str,
+    given: &'l Vec<String>,
+    texts: &'l Vec<String>,
+) -> Result<Vec<usize>, AllocError> {
+    let places = places_of(alloc, texts)?;
+    let mut present = NameIndex::new(alloc);
+    let mut wanted = NameIndex::new(alloc);
+    for text in given.iter() {
+        add_modules(alloc, text.as_str(), &mut present, None)?;
+    }
+    add_modules(alloc, main, &mut present, Some(&mut wanted))?;
+    let mut found = Vec::new(alloc);
+    for at in 0..MOST_FOLDERS as usize {
+        let Some(name) = wanted.names.get(at) else {
+            break;
+        };
+        let name = *name;
+        if !present.has(name)
+            && let Some(number) = places.find(name)
+            && let Some(text) = texts.get(number)
+        {
+            add_modules(alloc, text.as_str(), &mut present, Some(&mut wanted))?;
+            found.push(number)?;
+        }
+    }
+    Ok(found)
+}
+
+// The number of the first one of these texts that has each module.
+fn places_of<'l>(alloc: Global, texts: &'l Vec<String>) -> Result<NameIndex<'l>, AllocError> {
+    let mut places = NameIndex::new(alloc);
+    for (number, text) in texts.iter().enumerate() {
+        for module in modules_in(alloc, text.as_str())?.iter() {
+            places.add(module.name.text, number)?;
+        }
+    }
+    Ok(places)
+}
+
+// Adds the modules of a text to those that are present, and those from which they import to those that
+// are wanted.
+fn add_modules<'l>(
+    alloc: Global,
+    text: &'l str,
+    present: &mut NameIndex<'l>,
+    wanted: Option<&mut NameIndex<'l>>,
+) -> Result<(), AllocError> {
+    let modules = modules_in(alloc, text)?;
+    for module in modules.iter() {
+        present.add(module.name.text, 0)?;
+    }
+    let Some(wanted) = wanted else {
+        return Ok(());
+    };
+    for module in modules.iter() {
+        for import in module.imports.iter() {
+            wanted.add(import.module.text, 0)?;
+        }
+    }
+    Ok(())
+}
