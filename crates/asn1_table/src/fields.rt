@@ -4,7 +4,7 @@ use crate::defaults::default_of;
 use crate::directives::{opens, own_type};
 use crate::library::Library;
 use crate::nodes::add;
-use crate::objects::{field_at, use_in};
+use crate::objects::use_in;
 use crate::opener::Opener;
 use crate::reach::{has_no_tag, reach};
 use crate::rows::{EMPTY, Rows, count_of};
@@ -100,27 +100,26 @@ fn by_objects<'a>(
     opener: Opener<'a>,
 ) -> Opener<'a> {
     match chosen_by(library, components, index) {
-        Some((number, by, field)) => Opener {
+        Some((number, by)) => Opener {
             chooser: Some(start.saturating_add(count_of(by))),
-            objects: Some((number, field)),
+            objects: Some(number),
             ..opener
         },
         None => opener,
     }
 }
 
-// The index of what a constraint in a component says, the index of the component that identifies objects, and the
-// name of the field that is in it.
-fn chosen_by<'a>(
-    library: &Library<'a>,
-    components: &Vec<Component<'a>>,
+// The index of what a constraint in a component says, and the index of the component that identifies objects.
+fn chosen_by(
+    library: &Library<'_>,
+    components: &Vec<Component<'_>>,
     index: usize,
-) -> Option<(usize, usize, &'a str)> {
+) -> Option<(usize, usize)> {
     let number = use_in(library, components.get(index)?.of)?;
     let name = library.tables.get(number)?.by?;
     for (by, component) in components.iter().enumerate().take(index) {
         if component.name.text == name.text {
-            return Some((number, by, field_at(library, component.of)?));
+            return Some((number, by));
         }
     }
     None

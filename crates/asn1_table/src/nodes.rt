@@ -78,7 +78,7 @@ fn key_of(alloc: Global, library: &Library<'_>, wanted: &Wanted<'_>) -> Result<S
         own,
     } = wanted.opener;
     let objects = match objects {
-        Some((number, _)) => i64::from(count_of(number)),
+        Some(number) => i64::from(count_of(number)),
         None => -1,
     };
     let chooser = match chooser {
@@ -241,7 +241,7 @@ fn any<'a>(
         return Ok(plain(NodeKind::Any, (0, 0)));
     };
     let parts = match opener.objects {
-        Some((number, field)) => object_types(alloc, library, rows, number, field)?,
+        Some(number) => object_types(alloc, library, rows, number)?,
         None => types_of(alloc, library, choices, rows, opener.table)?,
     };
     Ok(Node {
@@ -279,10 +279,9 @@ fn object_types<'a>(
     library: &Library<'a>,
     rows: &mut Rows<'a>,
     number: usize,
-    field: &str,
 ) -> Result<Span, Wrong<'a>> {
     let mut types = Vec::new(alloc);
-    for (octets, index) in types_by(alloc, library, number, field)?.iter() {
+    for (octets, index) in types_by(alloc, library, number)?.iter() {
         let identifier = rows.octets(octets.as_slice())?;
         let node = node_at(alloc, library, rows, *index, Opener::NONE)?;
         types.push(OpenType { identifier, node })?;

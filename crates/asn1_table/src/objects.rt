@@ -40,26 +40,13 @@ fn use_at(library: &Library<'_>, node: &TypeNode<'_>) -> Option<usize> {
     None
 }
 
-/// The name of the field of a class that the type with this index is, as a constraint says.
-pub fn field_at<'a>(library: &Library<'a>, index: usize) -> Option<&'a str> {
-    for constraint in library.node(index)?.constraints.iter() {
-        if let Constraint::Table(number) = constraint
-            && let Some(of) = library.tables.get(*number)
-        {
-            return Some(of.field.text);
-        }
-    }
-    None
-}
-
-/// The contents octets of the OBJECT IDENTIFIERs in a field of the objects that a constraint names, in
-/// ascending order, each once, with the types in the field of the constraint. Objects of which something is
-/// left out are passed over.
+/// The contents octets of the OBJECT IDENTIFIERs of the objects that a constraint names, in ascending order,
+/// each once, with the types in the field of the constraint. Objects without an OBJECT IDENTIFIER, and those of
+/// which something is left out, are passed over.
 pub fn types_by<'a>(
     alloc: Global,
     library: &Library<'a>,
     number: usize,
-    identifier: &str,
 ) -> Result<Vec<(Vec<u8>, usize)>, AllocError> {
     let mut found: Vec<(Vec<u8>, usize)> = Vec::new(alloc);
     let Some(of) = library.tables.get(number) else {
@@ -68,7 +55,7 @@ pub fn types_by<'a>(
     for name in members_of(alloc, library, of)?.iter() {
         if let Some(object) = library.object(name)
             && let Some(index) = type_in(library, object, of.field.text)
-            && let Some(octets) = identifier_in(alloc, library, object, identifier)?
+            && let Some(octets) = identifier_in(alloc, library, object)?
         {
             found.push((octets, index))?;
         }
@@ -120,16 +107,14 @@ fn type_in(library: &Library<'_>, object: &InformationObject<'_>, field: &str) -
     None
 }
 
-// The contents octets of the OBJECT IDENTIFIER with a name in a field of an object.
+// The contents octets of the first OBJECT IDENTIFIER with a name in a field of an object.
 fn identifier_in(
     alloc: Global,
     library: &Library<'_>,
     object: &InformationObject<'_>,
-    field: &str,
 ) -> Result<Option<Vec<u8>>, AllocError> {
     for setting in object.fields.iter() {
-        if setting.name.text == field
-            && let Setting::Value(value) = &setting.setting
+        if let Setting::Value(value) = &setting.setting
             && let Some(Constant::ObjectIdentifier(arcs)) =
                 library.module.constants.find(value.item.text)
         {

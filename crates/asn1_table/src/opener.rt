@@ -7,9 +7,8 @@ pub struct Opener<'a> {
     pub chooser: Option<u32>,
     /// The name of the open type; empty for that of each `ANY`.
     pub table: &'a str,
-    /// The constraint that says which objects name the types, in place of a name: the index of what it says, and
-    /// the name of the field that identifies an object.
-    pub objects: Option<(usize, &'a str)>,
+    /// The index of what a constraint says of the objects that name the types, in place of a name.
+    pub objects: Option<usize>,
     /// Whether the contents of a string are this open type.
     pub is_string: bool,
     /// The index of the type that a component has behind its tags, if a comment says so.

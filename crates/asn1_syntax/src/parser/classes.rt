@@ -23,6 +23,9 @@ impl<'a> Parser<'a> {
         let mut found = self.find(name.text);
         for _ in 0..16u32 {
             let place = found?;
+            if !place.is_argument && !self.item_at(place.at.saturating_add(1)).is("::=") {
+                return None;
+            }
             let at = if place.is_argument {
                 place.at
             } else {
