@@ -103,13 +103,17 @@ fn command<'a>(alloc: Global, version: &'a str) -> Result<Command<'a>, AllocErro
     let schema = Arg::new(alloc, "schema")
         .long("schema")
         .value_name("FILE")
-        .help("The file of a table of the types of all modules, which is written in place of a crate");
+        .help(
+            "The file of a table of the types of all modules, which is written in place of a crate",
+        );
     let file = Arg::new(alloc, "file")
         .value_name("FILE")
         .required(true)
         .action(ArgAction::Append)
         .num_args(1..)
-        .help("The file that holds the module; for a table several, which may import from each other");
+        .help(
+            "The file that holds the module; for a table several, which may import from each other",
+        );
     let with = Arg::new(alloc, "with")
         .long("with")
         .value_name("CRATE=FILE")
@@ -119,7 +123,9 @@ fn command<'a>(alloc: Global, version: &'a str) -> Result<Command<'a>, AllocErro
         .long("only")
         .value_name("TYPE")
         .action(ArgAction::Append)
-        .help("A type that is compiled, with those that it names; without it all are. For a table it may be MODULE.TYPE");
+        .help(
+            "A type that is compiled, with those that it names; without it all are. For a table it may be MODULE.TYPE",
+        );
     let modules = Arg::new(alloc, "modules")
         .long("modules")
         .value_name("FOLDER")

@@ -79,12 +79,7 @@ impl Joined {
     }
 
     /// Adds the text of another file, without the mark of UTF-8 that it may begin with.
-    pub fn push_behind(
-        &mut self,
-        alloc: Global,
-        path: &str,
-        text: &str,
-    ) -> Result<(), AllocError> {
+    pub fn push_behind(&mut self, alloc: Global, path: &str, text: &str) -> Result<(), AllocError> {
         self.push(alloc, path, text.strip_prefix(MARK).unwrap_or(text))
     }
 

@@ -248,7 +248,11 @@ fn left_out_of(
 }
 
 /// The line that is printed for a refusal.
-pub fn line_of(alloc: Global, refusal: &Refusal<'_>, joined: &Joined) -> Result<String, AllocError> {
+pub fn line_of(
+    alloc: Global,
+    refusal: &Refusal<'_>,
+    joined: &Joined,
+) -> Result<String, AllocError> {
     let number = joined.part_at(refusal.offset);
     let inside = Refusal {
         offset: refusal.offset.saturating_sub(joined.start(number)),

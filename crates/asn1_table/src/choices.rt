@@ -1,8 +1,8 @@
 //! Types that OBJECT IDENTIFIERs choose.
 
 use crate::directives::type_in;
-use crate::library::Library;
 use crate::identifiers::oid_octets;
+use crate::library::Library;
 use crate::wrong::Wrong;
 use asn1_check::Constant;
 use asn1_syntax::{Item, Refusal, ValueAssignment};
@@ -26,10 +26,7 @@ pub struct Choice<'a> {
 }
 
 /// The types that comments of modules give to OBJECT IDENTIFIERs, in the order of their contents octets.
-pub fn choices_of<'a>(
-    alloc: Global,
-    library: &Library<'a>,
-) -> Result<Vec<Choice<'a>>, Wrong<'a>> {
+pub fn choices_of<'a>(alloc: Global, library: &Library<'a>) -> Result<Vec<Choice<'a>>, Wrong<'a>> {
     let mut choices = Vec::new(alloc);
     for assigned in library.module.values.iter() {
         add_value(alloc, library, assigned, &mut choices)?;
@@ -50,7 +47,11 @@ fn add_value<'a>(
         if let Some((name, table)) = type_in(line)
             && let Some(of) = library.commented(assigned.name.offset, name)
         {
-            let Some(Constant::ObjectIdentifier(arcs)) = library.module.constants.find(assigned.name.text) else {
+            let Some(Constant::ObjectIdentifier(arcs)) = library
+                .module
+                .constants
+                .find(assigned.name.text)
+            else {
                 return Err(Wrong::Refused(Refusal::of(assigned.name, NO_IDENTIFIER)));
             };
             choices.push(Choice {

@@ -1,9 +1,9 @@
 //! Contents octets of values without parts.
 
+use crate::identifiers::oid_octets;
 use crate::integers::integer_octets;
 use crate::library::Library;
 use crate::limits::known_number;
-use crate::identifiers::oid_octets;
 use crate::values::{Words, WordsForm};
 use asn1_check::Constant;
 use asn1_syntax::{Endpoint, Item, ItemKind, NamedNumber, SimpleType};
@@ -14,7 +14,7 @@ pub fn simple_contents(
     alloc: Global,
     library: &Library<'_>,
     simple: SimpleType,
-    words: Words<'_, '_>,
+    words: &Words<'_>,
 ) -> Result<Option<Vec<u8>>, AllocError> {
     match (simple, words.item()) {
         (SimpleType::Boolean, _) => match truth(library, words) {
@@ -33,7 +33,7 @@ pub fn simple_contents(
     }
 }
 
-fn truth(library: &Library<'_>, words: Words<'_, '_>) -> Option<bool> {
+fn truth(library: &Library<'_>, words: &Words<'_>) -> Option<bool> {
     let item = words.item()?;
     match item.text {
         "TRUE" => return Some(true),
@@ -59,7 +59,10 @@ fn identifier(
 
 // The octets of a text without quotation marks in it, whose characters have one octet each.
 fn text(alloc: Global, simple: SimpleType, item: Item<'_>) -> Result<Option<Vec<u8>>, AllocError> {
-    let inside = item.text.get(1..item.text.len().saturating_sub(1)).unwrap_or("");
+    let inside = item
+        .text
+        .get(1..item.text.len().saturating_sub(1))
+        .unwrap_or("");
     let is_wide = matches!(simple, SimpleType::BmpString | SimpleType::Unknown(28));
     if is_wide || !inside.is_ascii() || inside.contains('"') || inside.contains('\n') {
         return Ok(None);
@@ -74,7 +77,7 @@ pub fn number_contents<'a>(
     alloc: Global,
     library: &Library<'a>,
     names: &Vec<NamedNumber<'a>>,
-    words: Words<'_, 'a>,
+    words: &Words<'a>,
 ) -> Result<Option<Vec<u8>>, AllocError> {
     match number_of(library, names, words) {
         Some(number) => Ok(Some(integer_octets(alloc, number)?)),
@@ -85,7 +88,7 @@ pub fn number_contents<'a>(
 fn number_of<'a>(
     library: &Library<'a>,
     names: &Vec<NamedNumber<'a>>,
-    words: Words<'_, 'a>,
+    words: &Words<'a>,
 ) -> Option<Endpoint<'a>> {
     if let WordsForm::Negative(number) = words.form {
         return Some(Endpoint::Negative(number));
@@ -109,7 +112,7 @@ fn number_of<'a>(
 pub fn bit_contents(
     alloc: Global,
     names: &Vec<NamedNumber<'_>>,
-    words: Words<'_, '_>,
+    words: &Words<'_>,
 ) -> Result<Option<Vec<u8>>, AllocError> {
     if let Some(item) = words.item() {
         let Some((octets, unused)) = digits_of(alloc, item)? else {
@@ -120,7 +123,7 @@ pub fn bit_contents(
         return Ok(Some(contents));
     }
     match words.form {
-        WordsForm::Braces => named_bits(alloc, names, words.items),
+        WordsForm::Braces => named_bits(alloc, names, &words.items),
         _ => Ok(None),
     }
 }
@@ -129,11 +132,11 @@ pub fn bit_contents(
 fn named_bits(
     alloc: Global,
     names: &Vec<NamedNumber<'_>>,
-    items: &[Item<'_>],
+    items: &Vec<Item<'_>>,
 ) -> Result<Option<Vec<u8>>, AllocError> {
     let mut octets: Vec<u8> = Vec::new(alloc);
     let mut highest = 7u64;
-    for item in items {
+    for item in items.iter() {
         if item.is(",") {
             continue;
         }
@@ -143,7 +146,11 @@ fn named_bits(
         highest = highest.max(bit).min(65535);
         set_bit(&mut octets, bit)?;
     }
-    let unused = if octets.is_empty() { 0 } else { 7 - (highest % 8) as u8 };
+    let unused = if octets.is_empty() {
+        0
+    } else {
+        7 - (highest % 8) as u8
+    };
     let mut contents = vec![in alloc; unused]?;
     contents.extend_from_slice(octets.as_slice())?;
     Ok(Some(contents))
@@ -181,7 +188,12 @@ fn digits_of(alloc: Global, item: Item<'_>) -> Result<Option<(Vec<u8>, u8)>, All
     };
     let mut octets: Vec<u8> = Vec::new(alloc);
     let mut bits = 0u64;
-    for octet in item.text.get(1..item.text.len().saturating_sub(2)).unwrap_or("").as_bytes() {
+    for octet in item
+        .text
+        .get(1..item.text.len().saturating_sub(2))
+        .unwrap_or("")
+        .as_bytes()
+    {
         if let Some(digit) = digit_of(*octet) {
             push_digit(&mut octets, bits, width, digit)?;
             bits = bits.saturating_add(width);

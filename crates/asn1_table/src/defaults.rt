@@ -21,9 +21,8 @@ pub fn default_of<'a>(
     wanted: &Wanted<'a>,
     value: &Value<'a>,
 ) -> Result<Option<Vec<u8>>, Wrong<'a>> {
-    let one = [value.item];
-    let words = Words::of_value(value, &one);
-    encoding(alloc, library, *wanted, words, MAX_DEPTH)
+    let words = Words::of_value(alloc, value)?;
+    encoding(alloc, library, *wanted, &words, MAX_DEPTH)
 }
 
 // The encoding of a value of this node.
@@ -32,7 +31,7 @@ fn encoding<'a>(
     alloc: Global,
     library: &Library<'a>,
     wanted: Wanted<'a>,
-    words: Words<'_, 'a>,
+    words: &Words<'a>,
     depth: u32,
 ) -> Result<Option<Vec<u8>>, Wrong<'a>> {
     let Some(node) = library.node(wanted.index) else {
@@ -75,7 +74,7 @@ fn named<'a>(
     alloc: Global,
     library: &Library<'a>,
     wanted: Wanted<'a>,
-    words: Words<'_, 'a>,
+    words: &Words<'a>,
     depth: u32,
 ) -> Result<Option<Vec<u8>>, Wrong<'a>> {
     if depth == 0 {
@@ -87,8 +86,8 @@ fn named<'a>(
     let Some(value) = value_named(library, name.text) else {
         return Ok(None);
     };
-    let one = [value.item];
-    encoding(alloc, library, wanted, Words::of_value(value, &one), depth - 1)
+    let words = Words::of_value(alloc, value)?;
+    encoding(alloc, library, wanted, &words, depth - 1)
 }
 
 // The encoding of a value with its type in front of it.
@@ -96,39 +95,40 @@ fn named<'a>(
 fn open_value<'a>(
     alloc: Global,
     library: &Library<'a>,
-    words: Words<'_, 'a>,
+    words: &Words<'a>,
     depth: u32,
 ) -> Result<Option<Vec<u8>>, Wrong<'a>> {
-    let Some((of, inside)) = split(words.items) else {
+    let items = words.items.as_slice();
+    let (Some(of), Some(colon)) = (items.first(), colon_in(items)) else {
         return Ok(None);
     };
-    let Some(words) = Words::of(inside) else {
-        return Ok(None);
-    };
+    let of = *of;
+    let words = Words::of(alloc, items.get(colon.saturating_add(1)..).unwrap_or(&[]))?;
     if depth == 0 {
         return Ok(None);
     }
     if let Some(simple) = simple_type(of) {
-        let contents = simple_contents(alloc, library, simple, words)?;
+        let contents = simple_contents(alloc, library, simple, &words)?;
         let tag = (0, number_of(&TypeForm::Simple(simple)));
         return Ok(element(alloc, tag, false, contents)?);
     }
     match library.find_anywhere(of.text) {
         Some(index) => {
             let wanted = reach(library, index, None, Opener::NONE)?;
-            encoding(alloc, library, wanted, words, depth - 1)
+            encoding(alloc, library, wanted, &words, depth - 1)
         }
         None => Ok(None),
     }
 }
 
-// The first item of a type, and the items behind the colon that follows the type.
-fn split<'v, 'a>(items: &'v [Item<'a>]) -> Option<(Item<'a>, &'v [Item<'a>])> {
-    match items {
-        [of, colon, value @ ..] if colon.is(":") => Some((*of, value)),
-        [of, _, colon, value @ ..] if colon.is(":") => Some((*of, value)),
-        _ => None,
+// The index of the colon that stands behind a type of one word or two.
+fn colon_in(items: &[Item<'_>]) -> Option<usize> {
+    for (index, item) in items.iter().enumerate().take(3) {
+        if item.is(":") {
+            return Some(index);
+        }
     }
+    None
 }
 
 // The simple type that begins with this item.
@@ -146,7 +146,7 @@ fn contents_of<'a>(
     alloc: Global,
     library: &Library<'a>,
     form: &TypeForm<'a>,
-    words: Words<'_, 'a>,
+    words: &Words<'a>,
     depth: u32,
 ) -> Result<Option<Vec<u8>>, Wrong<'a>> {
     match form {
@@ -171,7 +171,7 @@ fn components_of<'a>(
     alloc: Global,
     library: &Library<'a>,
     components: &Vec<Component<'a>>,
-    words: Words<'_, 'a>,
+    words: &Words<'a>,
     depth: u32,
 ) -> Result<Option<Vec<u8>>, Wrong<'a>> {
     let mut contents = Vec::new(alloc);
@@ -186,8 +186,7 @@ fn components_of<'a>(
             continue;
         };
         let wanted = wanted_of(library, components, index, 0, None)?;
-        let Some(octets) = component_value(alloc, library, wanted, items, depth - 1)?
-        else {
+        let Some(octets) = component_value(alloc, library, wanted, items, depth - 1)? else {
             return Ok(None);
         };
         contents.extend_from_slice(octets.as_slice())?;
@@ -207,17 +206,11 @@ fn component_value<'a>(
     if depth == 0 {
         return Ok(None);
     }
-    if split(items).is_some() {
-        let words = Words {
-            form: WordsForm::Braces,
-            items,
-        };
-        return encoding(alloc, library, wanted, words, depth - 1);
-    }
-    match Words::of(items) {
-        Some(words) => encoding(alloc, library, wanted, words, depth - 1),
-        None => Ok(None),
-    }
+    let words = match colon_in(items) {
+        Some(_) => Words::new(alloc, WordsForm::Braces, items)?,
+        None => Words::of(alloc, items)?,
+    };
+    encoding(alloc, library, wanted, &words, depth - 1)
 }
 
 // The number of the universal tag of a type that is made so.
@@ -288,7 +281,11 @@ fn push_length(octets: &mut Vec<u8>, length: usize) -> Result<(), AllocError> {
         }
     }
     octets.push(128 + digits)?;
-    for octet in (length as u64).to_be_bytes().iter().skip(8 - digits as usize) {
+    for octet in (length as u64)
+        .to_be_bytes()
+        .iter()
+        .skip(8 - digits as usize)
+    {
         octets.push(*octet)?;
     }
     Ok(())

@@ -16,7 +16,8 @@ use asn1_syntax::{
 };
 use std::alloc::Global;
 
-const NOT_COMPUTED: &str = "this default is not checked by the table, which has an OPTIONAL component in its place";
+const NOT_COMPUTED: &str =
+    "this default is not checked by the table, which has an OPTIONAL component in its place";
 
 /// The fields of components or of alternatives.
 pub fn fields_of<'a>(
@@ -57,7 +58,13 @@ pub fn wanted_of<'a>(
     let Some(component) = components.get(index) else {
         return Ok(Wanted::any(Opener::NONE));
     };
-    let opener = by_objects(library, components, index, start, opener_of(library, component, chooser));
+    let opener = by_objects(
+        library,
+        components,
+        index,
+        start,
+        opener_of(library, component, chooser),
+    );
     let tag = numbered_tag(component);
     if tag.is_some() && has_no_tag(library, component.of) {
         return Ok(Wanted {

@@ -35,11 +35,7 @@ pub struct Library<'a> {
 
 impl<'a> Library<'a> {
     /// The modules of a text. What is `known` not to be supported is left out.
-    pub fn of(
-        alloc: Global,
-        text: &'a str,
-        known: &Vec<Refusal<'a>>,
-    ) -> Result<Self, Wrong<'a>> {
+    pub fn of(alloc: Global, text: &'a str, known: &Vec<Refusal<'a>>) -> Result<Self, Wrong<'a>> {
         let externals = Vec::new(alloc);
         let Selection {
             mut parsed,
@@ -147,7 +143,9 @@ impl<'a> Library<'a> {
         }
         let outline = self.outlines.get(number)?;
         let import = outline.imports.get(outline.imported.find(name)?)?;
-        self.types.get(self.numbers.find(import.module.text)?)?.find(name)
+        self.types
+            .get(self.numbers.find(import.module.text)?)?
+            .find(name)
     }
 
     /// The index of the type with this name in some module.
@@ -168,7 +166,10 @@ fn objects_of<'a>(alloc: Global, parsed: &mut ParsedModule<'a>) -> Vec<Informati
 
 // The number of the module with the item at this offset.
 fn number_at(outlines: &Vec<ModuleOutline<'_>>, offset: usize) -> usize {
-    let behind = outlines.iter().filter(|outline| outline.name.offset <= offset).count();
+    let behind = outlines
+        .iter()
+        .filter(|outline| outline.name.offset <= offset)
+        .count();
     behind.saturating_sub(1)
 }
 
@@ -177,7 +178,10 @@ fn number_at(outlines: &Vec<ModuleOutline<'_>>, offset: usize) -> usize {
 pub fn written_name<'a>(outlines: &Vec<ModuleOutline<'a>>, name: Item<'a>) -> &'a str {
     match outlines.get(number_at(outlines, name.offset)) {
         Some(outline) if !outline.definitions.has(name.text) => {
-            let without = name.text.strip_suffix(outline.name.text).unwrap_or(name.text);
+            let without = name
+                .text
+                .strip_suffix(outline.name.text)
+                .unwrap_or(name.text);
             without.strip_suffix("-").unwrap_or(name.text)
         }
         _ => name.text,

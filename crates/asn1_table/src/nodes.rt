@@ -4,8 +4,8 @@ use crate::choices::Choice;
 use crate::fields::fields_of;
 use crate::library::Library;
 use crate::limits::{ends_of, known_number};
-use crate::opener::Opener;
 use crate::objects::types_by;
+use crate::opener::Opener;
 use crate::reach::reach;
 use crate::rows::{EMPTY, Rows, count_of, span_from};
 use crate::wanted::{Wanted, numbers_of};
@@ -87,7 +87,9 @@ fn key_of(alloc: Global, library: &Library<'_>, wanted: &Wanted<'_>) -> Result<S
     };
     let own = own.unwrap_or(index);
     let name = wanted.name;
-    format!(in alloc; "{index} {class} {number} {is_tagged} {is_around} {low} {high} {chooser} {objects} {is_string} {own} {name} {table}")
+    format!(in alloc;
+        "{index} {class} {number} {is_tagged} {is_around} {low} {high} {chooser} {objects} {is_string} {own} {name} {table}"
+    )
 }
 
 // The ends of the limits of a node.

@@ -3,7 +3,9 @@
 use crate::identifiers::oid_octets;
 use crate::library::Library;
 use asn1_check::{Constant, contained};
-use asn1_syntax::{Constraint, InformationObject, NameIndex, Setting, TableUse, TypeForm, TypeNode};
+use asn1_syntax::{
+    Constraint, InformationObject, NameIndex, Setting, TableUse, TypeForm, TypeNode,
+};
 use std::alloc::{AllocError, Global};
 
 /// The index of what a constraint in the type with this index says of a class and of another component, if
@@ -115,8 +117,10 @@ fn identifier_in(
 ) -> Result<Option<Vec<u8>>, AllocError> {
     for setting in object.fields.iter() {
         if let Setting::Value(value) = &setting.setting
-            && let Some(Constant::ObjectIdentifier(arcs)) =
-                library.module.constants.find(value.item.text)
+            && let Some(Constant::ObjectIdentifier(arcs)) = library
+                .module
+                .constants
+                .find(value.item.text)
         {
             return Ok(Some(oid_octets(alloc, arcs)?));
         }

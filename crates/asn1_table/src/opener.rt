@@ -24,4 +24,9 @@ impl<'a> Opener<'a> {
         is_string: false,
         own: None,
     };
+
+    /// The same, with this type of a component.
+    pub fn with_own(self, own: Option<usize>) -> Self {
+        Opener { own, ..self }
+    }
 }

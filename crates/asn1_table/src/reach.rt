@@ -6,7 +6,7 @@ use crate::opener::Opener;
 use crate::wanted::Wanted;
 use crate::wrong::Wrong;
 use asn1_check::contained;
-use asn1_syntax::{Refusal, SimpleType, Tag, TagPrefix, Tagging, TypeForm};
+use asn1_syntax::{Refusal, SimpleType, Tag, TagPrefix, Tagging, TypeForm, TypeNode};
 
 const LOOP: &str = "a type that is not made of its own name";
 
@@ -18,51 +18,50 @@ pub fn reach<'a>(
     tag: Option<Tag>,
     opener: Opener<'a>,
 ) -> Result<Wanted<'a>, Wrong<'a>> {
-    let mut wanted = Wanted {
-        index,
-        name: library.name_at(index),
-        tag,
-        is_around: false,
-        limits: Limits::NONE,
-        contained: None,
-        opener,
-    };
+    let (mut at, mut name) = (index, library.name_at(index));
+    let (mut tag, mut own) = (tag, opener.own);
+    let (mut limits, mut inner) = (Limits::NONE, None);
     for _ in 0..=library.module.nodes.len() {
-        let Some(node) = library.node(wanted.index) else {
-            return Ok(wanted);
+        let Some(node) = library.node(at) else {
+            break;
         };
-        if let Some(own) = wanted.opener.own
-            && !matches!(&node.form, TypeForm::Tagged(_, _))
+        if let Some(of) = own
+            && !is_tagged(node)
         {
-            wanted.opener.own = None;
-            move_to(library, &mut wanted, own);
+            own = None;
+            at = of;
+            name = library.name_at(of);
             continue;
         }
-        wanted.limits = wanted.limits.behind(node);
-        if let Some(of) = contained(node) {
-            wanted.contained = wanted.contained.or(Some(of));
-        }
+        limits = limits.behind(node);
+        inner = inner.or(contained(node));
         match &node.form {
             TypeForm::Reference => {
-                let of = library.named(node.item)?;
-                move_to(library, &mut wanted, of);
+                at = library.named(node.item)?;
+                name = library.name_at(at);
             }
-            TypeForm::Tagged(prefix, of)
-                if is_implicit(library, *of, *prefix) =>
-            {
-                wanted.tag = wanted.tag.or(Some(prefix.tag));
-                wanted.index = *of;
+            TypeForm::Tagged(prefix, of) if is_implicit(library, *of, *prefix) => {
+                tag = tag.or(Some(prefix.tag));
+                at = *of;
             }
-            _ => return Ok(wanted),
+            _ => {
+                return Ok(Wanted {
+                    index: at,
+                    name,
+                    tag,
+                    is_around: false,
+                    limits,
+                    contained: inner,
+                    opener: opener.with_own(own),
+                });
+            }
         }
     }
     Err(refused_at(library, index))
 }
 
-// Moves to a type that has a name.
-fn move_to<'a>(library: &Library<'a>, wanted: &mut Wanted<'a>, index: usize) {
-    wanted.index = index;
-    wanted.name = library.name_at(index);
+fn is_tagged(node: &TypeNode<'_>) -> bool {
+    matches!(&node.form, TypeForm::Tagged(_, _))
 }
 
 // Why a type is no type.

@@ -101,7 +101,11 @@ impl<'a> Rows<'a> {
     }
 
     /// Adds a limit, unless it is none.
-    pub fn add_limit(&mut self, kind: LimitKind, ends: Option<(i64, i64)>) -> Result<(), AllocError> {
+    pub fn add_limit(
+        &mut self,
+        kind: LimitKind,
+        ends: Option<(i64, i64)>,
+    ) -> Result<(), AllocError> {
         if let Some((low, high)) = ends {
             self.limits.push(Limit { kind, low, high })?;
         }

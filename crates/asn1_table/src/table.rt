@@ -73,7 +73,14 @@ fn try_table<'a>(
     let mut failures = Vec::new(alloc);
     let mut roots = Vec::new(alloc);
     for index in types.iter() {
-        add_root(alloc, &library, &mut rows, *index, &mut roots, &mut failures)?;
+        add_root(
+            alloc,
+            &library,
+            &mut rows,
+            *index,
+            &mut roots,
+            &mut failures,
+        )?;
     }
     lay_all(alloc, &library, &choices, &mut rows, &mut failures)?;
     let first = failures.first().copied();
@@ -186,9 +193,7 @@ fn explained<'a>(
     };
     let refusal = Refusal::of(*name, TAG);
     match (fault.kind, only) {
-        (FaultKind::Tag, []) => {
-            Ok(Attempt::Failures(vec![in alloc; refusal]?))
-        }
+        (FaultKind::Tag, []) => { Ok(Attempt::Failures(vec![in alloc; refusal]?)) }
         (FaultKind::Tag, _) => Err(Wrong::Refused(refusal)),
         _ => Err(Wrong::NoTable(fault)),
     }
