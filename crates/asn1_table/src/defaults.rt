@@ -216,7 +216,7 @@ fn component_value<'a>(
 // The number of the universal tag of a type that is made so.
 fn number_of(form: &TypeForm<'_>) -> u32 {
     match form {
-        TypeForm::Simple(simple) => simple.tag_number().unwrap_or(0) as u32,
+        TypeForm::Simple(simple) => u32::try_from(simple.tag_number().unwrap_or(0)).unwrap_or(0),
         TypeForm::Integer(_) => 2,
         TypeForm::BitString(_) => 3,
         TypeForm::Enumerated(_) => 10,
@@ -274,19 +274,16 @@ fn push_length(octets: &mut Vec<u8>, length: usize) -> Result<(), AllocError> {
         octets.push(length as u8)?;
         return Ok(());
     }
-    let mut digits = 0u8;
-    for count in 0..8u32 {
-        if length >> (8 * count) > 0 {
-            digits += 1;
+    let digits = (length as u64).to_be_bytes();
+    let mut count = 0u8;
+    for digit in digits {
+        if count > 0 || digit != 0 {
+            count = count.saturating_add(1);
         }
     }
-    octets.push(128 + digits)?;
-    for octet in (length as u64)
-        .to_be_bytes()
-        .iter()
-        .skip(8 - digits as usize)
-    {
-        octets.push(*octet)?;
+    octets.push(128u8.saturating_add(count))?;
+    for digit in digits.iter().skip(8usize.saturating_sub(count as usize)) {
+        octets.push(*digit)?;
     }
     Ok(())
 }

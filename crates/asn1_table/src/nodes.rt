@@ -2,16 +2,17 @@
 
 use crate::choices::Choice;
 use crate::fields::fields_of;
+use crate::keys::{key_of, settled};
 use crate::library::Library;
-use crate::limits::{ends_of, known_number};
 use crate::objects::types_by;
 use crate::opener::Opener;
+use crate::properties::{limits_of, names_of};
 use crate::reach::reach;
-use crate::rows::{EMPTY, Rows, count_of, span_from};
+use crate::rows::{EMPTY, Rows, count_of};
 use crate::wanted::{Wanted, numbers_of};
 use crate::wrong::Wrong;
-use asn1_schema::{LimitKind, Name, Node, NodeKind, OpenType, Span};
-use asn1_syntax::{NamedNumber, Range, SimpleType, Tag, TypeForm, TypeNode};
+use asn1_schema::{Node, NodeKind, OpenType, Span};
+use asn1_syntax::{SimpleType, Tag, TypeForm, TypeNode};
 use ber::Universal;
 use der_base::Class;
 use std::alloc::{AllocError, Global};
@@ -38,107 +39,6 @@ pub fn add<'a>(
     let wanted = settled(library, wanted);
     let key = key_of(alloc, library, &wanted)?;
     rows.add_node(key, wanted)
-}
-
-// The node without what means nothing for its type.
-fn settled<'a>(library: &Library<'a>, wanted: Wanted<'a>) -> Wanted<'a> {
-    let Some(node) = library.node(wanted.index) else {
-        return wanted;
-    };
-    match &node.form {
-        _ if wanted.is_around => wanted,
-        TypeForm::SequenceOf(_) | TypeForm::SetOf(_) | TypeForm::Tagged(_, _) => wanted,
-        TypeForm::Simple(SimpleType::Any) => Wanted {
-            name: wanted.name,
-            ..Wanted::any(wanted.opener)
-        },
-        TypeForm::Simple(SimpleType::OctetString) | TypeForm::BitString(_) => wanted,
-        _ => Wanted {
-            opener: Opener::NONE,
-            ..wanted
-        },
-    }
-}
-
-// What is the same for types that have one node: types without names and parts, and one type at the same
-// place under the same tag, in the same component.
-fn key_of(alloc: Global, library: &Library<'_>, wanted: &Wanted<'_>) -> Result<String, AllocError> {
-    let (class, number) = wanted.tag_or(0);
-    let (is_tagged, is_around) = (wanted.tag.is_some(), wanted.is_around);
-    let (low, high) = ends_at(library, wanted);
-    let index = wanted.index;
-    if let Some(of) = leaf_number(library, wanted) {
-        return format!(in alloc; "{of} {class} {number} {is_tagged} {low} {high}");
-    }
-    let Opener {
-        chooser,
-        table,
-        objects,
-        is_string,
-        own,
-    } = wanted.opener;
-    let objects = match objects {
-        Some(number) => i64::from(count_of(number)),
-        None => -1,
-    };
-    let chooser = match chooser {
-        Some(field) => i64::from(field),
-        None => -1,
-    };
-    let own = own.unwrap_or(index);
-    let name = wanted.name;
-    format!(in alloc;
-        "{index} {class} {number} {is_tagged} {is_around} {low} {high} {chooser} {objects} {is_string} {own} {name} {table}"
-    )
-}
-
-// The ends of the limits of a node.
-fn ends_at(library: &Library<'_>, wanted: &Wanted<'_>) -> (i64, i64) {
-    match library.node(wanted.index) {
-        Some(node) => limit_of(wanted, node).unwrap_or((i64::MIN, i64::MAX)),
-        None => (i64::MIN, i64::MAX),
-    }
-}
-
-fn limit_of(wanted: &Wanted<'_>, node: &TypeNode<'_>) -> Option<(i64, i64)> {
-    match (&node.form, wanted.limits.value, wanted.limits.size) {
-        (TypeForm::Integer(names) | TypeForm::Enumerated(names), Some(range), _) => {
-            ends_of(&range, names)
-        }
-        (TypeForm::Integer(_) | TypeForm::Enumerated(_), None, _) => None,
-        (TypeForm::BitString(names), _, Some(range)) => ends_of(&range, names),
-        (_, _, Some(range)) => range_ends(&range),
-        _ => None,
-    }
-}
-
-// The ends of a range without names.
-fn range_ends(range: &Range<'_>) -> Option<(i64, i64)> {
-    let low = known_number(range.low)?;
-    let high = known_number(range.high)?;
-    if low == i64::MIN && high == i64::MAX {
-        return None;
-    }
-    Some((low, high))
-}
-
-// The number of the universal tag of a type without a name, without names of numbers and without parts.
-fn leaf_number(library: &Library<'_>, wanted: &Wanted<'_>) -> Option<u64> {
-    if wanted.is_around
-        || wanted.contained.is_some()
-        || wanted.opener.is_string
-        || !wanted.name.is_empty()
-    {
-        return None;
-    }
-    let node = library.node(wanted.index)?;
-    match &node.form {
-        TypeForm::Simple(SimpleType::Unread | SimpleType::Any) => None,
-        TypeForm::Simple(simple) => simple.tag_number(),
-        TypeForm::Integer(names) if names.is_empty() => Some(2),
-        TypeForm::BitString(names) if names.is_empty() => Some(3),
-        _ => None,
-    }
 }
 
 /// Fills the node with this index.
@@ -403,43 +303,4 @@ fn contents_of<'a>(
         Some(of) => Ok(Some(node_at(alloc, library, rows, of, wanted.opener)?)),
         None => Ok(None),
     }
-}
-
-// The rows of the names of a type.
-fn names_of<'a>(rows: &mut Rows<'a>, node: &TypeNode<'a>) -> Result<Span, AllocError> {
-    let start = rows.names.len();
-    match &node.form {
-        TypeForm::Integer(names) | TypeForm::BitString(names) | TypeForm::Enumerated(names) => {
-            add_names(rows, names)?;
-        }
-        _ => {}
-    }
-    Ok(span_from(start, rows.names.len().saturating_sub(start)))
-}
-
-fn add_names<'a>(rows: &mut Rows<'a>, names: &Vec<NamedNumber<'a>>) -> Result<(), AllocError> {
-    for named in names.iter() {
-        if let Some(end) = named.number
-            && let Some(number) = known_number(end)
-        {
-            let name = rows.text(named.name.text)?;
-            rows.names.push(Name { number, name })?;
-        }
-    }
-    Ok(())
-}
-
-// The rows of the limits of a type.
-fn limits_of<'a>(
-    rows: &mut Rows<'a>,
-    wanted: &Wanted<'a>,
-    node: &TypeNode<'a>,
-) -> Result<Span, AllocError> {
-    let start = rows.limits.len();
-    let kind = match &node.form {
-        TypeForm::Integer(_) | TypeForm::Enumerated(_) => LimitKind::Value,
-        _ => LimitKind::Size,
-    };
-    rows.add_limit(kind, limit_of(wanted, node))?;
-    Ok(span_from(start, rows.limits.len().saturating_sub(start)))
 }

@@ -5,7 +5,6 @@ use crate::limits::Limits;
 use crate::opener::Opener;
 use crate::wanted::Wanted;
 use crate::wrong::Wrong;
-use asn1_check::contained;
 use asn1_syntax::{Refusal, SimpleType, Tag, TagPrefix, Tagging, TypeForm, TypeNode};
 
 const LOOP: &str = "a type that is not made of its own name";
@@ -18,43 +17,35 @@ pub fn reach<'a>(
     tag: Option<Tag>,
     opener: Opener<'a>,
 ) -> Result<Wanted<'a>, Wrong<'a>> {
-    let (mut at, mut name) = (index, library.name_at(index));
-    let (mut tag, mut own) = (tag, opener.own);
-    let (mut limits, mut inner) = (Limits::NONE, None);
+    let mut wanted = Wanted {
+        index,
+        name: library.name_at(index),
+        tag,
+        is_around: false,
+        limits: Limits::NONE,
+        contained: None,
+        opener,
+    };
     for _ in 0..=library.module.nodes.len() {
-        let Some(node) = library.node(at) else {
+        let Some(node) = library.node(wanted.index) else {
             break;
         };
-        if let Some(of) = own
+        if let Some(of) = wanted.opener.own
             && !is_tagged(node)
         {
-            own = None;
-            at = of;
-            name = library.name_at(of);
+            wanted = wanted.named(of, library.name_at(of), opener.with_own(None));
             continue;
         }
-        limits = limits.behind(node);
-        inner = inner.or(contained(node));
+        wanted = wanted.behind(node);
         match &node.form {
             TypeForm::Reference => {
-                at = library.named(node.item)?;
-                name = library.name_at(at);
+                let of = library.named(node.item)?;
+                wanted = wanted.named(of, library.name_at(of), wanted.opener);
             }
             TypeForm::Tagged(prefix, of) if is_implicit(library, *of, *prefix) => {
-                tag = tag.or(Some(prefix.tag));
-                at = *of;
+                wanted = wanted.under(prefix.tag, *of);
             }
-            _ => {
-                return Ok(Wanted {
-                    index: at,
-                    name,
-                    tag,
-                    is_around: false,
-                    limits,
-                    contained: inner,
-                    opener: opener.with_own(own),
-                });
-            }
+            _ => return Ok(wanted),
         }
     }
     Err(refused_at(library, index))

@@ -2,7 +2,8 @@
 
 use crate::limits::Limits;
 use crate::opener::Opener;
-use asn1_syntax::{Tag, TagClass};
+use asn1_check::contained;
+use asn1_syntax::{Tag, TagClass, TypeNode};
 
 /// A node that a table needs: a type behind its names and the tags that take the place of others.
 #[derive(Clone, Copy, Debug)]
@@ -34,6 +35,34 @@ impl<'a> Wanted<'a> {
             limits: Limits::NONE,
             contained: None,
             opener,
+        }
+    }
+
+    /// The type with this index and name, in its place.
+    pub fn named(self, index: usize, name: &'a str, opener: Opener<'a>) -> Self {
+        Wanted {
+            index,
+            name,
+            opener,
+            ..self
+        }
+    }
+
+    /// The type with this index, behind a tag that it has unless there is another one.
+    pub fn under(self, tag: Tag, index: usize) -> Self {
+        Wanted {
+            index,
+            tag: self.tag.or(Some(tag)),
+            ..self
+        }
+    }
+
+    /// The same, with the constraints of its type.
+    pub fn behind(self, node: &TypeNode<'a>) -> Self {
+        Wanted {
+            limits: self.limits.behind(node),
+            contained: self.contained.or(contained(node)),
+            ..self
         }
     }
 
