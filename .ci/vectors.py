@@ -133,6 +133,7 @@ def calls(folder):
     standard output for the help and the version, and else to standard error."""
     why = {it: os.strerror(it) for it in (errno.ENOENT, errno.EISDIR, errno.ENOTDIR)}
     module, partly = f"{checker.folder_of('asn1_compile')}/data/wrong.asn1", f"{VECTORS}/partly.asn1"
+    joined = f"{VECTORS}/joined.asn1"
     return [
         (["--version"], 0, [f"asn1_compile {text_of(f'{TOP}/VERSION')}"]),
         (["--help"], 0, ["--out <FOLDER>", "--with <CRATE=FILE>", "--only <TYPE>", "<FILE>", "--help", "--version"]),
@@ -146,12 +147,17 @@ def calls(folder):
         (["--out", f"{module}/made", f"{VECTORS}/explicit.asn1"], 1, [f"error: {module}/made: {why[errno.ENOTDIR]}"]),
         (["--out", f"{folder}/all", partly], 0, [
             f"warning: {partly}:4:24: Missing: Away is left out: expected a module that --with or --modules gives\n",
-            f"warning: {partly}:6:10: CLASS: KIND is left out: expected no class, which is not supported\n",
-            f"warning: {partly}:10:28: .: Lost is left out: expected no field of a class, which is not supported\n",
+            f"warning: {partly}:10:39: REAL: Lost is left out: expected a type that the library knows\n",
             f"warning: {partly}:14:1: Loop: Loop is left out: expected a type that does not contain itself\n"]),
         (["--out", f"{folder}/one", "--only", "Kept", partly], 0, []),
-        (["--out", f"{folder}/no", "--only", "Kept", "--only=Lost", partly], 1, [f"{partly}:10:28: found ., expected no field"]),
+        (["--out", f"{folder}/no", "--only", "Kept", "--only=Lost", partly], 1, [f"{partly}:10:39: found REAL, expected a type"]),
         (["--out", f"{folder}/no", "--only", "Away", partly], 1, [f"{partly}:4:24: found Missing, expected a module"]),
+        (["--out", f"{folder}/joined", "--modules", f"{VECTORS}/joined", joined], 0, [
+            f"warning: {joined}:6:25: Far: Lost is left out: expected a name that is not left out\n",
+            f"warning: {VECTORS}/joined/outer.ASN:16:44: Choice: the name is `Choice_` in Rust\n"]),
+        (["--out", f"{folder}/no", "--only", "Lost", "--modules", f"{VECTORS}/joined", joined], 1, [
+            f"{joined}:6:25: found Far, expected a name that is not left out\n"]),
+        (["--out", f"{folder}/no", "--modules", "none", joined], 1, [f"error: none: {why[errno.ENOENT]}"]),
         (["--out", f"{folder}/no", "--only", "Other", partly], 1, [f"{partly}:2:1: found Partly, expected a module that has"]),
         (checker.args_of("asn1_compile"), 1, [text_of(f"{checker.folder_of('asn1_compile')}/stderr")]),
     ]

@@ -24,7 +24,12 @@ three INTEGER ::= 3
 Set ::= SET { a NULL, b BOOLEAN }
 Part ::= Kind (WITH COMPONENTS { a PRESENT })
 Long ::= Kind (three | four)
-four INTEGER ::= 4";
+four INTEGER ::= 4
+Real ::= REAL
+Uses ::= SEQUENCE { kind Kind, real Real }
+dial OPERATION ARGUMENT Kind ::= 5
+Ring ::= [APPLICATION 1] SEQUENCE { next Ring OPTIONAL }
+Text ::= [UNIVERSAL 12] IMPLICIT OCTET STRING";
 
 // The names that are left out, with the lines of what is not supported, in their order.
 fn left_out<'c>(alloc: Global, compiled: &'c Compiled<'_>, text: &str) -> Result<Vec<(&'c str, usize)>, AllocError> {
@@ -47,16 +52,12 @@ fn what_is_supported_is_compiled(rt: HostRuntime) -> Result<(), Fail> {
     };
     let found = left_out(alloc, &compiled, text.as_str())?;
     let expected = [
-        ("FIRST", 2),
-        ("first", 4),
-        ("Firsts", 5),
-        ("Held", 7),
-        ("second", 8),
-        ("Holder", 9),
-        ("FIELD", 11),
-        ("Whole", 12),
-        ("Items", 13),
         ("Set", 15),
+        ("Real", 19),
+        ("Uses", 20),
+        ("dial", 21),
+        ("Ring", 22),
+        ("Text", 23),
     ];
     same(&rt, found.as_slice(), expected.as_slice());
     has_text(&rt, &compiled.files, "src/asn1/pair.rt", "pub text: Utf8StringRef<'a>,");
@@ -72,8 +73,10 @@ fn types_are_asked_for(rt: HostRuntime) -> Result<(), Fail> {
     for (only, files, place) in [
         (["Kind", "Kind"].as_slice(), 3, None),
         (["Pair"].as_slice(), 4, None),
-        (["Kind", "Items"].as_slice(), 0, Some((13, 18, "Holder"))),
-        (["Holder"].as_slice(), 0, Some((9, 17, "{"))),
+        (["Kind", "Items"].as_slice(), 5, None),
+        (["Kind", "Uses"].as_slice(), 0, Some((20, 37, "Real"))),
+        (["Real"].as_slice(), 0, Some((19, 10, "REAL"))),
+        (["Held"].as_slice(), 0, Some((1, 1, "M"))),
         (["Other"].as_slice(), 0, Some((1, 1, "M"))),
     ] {
         let (count, answer) = match compile(alloc, &Vec::new(alloc), text.as_str(), "own", only) {

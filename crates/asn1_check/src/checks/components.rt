@@ -4,7 +4,7 @@ use super::recursion::recursive_name;
 use super::tags::copy_at;
 use crate::module::Module;
 use crate::tag_set::TagSet;
-use asn1_syntax::{Component, Failure, Presence, Refusal, Tag, TagClass, TypeForm};
+use asn1_syntax::{Component, Failure, Presence, Refusal, Tag, TagClass};
 use std::alloc::{AllocError, Global};
 
 /// The tags of all alternatives, or components of a SET; refuses one whose tags one before it has
@@ -16,7 +16,6 @@ pub fn check_alternatives<'a>(
     alternatives: &Vec<Component<'a>>,
 ) -> Result<TagSet, Failure<'a>> {
     let are_numbered = are_numbered(alternatives);
-    check_additions(module, alternatives, are_numbered)?;
     let mut before = TagSet::empty(alloc);
     for (count, alternative) in alternatives.iter().enumerate() {
         let number = automatic_number(alternatives, count);
@@ -40,7 +39,6 @@ pub fn check_sequence<'a>(
     components: &Vec<Component<'a>>,
 ) -> Result<(), Failure<'a>> {
     let are_numbered = are_numbered(components);
-    check_additions(module, components, are_numbered)?;
     let mut before = TagSet::empty(alloc);
     for (count, component) in components.iter().enumerate() {
         let number = automatic_number(components, count);
@@ -93,22 +91,6 @@ pub fn component_tags(
     )
 }
 
-// Checks that additions have no tags where components get tags by their numbers (X.680, 25).
-fn check_additions<'a>(
-    module: &Module<'a>,
-    components: &Vec<Component<'a>>,
-    are_numbered: bool,
-) -> Result<(), Refusal<'a>> {
-    for component in components.iter() {
-        if are_numbered && component.is_addition && is_tagged(module, component.of) {
-            let expected =
-                "an addition without a tag, since the components in front of it have none";
-            return Err(Refusal::of(component.name, expected));
-        }
-    }
-    Ok(())
-}
-
 /// The number of the component with this index, where components get tags by their numbers: those
 /// that are no additions are counted first (X.680, 25.7).
 pub fn automatic_number(components: &Vec<Component<'_>>, index: usize) -> usize {
@@ -123,11 +105,4 @@ pub fn are_numbered(components: &Vec<Component<'_>>) -> bool {
     components
         .iter()
         .any(|component| component.number.is_some())
-}
-
-fn is_tagged(module: &Module<'_>, index: usize) -> bool {
-    match module.nodes.get(index) {
-        Some(node) => matches!(&node.form, TypeForm::Tagged(_, _)),
-        None => false,
-    }
 }

@@ -23,14 +23,7 @@ impl<'a> Parser<'a> {
         let mut found = self.find(name.text);
         for _ in 0..16u32 {
             let place = found?;
-            if !place.is_argument && !self.item_at(place.at.saturating_add(1)).is("::=") {
-                return None;
-            }
-            let at = if place.is_argument {
-                place.at
-            } else {
-                place.at.saturating_add(2)
-            };
+            let at = self.behind_assign(place)?;
             if self.item_at(at).is("CLASS") {
                 return Some(Place {
                     at: at.saturating_add(1),
@@ -39,6 +32,18 @@ impl<'a> Parser<'a> {
                 });
             }
             found = self.find_at(place.frame, self.item_at(at).text);
+        }
+        None
+    }
+
+    /// The number of the item that a name stands for: the argument, or what stands behind `::=`.
+    pub(super) fn behind_assign(&self, place: Place) -> Option<usize> {
+        if place.is_argument {
+            return Some(place.at);
+        }
+        let assign = place.at.saturating_add(1);
+        if self.item_at(assign).is("::=") {
+            return Some(assign.saturating_add(1));
         }
         None
     }

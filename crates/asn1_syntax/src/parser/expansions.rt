@@ -61,24 +61,24 @@ impl<'a> Parser<'a> {
         if !self.takes("{") {
             return Err(unsupported(item, "arguments behind a type with parameters"));
         }
+        let mut at = self.at;
+        let end = self.end_of_group(at.saturating_sub(1)).saturating_sub(1);
         let mut parameters = Vec::new(self.alloc);
-        let end = self
-            .end_of_group(self.at.saturating_sub(1))
-            .saturating_sub(1);
         for name in names.iter() {
-            parameters.push(Parameter { name, at: self.at })?;
-            self.at = self.end_of_argument(end).saturating_add(1);
+            parameters.push(Parameter { name, at })?;
+            at = self.end_of_argument(at, end).saturating_add(1);
         }
-        if self.at != end.saturating_add(1) {
+        if at != end.saturating_add(1) {
             return Err(unsupported(item, "as many arguments as parameters"));
         }
+        self.at = at;
         Ok(parameters)
     }
 
-    // The number of the comma behind the argument that begins here, or of the brace at this end.
-    fn end_of_argument(&self, end: usize) -> usize {
+    // The number of the comma behind the argument that begins at an item, or of the brace at this end.
+    fn end_of_argument(&self, from: usize, end: usize) -> usize {
         let mut depth = 0u64;
-        for at in self.at..end {
+        for at in from..end {
             let item = self.item_at(at);
             if opens(item) {
                 depth = depth.saturating_add(1);
@@ -142,11 +142,7 @@ impl<'a> Parser<'a> {
     pub(super) fn structure(&self, name: Item<'a>) -> Option<Place> {
         let mut place = self.find(name.text)?;
         for _ in 0..16u32 {
-            let at = if place.is_argument {
-                place.at
-            } else {
-                self.behind_tags(place.at.saturating_add(2))
-            };
+            let at = self.behind_tags(self.behind_assign(place)?);
             let item = self.item_at(at);
             if item.is("SEQUENCE") || item.is("SET") || item.is("CHOICE") {
                 let at = at.saturating_add(1);

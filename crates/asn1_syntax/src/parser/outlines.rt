@@ -109,7 +109,8 @@ impl<'a> Parser<'a> {
         };
         for line in last.lines() {
             if let Some(name) = line.strip_prefix("-- ") {
-                self.own_names.add(name, self.own_names.names.len())?;
+                let number = self.own_names.names.len();
+                self.own_names.add(name, number)?;
             }
         }
         Ok(())

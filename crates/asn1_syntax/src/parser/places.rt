@@ -49,6 +49,8 @@ pub struct Back {
     frames: usize,
 }
 
+const NOT_IMPORTED: &str = "a name of a module that is given";
+
 impl<'a> Parser<'a> {
     /// Where this name is defined, for what stands here.
     pub(super) fn find(&self, name: &str) -> Option<Place> {
@@ -174,20 +176,28 @@ impl<'a> Parser<'a> {
     /// Checks that a name which is no name of this text is imported, and adds the import to those of
     /// the first module.
     pub(super) fn import(&mut self, item: Item<'a>) -> Result<(), Failure<'a>> {
-        let Some(frame) = self.frames.get(self.frame) else {
-            return Ok(());
-        };
-        if frame.module == 0 {
+        let module = self.module();
+        if module == 0 {
             return Ok(());
         }
-        match self.import_in(frame.module, item.text) {
-            Some(import) if !self.owners.has(item.text) => {
-                self.owners.add(item.text, 0)?;
-                self.imports.push(import)?;
-                Ok(())
-            }
-            Some(import) if self.is_imported(import) => Ok(()),
-            _ => Err(unsupported(item, "a name of a module that is given")),
+        let Some(import) = self.import_in(module, item.text) else {
+            return Err(unsupported(item, NOT_IMPORTED));
+        };
+        if self.owners.add(item.text, 0)? {
+            self.imports.push(import)?;
+            return Ok(());
+        }
+        if self.is_imported(import) {
+            return Ok(());
+        }
+        Err(unsupported(item, NOT_IMPORTED))
+    }
+
+    // The number of the module in which stands what is read.
+    fn module(&self) -> usize {
+        match self.frames.get(self.frame) {
+            Some(frame) => frame.module,
+            None => 0,
         }
     }
 

@@ -1,5 +1,6 @@
 //! Types.
 
+use super::places::Back;
 use super::{Parser, refused, unsupported};
 use crate::component::{Component, Presence};
 use crate::constraint::Constraint;
@@ -12,6 +13,12 @@ use crate::tag::{Tag, TagPrefix};
 use crate::tag_class::TagClass;
 use crate::tagging::{TagDefault, Tagging};
 use crate::type_node::{Mark, TypeForm, TypeNode};
+use std::alloc::AllocError;
+
+const NO_STRUCTURE: &str = "a SEQUENCE or a SET of a module that is given";
+
+const TAGGED_ADDITION: &str =
+    "an addition without a tag, since the components in front of it have none";
 
 impl<'a> Parser<'a> {
     /// Parses a type in which types may stand at so many levels, and returns its index.
@@ -99,11 +106,12 @@ impl<'a> Parser<'a> {
 
     // Whether `{ ... }` stands here: a SEQUENCE of which no component is known. If so, moves past it.
     fn takes_unread(&mut self) -> bool {
-        let is_unread = self.peek().is("{")
-            && self.peek_second().is("...")
-            && self.item_at(self.at.saturating_add(2)).is("}");
+        let at = self.at;
+        let is_unread = self.item_at(at).is("{")
+            && self.item_at(at.saturating_add(1)).is("...")
+            && self.item_at(at.saturating_add(2)).is("}");
         if is_unread {
-            self.at = self.at.saturating_add(3);
+            self.at = at.saturating_add(3);
         }
         is_unread
     }
@@ -173,7 +181,7 @@ impl<'a> Parser<'a> {
             self.component_end()?;
         }
         self.versions = versions;
-        self.number_components(&mut components);
+        self.number_components(&mut components)?;
         *mark = mark_of(&marks, components.len());
         if !is_choice {
             self.check_defined_by(start, &components)?;
@@ -204,6 +212,7 @@ impl<'a> Parser<'a> {
         depth: u32,
     ) -> Result<Component<'a>, Failure<'a>> {
         let name = self.expect_kind(ItemKind::LowerName, "the name of a component")?;
+        let is_tagged = self.peek().is("[");
         let of = self.type_at(depth)?;
         let presence = if is_choice {
             Presence::Required
@@ -215,7 +224,7 @@ impl<'a> Parser<'a> {
             of,
             presence,
             is_addition,
-            number: None,
+            number: written_number(is_tagged),
         })
     }
 
@@ -226,64 +235,66 @@ impl<'a> Parser<'a> {
         components: &mut Vec<Component<'a>>,
         depth: u32,
     ) -> Result<(), Failure<'a>> {
+        let Some(back) = self.to_components()? else {
+            return Err(unsupported(self.peek(), NO_STRUCTURE));
+        };
+        if depth == 0 {
+            return Err(unsupported(self.peek(), NO_STRUCTURE));
+        }
+        let mut mark = None;
+        let mut more = self.components(false, &mut mark, depth - 1)?;
+        unnumber(&mut more);
+        self.come_back(back);
+        let at = self.at;
+        if self.peek().is("(") {
+            self.at = self.end_of_group(at);
+        }
+        Ok(add_roots(components, more)?)
+    }
+
+    // Moves to the components of the type behind COMPONENTS OF, if its module is given.
+    fn to_components(&mut self) -> Result<Option<Back>, Failure<'a>> {
         self.at = self.at.saturating_add(1);
         self.expect("OF")?;
-        let name = self.next();
-        let place = self.structure(name);
-        let (Some(place), false) = (place, depth == 0) else {
-            return Err(unsupported(name, "a SEQUENCE or a SET of a module that is given"));
+        let name = self.peek();
+        let Some(place) = self.structure(name) else {
+            return Ok(None);
         };
+        self.at = self.at.saturating_add(1);
         self.count_expansion(name)?;
-        let mut mark = None;
-        let back = self.go(place, name, Vec::new(self.alloc))?;
-        let more = self.components(false, &mut mark, depth - 1)?;
-        self.come_back(back);
-        if self.peek().is("(") {
-            self.at = self.end_of_group(self.at);
-        }
-        for component in more.into_iter() {
-            if !component.is_addition {
-                components.push(Component {
-                    number: Some(usize::MAX),
-                    ..component
-                })?;
-            }
-        }
-        Ok(())
+        Ok(Some(self.go(place, name, Vec::new(self.alloc))?))
     }
 
     // Numbers components in a module with AUTOMATIC TAGS, unless one of them is written with a tag:
-    // first those that are no additions (X.680, 25.2 and 25.7). Those of COMPONENTS OF are written
-    // elsewhere.
-    fn number_components(&self, components: &mut Vec<Component<'a>>) {
+    // first those that are no additions (X.680, 25.2 and 25.7). Additions have no tags then.
+    fn number_components(&self, components: &mut Vec<Component<'a>>) -> Result<(), Failure<'a>> {
         let mut is_numbered = self.module_tags() == TagDefault::Automatic;
         for component in components.iter() {
-            let is_tagged = component.number.is_none() && self.is_tagged(component.of);
-            if is_tagged && !component.is_addition {
-                is_numbered = false;
+            is_numbered = is_numbered && (component.number.is_some() || component.is_addition);
+        }
+        let mut roots = 0usize;
+        for component in components.iter() {
+            if !component.is_addition {
+                roots = roots.saturating_add(1);
+            } else if is_numbered && component.number.is_none() {
+                return Err(refused(component.name, TAGGED_ADDITION));
             }
         }
-        let mut number = 0usize;
+        let (mut root, mut addition) = (0usize, roots);
         for component in components.iter_mut() {
-            component.number = None;
-            if is_numbered && !component.is_addition {
-                component.number = Some(number);
-                number = number.saturating_add(1);
+            let number = if component.is_addition {
+                addition
+            } else {
+                root
+            };
+            component.number = if is_numbered { Some(number) } else { None };
+            if component.is_addition {
+                addition = addition.saturating_add(1);
+            } else {
+                root = root.saturating_add(1);
             }
         }
-        for component in components.iter_mut() {
-            if is_numbered && component.is_addition {
-                component.number = Some(number);
-                number = number.saturating_add(1);
-            }
-        }
-    }
-
-    fn is_tagged(&self, index: usize) -> bool {
-        match self.nodes.get(index) {
-            Some(node) => matches!(&node.form, TypeForm::Tagged(_, _)),
-            None => false,
-        }
+        Ok(())
     }
 
     // What the module says of tags in which stands what is read.
@@ -449,6 +460,31 @@ impl<'a> Parser<'a> {
             _ => Ok(TypeForm::Reference),
         }
     }
+}
+
+// The number of a component that gets one, unless it is written with a tag.
+fn written_number(is_tagged: bool) -> Option<usize> {
+    if is_tagged { None } else { Some(0) }
+}
+
+// Lets components get numbers, which are not written where they are added.
+fn unnumber(components: &mut Vec<Component<'_>>) {
+    for component in components.iter_mut() {
+        component.number = written_number(false);
+    }
+}
+
+// Adds the components that are no additions.
+fn add_roots<'a>(
+    components: &mut Vec<Component<'a>>,
+    more: Vec<Component<'a>>,
+) -> Result<(), AllocError> {
+    for component in more.into_iter() {
+        if !component.is_addition {
+            components.push(component)?;
+        }
+    }
+    Ok(())
 }
 
 // Whether one of these components has this name.
