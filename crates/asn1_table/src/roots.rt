@@ -12,7 +12,7 @@ use std::alloc::Global;
 const NO_TYPE: &str = "a module that has each type of the options --only";
 
 /// The indices of the types with these names, each with the name of its module in front or without, or of
-/// all types if there are no names.
+/// all types if there are no names. Refuses modules of which all types are left out.
 pub fn types_of<'a>(
     alloc: Global,
     library: &Library<'a>,
@@ -27,7 +27,10 @@ pub fn types_of<'a>(
             found.push(assigned.of)?;
         }
     }
-    Ok(found)
+    match library.left_out.first() {
+        Some(left_out) if found.is_empty() => Err(Wrong::Refused(left_out.refusal)),
+        _ => Ok(found),
+    }
 }
 
 // The index of the type with this name. Refuses one that is left out, or not there.
