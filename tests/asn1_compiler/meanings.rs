@@ -52,3 +52,28 @@ fn ranges_and_defaults_reach_the_types(rt: HostRuntime) -> Result<(), Fail> {
     }
     Ok(())
 }
+
+// The tags that `asn1c -E -F` of Debian's package asn1c 0.9.28 prints for these components.
+#[test]
+fn components_of_other_types_are_numbered(rt: HostRuntime) -> Result<(), Fail> {
+    let alloc = rt.alloc();
+    let body = "A ::= SEQUENCE { first NULL, COMPONENTS OF B, last BOOLEAN OPTIONAL }
+B ::= SEQUENCE { a BOOLEAN, b INTEGER OPTIONAL, ..., c NULL OPTIONAL }
+C ::= SEQUENCE { first NULL, COMPONENTS OF D }
+D ::= SEQUENCE { x [5] BOOLEAN }";
+    let text = module(alloc, "AUTOMATIC", body)?;
+    let files = match compiled(alloc, &Vec::new(alloc), &text) {
+        Ok(files) => files,
+        Err(place) => {
+            same_at(&rt, body, Some(place), None);
+            return Ok(());
+        }
+    };
+    has_text(&rt, &files, "src/asn1/a.rt", "pub first: Implicit<Null<'a>, 0>,");
+    has_text(&rt, &files, "src/asn1/a.rt", "pub a: Implicit<BooleanRef<'a>, 1>,");
+    has_text(&rt, &files, "src/asn1/a.rt", "pub b: Optional<Implicit<IntRef<'a>, 2>>,");
+    has_text(&rt, &files, "src/asn1/a.rt", "pub last: Optional<Implicit<BooleanRef<'a>, 3>>,");
+    has_text(&rt, &files, "src/asn1/c.rt", "pub first: Implicit<Null<'a>, 0>,");
+    has_text(&rt, &files, "src/asn1/c.rt", "pub x: Implicit<Implicit<BooleanRef<'a>, 5>, 1>,");
+    Ok(())
+}

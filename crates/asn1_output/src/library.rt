@@ -88,10 +88,9 @@ impl Joined {
         if !self.parts.is_empty() {
             self.text.push('\n')?;
         }
-        self.parts.push(Part {
-            path: String::from_str(alloc, path)?,
-            start: self.text.len(),
-        })?;
+        let start = self.text.len();
+        let path = String::from_str(alloc, path)?;
+        self.parts.push(Part { path, start })?;
         self.text.push_str(text)
     }
 
@@ -179,9 +178,11 @@ fn needed<'l>(
     let mut present = NameIndex::new(alloc);
     let mut wanted = NameIndex::new(alloc);
     for text in given.iter() {
-        add_modules(alloc, text.as_str(), &mut present, None)?;
+        add_modules(&modules_in(alloc, text.as_str())?, &mut present)?;
     }
-    add_modules(alloc, main, &mut present, Some(&mut wanted))?;
+    let modules = modules_in(alloc, main)?;
+    add_modules(&modules, &mut present)?;
+    add_wanted(&modules, &mut wanted)?;
     let mut found = Vec::new(alloc);
     for at in 0..MOST_FOLDERS as usize {
         let Some(name) = wanted.names.get(at) else {
@@ -192,7 +193,9 @@ fn needed<'l>(
             && let Some(number) = places.find(name)
             && let Some(text) = texts.get(number)
         {
-            add_modules(alloc, text.as_str(), &mut present, Some(&mut wanted))?;
+            let modules = modules_in(alloc, text.as_str())?;
+            add_modules(&modules, &mut present)?;
+            add_wanted(&modules, &mut wanted)?;
             found.push(number)?;
         }
     }
@@ -210,24 +213,25 @@ fn places_of<'l>(alloc: Global, texts: &'l Vec<String>) -> Result<NameIndex<'l>,
     Ok(places)
 }
 
-// Adds the modules of a text to those that are present, and those from which they import to those that
-// are wanted.
+// Adds the names of modules.
 fn add_modules<'l>(
-    alloc: Global,
-    text: &'l str,
-    present: &mut NameIndex<'l>,
-    wanted: Option<&mut NameIndex<'l>>,
+    modules: &Vec<ModuleOutline<'l>>,
+    names: &mut NameIndex<'l>,
 ) -> Result<(), AllocError> {
-    let modules = modules_in(alloc, text)?;
     for module in modules.iter() {
-        present.add(module.name.text, 0)?;
+        names.add(module.name.text, 0)?;
     }
-    let Some(wanted) = wanted else {
-        return Ok(());
-    };
+    Ok(())
+}
+
+// Adds the names of the modules from which modules import.
+fn add_wanted<'l>(
+    modules: &Vec<ModuleOutline<'l>>,
+    names: &mut NameIndex<'l>,
+) -> Result<(), AllocError> {
     for module in modules.iter() {
         for import in module.imports.iter() {
-            wanted.add(import.module.text, 0)?;
+            names.add(import.module.text, 0)?;
         }
     }
     Ok(())

@@ -76,7 +76,8 @@ fn reached_from(
         let Some(next) = open.get(at) else {
             break;
         };
-        for part in parts_of(alloc, module, *next)?.iter() {
+        let next = *next;
+        for part in parts_of(alloc, module, next)?.iter() {
             if !is_marked(ready, *part) && !is_marked(&reached, *part) {
                 mark(&mut reached, *part);
                 open.push(*part)?;

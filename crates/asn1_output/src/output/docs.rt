@@ -30,6 +30,8 @@ pub fn doc_of(
     Ok(doc)
 }
 
+const KEPT: &str = "its element is kept, which `decode_as` of `AnyRef` decodes.";
+
 /// The documentation of a component. It says that the element of a type which leads back to itself is
 /// kept.
 pub fn component_doc(
@@ -40,9 +42,7 @@ pub fn component_doc(
     let name = component.name;
     let mut doc = doc_of(alloc, name.comments, "    ", name.text)?;
     if let Some(of) = recursive_name(module, component.of) {
-        let line = format!(in alloc;
-            "`{of}` leads back to itself here: its element is kept, which `decode_as` of `AnyRef` decodes."
-        )?;
+        let line = format!(in alloc; "`{of}` leads back to itself here: {KEPT}")?;
         push_line(&mut doc, "    ", line.as_str())?;
     }
     Ok(doc)
