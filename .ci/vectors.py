@@ -137,7 +137,10 @@ def calls(folder):
     return [
         (["--version"], 0, [f"asn1_compile {text_of(f'{TOP}/VERSION')}"]),
         (["--help"], 0, ["--out <FOLDER>", "--with <CRATE=FILE>", "--only <TYPE>", "<FILE>", "--help", "--version"]),
-        ([], 2, ["error: ", "--out <FOLDER>", "<FILE>", "Usage: asn1_compile "]),
+        ([], 2, ["error: ", "<FILE>", "Usage: asn1_compile "]),
+        (["none.asn1"], 2, ["error: ", "'--out'", "'--schema'"]),
+        (["--out", "made", "none.asn1", "other.asn1"], 2, ["error: ", "'--out'", "one file"]),
+        (["--out", "made", "--schema", "made", "none.asn1"], 2, ["error: ", "'--out'", "'--schema'"]),
         (["--out", "made"], 2, ["error: ", "<FILE>"]),
         (["--out", "made", "none.asn1", "--loud"], 2, ["error: unexpected argument '--loud'"]),
         (["--out", "made", "none.asn1", "--with", "base"], 2, ["error: ", "'--with'"]),
@@ -159,6 +162,13 @@ def calls(folder):
             f"{joined}:6:25: found Far, expected a name that is not left out\n"]),
         (["--out", f"{folder}/no", "--modules", "none", joined], 1, [f"error: none: {why[errno.ENOENT]}"]),
         (["--out", f"{folder}/no", "--only", "Other", partly], 1, [f"{partly}:2:1: found Partly, expected a module that has"]),
+        (["--schema", f"{folder}/table", f"{TOP}/asn1/visits.asn1", f"{TOP}/asn1/spki.asn1"], 0, ["Visits.Visit 0\n", "PublicKeyInfo.SubjectPublicKeyInfo "]),
+        (["--schema", f"{folder}/table", f"{TOP}/asn1/pkcs8.asn1", f"{TOP}/asn1/spki.asn1", "--only", "SubjectPublicKeyInfo"], 0, [
+            "PublicKeyInfo.SubjectPublicKeyInfo 0\n"]),
+        (["--schema", f"{folder}/none/table", f"{TOP}/asn1/visits.asn1"], 1, [f"error: {folder}/none/table: {why[errno.ENOENT]}"]),
+        (["--schema", f"{folder}/table", module], 1, [f"{module}:5:12: found Number, expected a type"]),
+        (["--schema", f"{folder}/table", "--only", "Away", partly], 1, [f"{partly}:4:24: found Missing, expected a module"]),
+        (["--schema", f"{folder}/table", "--only", "Visits.None", f"{TOP}/asn1/visits.asn1"], 1, ["found Visits, expected a module that has"]),
         (checker.args_of("asn1_compile"), 1, [text_of(f"{checker.folder_of('asn1_compile')}/stderr")]),
     ]
 
@@ -169,7 +179,7 @@ def says(compiler, words, status, texts):
     folder = f"{checker.folder_of('asn1_compile')}/data"
     ran = subprocess.run([compiler, *words], cwd=folder, stdin=subprocess.DEVNULL, check=False, text=True,
                          capture_output=True)
-    is_asked = {"--help", "--version"} & set(words)
+    is_asked = {"--help", "--version"} & set(words) or "--schema" in words and not status
     printed, other = (ran.stdout, ran.stderr) if is_asked else (ran.stderr, ran.stdout)
     held = ran.returncode == status and not other and all(it in printed for it in texts)
     if not held:

@@ -7,10 +7,14 @@ use std::alloc::{AllocError, Global};
 /// A parsed command line.
 #[derive(Drop)]
 pub struct CompileCommand<'a> {
-    /// The path of the folder of the crate to which the types are written.
+    /// The path of the folder of the crate to which the types are written; empty if a table is written.
     pub out: &'a str,
+    /// The path of the file to which a table of the types is written; empty if a crate is written.
+    pub schema: &'a str,
     /// The path of the file that holds the module.
     pub file: &'a str,
+    /// The paths of all files that hold modules, of which a crate has one.
+    pub files: Vec<&'a str>,
     /// The types that are compiled; all if it is empty.
     pub only: Vec<&'a str>,
     /// The modules that other crates hold.
@@ -28,7 +32,10 @@ pub struct With<'a> {
     pub file: &'a str,
 }
 
-const ABOUT: &str = "Compiles an ASN.1 module, and writes its types to the folder of a crate";
+const ABOUT: &str =
+    "Compiles an ASN.1 module, and writes its types to the folder of a crate, or as a table";
+
+const NOT_WHOLE: &str = "give '--out' and one file, or '--schema' and no '--with'";
 
 const NO_WITH: &str = "a value of '--with' is not the name of a crate, =, and a file";
 
@@ -50,13 +57,31 @@ impl<'a> CompileCommand<'a> {
                 None => return Err(command.error(ErrorKind::ValueValidation, NO_WITH)?),
             }
         }
-        Ok(CompileCommand {
+        let mut files = Vec::new(alloc);
+        for word in matches.get_strs("file").unwrap_or(&[]) {
+            files.push(*word)?;
+        }
+        let parsed = CompileCommand {
             out: matches.get_str("out").unwrap_or(""),
-            file: matches.get_str("file").unwrap_or(""),
+            schema: matches.get_str("schema").unwrap_or(""),
+            file: files.first().copied().unwrap_or(""),
+            files,
             only,
             with,
             modules: matches.get_str("modules"),
-        })
+        };
+        if !parsed.is_whole() {
+            return Err(command.error(ErrorKind::ValueValidation, NOT_WHOLE)?);
+        }
+        Ok(parsed)
+    }
+
+    // Whether the words are for a crate with one module, or for a table.
+    fn is_whole(&self) -> bool {
+        if self.schema.is_empty() {
+            return !self.out.is_empty() && self.files.len() == 1;
+        }
+        self.out.is_empty() && self.with.is_empty()
     }
 
     /// The name of the crate: what is behind the last slash of the folder's path.
@@ -74,12 +99,21 @@ fn command<'a>(alloc: Global, version: &'a str) -> Result<Command<'a>, AllocErro
     let out = Arg::new(alloc, "out")
         .long("out")
         .value_name("FOLDER")
-        .required(true)
         .help("The folder of the crate");
+    let schema = Arg::new(alloc, "schema")
+        .long("schema")
+        .value_name("FILE")
+        .help(
+            "The file of a table of the types of all modules, which is written in place of a crate",
+        );
     let file = Arg::new(alloc, "file")
         .value_name("FILE")
         .required(true)
-        .help("The file that holds the module");
+        .action(ArgAction::Append)
+        .num_args(1..)
+        .help(
+            "The file that holds the module; for a table several, which may import from each other",
+        );
     let with = Arg::new(alloc, "with")
         .long("with")
         .value_name("CRATE=FILE")
@@ -89,7 +123,9 @@ fn command<'a>(alloc: Global, version: &'a str) -> Result<Command<'a>, AllocErro
         .long("only")
         .value_name("TYPE")
         .action(ArgAction::Append)
-        .help("A type that is compiled, with those that it names; without it all are");
+        .help(
+            "A type that is compiled, with those that it names; without it all are. For a table it may be MODULE.TYPE",
+        );
     let modules = Arg::new(alloc, "modules")
         .long("modules")
         .value_name("FOLDER")
@@ -98,6 +134,7 @@ fn command<'a>(alloc: Global, version: &'a str) -> Result<Command<'a>, AllocErro
         .version(version)
         .about(ABOUT)
         .arg(out)?
+        .arg(schema)?
         .arg(file)?
         .arg(with)?
         .arg(modules)?

@@ -78,7 +78,12 @@ impl Joined {
         Ok(joined)
     }
 
-    /// Adds the text of a file.
+    /// Adds the text of another file, without the mark of UTF-8 that it may begin with.
+    pub fn push_behind(&mut self, alloc: Global, path: &str, text: &str) -> Result<(), AllocError> {
+        self.push(alloc, path, text.strip_prefix(MARK).unwrap_or(text))
+    }
+
+    // Adds the text of a file.
     fn push(&mut self, alloc: Global, path: &str, text: &str) -> Result<(), AllocError> {
         if !self.parts.is_empty() {
             self.text.push('\n')?;
@@ -101,9 +106,7 @@ impl Joined {
     ) -> Result<(), AllocError> {
         for number in needed(alloc, main, given, texts)?.iter() {
             if let (Some(path), Some(text)) = (paths.get(*number), texts.get(*number)) {
-                let text = text.as_str();
-                let text = text.strip_prefix(MARK).unwrap_or(text);
-                self.push(alloc, path.as_str(), text)?;
+                self.push_behind(alloc, path.as_str(), text.as_str())?;
             }
         }
         let names = own_names_of(alloc, self.text.as_str())?;

@@ -4,9 +4,10 @@ use crate::command::CompileCommand;
 use crate::compiled::Compiled;
 use crate::library::{Joined, paths_beneath};
 use crate::output::{OutputFile, compile, read_external};
+use crate::schema::run_schema;
 use anyhow::{Error, Result};
 use asn1_check::External;
-use asn1_syntax::{Failure, Position, Refusal};
+use asn1_syntax::{Failure, Position, Refusal, Warning};
 use clap::error::ErrorKind;
 use std::alloc::{AllocError, Global};
 use std::env::Args;
@@ -21,6 +22,9 @@ const VERSION: &str = "0.2.0";
 /// in modules of other crates, each of which may import from those before it, or beneath a folder: then
 /// it is compiled into the same crate. Prints to `errors`
 /// what is wrong, if anything is, and returns the exit status:
+///
+/// With `--schema` it compiles the modules in all files, writes a table of their types, and prints a line to
+/// `out` for each type: the name of its module, a point, its name, and the index of its node.
 ///
 /// - 0 on success, or if the help or the version is printed to `out`;
 /// - 1 if a file cannot be read, if a module is refused, or if a file cannot be written. Nothing is
@@ -37,6 +41,9 @@ pub fn run_compile<R: Files + AllocGlobal + Clone + Drop, W: Write, E: Write>(
 ) -> Result<u8> {
     let words: Vec<String> = given?.collect(rt.alloc())?;
     let error = match CompileCommand::parse(rt.alloc(), VERSION, &words) {
+        Ok(command) if !command.schema.is_empty() => {
+            return run_schema(rt, &command, out, errors);
+        }
         Ok(command) => return run_command(rt, &command, errors),
         Err(error) => error,
     };
@@ -80,8 +87,8 @@ fn run_command<R: Files + AllocGlobal + Clone + Drop, W: Write>(
     run_with(rt, command, &texts, &joined, out)
 }
 
-// Adds the modules beneath a folder from which a text imports, unless they are given.
-fn add_imports<R: Files + AllocGlobal + Clone + Drop>(
+/// Adds the modules beneath a folder from which a text imports, unless they are given.
+pub fn add_imports<R: Files + AllocGlobal + Clone + Drop>(
     rt: &R,
     folder: &str,
     given: &Vec<String>,
@@ -97,15 +104,15 @@ fn add_imports<R: Files + AllocGlobal + Clone + Drop>(
     Ok(())
 }
 
-// Prints that a file or a folder cannot be read or written, and why.
-fn say_file<W: Write>(path: &str, error: &io::Error, out: &mut W) -> Result<u8> {
+/// Prints that a file or a folder cannot be read or written, and why.
+pub fn say_file<W: Write>(path: &str, error: &io::Error, out: &mut W) -> Result<u8> {
     write!(out, "error: {path}: {error}\n")?;
     out.flush()?;
     Ok(1)
 }
 
-// The text in a file.
-fn read_text<R: Files + AllocGlobal>(rt: &R, path: &str) -> io::Result<String> {
+/// The text in a file.
+pub fn read_text<R: Files + AllocGlobal>(rt: &R, path: &str) -> io::Result<String> {
     let octets = fs::read(rt, path)?;
     match str::from_utf8(octets.as_slice()) {
         Ok(text) => Ok(String::from_str(rt.alloc(), text)?),
@@ -195,9 +202,20 @@ fn warnings_of(
     joined: &Joined,
 ) -> Result<String, AllocError> {
     let mut lines = left_out_of(alloc, compiled, joined)?;
+    push_warnings(alloc, &compiled.warnings, joined, &mut lines)?;
+    Ok(lines)
+}
+
+/// Adds the lines of warnings, which ascend by their places.
+pub fn push_warnings(
+    alloc: Global,
+    warnings: &Vec<Warning<'_>>,
+    joined: &Joined,
+    lines: &mut String,
+) -> Result<(), AllocError> {
     let (mut part, mut offset) = (0usize, 0usize);
     let mut position = Position::of(&[], 0);
-    for warning in compiled.warnings.iter() {
+    for warning in warnings.iter() {
         let number = joined.part_at(warning.offset);
         if number != part {
             part = number;
@@ -210,7 +228,7 @@ fn warnings_of(
         let line = warning.line(alloc, joined.path(number), position)?;
         lines.push_str(line.as_str())?;
     }
-    Ok(lines)
+    Ok(())
 }
 
 // A line for each alternative that is left out.
@@ -229,8 +247,12 @@ fn left_out_of(
     Ok(lines)
 }
 
-// The line that is printed for a refusal.
-fn line_of(alloc: Global, refusal: &Refusal<'_>, joined: &Joined) -> Result<String, AllocError> {
+/// The line that is printed for a refusal.
+pub fn line_of(
+    alloc: Global,
+    refusal: &Refusal<'_>,
+    joined: &Joined,
+) -> Result<String, AllocError> {
     let number = joined.part_at(refusal.offset);
     let inside = Refusal {
         offset: refusal.offset.saturating_sub(joined.start(number)),
@@ -297,8 +319,8 @@ fn write_file<R: Files + AllocGlobal>(rt: &R, folder: &str, file: &OutputFile) -
     fs::write(rt, path.as_str(), file.text.as_str())
 }
 
-// Prints `text` to `out`, and returns `status`.
-fn say<W: Write>(text: &str, status: u8, out: &mut W) -> Result<u8> {
+/// Prints `text` to `out`, and returns `status`.
+pub fn say<W: Write>(text: &str, status: u8, out: &mut W) -> Result<u8> {
     out.write_all(text.as_bytes())?;
     out.flush()?;
     Ok(status)

@@ -42,7 +42,7 @@ pub use item::Item;
 pub use item_kind::ItemKind;
 pub use items::items_of;
 pub use left_out::LeftOut;
-pub use lines::{is_line_of, push_line};
+pub use lines::{comment_text, is_line_of, push_line};
 pub use module::{Import, ParsedModule, TypeAssignment, ValueAssignment};
 pub use module_index::ModuleIndex;
 pub use name_index::NameIndex;

@@ -1,4 +1,4 @@
-//! Words on lines of their own.
+//! Words on lines of their own, and lines of comments.
 
 use std::alloc::AllocError;
 
@@ -16,4 +16,14 @@ pub fn is_line_of(text: &str, word: &str) -> bool {
 pub fn push_line(text: &mut String, word: &str) -> Result<(), AllocError> {
     text.push_str(word)?;
     text.push('\n')
+}
+
+/// A line of a comment without the marks at its ends.
+pub fn comment_text(line: &str) -> &str {
+    let line = line.trim();
+    let line = line.strip_prefix("--").unwrap_or(line);
+    let line = line.strip_prefix("/*").unwrap_or(line);
+    let line = line.strip_suffix("--").unwrap_or(line);
+    let line = line.strip_suffix("*/").unwrap_or(line);
+    line.trim()
 }

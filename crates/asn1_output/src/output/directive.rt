@@ -1,10 +1,10 @@
 //! Names that a module chooses for Rust, in comments.
 
-use super::docs::without_marks;
 use super::rust_names::{pascal_name, snake_name};
 use super::words::is_used;
 use asn1_check::Module;
-use asn1_syntax::{Item, is_digit, is_word_octet};
+use asn1_syntax::{Item, comment_text, is_digit, is_word_octet};
+use asn1_table::is_schema_line;
 use std::alloc::{AllocError, Global};
 
 /// What begins the line of a comment that gives the name of a type, a field or a variant.
@@ -28,7 +28,7 @@ pub const INTEGER: &str = "Rust integer:";
 /// module does not name, where a type has an extension mark: they are kept, unless it says `refused`.
 pub const EXTENSIONS: &str = "Rust extensions:";
 
-/// Whether the line of a comment, without its marks, says something of Rust.
+/// Whether the line of a comment, without its marks, says something of Rust or of a table.
 pub fn is_directive(line: &str) -> bool {
     line.starts_with(NAME)
         || line.starts_with(FIELD)
@@ -36,12 +36,13 @@ pub fn is_directive(line: &str) -> bool {
         || line.starts_with(DEFAULT)
         || line.starts_with(INTEGER)
         || line.starts_with(EXTENSIONS)
+        || is_schema_line(line)
 }
 
 /// The name that a comment gives behind `key`, if it is a name of Rust.
 pub fn directive<'a>(comments: &'a str, key: &str) -> Option<&'a str> {
     for line in comments.lines() {
-        if let Some(rest) = without_marks(line).strip_prefix(key) {
+        if let Some(rest) = comment_text(line).strip_prefix(key) {
             let name = rest.trim();
             if is_name(name) {
                 return Some(name);
@@ -59,7 +60,7 @@ pub fn own_type<'a>(module: &Module<'a>, index: usize) -> Option<&'a str> {
 
 fn own_type_in<'a>(comments: &'a str) -> Option<&'a str> {
     for line in comments.lines() {
-        if let Some(rest) = without_marks(line).strip_prefix(TYPE) {
+        if let Some(rest) = comment_text(line).strip_prefix(TYPE) {
             return Some(rest.trim());
         }
     }

@@ -2,7 +2,7 @@
 
 use super::directive::is_directive;
 use asn1_check::{Module, recursive_name};
-use asn1_syntax::Component;
+use asn1_syntax::{Component, comment_text};
 use std::alloc::{AllocError, Global};
 
 /// The comment in front of a name, without its marks, on lines that begin with `indent`; or
@@ -19,7 +19,7 @@ pub fn doc_of(
     };
     let mut doc = String::new(alloc);
     for line in own.lines() {
-        let line = without_marks(line);
+        let line = comment_text(line);
         if !line.is_empty() && !is_directive(line) {
             push_line(&mut doc, indent, line)?;
         }
@@ -53,14 +53,4 @@ fn push_line(doc: &mut String, indent: &str, line: &str) -> Result<(), AllocErro
     doc.push_str("/// ")?;
     doc.push_str(line)?;
     doc.push('\n')
-}
-
-/// A line of a comment without the marks at its ends.
-pub fn without_marks(line: &str) -> &str {
-    let line = line.trim();
-    let line = line.strip_prefix("--").unwrap_or(line);
-    let line = line.strip_prefix("/*").unwrap_or(line);
-    let line = line.strip_suffix("--").unwrap_or(line);
-    let line = line.strip_suffix("*/").unwrap_or(line);
-    line.trim()
 }

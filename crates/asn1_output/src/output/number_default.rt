@@ -2,12 +2,12 @@
 
 use super::default_place::DefaultPlace;
 use super::defaults::{DefaultType, OwnDefault};
-use super::integer_octets::contents_of;
 use super::numbers::bounds;
 use super::template::{Places, filled};
 use super::values::{push_list, push_octets};
 use asn1_check::{Module, RustType, range_at};
 use asn1_syntax::{Endpoint, Failure, ItemKind, NamedNumber, Refusal, Value, ValueForm};
+use asn1_table::integer_octets;
 use std::alloc::{AllocError, Global};
 use std::fmt::Write;
 
@@ -120,7 +120,7 @@ fn number_default<'a>(
         name,
         of,
         number,
-        octets: contents_of(alloc, number)?,
+        octets: integer_octets(alloc, number)?,
     };
     Ok(DefaultType {
         of: RustType::element(alloc, filled(alloc, "WithDefault<@T, @N>", &text)?),

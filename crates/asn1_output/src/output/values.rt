@@ -3,13 +3,13 @@
 use super::docs::doc_of;
 use super::file::OutputFile;
 use super::imports::{push_ghost_use, words_of};
-use super::oid_octets::octets_of;
 use super::piece::Piece;
 use super::rust_names::snake_name;
 use super::taken::{ALONE, Taken};
 use super::template::{Places, fill};
 use asn1_check::{Constant, Module};
 use asn1_syntax::ValueAssignment;
+use asn1_table::oid_octets;
 use std::alloc::{AllocError, Global};
 use std::collections::HashSet;
 use std::fmt::Write;
@@ -211,7 +211,7 @@ fn push_identifier(
         doc,
         name: String::from_str(alloc, name)?,
         arcs,
-        octets: octets_of(alloc, arcs)?,
+        octets: oid_octets(alloc, arcs)?,
     };
     fill(out, IDENTIFIER, &text)
 }
@@ -288,7 +288,7 @@ fn push_name(
     arcs: &Vec<u64>,
     name: &str,
 ) -> Result<(), AllocError> {
-    let octets = octets_of(alloc, arcs)?;
+    let octets = oid_octets(alloc, arcs)?;
     out.push_str("        [")?;
     push_octets(out, &octets)?;
     write!(out, "] => Some(\"{name}\"),\n")

@@ -5,7 +5,7 @@ use std::alloc::{AllocError, Global};
 
 /// The contents octets of a number (X.690, 8.3): as few as possible, of which the first bit is the
 /// sign.
-pub fn contents_of(alloc: Global, number: Endpoint<'_>) -> Result<Vec<u8>, AllocError> {
+pub fn integer_octets(alloc: Global, number: Endpoint<'_>) -> Result<Vec<u8>, AllocError> {
     match number {
         Endpoint::Number(number) => octets_of(alloc, number, 0),
         Endpoint::Negative(0) => octets_of(alloc, 0, 0),

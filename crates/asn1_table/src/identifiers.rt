@@ -5,7 +5,7 @@ use std::alloc::{AllocError, Global};
 
 /// The contents of an OBJECT IDENTIFIER with these arcs (X.690, 8.19): the first two are one
 /// number, and each number is written in groups of seven bits. None for fewer than two arcs.
-pub fn octets_of(alloc: Global, arcs: &Vec<u64>) -> Result<Vec<u8>, AllocError> {
+pub fn oid_octets(alloc: Global, arcs: &Vec<u64>) -> Result<Vec<u8>, AllocError> {
     let mut octets = Vec::new(alloc);
     if let [first, second, rest @ ..] = arcs.as_slice() {
         push_number(&mut octets, 40 * u128::from(*first) + u128::from(*second))?;
