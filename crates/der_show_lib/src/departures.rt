@@ -196,7 +196,12 @@ fn put_rule(out: &mut Output, rule: Rule) {
 
 /// Prints how many departures a file has, and how many of these are not even BER.
 pub fn put_totals(show: &mut Show<'_>) {
-    if show.departures == 0 || !matches!(show.options.shown, Shown::Text | Shown::Departures | Shown::Short) {
+    if show.departures == 0
+        || !matches!(
+            show.options.shown,
+            Shown::Text | Shown::Departures | Shown::Short
+        )
+    {
         return;
     }
     show.page.number(show.departures as u64);

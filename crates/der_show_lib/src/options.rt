@@ -75,7 +75,8 @@ const NO_KIND: &str = "the value of '--as' is no kind; --help lists them";
 
 const NO_WIDTH: &str = "the value of '--width' is no number";
 
-const NO_TIME: &str = "the value of '--now' is no date as 2026-01-31, and no time as 2026-01-31T23:59:59Z";
+const NO_TIME: &str =
+    "the value of '--now' is no date as 2026-01-31, and no time as 2026-01-31T23:59:59Z";
 
 /// After how many columns lines are folded, if no option says it.
 const WIDTH: usize = 100;
@@ -179,9 +180,23 @@ fn text<'a>(alloc: Global, name: &'a str, value: &'a str, help: &'a str) -> Arg<
 // What the program takes.
 fn command<'a>(alloc: Global, version: &'a str) -> Result<Command<'a>, AllocError> {
     let shown: [&'static str; 4] = ["json", "der", "pem", "strict"];
-    let short = flag(alloc, "short", "Print a line for each value: its kind, name, key, days and fingerprint");
-    let width = text(alloc, "width", "COLUMNS", "Fold lines of text after so many columns; 100 if not given, never for 0");
-    let now = text(alloc, "now", "TIME", "Count the days that --short prints from this date, or time of UTC");
+    let short = flag(
+        alloc,
+        "short",
+        "Print a line for each value: its kind, name, key, days and fingerprint",
+    );
+    let width = text(
+        alloc,
+        "width",
+        "COLUMNS",
+        "Fold lines of text after so many columns; 100 if not given, never for 0",
+    );
+    let now = text(
+        alloc,
+        "now",
+        "TIME",
+        "Count the days that --short prints from this date, or time of UTC",
+    );
     let files = Arg::new(alloc, "file")
         .value_name("FILE")
         .action(ArgAction::Append)

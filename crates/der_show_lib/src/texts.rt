@@ -57,7 +57,11 @@ fn without_mark(alloc: Global, octets: &[u8]) -> Result<Vec<u8>, AllocError> {
         let [one, other, after @ ..] = rest else {
             break;
         };
-        let (low, high) = if is_little { (*one, *other) } else { (*other, *one) };
+        let (low, high) = if is_little {
+            (*one, *other)
+        } else {
+            (*other, *one)
+        };
         narrow.push(if high == 0 && low < 0x80 { low } else { b'?' })?;
         rest = after;
     }
@@ -70,7 +74,10 @@ fn split_line(text: &[u8]) -> (&[u8], &[u8]) {
         Some(place) => place.saturating_add(1),
         None => text.len(),
     };
-    (text.get(..len).unwrap_or(text), text.get(len..).unwrap_or(&[]))
+    (
+        text.get(..len).unwrap_or(text),
+        text.get(len..).unwrap_or(&[]),
+    )
 }
 
 // Appends a line, and returns what the next line is part of.
@@ -89,11 +96,19 @@ fn put_line(
         }
         Part::Message if words.is_empty() || is_boundary => {
             text.extend_from_slice(b"-----END PKCS7-----\n")?;
-            return Ok(if is_boundary { Part::Headers } else { Part::Body });
+            return Ok(if is_boundary {
+                Part::Headers
+            } else {
+                Part::Body
+            });
         }
         _ => {}
     }
-    text.extend_from_slice(if words.starts_with(b"-----") { line.trim_ascii_start() } else { line })?;
+    text.extend_from_slice(if words.starts_with(b"-----") {
+        line.trim_ascii_start()
+    } else {
+        line
+    })?;
     Ok(match part {
         Part::Headers if is_message(alloc, words)? => Part::MessageHeaders,
         Part::Headers if words.is_empty() => Part::Body,

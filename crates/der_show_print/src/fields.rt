@@ -164,7 +164,11 @@ impl<'s> Walk<'s> {
     // Prints a value after its name, or begins it.
     fn put(&mut self, element: Cursor<'_>, wrappers: u32, is_named: bool) {
         let is_constructed = element.is_constructed();
-        if is_named && is_constructed && self.printer.form == Form::Lines && self.put_in_words(element) {
+        if is_named
+            && is_constructed
+            && self.printer.form == Form::Lines
+            && self.put_in_words(element)
+        {
             self.skipped = Some(element.entry().depth);
             self.close_wrappers(wrappers);
             return;

@@ -24,7 +24,10 @@ const KEYS: [&str; 3] = [
 
 /// Where the first and the last time are at which a value is valid.
 const PERIODS: [(&str, &str); 3] = [
-    ("tbsCertificate.validity.notBefore", "tbsCertificate.validity.notAfter"),
+    (
+        "tbsCertificate.validity.notBefore",
+        "tbsCertificate.validity.notAfter",
+    ),
     ("tbsCertList.thisUpdate", "tbsCertList.nextUpdate"),
     (
         "acinfo.attrCertValidityPeriod.notBeforeTime",

@@ -2,7 +2,8 @@
 
 use crate::page::Page;
 use crate::values::{
-    contents, digits_of, put_decimal, put_identifier_of, put_long, put_small, put_text_or_octets, put_time_of,
+    contents, digits_of, put_decimal, put_identifier_of, put_long, put_small, put_text_or_octets,
+    put_time_of,
 };
 use asn1_cursor::Cursor;
 use der_show_text::{put_integer, put_octets, put_octets_with};

@@ -78,7 +78,10 @@ impl Output {
 
     // Whether the octets are a part of a line that is not folded in it.
     fn is_short(&self, octets: &[u8]) -> bool {
-        let end = self.column.saturating_add(octets.len()).saturating_add(NEAR);
+        let end = self
+            .column
+            .saturating_add(octets.len())
+            .saturating_add(NEAR);
         end < self.width && self.indent < self.column && !octets.contains(&b'\n')
     }
 

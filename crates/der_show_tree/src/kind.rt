@@ -160,6 +160,7 @@ impl Kind {
             "X509 CERTIFICATE" | "TRUSTED CERTIFICATE" => Some(Kind::Certificate),
             "NEW CERTIFICATE REQUEST" => Some(Kind::Request),
             "PKCS7" | "PKCS #7 SIGNED DATA" => Some(Kind::Message),
+            "SM2 PARAMETERS" => Some(Kind::EcParameters),
             _ => of_own_label(label),
         }
     }

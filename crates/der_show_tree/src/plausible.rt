@@ -9,6 +9,12 @@ const PKCS5: &[u8] = &[0x2a, 0x86, 0x48, 0x86, 0xf7, 0x0d, 0x01, 0x05];
 /// Those of the algorithms of PKCS #12.
 const PKCS12: &[u8] = &[0x2a, 0x86, 0x48, 0x86, 0xf7, 0x0d, 0x01, 0x0c, 0x01];
 
+/// Those of the contents of messages: of PKCS #7, and of CMS.
+const CONTENTS: [&[u8]; 2] = [
+    &[0x2a, 0x86, 0x48, 0x86, 0xf7, 0x0d, 0x01, 0x07],
+    &[0x2a, 0x86, 0x48, 0x86, 0xf7, 0x0d, 0x01, 0x09, 0x10, 0x01],
+];
+
 /// The least number of octets of the modulus of a public key of RSA.
 const MODULUS: usize = 32;
 
@@ -34,16 +40,26 @@ pub fn is_plausible(kind: Kind, octets: &[u8]) -> bool {
         Kind::EcParameters => matches!(octets, [0x30, ..]),
         Kind::DsaPrivateKey => contents(inside) == [0].as_slice(),
         Kind::DsaParameters => has_prime(inside) && has_group_len(contents(second(inside))),
-        Kind::X942Parameters => has_prime(inside) && has_group_len(contents(second(second(inside)))),
+        Kind::X942Parameters => has_prime(inside)
+            && has_group_len(contents(second(second(inside)))),
         Kind::DhParameters => has_prime(inside) && matches!(contents(second(inside)), [2 | 5]),
         _ => true,
     }
 }
 
+/// Whether an identifier at the front says that a value is of this kind, whatever faults are inside.
+pub fn is_certain(kind: Kind, octets: &[u8]) -> bool {
+    let identifier = contents(contents(octets));
+    let [own, smime] = CONTENTS;
+    kind == Kind::Message && (identifier.starts_with(own) || identifier.starts_with(smime))
+}
+
 // Whether the first number is large, positive and odd.
 fn has_prime(inside: &[u8]) -> bool {
     let prime = contents(inside);
-    prime.len() >= PRIME && prime.last().copied().unwrap_or(0) % 2 == 1 && !matches!(prime, [0x80..=0xFF, ..])
+    prime.len() >= PRIME
+        && prime.last().copied().unwrap_or(0) % 2 == 1
+        && !matches!(prime, [0x80..=0xFF, ..])
 }
 
 // Whether a number has the size of the order of a group.
