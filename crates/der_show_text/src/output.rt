@@ -7,7 +7,7 @@ use std::io::{Stderr, Stdout, Write};
 /// How many octets are kept before they are written.
 const BUFFERED: usize = 32768;
 
-/// From so many columns before the end of a line on, it is folded after a space.
+/// From so many columns before the end of a line on, it is folded at a space, which is not printed.
 const NEAR: usize = 16;
 
 /// From so many columns before the end of a line on, it is folded after a colon.
@@ -93,6 +93,10 @@ impl Output {
                 self.indent = 0;
             }
             0x80..=0xBF => {}
+            b' ' if self.indent < self.column && self.column.saturating_add(NEAR) >= self.width => {
+                self.fold();
+                return;
+            }
             _ => {
                 if self.is_full() {
                     self.fold();
@@ -109,7 +113,6 @@ impl Output {
     // Whether the line has no column left, or few, and ends as a part of it does.
     fn is_full(&self) -> bool {
         let margin = match self.buffer.last() {
-            Some(b' ') => NEAR,
             Some(b':') => NEARER,
             _ => 0,
         };
