@@ -76,13 +76,14 @@ impl Output {
         }
     }
 
-    // Whether the octets are a part of a line that is not folded in it.
+    // Whether the octets are a part of a line that is not folded in it. Only their last octet may be the end of a line.
     fn is_short(&self, octets: &[u8]) -> bool {
         let end = self
             .column
             .saturating_add(octets.len())
             .saturating_add(NEAR);
-        end < self.width && self.indent < self.column && !octets.contains(&b'\n')
+        let has_end = matches!(octets, [b'\n', ..] | [.., b'\n']);
+        end < self.width && self.indent < self.column && !has_end
     }
 
     // Prints an octet, before which the line is folded if it is full. Octets inside a character have no column.
@@ -208,7 +209,7 @@ impl fmt::Write for Output {
 }
 
 // The digit for a number below 16.
-fn hex_digit(number: u8, is_upper: bool) -> u8 {
+pub(crate) fn hex_digit(number: u8, is_upper: bool) -> u8 {
     let first = if is_upper { b'A' } else { b'a' };
     match number {
         0..=9 => b'0'.wrapping_add(number),
