@@ -37,19 +37,19 @@ fn salt_length(
 ) -> Result<(u32, Length), Error> {
     let mut reader = reader?;
     let field: Defaulted<SaltLength> = Defaulted::decode(alloc, &mut reader)?;
-    Ok((field.0.0.value.number, reader.position()))
+    Ok((field.value().number, reader.position()))
 }
 
 fn reason(alloc: Global, reader: Result<SliceReader<'_>, Error>) -> Result<(CrlReason, Length), Error> {
     let mut reader = reader?;
     let field: Defaulted<Reason> = Defaulted::decode(alloc, &mut reader)?;
-    Ok((field.0.value.item(), reader.position()))
+    Ok((field.value().item(), reader.position()))
 }
 
 fn flag(alloc: Global, reader: Result<SliceReader<'_>, Error>) -> Result<(bool, Length), Error> {
     let mut reader = reader?;
     let field: Defaulted<Flag<'_>> = Defaulted::decode(alloc, &mut reader)?;
-    Ok((field.0.value.is_true(), reader.position()))
+    Ok((field.value().is_true(), reader.position()))
 }
 
 #[test]

@@ -126,7 +126,7 @@ fn octets_that_are_no_generalized_time(rt: HostRuntime) {
 // A Time of RFC 5280, 4.1: the tag determines which of the two types it is.
 fn time<'a>(alloc: Global, octets: &'a [u8]) -> Result<DateTime, Error> {
     let mut reader = SliceReader::new(octets)?;
-    if <UtcTime as Choice<SliceReader<'a>>>::can_decode(reader.peek_tag()?) {
+    if <UtcTime as Choice>::can_decode(reader.peek_tag()?) {
         let time = UtcTime::decode(alloc, &mut reader)?;
         return Ok(time.date_time());
     }

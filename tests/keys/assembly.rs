@@ -7,13 +7,13 @@ use der_asn1::{
     AnyRef, BitStringRef, DateTime, Defaulted, Explicit, Ia5StringRef, Implicit, IntRef, NamedBitsRef,
     NamedInteger, ObjectIdentifierRef, OctetStringRef, Optional, UtcTime,
 };
+use der_asn1::assembly::{sequence_of, set_of};
 use spki::{AlgorithmIdentifierRef, SubjectPublicKeyInfoRef};
 use std::alloc::Global;
 use x509::{
     Attribute, AttributeTypeAndValue, AuthorityKeyIdentifier, BasicConstraints, CertReq, CertReqInfo,
     CertReqVersion, Certificate, Extension, Extensions, GeneralName, Name, RelativeDistinguishedName,
-    TbsCertificate, Time, Validity, Version, attr, attribute_of, ext, extension_of, sequence_of, set_of,
-    values,
+    TbsCertificate, Time, Validity, Version, attr, attribute_of, ext, extension_of, values,
 };
 
 // The identifier of Ed25519, 1.3.101.112, and no parameters.

@@ -59,7 +59,7 @@ fn the_fields_of_a_certificate_are_those_that_openssl_prints(rt: HostRuntime) {
         return;
     };
     let fields = &certificate.tbs_certificate;
-    holds(&rt, fields.version.0.0.octets() == [2].as_slice());
+    holds(&rt, fields.version.value().octets() == [2].as_slice());
     holds(
         &rt,
         fields.serial_number.octets() == [0x4A, 0x7B].as_slice(),
@@ -88,12 +88,10 @@ fn the_fields_of_a_certificate_are_those_that_openssl_prints(rt: HostRuntime) {
 // How many extensions there are, and how many of them are critical.
 fn extensions(alloc: Global, octets: &[u8]) -> Option<(u32, u32)> {
     let certificate = Certificate::from_der(alloc, octets).ok()?;
-    let Some(extensions) = &certificate.tbs_certificate.extensions.0 else {
-        return None;
-    };
+    let extensions = certificate.tbs_certificate.extensions.value()?;
     let mut count: u32 = 0;
     let mut critical: u32 = 0;
-    for extension in extensions.0.items.iter(alloc) {
+    for extension in extensions.items.iter(alloc) {
         count = count.wrapping_add(1);
         if extension.critical.0.is_true() {
             critical = critical.wrapping_add(1);

@@ -32,7 +32,7 @@ fn is_read(alloc: Global, octets: &[u8], serial_number: &[u8]) -> bool {
         return false;
     };
     let fields = &certificate.tbs_certificate;
-    fields.version.0.0.octets() == [0].as_slice()
+    fields.version.value().octets() == [0].as_slice()
         && fields.serial_number.octets() == serial_number
         && fields.extensions.0.is_none()
         && written.as_slice() == octets

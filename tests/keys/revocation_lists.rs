@@ -165,8 +165,8 @@ fn is_point(alloc: Global, octets: &[u8]) -> bool {
     has_uri
         && has_reasons
         && !has(ReasonFlagsBit::Superseded)
-        && point.indirect_crl.0.0.is_true()
-        && !point.only_contains_user_certs.0.0.is_true()
+        && point.indirect_crl.value().is_true()
+        && !point.only_contains_user_certs.value().is_true()
         && written.is_ok_and(|written| written.as_slice() == octets)
 }
 

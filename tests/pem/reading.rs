@@ -19,8 +19,7 @@ enum ReadError {
 
 /// The contents of the first block of the text that has the label.
 fn contents_of(alloc: Global, text: &[u8], label: &str) -> Result<Vec<u8>, ReadError> {
-    let mut blocks = Blocks::new(text);
-    while let Some(found) = blocks.next_block() {
+    for found in Blocks::new(text) {
         let block = found.map_err(ReadError::Pem)?;
         if block.label() != label {
             continue;

@@ -66,3 +66,24 @@ fn a_visit_without_its_last_field_is_refused(rt: HostRuntime) {
     cut[1] = 0x21;
     assert!(rt; Visit::from_der(rt.alloc(), &cut).is_err());
 }
+
+#[test]
+fn a_visit_that_is_read_equals_the_one_that_was_written(rt: HostRuntime) {
+    match Visit::from_der(rt.alloc(), &VISIT) {
+        Ok(read) => assert!(rt; visit(rt.alloc()) == Some(read)),
+        Err(_) => assert!(rt; false),
+    }
+}
+
+#[test]
+fn a_visit_is_printed_with_the_names_of_its_fields(rt: HostRuntime) {
+    let Ok(visit) = Visit::from_der(rt.alloc(), &VISIT) else {
+        assert!(rt; false);
+        return;
+    };
+    let Ok(text) = format!(in rt.alloc(); "{visit:?}") else {
+        assert!(rt; false);
+        return;
+    };
+    assert!(rt; text.as_str().starts_with("Visit { ticket: INTEGER(2A), visitor: "));
+}

@@ -11,6 +11,7 @@ pub mod TimeLemmas
 pub mod UnknownLemmas
 pub mod UnknownWalkLemmas
 pub mod AdditionsLemmas
+pub mod AssemblyLemmas
 pub mod UnixTimeLemmas
 pub mod SetOfLemmas
 pub mod ArcLemmas

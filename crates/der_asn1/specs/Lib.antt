@@ -40,6 +40,7 @@ pub mod Meaning
 pub mod TupleFields
 pub mod UnknownElement
 pub mod Additions
+pub mod Assembly
 pub mod UnknownWalk
 pub mod TagClasses
 pub mod Printed

@@ -20,6 +20,7 @@ use std::marker::PhantomData;
 /// 25.1, 25.6): components that a later version of it may have. They are borrowed from the input, and
 /// written back as they were. `K` has the tags of the components that the type knows after the
 /// insertion point, and of those that may be absent right before it.
+#[derive_where(Debug, PartialEq, Eq)]
 pub struct Additions<'a, K: KnownTags> {
     octets: &'a [u8],
     of: PhantomData<K>,

@@ -22,7 +22,7 @@ use std::alloc::Global;
 /// A `BIT STRING (CONTAINING T)` (X.682 11): the bits are the whole encoding of a value of `T`, so
 /// no bits are unused. Its contents take one level of nesting more than those of `T`, so `T` must
 /// be [`Nestable`]. Under BER too the BIT STRING must be primitive.
-#[derive(Clone, Copy, Drop, PartialEq, Eq)]
+#[derive(Clone, Copy, Debug, Drop, PartialEq, Eq)]
 pub struct BitStringOf<T>(pub T);
 
 impl<T> FixedTag for BitStringOf<T> {

@@ -4,7 +4,7 @@ ghost use Rattle.der.specs.Prelude.{EncodingRules as Rules, Der, map_ok};
 ghost use Rattle.der_asn1.specs.Default.{DefaultNext, DefaultRead, IsDefaulted, default_encoding};
 ghost use Rattle.der_asn1.specs.Default.{default_size, DefaultWritten};
 
-use crate::choice::Choice;
+use crate::choice::DecodeChoice;
 use der::{
     Decode, Encode, EncodingRules, Error, ErrorKind, Lends, Length, Reader, ReaderExt, Writer,
 };
@@ -29,7 +29,7 @@ pub trait DefaultValue: Sized {
 ///
 /// Ghost member (for proofs only): `reported` proves that, if two values can be decoded from the
 /// same octets, both are the default or neither is.
-pub trait HasDefault<R: Lends>: Choice<R> + DefaultValue {
+pub trait HasDefault<R: Lends>: DecodeChoice<R> + DefaultValue {
     // If two values can be decoded from the same octets, both are the default or neither is.
     ghost reported: { (v w : Self) (rules : Rules) (octets : List ℕ) (m n : ℕ)
         → Self.is_next v rules octets m → Self.is_next w rules octets n

@@ -50,6 +50,7 @@ pub fn has_contents<T: EncodeValue>(value: &T, octets: &[u8], buffer: &mut [u8])
 /// is the default, DER requires that the field is absent (X.690 11.5); BER also allows that the
 /// default is encoded (8.9.3).
 #[derive(Drop)]
+#[derive_where(Debug, PartialEq, Eq; T)]
 pub struct DefaultedTo<T, D>(pub T, PhantomData<D>);
 
 impl<T, D> DefaultedTo<T, D> {
@@ -108,7 +109,7 @@ impl<R: Lends, T: DecodeValue<R> + Lawful, D: DefaultEncoding<T>> Decode<R> for 
             return Ok(DefaultedTo(D::default_value(), PhantomData));
         }
         let tag = reader.peek_tag()?;
-        if !<T as Choice<R>>::can_decode(tag) {
+        if !<T as Choice>::can_decode(tag) {
             return Ok(DefaultedTo(D::default_value(), PhantomData));
         }
         let value = decode_tlv::<R, T>(alloc, reader)?;

@@ -6,7 +6,7 @@ ghost use Rattle.der_asn1.specs.Either.{either_size, EitherWritten};
 ghost use Rattle.der_asn1.specs.EitherLaws.{either_begins};
 ghost use Rattle.der_asn1.specs.Follow.{either_tags};
 
-use crate::choice::Choice;
+use crate::choice::{Choice, DecodeChoice};
 use der::{Decode, Encode, Error, ErrorKind, Lends, Length, Reader, ReaderExt, Tag, Writer};
 use std::alloc::Global;
 
@@ -30,8 +30,11 @@ pub enum Either<A, B> {
 /// - `TagUnexpected` without an expected tag, at the reader's position, if no value of either type
 ///   begins with the next tag; the reader has failed then.
 /// - The errors of decoding the value.
-impl<R: Lends, A: Choice<R>, B: Choice<R> + Decode<R, Error = <A as Decode<R>>::Error>> Decode<R>
-    for Either<A, B> {
+impl<
+    R: Lends,
+    A: DecodeChoice<R>,
+    B: DecodeChoice<R> + Decode<R, Error = <A as Decode<R>>::Error>,
+> Decode<R> for Either<A, B> {
     type Error = <A as Decode<R>>::Error;
 
     ghost is_next = { EitherNext A.chooses A.is_next B.is_next };
@@ -112,14 +115,19 @@ impl<A: Encode, B: Encode> Encode for Either<A, B> {
     }
 }
 
-impl<R: Lends, A: Choice<R>, B: Choice<R> + Decode<R, Error = <A as Decode<R>>::Error>> Choice<R>
-    for Either<A, B> {
+impl<A: Choice, B: Choice> Choice for Either<A, B> {
     ghost chooses = { either_tags A.chooses B.chooses };
 
     #[inline(always)]
     fn can_decode(tag: Tag) -> bool {
         A::can_decode(tag) || B::can_decode(tag)
     }
+}
 
+impl<
+    R: Lends,
+    A: DecodeChoice<R>,
+    B: DecodeChoice<R> + Decode<R, Error = <A as Decode<R>>::Error>,
+> DecodeChoice<R> for Either<A, B> {
     ghost begins = { either_begins A.begins B.begins };
 }

@@ -20,7 +20,7 @@ use std::alloc::Global;
 /// An `OCTET STRING (CONTAINING T)` (X.682 11): the contents octets are the whole encoding of a
 /// value of `T`. Its contents take one level of nesting more than those of `T`, so `T` must be
 /// [`Nestable`]. Under BER too the OCTET STRING must be primitive.
-#[derive(Clone, Copy, Drop, PartialEq, Eq)]
+#[derive(Clone, Copy, Debug, Drop, PartialEq, Eq)]
 pub struct OctetStringOf<T>(pub T);
 
 impl<T> FixedTag for OctetStringOf<T> {

@@ -4,7 +4,7 @@ ghost use Rattle.der.specs.Prelude.{map_ok};
 ghost use Rattle.der_asn1.specs.Optional.{OptionNext, OptionRead, IsOptional, option_encoding};
 ghost use Rattle.der_asn1.specs.Optional.{option_size, OptionWritten};
 
-use crate::choice::Choice;
+use crate::choice::DecodeChoice;
 use der::{Decode, Encode, Error, Lends, Length, Reader, ReaderExt, Writer};
 use std::alloc::Global;
 
@@ -20,7 +20,7 @@ pub struct Optional<T>(pub Option<T>);
 /// - The errors of [`ReaderExt::peek_tag`], if octets are left but the next tag cannot be read; the
 ///   reader is unchanged.
 /// - The errors of decoding the value, if a value may begin with the next tag.
-impl<R: Lends, T: Choice<R>> Decode<R> for Optional<T> {
+impl<R: Lends, T: DecodeChoice<R>> Decode<R> for Optional<T> {
     type Error = <T as Decode<R>>::Error;
 
     ghost is_next = { λ v. OptionNext T.chooses T.is_next v.0 };

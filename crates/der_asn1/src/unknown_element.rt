@@ -1,5 +1,5 @@
 //! Elements that a type with an extension mark does not know.
-ghost use Rattle.std.specs.Prelude.{◌≡◌, false, ⊤};
+ghost use Rattle.std.specs.Prelude.{◌≡◌, ◌↔◌, false, IsTrue, ⊤};
 ghost use Rattle.std.proofs.Common.{refl};
 ghost use Rattle.der.specs.Prelude.{element_levels};
 ghost use Rattle.der_asn1.specs.AnyElement.{AnyElementNext, AnyElementRead};
@@ -10,7 +10,7 @@ ghost use Rattle.der_asn1.specs.TagSets.{all_but, IsOf, is_among};
 ghost use Rattle.der_asn1.specs.UnknownElement.{UnknownRead, unknown_element};
 
 use crate::any::AnyRef;
-use crate::choice::Choice;
+use crate::choice::{Choice, DecodeChoice};
 use crate::described_choice::DescribedChoice;
 use crate::item::{DecodeItem, Item};
 use crate::iter::BorrowedItem;
@@ -25,6 +25,7 @@ use std::marker::PhantomData;
 /// An element with a tag that a type with an extension mark does not know: an alternative of a CHOICE
 /// or a component of a SEQUENCE that a later version of the type may have (X.680 25.1, 29.1). It is
 /// kept, and written back as it was. `K` has the known tags.
+#[derive_where(Debug, PartialEq, Eq)]
 pub struct UnknownElement<'a, K: KnownTags> {
     element: AnyRef<'a>,
     of: PhantomData<K>,
@@ -117,14 +118,18 @@ impl<'a, R: Lends<Borrowed = &'a [u8]>, K: KnownTags> Decode<R> for UnknownEleme
     }
 }
 
-impl<'a, R: Lends<Borrowed = &'a [u8]>, K: KnownTags> Choice<R> for UnknownElement<'a, K> {
+impl<'a, K: KnownTags> Choice for UnknownElement<'a, K> {
     ghost chooses = { IsOf (all_but K.known) };
 
     #[inline(always)]
-    fn can_decode(tag: Tag) -> bool {
+    fn can_decode(tag: Tag) -> bool
+        ensures { IsTrue result ↔ IsOf (all_but K.known) tag }
+    {
         !K::is_known(tag)
     }
+}
 
+impl<'a, R: Lends<Borrowed = &'a [u8]>, K: KnownTags> DecodeChoice<R> for UnknownElement<'a, K> {
     ghost begins = { (unknown_element K.known (λ v. v.element) (λ v. v.unknown)).begins };
 }
 

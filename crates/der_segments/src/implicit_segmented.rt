@@ -13,7 +13,7 @@ use der::IsValue;
 /// an encrypted content of a message, borrowed from the input. The tag is primitive if the string is
 /// in one piece, and constructed if it is in segments, as the Basic Encoding Rules allow (8.7.3). It
 /// is written in one piece. As a field it is a CHOICE of these two tags.
-#[derive(Clone, Copy, Drop)]
+#[derive(Clone, Copy, Debug, Drop, PartialEq, Eq)]
 pub struct ImplicitSegmented<'a, const N: u32>(pub Segmented<'a>);
 
 impl<'a, const N: u32> ImplicitSegmented<'a, N> {

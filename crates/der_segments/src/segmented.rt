@@ -13,6 +13,7 @@ use std::alloc::AllocError;
 /// may be in segments, which may themselves be in segments, up to 63 levels deep. Decoding checks
 /// the segments and copies nothing. The tag of a value is always OCTET STRING: in segments, its
 /// identifier octet is `0x24`. An IMPLICIT tag is therefore read in the primitive form alone.
+#[derive(Debug, PartialEq, Eq)]
 pub struct Segmented<'a> {
     octets: &'a [u8],
     constructed: bool,

@@ -1,5 +1,4 @@
 pub mod FindLemmas
-pub mod AssemblyLemmas
 mod ItemLemmas
 mod EncodingLemmas
 mod FirstLemmas

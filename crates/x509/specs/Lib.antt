@@ -1,7 +1,6 @@
 pub mod Checks
 pub mod CertificateVersion
 pub mod Find
-pub mod Assembly
 pub mod Text
 pub mod Names
 pub mod DirectoryText

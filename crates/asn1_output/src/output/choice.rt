@@ -20,7 +20,7 @@ pub struct ChoiceText {
     pub alternatives: Vec<Alternative>,
 }
 
-const ENUM: &str = "@D#[derive(Clone, Copy, Drop)]
+const ENUM: &str = "@D#[derive(Clone, Copy, Debug, Drop, PartialEq, Eq)]
 pub enum @N@L {
 @F}
 
@@ -64,13 +64,17 @@ impl<'a, R: Lends<Borrowed = &'a [u8]>> Decode<R> for @N@L {
     }
 }
 
-impl<'a, R: Lends<Borrowed = &'a [u8]>> Choice<R> for @N@L {
+impl@L Choice for @N@L {
     ghost chooses = { ⟦<@N@L as DescribedChoice>⟧.alternative.tags };
 
-    fn can_decode(tag: Tag) -> bool {
-        <@NAlternatives@L as Choice<R>>::can_decode(tag)
+    fn can_decode(tag: Tag) -> bool
+        ensures { IsTrue result ↔ ⟦<@N@L as DescribedChoice>⟧.alternative.tags tag }
+    {
+        <@NAlternatives@L as Choice>::can_decode(tag)
     }
+}
 
+impl<'a, R: Lends<Borrowed = &'a [u8]>> DecodeChoice<R> for @N@L {
     ghost begins = { ⟦<@N@L as DescribedChoice>⟧.alternative.begins };
 }
 
@@ -123,6 +127,12 @@ impl<'a, R: Lends<Borrowed = &'a [u8]>> DecodeItem<R> for @N@L {
 
 impl<'a> BorrowedItem for @N@L {
     ghost borrowed = { refl };
+}
+
+impl@L WrittenItem for @N@L {
+    ghost written = { λ v. refl };
+
+    ghost writes_valid = { λ v is. is };
 }
 ";
 

@@ -50,14 +50,18 @@ impl<'a, R: Lends<Borrowed = &'a [u8]>> Decode<R> for @N@L {
     }
 }
 
-impl<'a, R: Lends<Borrowed = &'a [u8]>> Choice<R> for @N@L {
+impl@L Choice for @N@L {
     ghost chooses = { ⟦<@N@L as DescribedChoice>⟧.alternative.tags };
 
     #[inline(always)]
-    fn can_decode(tag: Tag) -> bool {
-        <@NAlternatives@L as Choice<R>>::can_decode(tag)
+    fn can_decode(tag: Tag) -> bool
+        ensures { IsTrue result ↔ ⟦<@N@L as DescribedChoice>⟧.alternative.tags tag }
+    {
+        <@NAlternatives@L as Choice>::can_decode(tag)
     }
+}
 
+impl<'a, R: Lends<Borrowed = &'a [u8]>> DecodeChoice<R> for @N@L {
     ghost begins = { ⟦<@N@L as DescribedChoice>⟧.alternative.begins };
 }
 

@@ -22,6 +22,9 @@ pub struct OutputFile {
 const GHOST_FALSE: &str = "ghost use Rattle.std.specs.Prelude.{◌≡◌, false};
 ";
 
+const GHOST_CHOICE: &str = "ghost use Rattle.std.specs.Prelude.{◌↔◌, IsTrue, false};
+";
+
 const GHOST_LIST: &str = "ghost use Rattle.std.specs.Prelude.{◌≡◌, ◌∷◌, []};
 ";
 
@@ -128,6 +131,7 @@ fn push_ghost_lines(
         PieceKind::Enumeration => text.push_str(
             "ghost use Rattle.std.specs.Prelude.{◌==◌, Option, Some, None, if◌then◌else◌};\n",
         )?,
+        _ if code.contains("↔") => text.push_str(GHOST_CHOICE)?,
         _ => push_ghost_use(alloc, text, words, "Rattle.std.specs.Prelude", "false")?,
     }
     push_ghost_uses(alloc, text, words)?;

@@ -6,7 +6,7 @@ use super::template::{Places, fill};
 use asn1_check::Module;
 use std::alloc::AllocError;
 
-const LIST: &str = "@D#[derive(Clone, Copy, Drop)]
+const LIST: &str = "@D#[derive(Clone, Copy, Debug, Drop, PartialEq, Eq)]
 pub struct @N<'a> {
     /// The list: a @W OF its items.
     pub @F: @T,

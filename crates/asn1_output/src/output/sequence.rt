@@ -98,6 +98,12 @@ impl<'a> BorrowedItem for @N@L {
     ghost borrowed = { refl };
 }
 
+impl@L WrittenItem for @N@L {
+    ghost written = { λ v. refl };
+
+    ghost writes_valid = { λ v is. is };
+}
+
 impl@L Nestable for @N@L {
     ghost nestable = { Prim.omega arith };
 }
@@ -147,10 +153,10 @@ impl SequenceText {
     fn derived(&self) -> &'static str {
         for field in self.fields.iter() {
             if matches!(field.presence, FieldPresence::DefaultedTo(_)) {
-                return "Drop";
+                return "Debug, Drop, PartialEq, Eq";
             }
         }
-        "Clone, Copy, Drop"
+        "Clone, Copy, Debug, Drop, PartialEq, Eq"
     }
 
     /// Whether the fields are in parts.

@@ -39,6 +39,7 @@ BmpStringRef
 BooleanRef
 BorrowedItem
 Choice
+DecodeChoice
 DecodeItem
 DefaultEmpty
 DefaultOf
@@ -85,6 +86,7 @@ UtcTime
 Utf8StringRef
 VisibleStringRef
 WithDefault
+WrittenItem
 decode_choice
 is_among";
 

@@ -14,11 +14,12 @@ use der::{
 };
 use der_asn1::{
     BorrowedItem, DecodeItem, Described, Implicit, IntRef, IntegerIn, Item, Nestable, Optional,
+    WrittenItem,
 };
 use std::alloc::Global;
 
 /// How exact a time is (RFC 3161, 2.4.2), borrowed from the input. A part that is absent is 0.
-#[derive(Clone, Copy, Drop)]
+#[derive(Clone, Copy, Debug, Drop, PartialEq, Eq)]
 pub struct Accuracy<'a> {
     /// Seconds, if present.
     pub seconds: Optional<IntRef<'a>>,
@@ -118,6 +119,12 @@ impl<'a, R: Lends<Borrowed = &'a [u8]>> DecodeItem<R> for Accuracy<'a> {
 
 impl<'a> BorrowedItem for Accuracy<'a> {
     ghost borrowed = { refl };
+}
+
+impl<'a> WrittenItem for Accuracy<'a> {
+    ghost written = { λ v. refl };
+
+    ghost writes_valid = { λ v is. is };
 }
 
 impl<'a> Nestable for Accuracy<'a> {

@@ -11,13 +11,13 @@ use der::{
     DecodeValue, EncodeValue, Error, FixedTag, FromFields, Header, IsValue, Lawful, Lends, Length,
     ReadValue, Reader, SliceReader, Tag, Writer, WrittenValue, decode_wrapped,
 };
-use der_asn1::{BorrowedItem, DecodeItem, Described, Item, Nestable, SetOf};
+use der_asn1::{BorrowedItem, DecodeItem, Described, Item, Nestable, SetOf, WrittenItem};
 use std::alloc::Global;
 use x509::Attribute;
 
 /// Attributes beside a message authentication code (RFC 5652, 9.1), in ascending order of their
 /// encodings.
-#[derive(Clone, Copy, Drop)]
+#[derive(Clone, Copy, Debug, Drop, PartialEq, Eq)]
 pub struct AuthAttributes<'a> {
     /// The list: a SET OF its items.
     pub items: SetOf<'a, Attribute<'a>>,
@@ -130,6 +130,12 @@ impl<'a, R: Lends<Borrowed = &'a [u8]>> DecodeItem<R> for AuthAttributes<'a> {
 
 impl<'a> BorrowedItem for AuthAttributes<'a> {
     ghost borrowed = { refl };
+}
+
+impl<'a> WrittenItem for AuthAttributes<'a> {
+    ghost written = { λ v. refl };
+
+    ghost writes_valid = { λ v is. is };
 }
 
 impl<'a> Nestable for AuthAttributes<'a> {

@@ -19,12 +19,13 @@ use der::{
 };
 use der_asn1::{
     BorrowedItem, DecodeItem, Described, Implicit, Item, Nestable, OctetStringRef, Optional,
+    WrittenItem,
 };
 use std::alloc::Global;
 
 /// A content that is encrypted and authenticated for recipients (RFC 5083, 2.1), borrowed from the
 /// input. Nothing is decrypted.
-#[derive(Clone, Copy, Drop)]
+#[derive(Clone, Copy, Debug, Drop, PartialEq, Eq)]
 pub struct AuthEnvelopedData<'a> {
     /// The version, which is 0. Decoding does not check this.
     pub version: CmsVersion<'a>,
@@ -181,6 +182,12 @@ impl<'a, R: Lends<Borrowed = &'a [u8]>> DecodeItem<R> for AuthEnvelopedData<'a> 
 
 impl<'a> BorrowedItem for AuthEnvelopedData<'a> {
     ghost borrowed = { refl };
+}
+
+impl<'a> WrittenItem for AuthEnvelopedData<'a> {
+    ghost written = { λ v. refl };
+
+    ghost writes_valid = { λ v is. is };
 }
 
 impl<'a> Nestable for AuthEnvelopedData<'a> {

@@ -19,13 +19,14 @@ use der::{
 };
 use der_asn1::{
     BorrowedItem, DecodeItem, Described, Implicit, Item, Nestable, OctetStringRef, Optional,
+    WrittenItem,
 };
 use spki::AlgorithmIdentifierRef;
 use std::alloc::Global;
 
 /// A content with a message authentication code for recipients (RFC 5652, 9.1), borrowed from the
 /// input.
-#[derive(Clone, Copy, Drop)]
+#[derive(Clone, Copy, Debug, Drop, PartialEq, Eq)]
 pub struct AuthenticatedData<'a> {
     /// The version: 0, 1 or 3. Decoding does not check this.
     pub version: CmsVersion<'a>,
@@ -203,6 +204,12 @@ impl<'a, R: Lends<Borrowed = &'a [u8]>> DecodeItem<R> for AuthenticatedData<'a> 
 
 impl<'a> BorrowedItem for AuthenticatedData<'a> {
     ghost borrowed = { refl };
+}
+
+impl<'a> WrittenItem for AuthenticatedData<'a> {
+    ghost written = { λ v. refl };
+
+    ghost writes_valid = { λ v is. is };
 }
 
 impl<'a> Nestable for AuthenticatedData<'a> {

@@ -1,7 +1,7 @@
 //! Written by asn1_compile from the module CMS: change the module instead.
 //!
 //! CertificateChoices.
-ghost use Rattle.std.specs.Prelude.{false};
+ghost use Rattle.std.specs.Prelude.{◌↔◌, IsTrue, false};
 ghost use Rattle.std.proofs.Common.{refl};
 ghost use Rattle.der.specs.Prelude.{map_ok};
 ghost use Rattle.der_asn1.specs.Item.{decodes_same};
@@ -15,15 +15,15 @@ use crate::asn1::certificate_choices_part3::CertificateChoicesPart3;
 use crate::asn1::other_certificate_format::OtherCertificateFormat;
 use der::{Decode, Encode, Error, FromFields, Lends, Length, Reader, SliceReader, Tag, Writer};
 use der_asn1::{
-    BorrowedItem, Choice, DecodeItem, DescribedChoice, Either, Implicit, Item, SequenceRef,
-    decode_choice,
+    BorrowedItem, Choice, DecodeChoice, DecodeItem, DescribedChoice, Either, Implicit, Item,
+    SequenceRef, WrittenItem, decode_choice,
 };
 use std::alloc::Global;
 use x509::Certificate;
 
 /// A certificate of some kind (RFC 5652, 10.2.2), borrowed from the input. The contents of those
 /// with the tags 0 to 2 are not checked.
-#[derive(Clone, Copy, Drop)]
+#[derive(Clone, Copy, Debug, Drop, PartialEq, Eq)]
 pub enum CertificateChoices<'a> {
     /// A certificate of RFC 5280.
     Certificate(Certificate<'a>),
@@ -115,13 +115,18 @@ impl<'a, R: Lends<Borrowed = &'a [u8]>> Decode<R> for CertificateChoices<'a> {
     }
 }
 
-impl<'a, R: Lends<Borrowed = &'a [u8]>> Choice<R> for CertificateChoices<'a> {
+impl<'a> Choice for CertificateChoices<'a> {
     ghost chooses = { ⟦<CertificateChoices<'a> as DescribedChoice>⟧.alternative.tags };
 
-    fn can_decode(tag: Tag) -> bool {
-        <CertificateChoicesAlternatives<'a> as Choice<R>>::can_decode(tag)
+    fn can_decode(tag: Tag) -> bool
+        ensures { IsTrue result ↔
+            ⟦<CertificateChoices<'a> as DescribedChoice>⟧.alternative.tags tag }
+    {
+        <CertificateChoicesAlternatives<'a> as Choice>::can_decode(tag)
     }
+}
 
+impl<'a, R: Lends<Borrowed = &'a [u8]>> DecodeChoice<R> for CertificateChoices<'a> {
     ghost begins = { ⟦<CertificateChoices<'a> as DescribedChoice>⟧.alternative.begins };
 }
 
@@ -194,4 +199,10 @@ impl<'a, R: Lends<Borrowed = &'a [u8]>> DecodeItem<R> for CertificateChoices<'a>
 
 impl<'a> BorrowedItem for CertificateChoices<'a> {
     ghost borrowed = { refl };
+}
+
+impl<'a> WrittenItem for CertificateChoices<'a> {
+    ghost written = { λ v. refl };
+
+    ghost writes_valid = { λ v is. is };
 }

@@ -1,12 +1,14 @@
 //! Written by asn1_compile from the module CMS: change the module instead.
 //!
 //! CertificateChoicesPart1.
-ghost use Rattle.std.specs.Prelude.{false};
+ghost use Rattle.std.specs.Prelude.{◌↔◌, IsTrue, false};
 ghost use Rattle.der.specs.Prelude.{map_ok};
 ghost use Rattle.der_asn1.specs.Meaning.{alternative, choice_of, either};
 
 use der::{Decode, Encode, Error, FromFields, Lends, Length, Reader, SliceReader, Tag, Writer};
-use der_asn1::{Choice, Described, DescribedChoice, Either, Implicit, SequenceRef, decode_choice};
+use der_asn1::{
+    Choice, DecodeChoice, Described, DescribedChoice, Either, Implicit, SequenceRef, decode_choice,
+};
 use std::alloc::Global;
 use x509::Certificate;
 
@@ -57,14 +59,19 @@ impl<'a, R: Lends<Borrowed = &'a [u8]>> Decode<R> for CertificateChoicesPart1<'a
     }
 }
 
-impl<'a, R: Lends<Borrowed = &'a [u8]>> Choice<R> for CertificateChoicesPart1<'a> {
+impl<'a> Choice for CertificateChoicesPart1<'a> {
     ghost chooses = { ⟦<CertificateChoicesPart1<'a> as DescribedChoice>⟧.alternative.tags };
 
     #[inline(always)]
-    fn can_decode(tag: Tag) -> bool {
-        <CertificateChoicesPart1Alternatives<'a> as Choice<R>>::can_decode(tag)
+    fn can_decode(tag: Tag) -> bool
+        ensures { IsTrue result ↔
+            ⟦<CertificateChoicesPart1<'a> as DescribedChoice>⟧.alternative.tags tag }
+    {
+        <CertificateChoicesPart1Alternatives<'a> as Choice>::can_decode(tag)
     }
+}
 
+impl<'a, R: Lends<Borrowed = &'a [u8]>> DecodeChoice<R> for CertificateChoicesPart1<'a> {
     ghost begins = { ⟦<CertificateChoicesPart1<'a> as DescribedChoice>⟧.alternative.begins };
 }
 

@@ -1,13 +1,13 @@
 //! Written by asn1_compile from the module CMS: change the module instead.
 //!
 //! CertificateChoicesPart3.
-ghost use Rattle.std.specs.Prelude.{false};
+ghost use Rattle.std.specs.Prelude.{◌↔◌, IsTrue, false};
 ghost use Rattle.der.specs.Prelude.{map_ok};
 ghost use Rattle.der_asn1.specs.Meaning.{alternative, choice_of};
 
 use crate::asn1::other_certificate_format::OtherCertificateFormat;
 use der::{Decode, Encode, Error, FromFields, Lends, Length, Reader, SliceReader, Tag, Writer};
-use der_asn1::{Choice, Described, DescribedChoice, Implicit, decode_choice};
+use der_asn1::{Choice, DecodeChoice, Described, DescribedChoice, Implicit, decode_choice};
 use std::alloc::Global;
 
 // Some alternatives of a CertificateChoices.
@@ -54,14 +54,19 @@ impl<'a, R: Lends<Borrowed = &'a [u8]>> Decode<R> for CertificateChoicesPart3<'a
     }
 }
 
-impl<'a, R: Lends<Borrowed = &'a [u8]>> Choice<R> for CertificateChoicesPart3<'a> {
+impl<'a> Choice for CertificateChoicesPart3<'a> {
     ghost chooses = { ⟦<CertificateChoicesPart3<'a> as DescribedChoice>⟧.alternative.tags };
 
     #[inline(always)]
-    fn can_decode(tag: Tag) -> bool {
-        <CertificateChoicesPart3Alternatives<'a> as Choice<R>>::can_decode(tag)
+    fn can_decode(tag: Tag) -> bool
+        ensures { IsTrue result ↔
+            ⟦<CertificateChoicesPart3<'a> as DescribedChoice>⟧.alternative.tags tag }
+    {
+        <CertificateChoicesPart3Alternatives<'a> as Choice>::can_decode(tag)
     }
+}
 
+impl<'a, R: Lends<Borrowed = &'a [u8]>> DecodeChoice<R> for CertificateChoicesPart3<'a> {
     ghost begins = { ⟦<CertificateChoicesPart3<'a> as DescribedChoice>⟧.alternative.begins };
 }
 

@@ -12,11 +12,11 @@ use der::{
     DecodeValue, EncodeValue, Error, FixedTag, FromFields, Header, IsValue, Lawful, Lends, Length,
     ReadValue, Reader, SliceReader, Tag, Writer, WrittenValue, decode_wrapped,
 };
-use der_asn1::{BorrowedItem, DecodeItem, Described, Item, Nestable, SetOf};
+use der_asn1::{BorrowedItem, DecodeItem, Described, Item, Nestable, SetOf, WrittenItem};
 use std::alloc::Global;
 
 /// Certificates (RFC 5652, 10.2.3), in ascending order of their encodings.
-#[derive(Clone, Copy, Drop)]
+#[derive(Clone, Copy, Debug, Drop, PartialEq, Eq)]
 pub struct CertificateSet<'a> {
     /// The list: a SET OF its items.
     pub items: SetOf<'a, CertificateChoices<'a>>,
@@ -129,6 +129,12 @@ impl<'a, R: Lends<Borrowed = &'a [u8]>> DecodeItem<R> for CertificateSet<'a> {
 
 impl<'a> BorrowedItem for CertificateSet<'a> {
     ghost borrowed = { refl };
+}
+
+impl<'a> WrittenItem for CertificateSet<'a> {
+    ghost written = { λ v. refl };
+
+    ghost writes_valid = { λ v is. is };
 }
 
 impl<'a> Nestable for CertificateSet<'a> {

@@ -14,12 +14,12 @@ use der::{
     Decode, DecodeValue, Encode, Error, FieldsCall, FromFields, HasFields, Header, IsValue, Lends,
     Reader, Sequence, SliceReader, decode_sequence, field_refs,
 };
-use der_asn1::{BorrowedItem, DecodeItem, Described, Item, Nestable};
+use der_asn1::{BorrowedItem, DecodeItem, Described, Item, Nestable, WrittenItem};
 use spki::AlgorithmIdentifierRef;
 use std::alloc::Global;
 
 /// A compressed content (RFC 3274), borrowed from the input. Nothing is decompressed.
-#[derive(Clone, Copy, Drop)]
+#[derive(Clone, Copy, Debug, Drop, PartialEq, Eq)]
 pub struct CompressedData<'a> {
     /// The version, which is 0. Decoding does not check this.
     pub version: CmsVersion<'a>,
@@ -118,6 +118,12 @@ impl<'a, R: Lends<Borrowed = &'a [u8]>> DecodeItem<R> for CompressedData<'a> {
 
 impl<'a> BorrowedItem for CompressedData<'a> {
     ghost borrowed = { refl };
+}
+
+impl<'a> WrittenItem for CompressedData<'a> {
+    ghost written = { λ v. refl };
+
+    ghost writes_valid = { λ v is. is };
 }
 
 impl<'a> Nestable for CompressedData<'a> {

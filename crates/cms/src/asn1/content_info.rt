@@ -12,11 +12,11 @@ use der::{
     Decode, DecodeValue, Encode, Error, FieldsCall, FromFields, HasFields, Header, IsValue, Lends,
     Reader, Sequence, SliceReader, decode_sequence, field_refs,
 };
-use der_asn1::{BorrowedItem, DecodeItem, Described, ExplicitAny, Item, Nestable};
+use der_asn1::{BorrowedItem, DecodeItem, Described, ExplicitAny, Item, Nestable, WrittenItem};
 use std::alloc::Global;
 
 /// A message of some type (RFC 5652, 3), borrowed from the input.
-#[derive(Clone, Copy, Drop)]
+#[derive(Clone, Copy, Debug, Drop, PartialEq, Eq)]
 pub struct ContentInfo<'a> {
     /// The type of the content.
     pub content_type: ContentType<'a>,
@@ -101,6 +101,12 @@ impl<'a, R: Lends<Borrowed = &'a [u8]>> DecodeItem<R> for ContentInfo<'a> {
 
 impl<'a> BorrowedItem for ContentInfo<'a> {
     ghost borrowed = { refl };
+}
+
+impl<'a> WrittenItem for ContentInfo<'a> {
+    ghost written = { λ v. refl };
+
+    ghost writes_valid = { λ v is. is };
 }
 
 impl<'a> Nestable for ContentInfo<'a> {

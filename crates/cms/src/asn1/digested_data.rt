@@ -14,12 +14,12 @@ use der::{
     Decode, DecodeValue, Encode, Error, FieldsCall, FromFields, HasFields, Header, IsValue, Lends,
     Reader, Sequence, SliceReader, decode_sequence, field_refs,
 };
-use der_asn1::{BorrowedItem, DecodeItem, Described, Item, Nestable, OctetStringRef};
+use der_asn1::{BorrowedItem, DecodeItem, Described, Item, Nestable, OctetStringRef, WrittenItem};
 use spki::AlgorithmIdentifierRef;
 use std::alloc::Global;
 
 /// A content with its digest (RFC 5652, 7), borrowed from the input.
-#[derive(Clone, Copy, Drop)]
+#[derive(Clone, Copy, Debug, Drop, PartialEq, Eq)]
 pub struct DigestedData<'a> {
     /// The version: 0 if the content is of the type id-data, or else 2. Decoding does not check
     /// this.
@@ -128,6 +128,12 @@ impl<'a, R: Lends<Borrowed = &'a [u8]>> DecodeItem<R> for DigestedData<'a> {
 
 impl<'a> BorrowedItem for DigestedData<'a> {
     ghost borrowed = { refl };
+}
+
+impl<'a> WrittenItem for DigestedData<'a> {
+    ghost written = { λ v. refl };
+
+    ghost writes_valid = { λ v is. is };
 }
 
 impl<'a> Nestable for DigestedData<'a> {

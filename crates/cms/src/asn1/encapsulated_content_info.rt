@@ -13,13 +13,15 @@ use der::{
     Decode, DecodeValue, Encode, Error, FieldsCall, FromFields, HasFields, Header, IsValue, Lends,
     Reader, Sequence, SliceReader, decode_sequence, field_refs,
 };
-use der_asn1::{BorrowedItem, DecodeItem, Described, Explicit, Item, Nestable, Optional};
+use der_asn1::{
+    BorrowedItem, DecodeItem, Described, Explicit, Item, Nestable, Optional, WrittenItem,
+};
 use std::alloc::Global;
 
 /// A content inside a message (RFC 5652, 5.2), borrowed from the input. In PKCS #7 the content may
 /// be an element with another tag than OCTET STRING (RFC 5652, 5.2.1): decoding refuses that here, and
 /// accepts it in a Pkcs7ContentInfo.
-#[derive(Clone, Copy, Drop)]
+#[derive(Clone, Copy, Debug, Drop, PartialEq, Eq)]
 pub struct EncapsulatedContentInfo<'a> {
     /// The type of the content.
     pub e_content_type: ContentType<'a>,
@@ -111,6 +113,12 @@ impl<'a, R: Lends<Borrowed = &'a [u8]>> DecodeItem<R> for EncapsulatedContentInf
 
 impl<'a> BorrowedItem for EncapsulatedContentInfo<'a> {
     ghost borrowed = { refl };
+}
+
+impl<'a> WrittenItem for EncapsulatedContentInfo<'a> {
+    ghost written = { λ v. refl };
+
+    ghost writes_valid = { λ v is. is };
 }
 
 impl<'a> Nestable for EncapsulatedContentInfo<'a> {

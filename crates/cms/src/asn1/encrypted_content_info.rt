@@ -14,12 +14,14 @@ use der::{
     Decode, DecodeValue, Encode, Error, FieldsCall, FromFields, HasFields, Header, IsValue, Lends,
     Reader, Sequence, SliceReader, decode_sequence, field_refs,
 };
-use der_asn1::{BorrowedItem, DecodeItem, Described, DescribedChoice, Item, Nestable, Optional};
+use der_asn1::{
+    BorrowedItem, DecodeItem, Described, DescribedChoice, Item, Nestable, Optional, WrittenItem,
+};
 use spki::AlgorithmIdentifierRef;
 use std::alloc::Global;
 
 /// An encrypted content (RFC 5652, 6.1), borrowed from the input.
-#[derive(Clone, Copy, Drop)]
+#[derive(Clone, Copy, Debug, Drop, PartialEq, Eq)]
 pub struct EncryptedContentInfo<'a> {
     /// The type of the content.
     pub content_type: ContentType<'a>,
@@ -127,6 +129,12 @@ impl<'a, R: Lends<Borrowed = &'a [u8]>> DecodeItem<R> for EncryptedContentInfo<'
 
 impl<'a> BorrowedItem for EncryptedContentInfo<'a> {
     ghost borrowed = { refl };
+}
+
+impl<'a> WrittenItem for EncryptedContentInfo<'a> {
+    ghost written = { λ v. refl };
+
+    ghost writes_valid = { λ v is. is };
 }
 
 impl<'a> Nestable for EncryptedContentInfo<'a> {

@@ -14,13 +14,15 @@ use der::{
     Decode, DecodeValue, Encode, Error, FieldsCall, FromFields, HasFields, Header, IsValue, Lends,
     Reader, Sequence, SliceReader, decode_sequence, field_refs,
 };
-use der_asn1::{BorrowedItem, DecodeItem, Described, Implicit, Item, Nestable, Optional};
+use der_asn1::{
+    BorrowedItem, DecodeItem, Described, Implicit, Item, Nestable, Optional, WrittenItem,
+};
 use std::alloc::Global;
 use x509::Attributes;
 
 /// A content that is encrypted with a key that is not part of the message (RFC 5652, 8), borrowed
 /// from the input.
-#[derive(Clone, Copy, Drop)]
+#[derive(Clone, Copy, Debug, Drop, PartialEq, Eq)]
 pub struct EncryptedData<'a> {
     /// The version: 2 if there are attributes, or else 0. Decoding does not check this.
     pub version: CmsVersion<'a>,
@@ -121,6 +123,12 @@ impl<'a, R: Lends<Borrowed = &'a [u8]>> DecodeItem<R> for EncryptedData<'a> {
 
 impl<'a> BorrowedItem for EncryptedData<'a> {
     ghost borrowed = { refl };
+}
+
+impl<'a> WrittenItem for EncryptedData<'a> {
+    ghost written = { λ v. refl };
+
+    ghost writes_valid = { λ v is. is };
 }
 
 impl<'a> Nestable for EncryptedData<'a> {

@@ -16,13 +16,15 @@ use der::{
     Decode, DecodeValue, Encode, Error, FieldsCall, FromFields, HasFields, Header, IsValue, Lends,
     Reader, Sequence, SliceReader, decode_sequence, field_refs,
 };
-use der_asn1::{BorrowedItem, DecodeItem, Described, Implicit, Item, Nestable, Optional};
+use der_asn1::{
+    BorrowedItem, DecodeItem, Described, Implicit, Item, Nestable, Optional, WrittenItem,
+};
 use std::alloc::Global;
 use x509::Attributes;
 
 /// A content that is encrypted for recipients (RFC 5652, 6.1), borrowed from the input. Nothing is
 /// decrypted.
-#[derive(Clone, Copy, Drop)]
+#[derive(Clone, Copy, Debug, Drop, PartialEq, Eq)]
 pub struct EnvelopedData<'a> {
     /// The version: 0, 2, 3 or 4. Decoding does not check this.
     pub version: CmsVersion<'a>,
@@ -153,6 +155,12 @@ impl<'a, R: Lends<Borrowed = &'a [u8]>> DecodeItem<R> for EnvelopedData<'a> {
 
 impl<'a> BorrowedItem for EnvelopedData<'a> {
     ghost borrowed = { refl };
+}
+
+impl<'a> WrittenItem for EnvelopedData<'a> {
+    ghost written = { λ v. refl };
+
+    ghost writes_valid = { λ v is. is };
 }
 
 impl<'a> Nestable for EnvelopedData<'a> {

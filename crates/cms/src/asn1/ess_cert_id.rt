@@ -12,11 +12,13 @@ use der::{
     Decode, DecodeValue, Encode, Error, FieldsCall, FromFields, HasFields, Header, IsValue, Lends,
     Reader, Sequence, SliceReader, decode_sequence, field_refs,
 };
-use der_asn1::{BorrowedItem, DecodeItem, Described, Item, Nestable, OctetStringRef, Optional};
+use der_asn1::{
+    BorrowedItem, DecodeItem, Described, Item, Nestable, OctetStringRef, Optional, WrittenItem,
+};
 use std::alloc::Global;
 
 /// What identifies a certificate (RFC 5035, 6), borrowed from the input.
-#[derive(Clone, Copy, Drop)]
+#[derive(Clone, Copy, Debug, Drop, PartialEq, Eq)]
 pub struct EssCertId<'a> {
     /// The SHA-1 hash of the certificate. The number of its octets is not checked.
     pub cert_hash: OctetStringRef<'a>,
@@ -103,6 +105,12 @@ impl<'a, R: Lends<Borrowed = &'a [u8]>> DecodeItem<R> for EssCertId<'a> {
 
 impl<'a> BorrowedItem for EssCertId<'a> {
     ghost borrowed = { refl };
+}
+
+impl<'a> WrittenItem for EssCertId<'a> {
+    ghost written = { λ v. refl };
+
+    ghost writes_valid = { λ v is. is };
 }
 
 impl<'a> Nestable for EssCertId<'a> {

@@ -11,12 +11,12 @@ use der::{
     Decode, DecodeValue, Encode, Error, FieldsCall, FromFields, HasFields, Header, IsValue, Lends,
     Reader, Sequence, SliceReader, decode_sequence, field_refs,
 };
-use der_asn1::{BorrowedItem, DecodeItem, Described, Item, Nestable};
+use der_asn1::{BorrowedItem, DecodeItem, Described, Item, Nestable, WrittenItem};
 use std::alloc::Global;
 use x509::{CertificateSerialNumber, Name};
 
 /// The issuer and the serial number of a certificate (RFC 5652, 10.2.4), borrowed from the input.
-#[derive(Clone, Copy, Drop)]
+#[derive(Clone, Copy, Debug, Drop, PartialEq, Eq)]
 pub struct IssuerAndSerialNumber<'a> {
     /// The issuer.
     pub issuer: Name<'a>,
@@ -101,6 +101,12 @@ impl<'a, R: Lends<Borrowed = &'a [u8]>> DecodeItem<R> for IssuerAndSerialNumber<
 
 impl<'a> BorrowedItem for IssuerAndSerialNumber<'a> {
     ghost borrowed = { refl };
+}
+
+impl<'a> WrittenItem for IssuerAndSerialNumber<'a> {
+    ghost written = { λ v. refl };
+
+    ghost writes_valid = { λ v is. is };
 }
 
 impl<'a> Nestable for IssuerAndSerialNumber<'a> {

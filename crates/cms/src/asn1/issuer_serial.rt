@@ -11,12 +11,12 @@ use der::{
     Decode, DecodeValue, Encode, Error, FieldsCall, FromFields, HasFields, Header, IsValue, Lends,
     Reader, Sequence, SliceReader, decode_sequence, field_refs,
 };
-use der_asn1::{BorrowedItem, DecodeItem, Described, Item, Nestable};
+use der_asn1::{BorrowedItem, DecodeItem, Described, Item, Nestable, WrittenItem};
 use std::alloc::Global;
 use x509::{CertificateSerialNumber, GeneralNames};
 
 /// The issuer and the serial number of a certificate (RFC 5035, 6), borrowed from the input.
-#[derive(Clone, Copy, Drop)]
+#[derive(Clone, Copy, Debug, Drop, PartialEq, Eq)]
 pub struct IssuerSerial<'a> {
     /// The names of the issuer. The RFC requires that there is one, a directoryName, for a
     /// certificate of a public key, but decoding does not check this.
@@ -103,6 +103,12 @@ impl<'a, R: Lends<Borrowed = &'a [u8]>> DecodeItem<R> for IssuerSerial<'a> {
 
 impl<'a> BorrowedItem for IssuerSerial<'a> {
     ghost borrowed = { refl };
+}
+
+impl<'a> WrittenItem for IssuerSerial<'a> {
+    ghost written = { λ v. refl };
+
+    ghost writes_valid = { λ v is. is };
 }
 
 impl<'a> Nestable for IssuerSerial<'a> {

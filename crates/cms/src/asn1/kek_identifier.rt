@@ -15,11 +15,12 @@ use der::{
 };
 use der_asn1::{
     BorrowedItem, DecodeItem, Described, GeneralizedTime, Item, Nestable, OctetStringRef, Optional,
+    WrittenItem,
 };
 use std::alloc::Global;
 
 /// What identifies a key (RFC 5652, 6.2.3), borrowed from the input.
-#[derive(Clone, Copy, Drop)]
+#[derive(Clone, Copy, Debug, Drop, PartialEq, Eq)]
 pub struct KekIdentifier<'a> {
     /// The octets that identify the key.
     pub key_identifier: OctetStringRef<'a>,
@@ -122,6 +123,12 @@ impl<'a, R: Lends<Borrowed = &'a [u8]>> DecodeItem<R> for KekIdentifier<'a> {
 
 impl<'a> BorrowedItem for KekIdentifier<'a> {
     ghost borrowed = { refl };
+}
+
+impl<'a> WrittenItem for KekIdentifier<'a> {
+    ghost written = { λ v. refl };
+
+    ghost writes_valid = { λ v is. is };
 }
 
 impl<'a> Nestable for KekIdentifier<'a> {

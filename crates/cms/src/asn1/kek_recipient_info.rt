@@ -14,12 +14,12 @@ use der::{
     Decode, DecodeValue, Encode, Error, FieldsCall, FromFields, HasFields, Header, IsValue, Lends,
     Reader, Sequence, SliceReader, decode_sequence, field_refs,
 };
-use der_asn1::{BorrowedItem, DecodeItem, Described, Item, Nestable, OctetStringRef};
+use der_asn1::{BorrowedItem, DecodeItem, Described, Item, Nestable, OctetStringRef, WrittenItem};
 use spki::AlgorithmIdentifierRef;
 use std::alloc::Global;
 
 /// A key that is encrypted with a key that both have (RFC 5652, 6.2.3), borrowed from the input.
-#[derive(Clone, Copy, Drop)]
+#[derive(Clone, Copy, Debug, Drop, PartialEq, Eq)]
 pub struct KekRecipientInfo<'a> {
     /// The version, which is 4. Decoding does not check this.
     pub version: CmsVersion<'a>,
@@ -127,6 +127,12 @@ impl<'a, R: Lends<Borrowed = &'a [u8]>> DecodeItem<R> for KekRecipientInfo<'a> {
 
 impl<'a> BorrowedItem for KekRecipientInfo<'a> {
     ghost borrowed = { refl };
+}
+
+impl<'a> WrittenItem for KekRecipientInfo<'a> {
+    ghost written = { λ v. refl };
+
+    ghost writes_valid = { λ v is. is };
 }
 
 impl<'a> Nestable for KekRecipientInfo<'a> {

@@ -1,7 +1,7 @@
 //! Written by asn1_compile from the module CMS: change the module instead.
 //!
 //! KeyAgreeRecipientIdentifier.
-ghost use Rattle.std.specs.Prelude.{false};
+ghost use Rattle.std.specs.Prelude.{◌↔◌, IsTrue, false};
 ghost use Rattle.std.proofs.Common.{refl};
 ghost use Rattle.der.specs.Prelude.{map_ok};
 ghost use Rattle.der_asn1.specs.Item.{decodes_same};
@@ -13,13 +13,13 @@ use crate::asn1::issuer_and_serial_number::IssuerAndSerialNumber;
 use crate::asn1::recipient_key_identifier::RecipientKeyIdentifier;
 use der::{Decode, Encode, Error, FromFields, Lends, Length, Reader, SliceReader, Tag, Writer};
 use der_asn1::{
-    BorrowedItem, Choice, DecodeItem, Described, DescribedChoice, Either, Implicit, Item,
-    decode_choice,
+    BorrowedItem, Choice, DecodeChoice, DecodeItem, Described, DescribedChoice, Either, Implicit,
+    Item, WrittenItem, decode_choice,
 };
 use std::alloc::Global;
 
 /// What identifies the public key of a recipient (RFC 5652, 6.2.2), borrowed from the input.
-#[derive(Clone, Copy, Drop)]
+#[derive(Clone, Copy, Debug, Drop, PartialEq, Eq)]
 pub enum KeyAgreeRecipientIdentifier<'a> {
     /// Its certificate, by issuer and serial number.
     IssuerAndSerialNumber(IssuerAndSerialNumber<'a>),
@@ -78,13 +78,18 @@ impl<'a, R: Lends<Borrowed = &'a [u8]>> Decode<R> for KeyAgreeRecipientIdentifie
     }
 }
 
-impl<'a, R: Lends<Borrowed = &'a [u8]>> Choice<R> for KeyAgreeRecipientIdentifier<'a> {
+impl<'a> Choice for KeyAgreeRecipientIdentifier<'a> {
     ghost chooses = { ⟦<KeyAgreeRecipientIdentifier<'a> as DescribedChoice>⟧.alternative.tags };
 
-    fn can_decode(tag: Tag) -> bool {
-        <KeyAgreeRecipientIdentifierAlternatives<'a> as Choice<R>>::can_decode(tag)
+    fn can_decode(tag: Tag) -> bool
+        ensures { IsTrue result ↔
+            ⟦<KeyAgreeRecipientIdentifier<'a> as DescribedChoice>⟧.alternative.tags tag }
+    {
+        <KeyAgreeRecipientIdentifierAlternatives<'a> as Choice>::can_decode(tag)
     }
+}
 
+impl<'a, R: Lends<Borrowed = &'a [u8]>> DecodeChoice<R> for KeyAgreeRecipientIdentifier<'a> {
     ghost begins = { ⟦<KeyAgreeRecipientIdentifier<'a> as DescribedChoice>⟧.alternative.begins };
 }
 
@@ -148,4 +153,10 @@ impl<'a, R: Lends<Borrowed = &'a [u8]>> DecodeItem<R> for KeyAgreeRecipientIdent
 
 impl<'a> BorrowedItem for KeyAgreeRecipientIdentifier<'a> {
     ghost borrowed = { refl };
+}
+
+impl<'a> WrittenItem for KeyAgreeRecipientIdentifier<'a> {
+    ghost written = { λ v. refl };
+
+    ghost writes_valid = { λ v is. is };
 }

@@ -17,14 +17,14 @@ use der::{
 };
 use der_asn1::{
     BorrowedItem, DecodeItem, Described, Explicit, Implicit, Item, Nestable, OctetStringRef,
-    Optional, SequenceOf,
+    Optional, SequenceOf, WrittenItem,
 };
 use spki::AlgorithmIdentifierRef;
 use std::alloc::Global;
 
 /// A key that is encrypted for recipients with keys from a key agreement (RFC 5652, 6.2.2), borrowed
 /// from the input.
-#[derive(Clone, Copy, Drop)]
+#[derive(Clone, Copy, Debug, Drop, PartialEq, Eq)]
 pub struct KeyAgreeRecipientInfo<'a> {
     /// The version, which is 3. Decoding does not check this.
     pub version: CmsVersion<'a>,
@@ -152,6 +152,12 @@ impl<'a, R: Lends<Borrowed = &'a [u8]>> DecodeItem<R> for KeyAgreeRecipientInfo<
 
 impl<'a> BorrowedItem for KeyAgreeRecipientInfo<'a> {
     ghost borrowed = { refl };
+}
+
+impl<'a> WrittenItem for KeyAgreeRecipientInfo<'a> {
+    ghost written = { λ v. refl };
+
+    ghost writes_valid = { λ v is. is };
 }
 
 impl<'a> Nestable for KeyAgreeRecipientInfo<'a> {

@@ -17,13 +17,14 @@ use der::{
 };
 use der_asn1::{
     BorrowedItem, DecodeItem, Described, DescribedChoice, Item, Nestable, OctetStringRef,
+    WrittenItem,
 };
 use spki::AlgorithmIdentifierRef;
 use std::alloc::Global;
 
 /// A key that is encrypted with the public key of a recipient (RFC 5652, 6.2.1), borrowed from the
 /// input.
-#[derive(Clone, Copy, Drop)]
+#[derive(Clone, Copy, Debug, Drop, PartialEq, Eq)]
 pub struct KeyTransRecipientInfo<'a> {
     /// The version: 0 if the recipient is named by issuer and serial number, or else 2. Decoding
     /// does not check this.
@@ -135,6 +136,12 @@ impl<'a, R: Lends<Borrowed = &'a [u8]>> DecodeItem<R> for KeyTransRecipientInfo<
 
 impl<'a> BorrowedItem for KeyTransRecipientInfo<'a> {
     ghost borrowed = { refl };
+}
+
+impl<'a> WrittenItem for KeyTransRecipientInfo<'a> {
+    ghost written = { λ v. refl };
+
+    ghost writes_valid = { λ v is. is };
 }
 
 impl<'a> Nestable for KeyTransRecipientInfo<'a> {

@@ -11,12 +11,12 @@ use der::{
     Decode, DecodeValue, Encode, Error, FieldsCall, FromFields, HasFields, Header, IsValue, Lends,
     Reader, Sequence, SliceReader, decode_sequence, field_refs,
 };
-use der_asn1::{BorrowedItem, DecodeItem, Described, Item, Nestable, OctetStringRef};
+use der_asn1::{BorrowedItem, DecodeItem, Described, Item, Nestable, OctetStringRef, WrittenItem};
 use spki::AlgorithmIdentifierRef;
 use std::alloc::Global;
 
 /// A digest with its algorithm (RFC 3161, 2.4.1), borrowed from the input.
-#[derive(Clone, Copy, Drop)]
+#[derive(Clone, Copy, Debug, Drop, PartialEq, Eq)]
 pub struct MessageImprint<'a> {
     /// The algorithm of the digest.
     pub hash_algorithm: AlgorithmIdentifierRef<'a>,
@@ -106,6 +106,12 @@ impl<'a, R: Lends<Borrowed = &'a [u8]>> DecodeItem<R> for MessageImprint<'a> {
 
 impl<'a> BorrowedItem for MessageImprint<'a> {
     ghost borrowed = { refl };
+}
+
+impl<'a> WrittenItem for MessageImprint<'a> {
+    ghost written = { λ v. refl };
+
+    ghost writes_valid = { λ v is. is };
 }
 
 impl<'a> Nestable for MessageImprint<'a> {

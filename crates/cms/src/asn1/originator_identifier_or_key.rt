@@ -1,7 +1,7 @@
 //! Written by asn1_compile from the module CMS: change the module instead.
 //!
 //! OriginatorIdentifierOrKey.
-ghost use Rattle.std.specs.Prelude.{false};
+ghost use Rattle.std.specs.Prelude.{◌↔◌, IsTrue, false};
 ghost use Rattle.std.proofs.Common.{refl};
 ghost use Rattle.der.specs.Prelude.{map_ok};
 ghost use Rattle.der_asn1.specs.Item.{decodes_same};
@@ -15,13 +15,14 @@ use crate::asn1::originator_identifier_or_key_part2::OriginatorIdentifierOrKeyPa
 use crate::asn1::originator_public_key::OriginatorPublicKey;
 use der::{Decode, Encode, Error, FromFields, Lends, Length, Reader, SliceReader, Tag, Writer};
 use der_asn1::{
-    BorrowedItem, Choice, DecodeItem, DescribedChoice, Either, Implicit, Item, decode_choice,
+    BorrowedItem, Choice, DecodeChoice, DecodeItem, DescribedChoice, Either, Implicit, Item,
+    WrittenItem, decode_choice,
 };
 use std::alloc::Global;
 use x509::SubjectKeyIdentifier;
 
 /// What identifies the public key of the originator (RFC 5652, 6.2.2), borrowed from the input.
-#[derive(Clone, Copy, Drop)]
+#[derive(Clone, Copy, Debug, Drop, PartialEq, Eq)]
 pub enum OriginatorIdentifierOrKey<'a> {
     /// Its certificate, by issuer and serial number.
     IssuerAndSerialNumber(IssuerAndSerialNumber<'a>),
@@ -92,13 +93,18 @@ impl<'a, R: Lends<Borrowed = &'a [u8]>> Decode<R> for OriginatorIdentifierOrKey<
     }
 }
 
-impl<'a, R: Lends<Borrowed = &'a [u8]>> Choice<R> for OriginatorIdentifierOrKey<'a> {
+impl<'a> Choice for OriginatorIdentifierOrKey<'a> {
     ghost chooses = { ⟦<OriginatorIdentifierOrKey<'a> as DescribedChoice>⟧.alternative.tags };
 
-    fn can_decode(tag: Tag) -> bool {
-        <OriginatorIdentifierOrKeyAlternatives<'a> as Choice<R>>::can_decode(tag)
+    fn can_decode(tag: Tag) -> bool
+        ensures { IsTrue result ↔
+            ⟦<OriginatorIdentifierOrKey<'a> as DescribedChoice>⟧.alternative.tags tag }
+    {
+        <OriginatorIdentifierOrKeyAlternatives<'a> as Choice>::can_decode(tag)
     }
+}
 
+impl<'a, R: Lends<Borrowed = &'a [u8]>> DecodeChoice<R> for OriginatorIdentifierOrKey<'a> {
     ghost begins = { ⟦<OriginatorIdentifierOrKey<'a> as DescribedChoice>⟧.alternative.begins };
 }
 
@@ -166,4 +172,10 @@ impl<'a, R: Lends<Borrowed = &'a [u8]>> DecodeItem<R> for OriginatorIdentifierOr
 
 impl<'a> BorrowedItem for OriginatorIdentifierOrKey<'a> {
     ghost borrowed = { refl };
+}
+
+impl<'a> WrittenItem for OriginatorIdentifierOrKey<'a> {
+    ghost written = { λ v. refl };
+
+    ghost writes_valid = { λ v is. is };
 }

@@ -1,13 +1,13 @@
 //! Written by asn1_compile from the module CMS: change the module instead.
 //!
 //! OriginatorIdentifierOrKeyPart1.
-ghost use Rattle.std.specs.Prelude.{false};
+ghost use Rattle.std.specs.Prelude.{◌↔◌, IsTrue, false};
 ghost use Rattle.der.specs.Prelude.{map_ok};
 ghost use Rattle.der_asn1.specs.Meaning.{alternative, choice_of, either};
 
 use crate::asn1::issuer_and_serial_number::IssuerAndSerialNumber;
 use der::{Decode, Encode, Error, FromFields, Lends, Length, Reader, SliceReader, Tag, Writer};
-use der_asn1::{Choice, Described, DescribedChoice, Either, Implicit, decode_choice};
+use der_asn1::{Choice, DecodeChoice, Described, DescribedChoice, Either, Implicit, decode_choice};
 use std::alloc::Global;
 use x509::SubjectKeyIdentifier;
 
@@ -60,14 +60,19 @@ impl<'a, R: Lends<Borrowed = &'a [u8]>> Decode<R> for OriginatorIdentifierOrKeyP
     }
 }
 
-impl<'a, R: Lends<Borrowed = &'a [u8]>> Choice<R> for OriginatorIdentifierOrKeyPart1<'a> {
+impl<'a> Choice for OriginatorIdentifierOrKeyPart1<'a> {
     ghost chooses = { ⟦<OriginatorIdentifierOrKeyPart1<'a> as DescribedChoice>⟧.alternative.tags };
 
     #[inline(always)]
-    fn can_decode(tag: Tag) -> bool {
-        <OriginatorIdentifierOrKeyPart1Alternatives<'a> as Choice<R>>::can_decode(tag)
+    fn can_decode(tag: Tag) -> bool
+        ensures { IsTrue result ↔
+            ⟦<OriginatorIdentifierOrKeyPart1<'a> as DescribedChoice>⟧.alternative.tags tag }
+    {
+        <OriginatorIdentifierOrKeyPart1Alternatives<'a> as Choice>::can_decode(tag)
     }
+}
 
+impl<'a, R: Lends<Borrowed = &'a [u8]>> DecodeChoice<R> for OriginatorIdentifierOrKeyPart1<'a> {
     ghost begins = { ⟦<OriginatorIdentifierOrKeyPart1<'a> as DescribedChoice>⟧.alternative.begins };
 }
 

@@ -1,13 +1,13 @@
 //! Written by asn1_compile from the module CMS: change the module instead.
 //!
 //! OriginatorIdentifierOrKeyPart2.
-ghost use Rattle.std.specs.Prelude.{false};
+ghost use Rattle.std.specs.Prelude.{◌↔◌, IsTrue, false};
 ghost use Rattle.der.specs.Prelude.{map_ok};
 ghost use Rattle.der_asn1.specs.Meaning.{alternative, choice_of};
 
 use crate::asn1::originator_public_key::OriginatorPublicKey;
 use der::{Decode, Encode, Error, FromFields, Lends, Length, Reader, SliceReader, Tag, Writer};
-use der_asn1::{Choice, Described, DescribedChoice, Implicit, decode_choice};
+use der_asn1::{Choice, DecodeChoice, Described, DescribedChoice, Implicit, decode_choice};
 use std::alloc::Global;
 
 // Some alternatives of a OriginatorIdentifierOrKey.
@@ -58,14 +58,19 @@ impl<'a, R: Lends<Borrowed = &'a [u8]>> Decode<R> for OriginatorIdentifierOrKeyP
     }
 }
 
-impl<'a, R: Lends<Borrowed = &'a [u8]>> Choice<R> for OriginatorIdentifierOrKeyPart2<'a> {
+impl<'a> Choice for OriginatorIdentifierOrKeyPart2<'a> {
     ghost chooses = { ⟦<OriginatorIdentifierOrKeyPart2<'a> as DescribedChoice>⟧.alternative.tags };
 
     #[inline(always)]
-    fn can_decode(tag: Tag) -> bool {
-        <OriginatorIdentifierOrKeyPart2Alternatives<'a> as Choice<R>>::can_decode(tag)
+    fn can_decode(tag: Tag) -> bool
+        ensures { IsTrue result ↔
+            ⟦<OriginatorIdentifierOrKeyPart2<'a> as DescribedChoice>⟧.alternative.tags tag }
+    {
+        <OriginatorIdentifierOrKeyPart2Alternatives<'a> as Choice>::can_decode(tag)
     }
+}
 
+impl<'a, R: Lends<Borrowed = &'a [u8]>> DecodeChoice<R> for OriginatorIdentifierOrKeyPart2<'a> {
     ghost begins = { ⟦<OriginatorIdentifierOrKeyPart2<'a> as DescribedChoice>⟧.alternative.begins };
 }
 

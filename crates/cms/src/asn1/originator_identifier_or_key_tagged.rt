@@ -12,11 +12,11 @@ use der::{
     Decode, DecodeValue, Encode, Error, FieldsCall, FromFields, HasFields, Header, IsValue, Lends,
     Reader, Sequence, SliceReader, decode_sequence, field_refs,
 };
-use der_asn1::{BorrowedItem, DecodeItem, Described, DescribedChoice, Item, Nestable};
+use der_asn1::{BorrowedItem, DecodeItem, Described, DescribedChoice, Item, Nestable, WrittenItem};
 use std::alloc::Global;
 
 /// What an explicit tag has in it: a [`OriginatorIdentifierOrKey`].
-#[derive(Clone, Copy, Drop)]
+#[derive(Clone, Copy, Debug, Drop, PartialEq, Eq)]
 pub struct OriginatorIdentifierOrKeyTagged<'a> {
     /// The value behind the tag.
     pub value: OriginatorIdentifierOrKey<'a>,
@@ -102,6 +102,12 @@ impl<'a, R: Lends<Borrowed = &'a [u8]>> DecodeItem<R> for OriginatorIdentifierOr
 
 impl<'a> BorrowedItem for OriginatorIdentifierOrKeyTagged<'a> {
     ghost borrowed = { refl };
+}
+
+impl<'a> WrittenItem for OriginatorIdentifierOrKeyTagged<'a> {
+    ghost written = { λ v. refl };
+
+    ghost writes_valid = { λ v is. is };
 }
 
 impl<'a> Nestable for OriginatorIdentifierOrKeyTagged<'a> {

@@ -13,12 +13,14 @@ use der::{
     Decode, DecodeValue, Encode, Error, FieldsCall, FromFields, HasFields, Header, IsValue, Lends,
     Reader, Sequence, SliceReader, decode_sequence, field_refs,
 };
-use der_asn1::{BorrowedItem, DecodeItem, Described, Implicit, Item, Nestable, Optional};
+use der_asn1::{
+    BorrowedItem, DecodeItem, Described, Implicit, Item, Nestable, Optional, WrittenItem,
+};
 use std::alloc::Global;
 
 /// Certificates of the originator and information on revoked ones (RFC 5652, 6.1), borrowed from the
 /// input.
-#[derive(Clone, Copy, Drop)]
+#[derive(Clone, Copy, Debug, Drop, PartialEq, Eq)]
 pub struct OriginatorInfo<'a> {
     /// The certificates, if present.
     pub certs: Optional<Implicit<CertificateSet<'a>, 0>>,
@@ -108,6 +110,12 @@ impl<'a, R: Lends<Borrowed = &'a [u8]>> DecodeItem<R> for OriginatorInfo<'a> {
 
 impl<'a> BorrowedItem for OriginatorInfo<'a> {
     ghost borrowed = { refl };
+}
+
+impl<'a> WrittenItem for OriginatorInfo<'a> {
+    ghost written = { λ v. refl };
+
+    ghost writes_valid = { λ v is. is };
 }
 
 impl<'a> Nestable for OriginatorInfo<'a> {

@@ -15,12 +15,13 @@ use der::{
 };
 use der_asn1::{
     BorrowedItem, DecodeItem, Described, Implicit, Item, Nestable, OctetStringRef, Optional,
+    WrittenItem,
 };
 use spki::AlgorithmIdentifierRef;
 use std::alloc::Global;
 
 /// A key that is encrypted with a key from a password (RFC 5652, 6.2.4), borrowed from the input.
-#[derive(Clone, Copy, Drop)]
+#[derive(Clone, Copy, Debug, Drop, PartialEq, Eq)]
 pub struct PasswordRecipientInfo<'a> {
     /// The version, which is 0. Decoding does not check this.
     pub version: CmsVersion<'a>,
@@ -140,6 +141,12 @@ impl<'a, R: Lends<Borrowed = &'a [u8]>> DecodeItem<R> for PasswordRecipientInfo<
 
 impl<'a> BorrowedItem for PasswordRecipientInfo<'a> {
     ghost borrowed = { refl };
+}
+
+impl<'a> WrittenItem for PasswordRecipientInfo<'a> {
+    ghost written = { λ v. refl };
+
+    ghost writes_valid = { λ v is. is };
 }
 
 impl<'a> Nestable for PasswordRecipientInfo<'a> {

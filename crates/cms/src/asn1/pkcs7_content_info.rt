@@ -12,11 +12,13 @@ use der::{
     Decode, DecodeValue, Encode, Error, FieldsCall, FromFields, HasFields, Header, IsValue, Lends,
     Reader, Sequence, SliceReader, decode_sequence, field_refs,
 };
-use der_asn1::{BorrowedItem, DecodeItem, Described, ExplicitAny, Item, Nestable, Optional};
+use der_asn1::{
+    BorrowedItem, DecodeItem, Described, ExplicitAny, Item, Nestable, Optional, WrittenItem,
+};
 use std::alloc::Global;
 
 /// A content inside a message of PKCS #7 (RFC 2315, 7), borrowed from the input.
-#[derive(Clone, Copy, Drop)]
+#[derive(Clone, Copy, Debug, Drop, PartialEq, Eq)]
 pub struct Pkcs7ContentInfo<'a> {
     /// The type of the content.
     pub content_type: ContentType<'a>,
@@ -105,6 +107,12 @@ impl<'a, R: Lends<Borrowed = &'a [u8]>> DecodeItem<R> for Pkcs7ContentInfo<'a> {
 
 impl<'a> BorrowedItem for Pkcs7ContentInfo<'a> {
     ghost borrowed = { refl };
+}
+
+impl<'a> WrittenItem for Pkcs7ContentInfo<'a> {
+    ghost written = { λ v. refl };
+
+    ghost writes_valid = { λ v is. is };
 }
 
 impl<'a> Nestable for Pkcs7ContentInfo<'a> {

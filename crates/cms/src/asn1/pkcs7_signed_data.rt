@@ -17,13 +17,15 @@ use der::{
     Decode, DecodeValue, Encode, Error, FieldsCall, FromFields, HasFields, Header, IsValue, Lends,
     Reader, Sequence, SliceReader, decode_sequence, field_refs,
 };
-use der_asn1::{BorrowedItem, DecodeItem, Described, Implicit, Item, Nestable, Optional, SetOf};
+use der_asn1::{
+    BorrowedItem, DecodeItem, Described, Implicit, Item, Nestable, Optional, SetOf, WrittenItem,
+};
 use spki::AlgorithmIdentifierRef;
 use std::alloc::Global;
 
 /// A content with signatures in PKCS #7 (RFC 2315, 9.1), such as a signature of Authenticode, borrowed
 /// from the input. The content may be an element of any tag.
-#[derive(Clone, Copy, Drop)]
+#[derive(Clone, Copy, Debug, Drop, PartialEq, Eq)]
 pub struct Pkcs7SignedData<'a> {
     /// The version: 1. Decoding does not check this.
     pub version: CmsVersion<'a>,
@@ -161,6 +163,12 @@ impl<'a, R: Lends<Borrowed = &'a [u8]>> DecodeItem<R> for Pkcs7SignedData<'a> {
 
 impl<'a> BorrowedItem for Pkcs7SignedData<'a> {
     ghost borrowed = { refl };
+}
+
+impl<'a> WrittenItem for Pkcs7SignedData<'a> {
+    ghost written = { λ v. refl };
+
+    ghost writes_valid = { λ v is. is };
 }
 
 impl<'a> Nestable for Pkcs7SignedData<'a> {

@@ -16,12 +16,12 @@ use der::{
 };
 use der_asn1::{
     BorrowedItem, DecodeItem, Described, Item, NamedInteger, Nestable, Optional, SequenceOf,
-    Utf8StringRef,
+    Utf8StringRef, WrittenItem,
 };
 use std::alloc::Global;
 
 /// Whether a request was granted, or why it was not (RFC 3161, 2.4.2), borrowed from the input.
-#[derive(Clone, Copy, Drop)]
+#[derive(Clone, Copy, Debug, Drop, PartialEq, Eq)]
 pub struct PkiStatusInfo<'a> {
     /// Whether it was granted.
     pub status: NamedInteger<PkiStatus>,
@@ -124,6 +124,12 @@ impl<'a, R: Lends<Borrowed = &'a [u8]>> DecodeItem<R> for PkiStatusInfo<'a> {
 
 impl<'a> BorrowedItem for PkiStatusInfo<'a> {
     ghost borrowed = { refl };
+}
+
+impl<'a> WrittenItem for PkiStatusInfo<'a> {
+    ghost written = { λ v. refl };
+
+    ghost writes_valid = { λ v is. is };
 }
 
 impl<'a> Nestable for PkiStatusInfo<'a> {

@@ -14,11 +14,12 @@ use der::{
 };
 use der_asn1::{
     BorrowedItem, DecodeItem, Described, DescribedChoice, Item, Nestable, OctetStringRef,
+    WrittenItem,
 };
 use std::alloc::Global;
 
 /// A key that is encrypted for a recipient (RFC 5652, 6.2.2), borrowed from the input.
-#[derive(Clone, Copy, Drop)]
+#[derive(Clone, Copy, Debug, Drop, PartialEq, Eq)]
 pub struct RecipientEncryptedKey<'a> {
     /// The public key of the recipient.
     pub rid: KeyAgreeRecipientIdentifier<'a>,
@@ -104,6 +105,12 @@ impl<'a, R: Lends<Borrowed = &'a [u8]>> DecodeItem<R> for RecipientEncryptedKey<
 
 impl<'a> BorrowedItem for RecipientEncryptedKey<'a> {
     ghost borrowed = { refl };
+}
+
+impl<'a> WrittenItem for RecipientEncryptedKey<'a> {
+    ghost written = { λ v. refl };
+
+    ghost writes_valid = { λ v is. is };
 }
 
 impl<'a> Nestable for RecipientEncryptedKey<'a> {

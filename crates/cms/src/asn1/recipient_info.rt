@@ -1,7 +1,7 @@
 //! Written by asn1_compile from the module CMS: change the module instead.
 //!
 //! RecipientInfo.
-ghost use Rattle.std.specs.Prelude.{false};
+ghost use Rattle.std.specs.Prelude.{◌↔◌, IsTrue, false};
 ghost use Rattle.std.proofs.Common.{refl};
 ghost use Rattle.der.specs.Prelude.{map_ok};
 ghost use Rattle.der_asn1.specs.Item.{decodes_same};
@@ -19,13 +19,14 @@ use crate::asn1::recipient_info_part2::RecipientInfoPart2;
 use crate::asn1::recipient_info_part3::RecipientInfoPart3;
 use der::{Decode, Encode, Error, FromFields, Lends, Length, Reader, SliceReader, Tag, Writer};
 use der_asn1::{
-    BorrowedItem, Choice, DecodeItem, DescribedChoice, Either, Implicit, Item, decode_choice,
+    BorrowedItem, Choice, DecodeChoice, DecodeItem, DescribedChoice, Either, Implicit, Item,
+    WrittenItem, decode_choice,
 };
 use std::alloc::Global;
 
 /// The key of a content, encrypted for a recipient in one of five ways (RFC 5652, 6.2), borrowed
 /// from the input.
-#[derive(Clone, Copy, Drop)]
+#[derive(Clone, Copy, Debug, Drop, PartialEq, Eq)]
 pub enum RecipientInfo<'a> {
     /// With the public key of the recipient.
     Ktri(KeyTransRecipientInfo<'a>),
@@ -116,13 +117,17 @@ impl<'a, R: Lends<Borrowed = &'a [u8]>> Decode<R> for RecipientInfo<'a> {
     }
 }
 
-impl<'a, R: Lends<Borrowed = &'a [u8]>> Choice<R> for RecipientInfo<'a> {
+impl<'a> Choice for RecipientInfo<'a> {
     ghost chooses = { ⟦<RecipientInfo<'a> as DescribedChoice>⟧.alternative.tags };
 
-    fn can_decode(tag: Tag) -> bool {
-        <RecipientInfoAlternatives<'a> as Choice<R>>::can_decode(tag)
+    fn can_decode(tag: Tag) -> bool
+        ensures { IsTrue result ↔ ⟦<RecipientInfo<'a> as DescribedChoice>⟧.alternative.tags tag }
+    {
+        <RecipientInfoAlternatives<'a> as Choice>::can_decode(tag)
     }
+}
 
+impl<'a, R: Lends<Borrowed = &'a [u8]>> DecodeChoice<R> for RecipientInfo<'a> {
     ghost begins = { ⟦<RecipientInfo<'a> as DescribedChoice>⟧.alternative.begins };
 }
 
@@ -194,4 +199,10 @@ impl<'a, R: Lends<Borrowed = &'a [u8]>> DecodeItem<R> for RecipientInfo<'a> {
 
 impl<'a> BorrowedItem for RecipientInfo<'a> {
     ghost borrowed = { refl };
+}
+
+impl<'a> WrittenItem for RecipientInfo<'a> {
+    ghost written = { λ v. refl };
+
+    ghost writes_valid = { λ v is. is };
 }

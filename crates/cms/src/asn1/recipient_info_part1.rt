@@ -1,14 +1,14 @@
 //! Written by asn1_compile from the module CMS: change the module instead.
 //!
 //! RecipientInfoPart1.
-ghost use Rattle.std.specs.Prelude.{false};
+ghost use Rattle.std.specs.Prelude.{◌↔◌, IsTrue, false};
 ghost use Rattle.der.specs.Prelude.{map_ok};
 ghost use Rattle.der_asn1.specs.Meaning.{alternative, choice_of, either};
 
 use crate::asn1::key_agree_recipient_info::KeyAgreeRecipientInfo;
 use crate::asn1::key_trans_recipient_info::KeyTransRecipientInfo;
 use der::{Decode, Encode, Error, FromFields, Lends, Length, Reader, SliceReader, Tag, Writer};
-use der_asn1::{Choice, Described, DescribedChoice, Either, Implicit, decode_choice};
+use der_asn1::{Choice, DecodeChoice, Described, DescribedChoice, Either, Implicit, decode_choice};
 use std::alloc::Global;
 
 // Some alternatives of a RecipientInfo.
@@ -59,14 +59,19 @@ impl<'a, R: Lends<Borrowed = &'a [u8]>> Decode<R> for RecipientInfoPart1<'a> {
     }
 }
 
-impl<'a, R: Lends<Borrowed = &'a [u8]>> Choice<R> for RecipientInfoPart1<'a> {
+impl<'a> Choice for RecipientInfoPart1<'a> {
     ghost chooses = { ⟦<RecipientInfoPart1<'a> as DescribedChoice>⟧.alternative.tags };
 
     #[inline(always)]
-    fn can_decode(tag: Tag) -> bool {
-        <RecipientInfoPart1Alternatives<'a> as Choice<R>>::can_decode(tag)
+    fn can_decode(tag: Tag) -> bool
+        ensures { IsTrue result ↔
+            ⟦<RecipientInfoPart1<'a> as DescribedChoice>⟧.alternative.tags tag }
+    {
+        <RecipientInfoPart1Alternatives<'a> as Choice>::can_decode(tag)
     }
+}
 
+impl<'a, R: Lends<Borrowed = &'a [u8]>> DecodeChoice<R> for RecipientInfoPart1<'a> {
     ghost begins = { ⟦<RecipientInfoPart1<'a> as DescribedChoice>⟧.alternative.begins };
 }
 

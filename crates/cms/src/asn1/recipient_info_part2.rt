@@ -1,14 +1,14 @@
 //! Written by asn1_compile from the module CMS: change the module instead.
 //!
 //! RecipientInfoPart2.
-ghost use Rattle.std.specs.Prelude.{false};
+ghost use Rattle.std.specs.Prelude.{◌↔◌, IsTrue, false};
 ghost use Rattle.der.specs.Prelude.{map_ok};
 ghost use Rattle.der_asn1.specs.Meaning.{alternative, choice_of, either};
 
 use crate::asn1::kek_recipient_info::KekRecipientInfo;
 use crate::asn1::password_recipient_info::PasswordRecipientInfo;
 use der::{Decode, Encode, Error, FromFields, Lends, Length, Reader, SliceReader, Tag, Writer};
-use der_asn1::{Choice, Described, DescribedChoice, Either, Implicit, decode_choice};
+use der_asn1::{Choice, DecodeChoice, Described, DescribedChoice, Either, Implicit, decode_choice};
 use std::alloc::Global;
 
 // Some alternatives of a RecipientInfo.
@@ -59,14 +59,19 @@ impl<'a, R: Lends<Borrowed = &'a [u8]>> Decode<R> for RecipientInfoPart2<'a> {
     }
 }
 
-impl<'a, R: Lends<Borrowed = &'a [u8]>> Choice<R> for RecipientInfoPart2<'a> {
+impl<'a> Choice for RecipientInfoPart2<'a> {
     ghost chooses = { ⟦<RecipientInfoPart2<'a> as DescribedChoice>⟧.alternative.tags };
 
     #[inline(always)]
-    fn can_decode(tag: Tag) -> bool {
-        <RecipientInfoPart2Alternatives<'a> as Choice<R>>::can_decode(tag)
+    fn can_decode(tag: Tag) -> bool
+        ensures { IsTrue result ↔
+            ⟦<RecipientInfoPart2<'a> as DescribedChoice>⟧.alternative.tags tag }
+    {
+        <RecipientInfoPart2Alternatives<'a> as Choice>::can_decode(tag)
     }
+}
 
+impl<'a, R: Lends<Borrowed = &'a [u8]>> DecodeChoice<R> for RecipientInfoPart2<'a> {
     ghost begins = { ⟦<RecipientInfoPart2<'a> as DescribedChoice>⟧.alternative.begins };
 }
 

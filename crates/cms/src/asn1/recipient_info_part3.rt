@@ -1,13 +1,13 @@
 //! Written by asn1_compile from the module CMS: change the module instead.
 //!
 //! RecipientInfoPart3.
-ghost use Rattle.std.specs.Prelude.{false};
+ghost use Rattle.std.specs.Prelude.{◌↔◌, IsTrue, false};
 ghost use Rattle.der.specs.Prelude.{map_ok};
 ghost use Rattle.der_asn1.specs.Meaning.{alternative, choice_of};
 
 use crate::asn1::other_recipient_info::OtherRecipientInfo;
 use der::{Decode, Encode, Error, FromFields, Lends, Length, Reader, SliceReader, Tag, Writer};
-use der_asn1::{Choice, Described, DescribedChoice, Implicit, decode_choice};
+use der_asn1::{Choice, DecodeChoice, Described, DescribedChoice, Implicit, decode_choice};
 use std::alloc::Global;
 
 // Some alternatives of a RecipientInfo.
@@ -54,14 +54,19 @@ impl<'a, R: Lends<Borrowed = &'a [u8]>> Decode<R> for RecipientInfoPart3<'a> {
     }
 }
 
-impl<'a, R: Lends<Borrowed = &'a [u8]>> Choice<R> for RecipientInfoPart3<'a> {
+impl<'a> Choice for RecipientInfoPart3<'a> {
     ghost chooses = { ⟦<RecipientInfoPart3<'a> as DescribedChoice>⟧.alternative.tags };
 
     #[inline(always)]
-    fn can_decode(tag: Tag) -> bool {
-        <RecipientInfoPart3Alternatives<'a> as Choice<R>>::can_decode(tag)
+    fn can_decode(tag: Tag) -> bool
+        ensures { IsTrue result ↔
+            ⟦<RecipientInfoPart3<'a> as DescribedChoice>⟧.alternative.tags tag }
+    {
+        <RecipientInfoPart3Alternatives<'a> as Choice>::can_decode(tag)
     }
+}
 
+impl<'a, R: Lends<Borrowed = &'a [u8]>> DecodeChoice<R> for RecipientInfoPart3<'a> {
     ghost begins = { ⟦<RecipientInfoPart3<'a> as DescribedChoice>⟧.alternative.begins };
 }
 

@@ -12,11 +12,11 @@ use der::{
     DecodeValue, EncodeValue, Error, FixedTag, FromFields, Header, IsValue, Lawful, Lends, Length,
     ReadValue, Reader, SliceReader, Tag, Writer, WrittenValue, decode_wrapped,
 };
-use der_asn1::{BorrowedItem, DecodeItem, Described, Item, Nestable, SetOf};
+use der_asn1::{BorrowedItem, DecodeItem, Described, Item, Nestable, SetOf, WrittenItem};
 use std::alloc::Global;
 
 /// Keys for recipients (RFC 5652, 6.1), in ascending order of their encodings.
-#[derive(Clone, Copy, Drop)]
+#[derive(Clone, Copy, Debug, Drop, PartialEq, Eq)]
 pub struct RecipientInfos<'a> {
     /// The list: a SET OF its items.
     pub items: SetOf<'a, RecipientInfo<'a>>,
@@ -129,6 +129,12 @@ impl<'a, R: Lends<Borrowed = &'a [u8]>> DecodeItem<R> for RecipientInfos<'a> {
 
 impl<'a> BorrowedItem for RecipientInfos<'a> {
     ghost borrowed = { refl };
+}
+
+impl<'a> WrittenItem for RecipientInfos<'a> {
+    ghost written = { λ v. refl };
+
+    ghost writes_valid = { λ v is. is };
 }
 
 impl<'a> Nestable for RecipientInfos<'a> {

@@ -1,7 +1,7 @@
 //! Written by asn1_compile from the module CMS: change the module instead.
 //!
 //! RevocationInfoChoice.
-ghost use Rattle.std.specs.Prelude.{false};
+ghost use Rattle.std.specs.Prelude.{◌↔◌, IsTrue, false};
 ghost use Rattle.std.proofs.Common.{refl};
 ghost use Rattle.der.specs.Prelude.{map_ok};
 ghost use Rattle.der_asn1.specs.Item.{decodes_same};
@@ -12,14 +12,14 @@ ghost use Rattle.cms.specs.declared.asn1.revocation_info_choice.RevocationInfoCh
 use crate::asn1::other_revocation_info_format::OtherRevocationInfoFormat;
 use der::{Decode, Encode, Error, FromFields, Lends, Length, Reader, SliceReader, Tag, Writer};
 use der_asn1::{
-    BorrowedItem, Choice, DecodeItem, Described, DescribedChoice, Either, Implicit, Item,
-    decode_choice,
+    BorrowedItem, Choice, DecodeChoice, DecodeItem, Described, DescribedChoice, Either, Implicit,
+    Item, WrittenItem, decode_choice,
 };
 use std::alloc::Global;
 use x509::CertificateList;
 
 /// Information on revoked certificates (RFC 5652, 10.2.1), borrowed from the input.
-#[derive(Clone, Copy, Drop)]
+#[derive(Clone, Copy, Debug, Drop, PartialEq, Eq)]
 pub enum RevocationInfoChoice<'a> {
     /// A revocation list of RFC 5280.
     Crl(CertificateList<'a>),
@@ -77,13 +77,18 @@ impl<'a, R: Lends<Borrowed = &'a [u8]>> Decode<R> for RevocationInfoChoice<'a> {
     }
 }
 
-impl<'a, R: Lends<Borrowed = &'a [u8]>> Choice<R> for RevocationInfoChoice<'a> {
+impl<'a> Choice for RevocationInfoChoice<'a> {
     ghost chooses = { ⟦<RevocationInfoChoice<'a> as DescribedChoice>⟧.alternative.tags };
 
-    fn can_decode(tag: Tag) -> bool {
-        <RevocationInfoChoiceAlternatives<'a> as Choice<R>>::can_decode(tag)
+    fn can_decode(tag: Tag) -> bool
+        ensures { IsTrue result ↔
+            ⟦<RevocationInfoChoice<'a> as DescribedChoice>⟧.alternative.tags tag }
+    {
+        <RevocationInfoChoiceAlternatives<'a> as Choice>::can_decode(tag)
     }
+}
 
+impl<'a, R: Lends<Borrowed = &'a [u8]>> DecodeChoice<R> for RevocationInfoChoice<'a> {
     ghost begins = { ⟦<RevocationInfoChoice<'a> as DescribedChoice>⟧.alternative.begins };
 }
 
@@ -144,4 +149,10 @@ impl<'a, R: Lends<Borrowed = &'a [u8]>> DecodeItem<R> for RevocationInfoChoice<'
 
 impl<'a> BorrowedItem for RevocationInfoChoice<'a> {
     ghost borrowed = { refl };
+}
+
+impl<'a> WrittenItem for RevocationInfoChoice<'a> {
+    ghost written = { λ v. refl };
+
+    ghost writes_valid = { λ v is. is };
 }

@@ -12,11 +12,11 @@ use der::{
     DecodeValue, EncodeValue, Error, FixedTag, FromFields, Header, IsValue, Lawful, Lends, Length,
     ReadValue, Reader, SliceReader, Tag, Writer, WrittenValue, decode_wrapped,
 };
-use der_asn1::{BorrowedItem, DecodeItem, Described, Item, Nestable, SetOf};
+use der_asn1::{BorrowedItem, DecodeItem, Described, Item, Nestable, SetOf, WrittenItem};
 use std::alloc::Global;
 
 /// Information on revoked certificates (RFC 5652, 10.2.1), in ascending order of its encodings.
-#[derive(Clone, Copy, Drop)]
+#[derive(Clone, Copy, Debug, Drop, PartialEq, Eq)]
 pub struct RevocationInfoChoices<'a> {
     /// The list: a SET OF its items.
     pub items: SetOf<'a, RevocationInfoChoice<'a>>,
@@ -129,6 +129,12 @@ impl<'a, R: Lends<Borrowed = &'a [u8]>> DecodeItem<R> for RevocationInfoChoices<
 
 impl<'a> BorrowedItem for RevocationInfoChoices<'a> {
     ghost borrowed = { refl };
+}
+
+impl<'a> WrittenItem for RevocationInfoChoices<'a> {
+    ghost written = { λ v. refl };
+
+    ghost writes_valid = { λ v is. is };
 }
 
 impl<'a> Nestable for RevocationInfoChoices<'a> {

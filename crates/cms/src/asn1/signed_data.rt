@@ -17,12 +17,14 @@ use der::{
     Decode, DecodeValue, Encode, Error, FieldsCall, FromFields, HasFields, Header, IsValue, Lends,
     Reader, Sequence, SliceReader, decode_sequence, field_refs,
 };
-use der_asn1::{BorrowedItem, DecodeItem, Described, Implicit, Item, Nestable, Optional, SetOf};
+use der_asn1::{
+    BorrowedItem, DecodeItem, Described, Implicit, Item, Nestable, Optional, SetOf, WrittenItem,
+};
 use spki::AlgorithmIdentifierRef;
 use std::alloc::Global;
 
 /// A content with signatures (RFC 5652, 5.1), borrowed from the input.
-#[derive(Clone, Copy, Drop)]
+#[derive(Clone, Copy, Debug, Drop, PartialEq, Eq)]
 pub struct SignedData<'a> {
     /// The version: 1, 3, 4 or 5. Decoding does not check this.
     pub version: CmsVersion<'a>,
@@ -160,6 +162,12 @@ impl<'a, R: Lends<Borrowed = &'a [u8]>> DecodeItem<R> for SignedData<'a> {
 
 impl<'a> BorrowedItem for SignedData<'a> {
     ghost borrowed = { refl };
+}
+
+impl<'a> WrittenItem for SignedData<'a> {
+    ghost written = { λ v. refl };
+
+    ghost writes_valid = { λ v is. is };
 }
 
 impl<'a> Nestable for SignedData<'a> {

@@ -13,11 +13,11 @@ use der::{
     Decode, DecodeValue, Encode, Error, FieldsCall, FromFields, HasFields, Header, IsValue, Lends,
     Reader, Sequence, SliceReader, decode_sequence, field_refs,
 };
-use der_asn1::{BorrowedItem, DecodeItem, Described, Explicit, Item, Nestable};
+use der_asn1::{BorrowedItem, DecodeItem, Described, Explicit, Item, Nestable, WrittenItem};
 use std::alloc::Global;
 
 /// A message whose content is a SignedData (RFC 5652, 3), borrowed from the input.
-#[derive(Clone, Copy, Drop)]
+#[derive(Clone, Copy, Debug, Drop, PartialEq, Eq)]
 pub struct SignedMessage<'a> {
     /// The type of the content. That it is id-signedData is not checked.
     pub content_type: ContentType<'a>,
@@ -103,6 +103,12 @@ impl<'a, R: Lends<Borrowed = &'a [u8]>> DecodeItem<R> for SignedMessage<'a> {
 
 impl<'a> BorrowedItem for SignedMessage<'a> {
     ghost borrowed = { refl };
+}
+
+impl<'a> WrittenItem for SignedMessage<'a> {
+    ghost written = { λ v. refl };
+
+    ghost writes_valid = { λ v is. is };
 }
 
 impl<'a> Nestable for SignedMessage<'a> {

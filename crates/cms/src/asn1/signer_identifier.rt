@@ -1,7 +1,7 @@
 //! Written by asn1_compile from the module CMS: change the module instead.
 //!
 //! SignerIdentifier.
-ghost use Rattle.std.specs.Prelude.{false};
+ghost use Rattle.std.specs.Prelude.{◌↔◌, IsTrue, false};
 ghost use Rattle.std.proofs.Common.{refl};
 ghost use Rattle.der.specs.Prelude.{map_ok};
 ghost use Rattle.der_asn1.specs.Item.{decodes_same};
@@ -12,14 +12,14 @@ ghost use Rattle.cms.specs.declared.asn1.signer_identifier.SignerIdentifier.TheV
 use crate::asn1::issuer_and_serial_number::IssuerAndSerialNumber;
 use der::{Decode, Encode, Error, FromFields, Lends, Length, Reader, SliceReader, Tag, Writer};
 use der_asn1::{
-    BorrowedItem, Choice, DecodeItem, Described, DescribedChoice, Either, Implicit, Item,
-    decode_choice,
+    BorrowedItem, Choice, DecodeChoice, DecodeItem, Described, DescribedChoice, Either, Implicit,
+    Item, WrittenItem, decode_choice,
 };
 use std::alloc::Global;
 use x509::SubjectKeyIdentifier;
 
 /// What identifies the certificate of a signer (RFC 5652, 5.3), borrowed from the input.
-#[derive(Clone, Copy, Drop)]
+#[derive(Clone, Copy, Debug, Drop, PartialEq, Eq)]
 pub enum SignerIdentifier<'a> {
     /// issuerAndSerialNumber
     IssuerAndSerialNumber(IssuerAndSerialNumber<'a>),
@@ -76,13 +76,17 @@ impl<'a, R: Lends<Borrowed = &'a [u8]>> Decode<R> for SignerIdentifier<'a> {
     }
 }
 
-impl<'a, R: Lends<Borrowed = &'a [u8]>> Choice<R> for SignerIdentifier<'a> {
+impl<'a> Choice for SignerIdentifier<'a> {
     ghost chooses = { ⟦<SignerIdentifier<'a> as DescribedChoice>⟧.alternative.tags };
 
-    fn can_decode(tag: Tag) -> bool {
-        <SignerIdentifierAlternatives<'a> as Choice<R>>::can_decode(tag)
+    fn can_decode(tag: Tag) -> bool
+        ensures { IsTrue result ↔ ⟦<SignerIdentifier<'a> as DescribedChoice>⟧.alternative.tags tag }
+    {
+        <SignerIdentifierAlternatives<'a> as Choice>::can_decode(tag)
     }
+}
 
+impl<'a, R: Lends<Borrowed = &'a [u8]>> DecodeChoice<R> for SignerIdentifier<'a> {
     ghost begins = { ⟦<SignerIdentifier<'a> as DescribedChoice>⟧.alternative.begins };
 }
 
@@ -142,4 +146,10 @@ impl<'a, R: Lends<Borrowed = &'a [u8]>> DecodeItem<R> for SignerIdentifier<'a> {
 
 impl<'a> BorrowedItem for SignerIdentifier<'a> {
     ghost borrowed = { refl };
+}
+
+impl<'a> WrittenItem for SignerIdentifier<'a> {
+    ghost written = { λ v. refl };
+
+    ghost writes_valid = { λ v is. is };
 }

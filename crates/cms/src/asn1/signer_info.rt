@@ -16,14 +16,14 @@ use der::{
 };
 use der_asn1::{
     BorrowedItem, DecodeItem, Described, DescribedChoice, Implicit, Item, Nestable, OctetStringRef,
-    Optional,
+    Optional, WrittenItem,
 };
 use spki::AlgorithmIdentifierRef;
 use std::alloc::Global;
 use x509::Attributes;
 
 /// A signature of one signer (RFC 5652, 5.3), borrowed from the input.
-#[derive(Clone, Copy, Drop)]
+#[derive(Clone, Copy, Debug, Drop, PartialEq, Eq)]
 pub struct SignerInfo<'a> {
     /// The version: 1 if the signer is named by issuer and serial number, or else 3. Decoding does
     /// not check this.
@@ -181,6 +181,12 @@ impl<'a, R: Lends<Borrowed = &'a [u8]>> DecodeItem<R> for SignerInfo<'a> {
 
 impl<'a> BorrowedItem for SignerInfo<'a> {
     ghost borrowed = { refl };
+}
+
+impl<'a> WrittenItem for SignerInfo<'a> {
+    ghost written = { λ v. refl };
+
+    ghost writes_valid = { λ v is. is };
 }
 
 impl<'a> Nestable for SignerInfo<'a> {

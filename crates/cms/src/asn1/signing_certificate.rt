@@ -12,13 +12,15 @@ use der::{
     Decode, DecodeValue, Encode, Error, FieldsCall, FromFields, HasFields, Header, IsValue, Lends,
     Reader, Sequence, SliceReader, decode_sequence, field_refs,
 };
-use der_asn1::{BorrowedItem, DecodeItem, Described, Item, Nestable, Optional, SequenceOf};
+use der_asn1::{
+    BorrowedItem, DecodeItem, Described, Item, Nestable, Optional, SequenceOf, WrittenItem,
+};
 use std::alloc::Global;
 use x509::PolicyInformation;
 
 /// With which certificate a signature is to be verified, by SHA-1 hashes (RFC 5035, 5), borrowed
 /// from the input: the value of an attribute.
-#[derive(Clone, Copy, Drop)]
+#[derive(Clone, Copy, Debug, Drop, PartialEq, Eq)]
 pub struct SigningCertificate<'a> {
     /// The certificate of the signer, and others that limit which ones may be used with it. That
     /// there is at least one is not checked.
@@ -107,6 +109,12 @@ impl<'a, R: Lends<Borrowed = &'a [u8]>> DecodeItem<R> for SigningCertificate<'a>
 
 impl<'a> BorrowedItem for SigningCertificate<'a> {
     ghost borrowed = { refl };
+}
+
+impl<'a> WrittenItem for SigningCertificate<'a> {
+    ghost written = { λ v. refl };
+
+    ghost writes_valid = { λ v is. is };
 }
 
 impl<'a> Nestable for SigningCertificate<'a> {

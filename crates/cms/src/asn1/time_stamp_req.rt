@@ -16,13 +16,13 @@ use der::{
 };
 use der_asn1::{
     BooleanRef, BorrowedItem, DecodeItem, DefaultValue, Defaulted, Described, Implicit, IntRef,
-    Item, Nestable, Optional,
+    Item, Nestable, Optional, WrittenItem,
 };
 use std::alloc::Global;
 use x509::Extensions;
 
 /// A request for a timestamp (RFC 3161, 2.4.1), borrowed from the input.
-#[derive(Clone, Copy, Drop)]
+#[derive(Clone, Copy, Debug, Drop, PartialEq, Eq)]
 pub struct TimeStampReq<'a> {
     /// The version, which is 1. Decoding does not check this.
     pub version: IntRef<'a>,
@@ -162,6 +162,12 @@ impl<'a, R: Lends<Borrowed = &'a [u8]>> DecodeItem<R> for TimeStampReq<'a> {
 
 impl<'a> BorrowedItem for TimeStampReq<'a> {
     ghost borrowed = { refl };
+}
+
+impl<'a> WrittenItem for TimeStampReq<'a> {
+    ghost written = { λ v. refl };
+
+    ghost writes_valid = { λ v is. is };
 }
 
 impl<'a> Nestable for TimeStampReq<'a> {

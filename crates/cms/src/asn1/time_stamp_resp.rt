@@ -13,11 +13,11 @@ use der::{
     Decode, DecodeValue, Encode, Error, FieldsCall, FromFields, HasFields, Header, IsValue, Lends,
     Reader, Sequence, SliceReader, decode_sequence, field_refs,
 };
-use der_asn1::{BorrowedItem, DecodeItem, Described, Item, Nestable, Optional};
+use der_asn1::{BorrowedItem, DecodeItem, Described, Item, Nestable, Optional, WrittenItem};
 use std::alloc::Global;
 
 /// A response to a request for a timestamp (RFC 3161, 2.4.2), borrowed from the input.
-#[derive(Clone, Copy, Drop)]
+#[derive(Clone, Copy, Debug, Drop, PartialEq, Eq)]
 pub struct TimeStampResp<'a> {
     /// Whether there is a timestamp, or why there is none.
     pub status: PkiStatusInfo<'a>,
@@ -106,6 +106,12 @@ impl<'a, R: Lends<Borrowed = &'a [u8]>> DecodeItem<R> for TimeStampResp<'a> {
 
 impl<'a> BorrowedItem for TimeStampResp<'a> {
     ghost borrowed = { refl };
+}
+
+impl<'a> WrittenItem for TimeStampResp<'a> {
+    ghost written = { λ v. refl };
+
+    ghost writes_valid = { λ v is. is };
 }
 
 impl<'a> Nestable for TimeStampResp<'a> {

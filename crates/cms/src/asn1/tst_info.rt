@@ -18,13 +18,13 @@ use der::{
 };
 use der_asn1::{
     BooleanRef, BorrowedItem, DecodeItem, DefaultValue, Defaulted, Described, GeneralizedTime,
-    Implicit, IntRef, Item, Nestable, Optional,
+    Implicit, IntRef, Item, Nestable, Optional, WrittenItem,
 };
 use std::alloc::Global;
 use x509::Extensions;
 
 /// What a timestamp says (RFC 3161, 2.4.2), borrowed from the input.
-#[derive(Clone, Copy, Drop)]
+#[derive(Clone, Copy, Debug, Drop, PartialEq, Eq)]
 pub struct TstInfo<'a> {
     /// The version, which is 1. Decoding does not check this.
     pub version: IntRef<'a>,
@@ -209,6 +209,12 @@ impl<'a, R: Lends<Borrowed = &'a [u8]>> DecodeItem<R> for TstInfo<'a> {
 
 impl<'a> BorrowedItem for TstInfo<'a> {
     ghost borrowed = { refl };
+}
+
+impl<'a> WrittenItem for TstInfo<'a> {
+    ghost written = { λ v. refl };
+
+    ghost writes_valid = { λ v is. is };
 }
 
 impl<'a> Nestable for TstInfo<'a> {

@@ -1,12 +1,12 @@
 //! Reading of an OCTET STRING with an IMPLICIT tag.
-ghost use Rattle.std.specs.Prelude.{false};
+ghost use Rattle.std.specs.Prelude.{◌↔◌, IsTrue, false};
 ghost use Rattle.der_segments.specs.ImplicitSegmented.{ReadsAs, string_of_form};
 
 use crate::constructed_segmented::ConstructedSegmented;
 use crate::implicit_segmented::ImplicitSegmented;
 use crate::segmented::Segmented;
 use der::{Decode, Error, Lends, Reader, SliceReader, Tag};
-use der_asn1::{Choice, DescribedChoice, Either, Implicit};
+use der_asn1::{Choice, DecodeChoice, DescribedChoice, Either, Implicit};
 use std::alloc::Global;
 
 // The two forms of the string: in one piece, and in segments.
@@ -43,13 +43,17 @@ impl<'a, const N: u32, R: Lends<Borrowed = &'a [u8]>> Decode<R> for ImplicitSegm
     }
 }
 
-impl<'a, const N: u32, R: Lends<Borrowed = &'a [u8]>> Choice<R> for ImplicitSegmented<'a, N> {
+impl<'a, const N: u32> Choice for ImplicitSegmented<'a, N> {
     ghost chooses = { ⟦<ImplicitSegmented<'a, N> as DescribedChoice>⟧.alternative.tags };
 
     #[inline(always)]
-    fn can_decode(tag: Tag) -> bool {
-        <Forms<'a, N> as Choice<R>>::can_decode(tag)
+    fn can_decode(tag: Tag) -> bool
+        ensures { IsTrue result ↔ ⟦<ImplicitSegmented<'a, N> as DescribedChoice>⟧.alternative.tags tag }
+    {
+        <Forms<'a, N> as Choice>::can_decode(tag)
     }
+}
 
+impl<'a, const N: u32, R: Lends<Borrowed = &'a [u8]>> DecodeChoice<R> for ImplicitSegmented<'a, N> {
     ghost begins = { ⟦<ImplicitSegmented<'a, N> as DescribedChoice>⟧.alternative.begins };
 }

@@ -16,12 +16,13 @@ use der::{
 };
 use der_asn1::{
     BitStringRef, BorrowedItem, DecodeItem, Described, Explicit, Item, Nestable, Optional,
+    WrittenItem,
 };
 use spki::AlgorithmIdentifierRef;
 use std::alloc::Global;
 
 /// A basic response (RFC 6960, 4.2.1), borrowed from the input.
-#[derive(Clone, Copy, Drop)]
+#[derive(Clone, Copy, Debug, Drop, PartialEq, Eq)]
 pub struct BasicOcspResponse<'a> {
     /// The part of the response that the signature covers.
     pub tbs_response_data: ResponseData<'a>,
@@ -131,6 +132,12 @@ impl<'a, R: Lends<Borrowed = &'a [u8]>> DecodeItem<R> for BasicOcspResponse<'a> 
 
 impl<'a> BorrowedItem for BasicOcspResponse<'a> {
     ghost borrowed = { refl };
+}
+
+impl<'a> WrittenItem for BasicOcspResponse<'a> {
+    ghost written = { λ v. refl };
+
+    ghost writes_valid = { λ v is. is };
 }
 
 impl<'a> Nestable for BasicOcspResponse<'a> {

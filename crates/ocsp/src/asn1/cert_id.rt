@@ -12,13 +12,13 @@ use der::{
     Decode, DecodeValue, Encode, Error, FieldsCall, FromFields, HasFields, Header, IsValue, Lends,
     Reader, Sequence, SliceReader, decode_sequence, field_refs,
 };
-use der_asn1::{BorrowedItem, DecodeItem, Described, Item, Nestable, OctetStringRef};
+use der_asn1::{BorrowedItem, DecodeItem, Described, Item, Nestable, OctetStringRef, WrittenItem};
 use spki::AlgorithmIdentifierRef;
 use std::alloc::Global;
 use x509::CertificateSerialNumber;
 
 /// What identifies a certificate (RFC 6960, 4.1.1), borrowed from the input.
-#[derive(Clone, Copy, Drop)]
+#[derive(Clone, Copy, Debug, Drop, PartialEq, Eq)]
 pub struct CertId<'a> {
     /// The algorithm of the two hashes.
     pub hash_algorithm: AlgorithmIdentifierRef<'a>,
@@ -135,6 +135,12 @@ impl<'a, R: Lends<Borrowed = &'a [u8]>> DecodeItem<R> for CertId<'a> {
 
 impl<'a> BorrowedItem for CertId<'a> {
     ghost borrowed = { refl };
+}
+
+impl<'a> WrittenItem for CertId<'a> {
+    ghost written = { λ v. refl };
+
+    ghost writes_valid = { λ v is. is };
 }
 
 impl<'a> Nestable for CertId<'a> {

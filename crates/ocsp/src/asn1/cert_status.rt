@@ -1,7 +1,7 @@
 //! Written by asn1_compile from the module OCSP: change the module instead.
 //!
 //! CertStatus.
-ghost use Rattle.std.specs.Prelude.{false};
+ghost use Rattle.std.specs.Prelude.{◌↔◌, IsTrue, false};
 ghost use Rattle.std.proofs.Common.{refl};
 ghost use Rattle.der.specs.Prelude.{map_ok};
 ghost use Rattle.der_asn1.specs.Item.{decodes_same};
@@ -15,12 +15,13 @@ use crate::asn1::revoked_info::RevokedInfo;
 use crate::asn1::unknown_info::UnknownInfo;
 use der::{Decode, Encode, Error, FromFields, Lends, Length, Reader, SliceReader, Tag, Writer};
 use der_asn1::{
-    BorrowedItem, Choice, DecodeItem, DescribedChoice, Either, Implicit, Item, Null, decode_choice,
+    BorrowedItem, Choice, DecodeChoice, DecodeItem, DescribedChoice, Either, Implicit, Item, Null,
+    WrittenItem, decode_choice,
 };
 use std::alloc::Global;
 
 /// Whether a certificate is revoked (RFC 6960, 4.2.1), borrowed from the input.
-#[derive(Clone, Copy, Drop)]
+#[derive(Clone, Copy, Debug, Drop, PartialEq, Eq)]
 pub enum CertStatus<'a> {
     /// good
     Good(Implicit<Null<'a>, 0>),
@@ -85,13 +86,17 @@ impl<'a, R: Lends<Borrowed = &'a [u8]>> Decode<R> for CertStatus<'a> {
     }
 }
 
-impl<'a, R: Lends<Borrowed = &'a [u8]>> Choice<R> for CertStatus<'a> {
+impl<'a> Choice for CertStatus<'a> {
     ghost chooses = { ⟦<CertStatus<'a> as DescribedChoice>⟧.alternative.tags };
 
-    fn can_decode(tag: Tag) -> bool {
-        <CertStatusAlternatives<'a> as Choice<R>>::can_decode(tag)
+    fn can_decode(tag: Tag) -> bool
+        ensures { IsTrue result ↔ ⟦<CertStatus<'a> as DescribedChoice>⟧.alternative.tags tag }
+    {
+        <CertStatusAlternatives<'a> as Choice>::can_decode(tag)
     }
+}
 
+impl<'a, R: Lends<Borrowed = &'a [u8]>> DecodeChoice<R> for CertStatus<'a> {
     ghost begins = { ⟦<CertStatus<'a> as DescribedChoice>⟧.alternative.begins };
 }
 
@@ -155,4 +160,10 @@ impl<'a, R: Lends<Borrowed = &'a [u8]>> DecodeItem<R> for CertStatus<'a> {
 
 impl<'a> BorrowedItem for CertStatus<'a> {
     ghost borrowed = { refl };
+}
+
+impl<'a> WrittenItem for CertStatus<'a> {
+    ghost written = { λ v. refl };
+
+    ghost writes_valid = { λ v is. is };
 }

@@ -1,13 +1,15 @@
 //! Written by asn1_compile from the module OCSP: change the module instead.
 //!
 //! CertStatusPart1.
-ghost use Rattle.std.specs.Prelude.{false};
+ghost use Rattle.std.specs.Prelude.{◌↔◌, IsTrue, false};
 ghost use Rattle.der.specs.Prelude.{map_ok};
 ghost use Rattle.der_asn1.specs.Meaning.{alternative, choice_of, either};
 
 use crate::asn1::revoked_info::RevokedInfo;
 use der::{Decode, Encode, Error, FromFields, Lends, Length, Reader, SliceReader, Tag, Writer};
-use der_asn1::{Choice, Described, DescribedChoice, Either, Implicit, Null, decode_choice};
+use der_asn1::{
+    Choice, DecodeChoice, Described, DescribedChoice, Either, Implicit, Null, decode_choice,
+};
 use std::alloc::Global;
 
 // Some alternatives of a CertStatus.
@@ -58,14 +60,18 @@ impl<'a, R: Lends<Borrowed = &'a [u8]>> Decode<R> for CertStatusPart1<'a> {
     }
 }
 
-impl<'a, R: Lends<Borrowed = &'a [u8]>> Choice<R> for CertStatusPart1<'a> {
+impl<'a> Choice for CertStatusPart1<'a> {
     ghost chooses = { ⟦<CertStatusPart1<'a> as DescribedChoice>⟧.alternative.tags };
 
     #[inline(always)]
-    fn can_decode(tag: Tag) -> bool {
-        <CertStatusPart1Alternatives<'a> as Choice<R>>::can_decode(tag)
+    fn can_decode(tag: Tag) -> bool
+        ensures { IsTrue result ↔ ⟦<CertStatusPart1<'a> as DescribedChoice>⟧.alternative.tags tag }
+    {
+        <CertStatusPart1Alternatives<'a> as Choice>::can_decode(tag)
     }
+}
 
+impl<'a, R: Lends<Borrowed = &'a [u8]>> DecodeChoice<R> for CertStatusPart1<'a> {
     ghost begins = { ⟦<CertStatusPart1<'a> as DescribedChoice>⟧.alternative.begins };
 }
 

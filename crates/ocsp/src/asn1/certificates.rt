@@ -11,12 +11,12 @@ use der::{
     DecodeValue, EncodeValue, Error, FromFields, Header, IsValue, Lends, Length, Reader, Sequence,
     SliceReader, Writer, decode_wrapped,
 };
-use der_asn1::{BorrowedItem, DecodeItem, Described, Item, Nestable, SequenceOf};
+use der_asn1::{BorrowedItem, DecodeItem, Described, Item, Nestable, SequenceOf, WrittenItem};
 use std::alloc::Global;
 use x509::Certificate;
 
 /// Certificates that help to verify a signature, first to last.
-#[derive(Clone, Copy, Drop)]
+#[derive(Clone, Copy, Debug, Drop, PartialEq, Eq)]
 pub struct Certificates<'a> {
     /// The list: a SEQUENCE OF its items.
     pub items: SequenceOf<'a, Certificate<'a>>,
@@ -97,6 +97,12 @@ impl<'a, R: Lends<Borrowed = &'a [u8]>> DecodeItem<R> for Certificates<'a> {
 
 impl<'a> BorrowedItem for Certificates<'a> {
     ghost borrowed = { refl };
+}
+
+impl<'a> WrittenItem for Certificates<'a> {
+    ghost written = { λ v. refl };
+
+    ghost writes_valid = { λ v is. is };
 }
 
 impl<'a> Nestable for Certificates<'a> {

@@ -14,12 +14,12 @@ use der::{
 };
 use der_asn1::{
     BorrowedItem, DecodeItem, Described, Explicit, GeneralizedTime, Ia5StringRef, IntRef, Item,
-    Nestable, Optional,
+    Nestable, Optional, WrittenItem,
 };
 use std::alloc::Global;
 
 /// The CRL in which a certificate is found (RFC 6960, 4.4.2), borrowed from the input.
-#[derive(Clone, Copy, Drop)]
+#[derive(Clone, Copy, Debug, Drop, PartialEq, Eq)]
 pub struct CrlId<'a> {
     /// Where the CRL can be found, if present.
     pub crl_url: Optional<Explicit<Ia5StringRef<'a>, 0>>,
@@ -119,6 +119,12 @@ impl<'a, R: Lends<Borrowed = &'a [u8]>> DecodeItem<R> for CrlId<'a> {
 
 impl<'a> BorrowedItem for CrlId<'a> {
     ghost borrowed = { refl };
+}
+
+impl<'a> WrittenItem for CrlId<'a> {
+    ghost written = { λ v. refl };
+
+    ghost writes_valid = { λ v is. is };
 }
 
 impl<'a> Nestable for CrlId<'a> {

@@ -11,12 +11,12 @@ use der::{
     Decode, DecodeValue, Encode, Error, FieldsCall, FromFields, HasFields, Header, IsValue, Lends,
     Reader, Sequence, SliceReader, decode_sequence, field_refs,
 };
-use der_asn1::{BorrowedItem, DecodeItem, Described, DescribedChoice, Item, Nestable};
+use der_asn1::{BorrowedItem, DecodeItem, Described, DescribedChoice, Item, Nestable, WrittenItem};
 use std::alloc::Global;
 use x509::GeneralName;
 
 /// What an explicit tag has in it: a [`GeneralName`].
-#[derive(Clone, Copy, Drop)]
+#[derive(Clone, Copy, Debug, Drop, PartialEq, Eq)]
 pub struct GeneralNameTagged<'a> {
     /// The value behind the tag.
     pub value: GeneralName<'a>,
@@ -104,6 +104,12 @@ impl<'a, R: Lends<Borrowed = &'a [u8]>> DecodeItem<R> for GeneralNameTagged<'a> 
 
 impl<'a> BorrowedItem for GeneralNameTagged<'a> {
     ghost borrowed = { refl };
+}
+
+impl<'a> WrittenItem for GeneralNameTagged<'a> {
+    ghost written = { λ v. refl };
+
+    ghost writes_valid = { λ v is. is };
 }
 
 impl<'a> Nestable for GeneralNameTagged<'a> {

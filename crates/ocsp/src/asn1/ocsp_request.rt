@@ -13,11 +13,13 @@ use der::{
     Decode, DecodeValue, Encode, Error, FieldsCall, FromFields, HasFields, Header, IsValue, Lends,
     Reader, Sequence, SliceReader, decode_sequence, field_refs,
 };
-use der_asn1::{BorrowedItem, DecodeItem, Described, Explicit, Item, Nestable, Optional};
+use der_asn1::{
+    BorrowedItem, DecodeItem, Described, Explicit, Item, Nestable, Optional, WrittenItem,
+};
 use std::alloc::Global;
 
 /// A request for the status of certificates (RFC 6960, 4.1.1), borrowed from the input.
-#[derive(Clone, Copy, Drop)]
+#[derive(Clone, Copy, Debug, Drop, PartialEq, Eq)]
 pub struct OcspRequest<'a> {
     /// The part of the request that the signature covers.
     pub tbs_request: TbsRequest<'a>,
@@ -108,6 +110,12 @@ impl<'a, R: Lends<Borrowed = &'a [u8]>> DecodeItem<R> for OcspRequest<'a> {
 
 impl<'a> BorrowedItem for OcspRequest<'a> {
     ghost borrowed = { refl };
+}
+
+impl<'a> WrittenItem for OcspRequest<'a> {
+    ghost written = { λ v. refl };
+
+    ghost writes_valid = { λ v is. is };
 }
 
 impl<'a> Nestable for OcspRequest<'a> {

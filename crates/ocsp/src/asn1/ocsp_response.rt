@@ -15,11 +15,12 @@ use der::{
 };
 use der_asn1::{
     BorrowedItem, DecodeItem, Described, Enumerated, Explicit, Item, Nestable, Optional,
+    WrittenItem,
 };
 use std::alloc::Global;
 
 /// A response (RFC 6960, 4.2.1), borrowed from the input.
-#[derive(Clone, Copy, Drop)]
+#[derive(Clone, Copy, Debug, Drop, PartialEq, Eq)]
 pub struct OcspResponse<'a> {
     /// Whether the request was successful, or why it was not.
     pub response_status: Enumerated<OcspResponseStatus>,
@@ -115,6 +116,12 @@ impl<'a, R: Lends<Borrowed = &'a [u8]>> DecodeItem<R> for OcspResponse<'a> {
 
 impl<'a> BorrowedItem for OcspResponse<'a> {
     ghost borrowed = { refl };
+}
+
+impl<'a> WrittenItem for OcspResponse<'a> {
+    ghost written = { λ v. refl };
+
+    ghost writes_valid = { λ v is. is };
 }
 
 impl<'a> Nestable for OcspResponse<'a> {

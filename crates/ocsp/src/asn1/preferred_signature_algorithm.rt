@@ -11,12 +11,12 @@ use der::{
     Decode, DecodeValue, Encode, Error, FieldsCall, FromFields, HasFields, Header, IsValue, Lends,
     Reader, Sequence, SliceReader, decode_sequence, field_refs,
 };
-use der_asn1::{BorrowedItem, DecodeItem, Described, Item, Nestable, Optional};
+use der_asn1::{BorrowedItem, DecodeItem, Described, Item, Nestable, Optional, WrittenItem};
 use spki::AlgorithmIdentifierRef;
 use std::alloc::Global;
 
 /// An algorithm of signatures that a client prefers (RFC 6960, 4.4.7.1), borrowed from the input.
-#[derive(Clone, Copy, Drop)]
+#[derive(Clone, Copy, Debug, Drop, PartialEq, Eq)]
 pub struct PreferredSignatureAlgorithm<'a> {
     /// The algorithm of the signature.
     pub sig_identifier: AlgorithmIdentifierRef<'a>,
@@ -113,6 +113,12 @@ impl<'a, R: Lends<Borrowed = &'a [u8]>> DecodeItem<R> for PreferredSignatureAlgo
 
 impl<'a> BorrowedItem for PreferredSignatureAlgorithm<'a> {
     ghost borrowed = { refl };
+}
+
+impl<'a> WrittenItem for PreferredSignatureAlgorithm<'a> {
+    ghost written = { λ v. refl };
+
+    ghost writes_valid = { λ v is. is };
 }
 
 impl<'a> Nestable for PreferredSignatureAlgorithm<'a> {

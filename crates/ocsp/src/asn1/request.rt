@@ -12,12 +12,14 @@ use der::{
     Decode, DecodeValue, Encode, Error, FieldsCall, FromFields, HasFields, Header, IsValue, Lends,
     Reader, Sequence, SliceReader, decode_sequence, field_refs,
 };
-use der_asn1::{BorrowedItem, DecodeItem, Described, Explicit, Item, Nestable, Optional};
+use der_asn1::{
+    BorrowedItem, DecodeItem, Described, Explicit, Item, Nestable, Optional, WrittenItem,
+};
 use std::alloc::Global;
 use x509::Extensions;
 
 /// A certificate whose status is requested (RFC 6960, 4.1.1), borrowed from the input.
-#[derive(Clone, Copy, Drop)]
+#[derive(Clone, Copy, Debug, Drop, PartialEq, Eq)]
 pub struct Request<'a> {
     /// The certificate.
     pub req_cert: CertId<'a>,
@@ -107,6 +109,12 @@ impl<'a, R: Lends<Borrowed = &'a [u8]>> DecodeItem<R> for Request<'a> {
 
 impl<'a> BorrowedItem for Request<'a> {
     ghost borrowed = { refl };
+}
+
+impl<'a> WrittenItem for Request<'a> {
+    ghost written = { λ v. refl };
+
+    ghost writes_valid = { λ v is. is };
 }
 
 impl<'a> Nestable for Request<'a> {

@@ -1,7 +1,7 @@
 //! Written by asn1_compile from the module OCSP: change the module instead.
 //!
 //! ResponderId.
-ghost use Rattle.std.specs.Prelude.{false};
+ghost use Rattle.std.specs.Prelude.{◌↔◌, IsTrue, false};
 ghost use Rattle.std.proofs.Common.{refl};
 ghost use Rattle.der.specs.Prelude.{map_ok};
 ghost use Rattle.der_asn1.specs.Item.{decodes_same};
@@ -12,14 +12,14 @@ ghost use Rattle.ocsp.specs.declared.asn1.responder_id.ResponderId.TheVariants a
 use crate::asn1::key_hash::KeyHash;
 use der::{Decode, Encode, Error, FromFields, Lends, Length, Reader, SliceReader, Tag, Writer};
 use der_asn1::{
-    BorrowedItem, Choice, DecodeItem, Described, DescribedChoice, Either, Explicit, Item,
-    decode_choice,
+    BorrowedItem, Choice, DecodeChoice, DecodeItem, Described, DescribedChoice, Either, Explicit,
+    Item, WrittenItem, decode_choice,
 };
 use std::alloc::Global;
 use x509::Name;
 
 /// The one who signed a response (RFC 6960, 4.2.1), borrowed from the input.
-#[derive(Clone, Copy, Drop)]
+#[derive(Clone, Copy, Debug, Drop, PartialEq, Eq)]
 pub enum ResponderId<'a> {
     /// byName
     ByName(Explicit<Name<'a>, 1>),
@@ -73,13 +73,17 @@ impl<'a, R: Lends<Borrowed = &'a [u8]>> Decode<R> for ResponderId<'a> {
     }
 }
 
-impl<'a, R: Lends<Borrowed = &'a [u8]>> Choice<R> for ResponderId<'a> {
+impl<'a> Choice for ResponderId<'a> {
     ghost chooses = { ⟦<ResponderId<'a> as DescribedChoice>⟧.alternative.tags };
 
-    fn can_decode(tag: Tag) -> bool {
-        <ResponderIdAlternatives<'a> as Choice<R>>::can_decode(tag)
+    fn can_decode(tag: Tag) -> bool
+        ensures { IsTrue result ↔ ⟦<ResponderId<'a> as DescribedChoice>⟧.alternative.tags tag }
+    {
+        <ResponderIdAlternatives<'a> as Choice>::can_decode(tag)
     }
+}
 
+impl<'a, R: Lends<Borrowed = &'a [u8]>> DecodeChoice<R> for ResponderId<'a> {
     ghost begins = { ⟦<ResponderId<'a> as DescribedChoice>⟧.alternative.begins };
 }
 
@@ -139,4 +143,10 @@ impl<'a, R: Lends<Borrowed = &'a [u8]>> DecodeItem<R> for ResponderId<'a> {
 
 impl<'a> BorrowedItem for ResponderId<'a> {
     ghost borrowed = { refl };
+}
+
+impl<'a> WrittenItem for ResponderId<'a> {
+    ghost written = { λ v. refl };
+
+    ghost writes_valid = { λ v is. is };
 }

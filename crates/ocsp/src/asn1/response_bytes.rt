@@ -13,11 +13,12 @@ use der::{
 };
 use der_asn1::{
     BorrowedItem, DecodeItem, Described, Item, Nestable, ObjectIdentifierRef, OctetStringRef,
+    WrittenItem,
 };
 use std::alloc::Global;
 
 /// The octets of a response (RFC 6960, 4.2.1), borrowed from the input.
-#[derive(Clone, Copy, Drop)]
+#[derive(Clone, Copy, Debug, Drop, PartialEq, Eq)]
 pub struct ResponseBytes<'a> {
     /// The type of the response.
     pub response_type: ObjectIdentifierRef<'a>,
@@ -104,6 +105,12 @@ impl<'a, R: Lends<Borrowed = &'a [u8]>> DecodeItem<R> for ResponseBytes<'a> {
 
 impl<'a> BorrowedItem for ResponseBytes<'a> {
     ghost borrowed = { refl };
+}
+
+impl<'a> WrittenItem for ResponseBytes<'a> {
+    ghost written = { λ v. refl };
+
+    ghost writes_valid = { λ v is. is };
 }
 
 impl<'a> Nestable for ResponseBytes<'a> {

@@ -17,12 +17,13 @@ use der::{
 use der_asn1::{
     BorrowedItem, DecodeItem, DefaultU64, DefaultValue, Defaulted, Described, DescribedChoice,
     Explicit, GeneralizedTime, IntegerOf, Item, Nestable, Optional, SequenceOf, WithDefault,
+    WrittenItem,
 };
 use std::alloc::Global;
 use x509::Extensions;
 
 /// The part of a response that its signature covers (RFC 6960, 4.2.1), borrowed from the input.
-#[derive(Clone, Copy, Drop)]
+#[derive(Clone, Copy, Debug, Drop, PartialEq, Eq)]
 pub struct ResponseData<'a> {
     /// The version. The default is version 1, whose number is 0. Decoding accepts every number from
     /// 0 to 2^64 - 1.
@@ -156,6 +157,12 @@ impl<'a, R: Lends<Borrowed = &'a [u8]>> DecodeItem<R> for ResponseData<'a> {
 
 impl<'a> BorrowedItem for ResponseData<'a> {
     ghost borrowed = { refl };
+}
+
+impl<'a> WrittenItem for ResponseData<'a> {
+    ghost written = { λ v. refl };
+
+    ghost writes_valid = { λ v is. is };
 }
 
 impl<'a> Nestable for ResponseData<'a> {

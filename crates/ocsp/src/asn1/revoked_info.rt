@@ -13,13 +13,13 @@ use der::{
 };
 use der_asn1::{
     BorrowedItem, DecodeItem, Described, Enumerated, Explicit, GeneralizedTime, Item, Nestable,
-    Optional,
+    Optional, WrittenItem,
 };
 use std::alloc::Global;
 use x509::CrlReason;
 
 /// When and why a certificate was revoked (RFC 6960, 4.2.1), borrowed from the input.
-#[derive(Clone, Copy, Drop)]
+#[derive(Clone, Copy, Debug, Drop, PartialEq, Eq)]
 pub struct RevokedInfo {
     /// When it was revoked.
     pub revocation_time: GeneralizedTime,
@@ -113,6 +113,12 @@ impl<'a, R: Lends<Borrowed = &'a [u8]>> DecodeItem<R> for RevokedInfo {
 
 impl<'a> BorrowedItem for RevokedInfo {
     ghost borrowed = { refl };
+}
+
+impl WrittenItem for RevokedInfo {
+    ghost written = { λ v. refl };
+
+    ghost writes_valid = { λ v is. is };
 }
 
 impl Nestable for RevokedInfo {

@@ -11,13 +11,13 @@ use der::{
     Decode, DecodeValue, Encode, Error, FieldsCall, FromFields, HasFields, Header, IsValue, Lends,
     Reader, Sequence, SliceReader, decode_sequence, field_refs,
 };
-use der_asn1::{BorrowedItem, DecodeItem, Described, Item, Nestable, Optional};
+use der_asn1::{BorrowedItem, DecodeItem, Described, Item, Nestable, Optional, WrittenItem};
 use std::alloc::Global;
 use x509::{AuthorityInfoAccessSyntax, Name};
 
 /// Where a responder sends a request that another one has to answer (RFC 6960, 4.4.6), borrowed from
 /// the input.
-#[derive(Clone, Copy, Drop)]
+#[derive(Clone, Copy, Debug, Drop, PartialEq, Eq)]
 pub struct ServiceLocator<'a> {
     /// The issuer of the certificate.
     pub issuer: Name<'a>,
@@ -101,6 +101,12 @@ impl<'a, R: Lends<Borrowed = &'a [u8]>> DecodeItem<R> for ServiceLocator<'a> {
 
 impl<'a> BorrowedItem for ServiceLocator<'a> {
     ghost borrowed = { refl };
+}
+
+impl<'a> WrittenItem for ServiceLocator<'a> {
+    ghost written = { λ v. refl };
+
+    ghost writes_valid = { λ v is. is };
 }
 
 impl<'a> Nestable for ServiceLocator<'a> {

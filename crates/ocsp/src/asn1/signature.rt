@@ -15,12 +15,13 @@ use der::{
 };
 use der_asn1::{
     BitStringRef, BorrowedItem, DecodeItem, Described, Explicit, Item, Nestable, Optional,
+    WrittenItem,
 };
 use spki::AlgorithmIdentifierRef;
 use std::alloc::Global;
 
 /// The signature of a request (RFC 6960, 4.1.1), borrowed from the input.
-#[derive(Clone, Copy, Drop)]
+#[derive(Clone, Copy, Debug, Drop, PartialEq, Eq)]
 pub struct Signature<'a> {
     /// The algorithm of `signature`.
     pub signature_algorithm: AlgorithmIdentifierRef<'a>,
@@ -120,6 +121,12 @@ impl<'a, R: Lends<Borrowed = &'a [u8]>> DecodeItem<R> for Signature<'a> {
 
 impl<'a> BorrowedItem for Signature<'a> {
     ghost borrowed = { refl };
+}
+
+impl<'a> WrittenItem for Signature<'a> {
+    ghost written = { λ v. refl };
+
+    ghost writes_valid = { λ v is. is };
 }
 
 impl<'a> Nestable for Signature<'a> {

@@ -16,13 +16,13 @@ use der::{
 };
 use der_asn1::{
     BorrowedItem, DecodeItem, Described, DescribedChoice, Explicit, GeneralizedTime, Item,
-    Nestable, Optional,
+    Nestable, Optional, WrittenItem,
 };
 use std::alloc::Global;
 use x509::Extensions;
 
 /// The status of a certificate (RFC 6960, 4.2.1), borrowed from the input.
-#[derive(Clone, Copy, Drop)]
+#[derive(Clone, Copy, Debug, Drop, PartialEq, Eq)]
 pub struct SingleResponse<'a> {
     /// The certificate.
     pub cert_id: CertId<'a>,
@@ -156,6 +156,12 @@ impl<'a, R: Lends<Borrowed = &'a [u8]>> DecodeItem<R> for SingleResponse<'a> {
 
 impl<'a> BorrowedItem for SingleResponse<'a> {
     ghost borrowed = { refl };
+}
+
+impl<'a> WrittenItem for SingleResponse<'a> {
+    ghost written = { λ v. refl };
+
+    ghost writes_valid = { λ v is. is };
 }
 
 impl<'a> Nestable for SingleResponse<'a> {

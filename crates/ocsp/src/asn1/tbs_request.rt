@@ -16,13 +16,13 @@ use der::{
 };
 use der_asn1::{
     BorrowedItem, DecodeItem, DefaultU64, DefaultValue, Defaulted, Described, Explicit, Implicit,
-    IntegerOf, Item, Nestable, Optional, SequenceOf, WithDefault,
+    IntegerOf, Item, Nestable, Optional, SequenceOf, WithDefault, WrittenItem,
 };
 use std::alloc::Global;
 use x509::Extensions;
 
 /// The part of a request that its signature covers (RFC 6960, 4.1.1), borrowed from the input.
-#[derive(Clone, Copy, Drop)]
+#[derive(Clone, Copy, Debug, Drop, PartialEq, Eq)]
 pub struct TbsRequest<'a> {
     /// The version. The default is version 1, whose number is 0. Decoding accepts every number from
     /// 0 to 2^64 - 1.
@@ -136,6 +136,12 @@ impl<'a, R: Lends<Borrowed = &'a [u8]>> DecodeItem<R> for TbsRequest<'a> {
 
 impl<'a> BorrowedItem for TbsRequest<'a> {
     ghost borrowed = { refl };
+}
+
+impl<'a> WrittenItem for TbsRequest<'a> {
+    ghost written = { λ v. refl };
+
+    ghost writes_valid = { λ v is. is };
 }
 
 impl<'a> Nestable for TbsRequest<'a> {

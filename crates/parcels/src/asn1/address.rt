@@ -14,12 +14,12 @@ use der::{
 };
 use der_asn1::{
     Application, BmpStringRef, BorrowedItem, DecodeItem, Described, Ia5StringRef, Implicit, Item,
-    Nestable, NumericStringRef, Optional, PrintableStringRef, Utf8StringRef,
+    Nestable, NumericStringRef, Optional, PrintableStringRef, Utf8StringRef, WrittenItem,
 };
 use std::alloc::Global;
 
 /// Where somebody lives.
-#[derive(Clone, Copy, Drop)]
+#[derive(Clone, Copy, Debug, Drop, PartialEq, Eq)]
 pub struct Address<'a> {
     /// name
     pub name: Utf8StringRef<'a>,
@@ -135,6 +135,12 @@ impl<'a, R: Lends<Borrowed = &'a [u8]>> DecodeItem<R> for Address<'a> {
 
 impl<'a> BorrowedItem for Address<'a> {
     ghost borrowed = { refl };
+}
+
+impl<'a> WrittenItem for Address<'a> {
+    ghost written = { λ v. refl };
+
+    ghost writes_valid = { λ v is. is };
 }
 
 impl<'a> Nestable for Address<'a> {

@@ -12,11 +12,11 @@ use der::{
     DecodeValue, EncodeValue, Error, FixedTag, FromFields, Header, IsValue, Lawful, Lends, Length,
     ReadValue, Reader, SliceReader, Tag, Writer, WrittenValue, decode_wrapped,
 };
-use der_asn1::{BorrowedItem, DecodeItem, Described, Item, Nestable, SetOf};
+use der_asn1::{BorrowedItem, DecodeItem, Described, Item, Nestable, SetOf, WrittenItem};
 use std::alloc::Global;
 
 /// The parcels that one car brings.
-#[derive(Clone, Copy, Drop)]
+#[derive(Clone, Copy, Debug, Drop, PartialEq, Eq)]
 pub struct Delivery<'a> {
     /// The list: a SET OF its items.
     pub items: SetOf<'a, Parcel<'a>>,
@@ -128,6 +128,12 @@ impl<'a, R: Lends<Borrowed = &'a [u8]>> DecodeItem<R> for Delivery<'a> {
 
 impl<'a> BorrowedItem for Delivery<'a> {
     ghost borrowed = { refl };
+}
+
+impl<'a> WrittenItem for Delivery<'a> {
+    ghost written = { λ v. refl };
+
+    ghost writes_valid = { λ v is. is };
 }
 
 impl<'a> Nestable for Delivery<'a> {

@@ -17,12 +17,12 @@ use der::{
 };
 use der_asn1::{
     BorrowedItem, DecodeItem, DefaultU64, DefaultValue, Defaulted, Described, Implicit, IntegerOf,
-    Item, Nestable, Optional, SequenceOf, SetOf, WithDefault,
+    Item, Nestable, Optional, SequenceOf, SetOf, WithDefault, WrittenItem,
 };
 use std::alloc::Global;
 
 /// The way of a parcel.
-#[derive(Clone, Copy, Drop)]
+#[derive(Clone, Copy, Debug, Drop, PartialEq, Eq)]
 pub struct Journey<'a> {
     /// The one who sends it.
     pub sender: Implicit<Address<'a>, 1>,
@@ -138,6 +138,12 @@ impl<'a, R: Lends<Borrowed = &'a [u8]>> DecodeItem<R> for Journey<'a> {
 
 impl<'a> BorrowedItem for Journey<'a> {
     ghost borrowed = { refl };
+}
+
+impl<'a> WrittenItem for Journey<'a> {
+    ghost written = { λ v. refl };
+
+    ghost writes_valid = { λ v is. is };
 }
 
 impl<'a> Nestable for Journey<'a> {

@@ -16,12 +16,12 @@ use der::{
 };
 use der_asn1::{
     BitStringRef, BorrowedItem, DecodeItem, Described, Implicit, Item, Nestable, OctetStringOf,
-    OctetStringRef, Optional,
+    OctetStringRef, Optional, WrittenItem,
 };
 use std::alloc::Global;
 
 /// What stands on a parcel: its octets, or a picture, or the encoding of an address.
-#[derive(Clone, Copy, Drop)]
+#[derive(Clone, Copy, Debug, Drop, PartialEq, Eq)]
 pub struct Label<'a> {
     /// picture
     pub picture: BitStringRef<'a>,
@@ -127,6 +127,12 @@ impl<'a, R: Lends<Borrowed = &'a [u8]>> DecodeItem<R> for Label<'a> {
 
 impl<'a> BorrowedItem for Label<'a> {
     ghost borrowed = { refl };
+}
+
+impl<'a> WrittenItem for Label<'a> {
+    ghost written = { λ v. refl };
+
+    ghost writes_valid = { λ v is. is };
 }
 
 impl<'a> Nestable for Label<'a> {

@@ -25,12 +25,12 @@ use der::{
 use der_asn1::{
     BooleanRef, BorrowedItem, DecodeItem, DefaultOf, DefaultValue, Defaulted, Described,
     Enumerated, Explicit, Implicit, IntRef, IntegerIn, Item, NamedInteger, Nestable, Optional,
-    WithDefault,
+    WithDefault, WrittenItem,
 };
 use std::alloc::Global;
 
 /// A parcel on its way, with fields of each kind of presence.
-#[derive(Clone, Copy, Drop)]
+#[derive(Clone, Copy, Debug, Drop, PartialEq, Eq)]
 pub struct Parcel<'a> {
     /// The version of the format; version 1 is the default.
     pub version: Defaulted<Explicit<WithDefault<NamedInteger<Version>, ParcelVersionDefault>, 0>>,
@@ -223,6 +223,12 @@ impl<'a, R: Lends<Borrowed = &'a [u8]>> DecodeItem<R> for Parcel<'a> {
 
 impl<'a> BorrowedItem for Parcel<'a> {
     ghost borrowed = { refl };
+}
+
+impl<'a> WrittenItem for Parcel<'a> {
+    ghost written = { λ v. refl };
+
+    ghost writes_valid = { λ v is. is };
 }
 
 impl<'a> Nestable for Parcel<'a> {

@@ -15,12 +15,12 @@ use der::{
 };
 use der_asn1::{
     Additions, BorrowedItem, DecodeItem, Described, DescribedField, ExplicitAny, Item, Nestable,
-    ObjectIdentifierRef, Private,
+    ObjectIdentifierRef, Private, WrittenItem,
 };
 use std::alloc::Global;
 
 /// A property. Its object identifier says of which kind it is.
-#[derive(Clone, Copy, Drop)]
+#[derive(Clone, Copy, Debug, Drop, PartialEq, Eq)]
 pub struct Property<'a> {
     /// kind
     pub kind: ObjectIdentifierRef<'a>,
@@ -114,6 +114,12 @@ impl<'a, R: Lends<Borrowed = &'a [u8]>> DecodeItem<R> for Property<'a> {
 
 impl<'a> BorrowedItem for Property<'a> {
     ghost borrowed = { refl };
+}
+
+impl<'a> WrittenItem for Property<'a> {
+    ghost written = { λ v. refl };
+
+    ghost writes_valid = { λ v is. is };
 }
 
 impl<'a> Nestable for Property<'a> {

@@ -13,12 +13,14 @@ use der::{
     Decode, DecodeValue, Encode, Error, FieldsCall, FromFields, HasFields, Header, IsValue, Lends,
     Reader, Sequence, SliceReader, decode_sequence, field_refs,
 };
-use der_asn1::{AnyRef, BorrowedItem, DecodeItem, Described, Implicit, Item, Nestable, Optional};
+use der_asn1::{
+    AnyRef, BorrowedItem, DecodeItem, Described, Implicit, Item, Nestable, Optional, WrittenItem,
+};
 use spki::AlgorithmIdentifierRef;
 use std::alloc::Global;
 
 /// How a label is sealed.
-#[derive(Clone, Copy, Drop)]
+#[derive(Clone, Copy, Debug, Drop, PartialEq, Eq)]
 pub struct Seal<'a> {
     /// algorithm
     pub algorithm: AlgorithmIdentifierRef<'a>,
@@ -113,6 +115,12 @@ impl<'a, R: Lends<Borrowed = &'a [u8]>> DecodeItem<R> for Seal<'a> {
 
 impl<'a> BorrowedItem for Seal<'a> {
     ghost borrowed = { refl };
+}
+
+impl<'a> WrittenItem for Seal<'a> {
+    ghost written = { λ v. refl };
+
+    ghost writes_valid = { λ v is. is };
 }
 
 impl<'a> Nestable for Seal<'a> {

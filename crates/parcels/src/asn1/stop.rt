@@ -13,11 +13,11 @@ use der::{
     Decode, DecodeValue, Encode, Error, FieldsCall, FromFields, HasFields, Header, IsValue, Lends,
     Reader, Sequence, SliceReader, decode_sequence, field_refs,
 };
-use der_asn1::{BorrowedItem, DecodeItem, Described, DescribedChoice, Item, Nestable};
+use der_asn1::{BorrowedItem, DecodeItem, Described, DescribedChoice, Item, Nestable, WrittenItem};
 use std::alloc::Global;
 
 /// A place on the way, and when the parcel was there.
-#[derive(Clone, Copy, Drop)]
+#[derive(Clone, Copy, Debug, Drop, PartialEq, Eq)]
 pub struct Stop<'a> {
     /// place
     pub place: Text<'a>,
@@ -107,6 +107,12 @@ impl<'a, R: Lends<Borrowed = &'a [u8]>> DecodeItem<R> for Stop<'a> {
 
 impl<'a> BorrowedItem for Stop<'a> {
     ghost borrowed = { refl };
+}
+
+impl<'a> WrittenItem for Stop<'a> {
+    ghost written = { λ v. refl };
+
+    ghost writes_valid = { λ v is. is };
 }
 
 impl<'a> Nestable for Stop<'a> {

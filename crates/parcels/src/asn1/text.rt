@@ -1,7 +1,7 @@
 //! Written by asn1_compile from the module Parcels: change the module instead.
 //!
 //! Text.
-ghost use Rattle.std.specs.Prelude.{false};
+ghost use Rattle.std.specs.Prelude.{◌↔◌, IsTrue, false};
 ghost use Rattle.std.proofs.Common.{refl};
 ghost use Rattle.der.specs.Prelude.{map_ok};
 ghost use Rattle.der_asn1.specs.Item.{decodes_same};
@@ -13,13 +13,14 @@ use crate::asn1::text_part1::TextPart1;
 use crate::asn1::text_part2::TextPart2;
 use der::{Decode, Encode, Error, FromFields, Lends, Length, Reader, SliceReader, Tag, Writer};
 use der_asn1::{
-    BorrowedItem, Choice, DecodeItem, DescribedChoice, Either, Item, PrintableStringRef,
-    TeletexStringRef, Utf8StringRef, VisibleStringRef, decode_choice,
+    BorrowedItem, Choice, DecodeChoice, DecodeItem, DescribedChoice, Either, Item,
+    PrintableStringRef, TeletexStringRef, Utf8StringRef, VisibleStringRef, WrittenItem,
+    decode_choice,
 };
 use std::alloc::Global;
 
 /// A text. The library has no UniversalString, which is left out.
-#[derive(Clone, Copy, Drop)]
+#[derive(Clone, Copy, Debug, Drop, PartialEq, Eq)]
 pub enum Text<'a> {
     /// printable
     Printable(PrintableStringRef<'a>),
@@ -96,13 +97,17 @@ impl<'a, R: Lends<Borrowed = &'a [u8]>> Decode<R> for Text<'a> {
     }
 }
 
-impl<'a, R: Lends<Borrowed = &'a [u8]>> Choice<R> for Text<'a> {
+impl<'a> Choice for Text<'a> {
     ghost chooses = { ⟦<Text<'a> as DescribedChoice>⟧.alternative.tags };
 
-    fn can_decode(tag: Tag) -> bool {
-        <TextAlternatives<'a> as Choice<R>>::can_decode(tag)
+    fn can_decode(tag: Tag) -> bool
+        ensures { IsTrue result ↔ ⟦<Text<'a> as DescribedChoice>⟧.alternative.tags tag }
+    {
+        <TextAlternatives<'a> as Choice>::can_decode(tag)
     }
+}
 
+impl<'a, R: Lends<Borrowed = &'a [u8]>> DecodeChoice<R> for Text<'a> {
     ghost begins = { ⟦<Text<'a> as DescribedChoice>⟧.alternative.begins };
 }
 
@@ -170,4 +175,10 @@ impl<'a, R: Lends<Borrowed = &'a [u8]>> DecodeItem<R> for Text<'a> {
 
 impl<'a> BorrowedItem for Text<'a> {
     ghost borrowed = { refl };
+}
+
+impl<'a> WrittenItem for Text<'a> {
+    ghost written = { λ v. refl };
+
+    ghost writes_valid = { λ v is. is };
 }

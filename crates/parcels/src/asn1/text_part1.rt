@@ -1,13 +1,14 @@
 //! Written by asn1_compile from the module Parcels: change the module instead.
 //!
 //! TextPart1.
-ghost use Rattle.std.specs.Prelude.{false};
+ghost use Rattle.std.specs.Prelude.{◌↔◌, IsTrue, false};
 ghost use Rattle.der.specs.Prelude.{map_ok};
 ghost use Rattle.der_asn1.specs.Meaning.{alternative, choice_of, either};
 
 use der::{Decode, Encode, Error, FromFields, Lends, Length, Reader, SliceReader, Tag, Writer};
 use der_asn1::{
-    Choice, Described, DescribedChoice, Either, PrintableStringRef, Utf8StringRef, decode_choice,
+    Choice, DecodeChoice, Described, DescribedChoice, Either, PrintableStringRef, Utf8StringRef,
+    decode_choice,
 };
 use std::alloc::Global;
 
@@ -56,14 +57,18 @@ impl<'a, R: Lends<Borrowed = &'a [u8]>> Decode<R> for TextPart1<'a> {
     }
 }
 
-impl<'a, R: Lends<Borrowed = &'a [u8]>> Choice<R> for TextPart1<'a> {
+impl<'a> Choice for TextPart1<'a> {
     ghost chooses = { ⟦<TextPart1<'a> as DescribedChoice>⟧.alternative.tags };
 
     #[inline(always)]
-    fn can_decode(tag: Tag) -> bool {
-        <TextPart1Alternatives<'a> as Choice<R>>::can_decode(tag)
+    fn can_decode(tag: Tag) -> bool
+        ensures { IsTrue result ↔ ⟦<TextPart1<'a> as DescribedChoice>⟧.alternative.tags tag }
+    {
+        <TextPart1Alternatives<'a> as Choice>::can_decode(tag)
     }
+}
 
+impl<'a, R: Lends<Borrowed = &'a [u8]>> DecodeChoice<R> for TextPart1<'a> {
     ghost begins = { ⟦<TextPart1<'a> as DescribedChoice>⟧.alternative.begins };
 }
 

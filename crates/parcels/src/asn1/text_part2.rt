@@ -1,13 +1,14 @@
 //! Written by asn1_compile from the module Parcels: change the module instead.
 //!
 //! TextPart2.
-ghost use Rattle.std.specs.Prelude.{false};
+ghost use Rattle.std.specs.Prelude.{◌↔◌, IsTrue, false};
 ghost use Rattle.der.specs.Prelude.{map_ok};
 ghost use Rattle.der_asn1.specs.Meaning.{alternative, choice_of, either};
 
 use der::{Decode, Encode, Error, FromFields, Lends, Length, Reader, SliceReader, Tag, Writer};
 use der_asn1::{
-    Choice, Described, DescribedChoice, Either, TeletexStringRef, VisibleStringRef, decode_choice,
+    Choice, DecodeChoice, Described, DescribedChoice, Either, TeletexStringRef, VisibleStringRef,
+    decode_choice,
 };
 use std::alloc::Global;
 
@@ -56,14 +57,18 @@ impl<'a, R: Lends<Borrowed = &'a [u8]>> Decode<R> for TextPart2<'a> {
     }
 }
 
-impl<'a, R: Lends<Borrowed = &'a [u8]>> Choice<R> for TextPart2<'a> {
+impl<'a> Choice for TextPart2<'a> {
     ghost chooses = { ⟦<TextPart2<'a> as DescribedChoice>⟧.alternative.tags };
 
     #[inline(always)]
-    fn can_decode(tag: Tag) -> bool {
-        <TextPart2Alternatives<'a> as Choice<R>>::can_decode(tag)
+    fn can_decode(tag: Tag) -> bool
+        ensures { IsTrue result ↔ ⟦<TextPart2<'a> as DescribedChoice>⟧.alternative.tags tag }
+    {
+        <TextPart2Alternatives<'a> as Choice>::can_decode(tag)
     }
+}
 
+impl<'a, R: Lends<Borrowed = &'a [u8]>> DecodeChoice<R> for TextPart2<'a> {
     ghost begins = { ⟦<TextPart2<'a> as DescribedChoice>⟧.alternative.begins };
 }
 

@@ -1,7 +1,7 @@
 //! Written by asn1_compile from the module Parcels: change the module instead.
 //!
 //! Time.
-ghost use Rattle.std.specs.Prelude.{false};
+ghost use Rattle.std.specs.Prelude.{◌↔◌, IsTrue, false};
 ghost use Rattle.std.proofs.Common.{refl};
 ghost use Rattle.der.specs.Prelude.{map_ok};
 ghost use Rattle.der_asn1.specs.Item.{decodes_same};
@@ -13,13 +13,13 @@ use crate::asn1::time_part1::TimePart1;
 use crate::asn1::time_part2::TimePart2;
 use der::{Decode, Encode, Error, FromFields, Lends, Length, Reader, SliceReader, Tag, Writer};
 use der_asn1::{
-    BorrowedItem, Choice, DecodeItem, DescribedChoice, Either, GeneralizedTime, Item, Null,
-    UtcTime, decode_choice,
+    BorrowedItem, Choice, DecodeChoice, DecodeItem, DescribedChoice, Either, GeneralizedTime, Item,
+    Null, UtcTime, WrittenItem, decode_choice,
 };
 use std::alloc::Global;
 
 /// Time
-#[derive(Clone, Copy, Drop)]
+#[derive(Clone, Copy, Debug, Drop, PartialEq, Eq)]
 pub enum Time<'a> {
     /// utc
     Utc(UtcTime),
@@ -84,13 +84,17 @@ impl<'a, R: Lends<Borrowed = &'a [u8]>> Decode<R> for Time<'a> {
     }
 }
 
-impl<'a, R: Lends<Borrowed = &'a [u8]>> Choice<R> for Time<'a> {
+impl<'a> Choice for Time<'a> {
     ghost chooses = { ⟦<Time<'a> as DescribedChoice>⟧.alternative.tags };
 
-    fn can_decode(tag: Tag) -> bool {
-        <TimeAlternatives<'a> as Choice<R>>::can_decode(tag)
+    fn can_decode(tag: Tag) -> bool
+        ensures { IsTrue result ↔ ⟦<Time<'a> as DescribedChoice>⟧.alternative.tags tag }
+    {
+        <TimeAlternatives<'a> as Choice>::can_decode(tag)
     }
+}
 
+impl<'a, R: Lends<Borrowed = &'a [u8]>> DecodeChoice<R> for Time<'a> {
     ghost begins = { ⟦<Time<'a> as DescribedChoice>⟧.alternative.begins };
 }
 
@@ -154,4 +158,10 @@ impl<'a, R: Lends<Borrowed = &'a [u8]>> DecodeItem<R> for Time<'a> {
 
 impl<'a> BorrowedItem for Time<'a> {
     ghost borrowed = { refl };
+}
+
+impl<'a> WrittenItem for Time<'a> {
+    ghost written = { λ v. refl };
+
+    ghost writes_valid = { λ v is. is };
 }

@@ -1,13 +1,14 @@
 //! Written by asn1_compile from the module Parcels: change the module instead.
 //!
 //! TimePart1.
-ghost use Rattle.std.specs.Prelude.{false};
+ghost use Rattle.std.specs.Prelude.{◌↔◌, IsTrue, false};
 ghost use Rattle.der.specs.Prelude.{map_ok};
 ghost use Rattle.der_asn1.specs.Meaning.{alternative, choice_of, either};
 
 use der::{Decode, Encode, Error, FromFields, Lends, Length, Reader, SliceReader, Tag, Writer};
 use der_asn1::{
-    Choice, Described, DescribedChoice, Either, GeneralizedTime, UtcTime, decode_choice,
+    Choice, DecodeChoice, Described, DescribedChoice, Either, GeneralizedTime, UtcTime,
+    decode_choice,
 };
 use std::alloc::Global;
 
@@ -55,14 +56,18 @@ impl<'a, R: Lends<Borrowed = &'a [u8]>> Decode<R> for TimePart1 {
     }
 }
 
-impl<'a, R: Lends<Borrowed = &'a [u8]>> Choice<R> for TimePart1 {
+impl Choice for TimePart1 {
     ghost chooses = { ⟦<TimePart1 as DescribedChoice>⟧.alternative.tags };
 
     #[inline(always)]
-    fn can_decode(tag: Tag) -> bool {
-        <TimePart1Alternatives as Choice<R>>::can_decode(tag)
+    fn can_decode(tag: Tag) -> bool
+        ensures { IsTrue result ↔ ⟦<TimePart1 as DescribedChoice>⟧.alternative.tags tag }
+    {
+        <TimePart1Alternatives as Choice>::can_decode(tag)
     }
+}
 
+impl<'a, R: Lends<Borrowed = &'a [u8]>> DecodeChoice<R> for TimePart1 {
     ghost begins = { ⟦<TimePart1 as DescribedChoice>⟧.alternative.begins };
 }
 

@@ -1,12 +1,12 @@
 //! Written by asn1_compile from the module Parcels: change the module instead.
 //!
 //! TimePart2.
-ghost use Rattle.std.specs.Prelude.{false};
+ghost use Rattle.std.specs.Prelude.{◌↔◌, IsTrue, false};
 ghost use Rattle.der.specs.Prelude.{map_ok};
 ghost use Rattle.der_asn1.specs.Meaning.{alternative, choice_of};
 
 use der::{Decode, Encode, Error, FromFields, Lends, Length, Reader, SliceReader, Tag, Writer};
-use der_asn1::{Choice, Described, DescribedChoice, Null, decode_choice};
+use der_asn1::{Choice, DecodeChoice, Described, DescribedChoice, Null, decode_choice};
 use std::alloc::Global;
 
 // Some alternatives of a Time.
@@ -53,14 +53,18 @@ impl<'a, R: Lends<Borrowed = &'a [u8]>> Decode<R> for TimePart2<'a> {
     }
 }
 
-impl<'a, R: Lends<Borrowed = &'a [u8]>> Choice<R> for TimePart2<'a> {
+impl<'a> Choice for TimePart2<'a> {
     ghost chooses = { ⟦<TimePart2<'a> as DescribedChoice>⟧.alternative.tags };
 
     #[inline(always)]
-    fn can_decode(tag: Tag) -> bool {
-        <TimePart2Alternatives<'a> as Choice<R>>::can_decode(tag)
+    fn can_decode(tag: Tag) -> bool
+        ensures { IsTrue result ↔ ⟦<TimePart2<'a> as DescribedChoice>⟧.alternative.tags tag }
+    {
+        <TimePart2Alternatives<'a> as Choice>::can_decode(tag)
     }
+}
 
+impl<'a, R: Lends<Borrowed = &'a [u8]>> DecodeChoice<R> for TimePart2<'a> {
     ghost begins = { ⟦<TimePart2<'a> as DescribedChoice>⟧.alternative.begins };
 }
 

@@ -11,13 +11,13 @@ use der::{
     Decode, DecodeValue, Encode, Error, FieldsCall, FromFields, HasFields, Header, IsValue, Lends,
     Reader, Sequence, SliceReader, decode_sequence, field_refs,
 };
-use der_asn1::{BorrowedItem, DecodeItem, Described, Item, Nestable, OctetStringRef};
+use der_asn1::{BorrowedItem, DecodeItem, Described, Item, Nestable, OctetStringRef, WrittenItem};
 use spki::AlgorithmIdentifierRef;
 use std::alloc::Global;
 
 /// A digest with its algorithm (RFC 8017, A.2.4), which a signature of PKCS #1 v1.5 covers, borrowed
 /// from the input.
-#[derive(Clone, Copy, Drop)]
+#[derive(Clone, Copy, Debug, Drop, PartialEq, Eq)]
 pub struct DigestInfo<'a> {
     /// The hash algorithm.
     pub digest_algorithm: AlgorithmIdentifierRef<'a>,
@@ -102,6 +102,12 @@ impl<'a, R: Lends<Borrowed = &'a [u8]>> DecodeItem<R> for DigestInfo<'a> {
 
 impl<'a> BorrowedItem for DigestInfo<'a> {
     ghost borrowed = { refl };
+}
+
+impl<'a> WrittenItem for DigestInfo<'a> {
+    ghost written = { λ v. refl };
+
+    ghost writes_valid = { λ v is. is };
 }
 
 impl<'a> Nestable for DigestInfo<'a> {

@@ -12,11 +12,11 @@ use der::{
     Decode, DecodeValue, Encode, Error, FieldsCall, FromFields, HasFields, Header, IsValue, Lends,
     Reader, Sequence, SliceReader, decode_sequence, field_refs,
 };
-use der_asn1::{BorrowedItem, DecodeItem, Described, IntRef, Item, Nestable};
+use der_asn1::{BorrowedItem, DecodeItem, Described, IntRef, Item, Nestable, WrittenItem};
 use std::alloc::Global;
 
 /// A prime of a private key behind the first two (RFC 8017, A.1.2), borrowed from the input.
-#[derive(Clone, Copy, Drop)]
+#[derive(Clone, Copy, Debug, Drop, PartialEq, Eq)]
 pub struct OtherPrimeInfo<'a> {
     /// The prime factor of n.
     pub prime: IntRef<'a>,
@@ -112,6 +112,12 @@ impl<'a, R: Lends<Borrowed = &'a [u8]>> DecodeItem<R> for OtherPrimeInfo<'a> {
 
 impl<'a> BorrowedItem for OtherPrimeInfo<'a> {
     ghost borrowed = { refl };
+}
+
+impl<'a> WrittenItem for OtherPrimeInfo<'a> {
+    ghost written = { λ v. refl };
+
+    ghost writes_valid = { λ v is. is };
 }
 
 impl<'a> Nestable for OtherPrimeInfo<'a> {

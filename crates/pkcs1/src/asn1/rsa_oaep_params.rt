@@ -16,12 +16,13 @@ use der::{
 };
 use der_asn1::{
     BorrowedItem, DecodeItem, DefaultOf, DefaultedTo, Described, Explicit, Item, Nestable,
+    WrittenItem,
 };
 use spki::AlgorithmIdentifierRef;
 use std::alloc::Global;
 
 /// The parameters of encryption with OAEP (RFC 8017, A.2.1; RFC 4055, 4.1), borrowed from the input.
-#[derive(Drop)]
+#[derive(Debug, Drop, PartialEq, Eq)]
 pub struct RsaOaepParams<'a> {
     /// The hash algorithm. The default is SHA-1.
     pub hash: DefaultedTo<Explicit<AlgorithmIdentifierRef<'a>, 0>, Sha1Default>,
@@ -119,6 +120,12 @@ impl<'a, R: Lends<Borrowed = &'a [u8]>> DecodeItem<R> for RsaOaepParams<'a> {
 
 impl<'a> BorrowedItem for RsaOaepParams<'a> {
     ghost borrowed = { refl };
+}
+
+impl<'a> WrittenItem for RsaOaepParams<'a> {
+    ghost written = { λ v. refl };
+
+    ghost writes_valid = { λ v is. is };
 }
 
 impl<'a> Nestable for RsaOaepParams<'a> {

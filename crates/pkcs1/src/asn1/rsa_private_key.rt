@@ -13,12 +13,14 @@ use der::{
     Decode, DecodeValue, Encode, Error, FieldsCall, FromFields, HasFields, Header, IsValue, Lends,
     Reader, Sequence, SliceReader, decode_sequence, field_refs,
 };
-use der_asn1::{BorrowedItem, DecodeItem, Described, IntRef, Item, Nestable, Optional};
+use der_asn1::{
+    BorrowedItem, DecodeItem, Described, IntRef, Item, Nestable, Optional, WrittenItem,
+};
 use std::alloc::Global;
 
 /// A private RSA key (RFC 8017, A.1.2), borrowed from the input. That the numbers belong together
 /// is not checked.
-#[derive(Clone, Copy, Drop)]
+#[derive(Clone, Copy, Debug, Drop, PartialEq, Eq)]
 pub struct RsaPrivateKey<'a> {
     /// The version: 0 for a key with two primes, 1 for one with more. Decoding does not check this.
     pub version: IntRef<'a>,
@@ -196,6 +198,12 @@ impl<'a, R: Lends<Borrowed = &'a [u8]>> DecodeItem<R> for RsaPrivateKey<'a> {
 
 impl<'a> BorrowedItem for RsaPrivateKey<'a> {
     ghost borrowed = { refl };
+}
+
+impl<'a> WrittenItem for RsaPrivateKey<'a> {
+    ghost written = { λ v. refl };
+
+    ghost writes_valid = { λ v is. is };
 }
 
 impl<'a> Nestable for RsaPrivateKey<'a> {

@@ -16,13 +16,13 @@ use der::{
 };
 use der_asn1::{
     BorrowedItem, DecodeItem, DefaultOf, DefaultU64, DefaultValue, Defaulted, DefaultedTo,
-    Described, Explicit, IntegerOf, Item, Nestable, WithDefault,
+    Described, Explicit, IntegerOf, Item, Nestable, WithDefault, WrittenItem,
 };
 use spki::AlgorithmIdentifierRef;
 use std::alloc::Global;
 
 /// The parameters of signatures with PSS (RFC 8017, A.2.3; RFC 4055, 3.1), borrowed from the input.
-#[derive(Drop)]
+#[derive(Debug, Drop, PartialEq, Eq)]
 pub struct RsaPssParams<'a> {
     /// The hash algorithm. The default is SHA-1.
     pub hash: DefaultedTo<Explicit<AlgorithmIdentifierRef<'a>, 0>, Sha1Default>,
@@ -136,6 +136,12 @@ impl<'a, R: Lends<Borrowed = &'a [u8]>> DecodeItem<R> for RsaPssParams<'a> {
 
 impl<'a> BorrowedItem for RsaPssParams<'a> {
     ghost borrowed = { refl };
+}
+
+impl<'a> WrittenItem for RsaPssParams<'a> {
+    ghost written = { λ v. refl };
+
+    ghost writes_valid = { λ v is. is };
 }
 
 impl<'a> Nestable for RsaPssParams<'a> {

@@ -11,11 +11,11 @@ use der::{
     Decode, DecodeValue, Encode, Error, FieldsCall, FromFields, HasFields, Header, IsValue, Lends,
     Reader, Sequence, SliceReader, decode_sequence, field_refs,
 };
-use der_asn1::{BorrowedItem, DecodeItem, Described, IntRef, Item, Nestable};
+use der_asn1::{BorrowedItem, DecodeItem, Described, IntRef, Item, Nestable, WrittenItem};
 use std::alloc::Global;
 
 /// A public RSA key (RFC 8017, A.1.1), borrowed from the input.
-#[derive(Clone, Copy, Drop)]
+#[derive(Clone, Copy, Debug, Drop, PartialEq, Eq)]
 pub struct RsaPublicKey<'a> {
     /// The modulus n.
     pub modulus: IntRef<'a>,
@@ -100,6 +100,12 @@ impl<'a, R: Lends<Borrowed = &'a [u8]>> DecodeItem<R> for RsaPublicKey<'a> {
 
 impl<'a> BorrowedItem for RsaPublicKey<'a> {
     ghost borrowed = { refl };
+}
+
+impl<'a> WrittenItem for RsaPublicKey<'a> {
+    ghost written = { λ v. refl };
+
+    ghost writes_valid = { λ v is. is };
 }
 
 impl<'a> Nestable for RsaPublicKey<'a> {

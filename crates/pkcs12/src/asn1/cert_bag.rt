@@ -13,11 +13,12 @@ use der::{
 };
 use der_asn1::{
     BorrowedItem, DecodeItem, Described, ExplicitAny, Item, Nestable, ObjectIdentifierRef,
+    WrittenItem,
 };
 use std::alloc::Global;
 
 /// A certificate (RFC 7292, 4.2.3), borrowed from the input.
-#[derive(Clone, Copy, Drop)]
+#[derive(Clone, Copy, Debug, Drop, PartialEq, Eq)]
 pub struct CertBag<'a> {
     /// The type of the certificate.
     pub oid: ObjectIdentifierRef<'a>,
@@ -99,6 +100,12 @@ impl<'a, R: Lends<Borrowed = &'a [u8]>> DecodeItem<R> for CertBag<'a> {
 
 impl<'a> BorrowedItem for CertBag<'a> {
     ghost borrowed = { refl };
+}
+
+impl<'a> WrittenItem for CertBag<'a> {
+    ghost written = { λ v. refl };
+
+    ghost writes_valid = { λ v is. is };
 }
 
 impl<'a> Nestable for CertBag<'a> {

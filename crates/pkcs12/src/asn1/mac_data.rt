@@ -14,13 +14,13 @@ use der::{
 };
 use der_asn1::{
     BorrowedItem, DecodeItem, DefaultU64, DefaultValue, Defaulted, Described, IntegerOf, Item,
-    Nestable, OctetStringRef, WithDefault,
+    Nestable, OctetStringRef, WithDefault, WrittenItem,
 };
 use pkcs1::DigestInfo;
 use std::alloc::Global;
 
 /// A message authentication code with a key from a password (RFC 7292, 4), borrowed from the input.
-#[derive(Clone, Copy, Drop)]
+#[derive(Clone, Copy, Debug, Drop, PartialEq, Eq)]
 pub struct MacData<'a> {
     /// The code, with the digest algorithm of HMAC, or with PBMAC1 and its parameters (RFC 9579).
     pub mac: DigestInfo<'a>,
@@ -115,6 +115,12 @@ impl<'a, R: Lends<Borrowed = &'a [u8]>> DecodeItem<R> for MacData<'a> {
 
 impl<'a> BorrowedItem for MacData<'a> {
     ghost borrowed = { refl };
+}
+
+impl<'a> WrittenItem for MacData<'a> {
+    ghost written = { λ v. refl };
+
+    ghost writes_valid = { λ v is. is };
 }
 
 impl<'a> Nestable for MacData<'a> {

@@ -14,12 +14,14 @@ use der::{
     Decode, DecodeValue, Encode, Error, FieldsCall, FromFields, HasFields, Header, IsValue, Lends,
     Reader, Sequence, SliceReader, decode_sequence, field_refs,
 };
-use der_asn1::{BorrowedItem, DecodeItem, Described, IntRef, Item, Nestable, Optional};
+use der_asn1::{
+    BorrowedItem, DecodeItem, Described, IntRef, Item, Nestable, Optional, WrittenItem,
+};
 use std::alloc::Global;
 
 /// A file with private keys and certificates (RFC 7292, 4), borrowed from the input. Nothing is
 /// verified or decrypted.
-#[derive(Clone, Copy, Drop)]
+#[derive(Clone, Copy, Debug, Drop, PartialEq, Eq)]
 pub struct Pfx<'a> {
     /// The version, which is 3. Decoding does not check this.
     pub version: IntRef<'a>,
@@ -116,6 +118,12 @@ impl<'a, R: Lends<Borrowed = &'a [u8]>> DecodeItem<R> for Pfx<'a> {
 
 impl<'a> BorrowedItem for Pfx<'a> {
     ghost borrowed = { refl };
+}
+
+impl<'a> WrittenItem for Pfx<'a> {
+    ghost written = { λ v. refl };
+
+    ghost writes_valid = { λ v is. is };
 }
 
 impl<'a> Nestable for Pfx<'a> {

@@ -13,13 +13,14 @@ use der::{
     Reader, Sequence, SliceReader, decode_sequence, field_refs,
 };
 use der_asn1::{
-    BorrowedItem, DecodeItem, Described, ExplicitAny, Item, Nestable, ObjectIdentifierRef, Optional,
+    BorrowedItem, DecodeItem, Described, ExplicitAny, Item, Nestable, ObjectIdentifierRef,
+    Optional, WrittenItem,
 };
 use std::alloc::Global;
 use x509::Attributes;
 
 /// A bag: a private key, a certificate, or other contents (RFC 7292, 4.2), borrowed from the input.
-#[derive(Clone, Copy, Drop)]
+#[derive(Clone, Copy, Debug, Drop, PartialEq, Eq)]
 pub struct SafeBag<'a> {
     /// The type of the bag.
     pub bag_id: ObjectIdentifierRef<'a>,
@@ -119,6 +120,12 @@ impl<'a, R: Lends<Borrowed = &'a [u8]>> DecodeItem<R> for SafeBag<'a> {
 
 impl<'a> BorrowedItem for SafeBag<'a> {
     ghost borrowed = { refl };
+}
+
+impl<'a> WrittenItem for SafeBag<'a> {
+    ghost written = { λ v. refl };
+
+    ghost writes_valid = { λ v is. is };
 }
 
 impl<'a> Nestable for SafeBag<'a> {

@@ -11,13 +11,13 @@ use der::{
     Decode, DecodeValue, Encode, Error, FieldsCall, FromFields, HasFields, Header, IsValue, Lends,
     Reader, Sequence, SliceReader, decode_sequence, field_refs,
 };
-use der_asn1::{BorrowedItem, DecodeItem, Described, Item, Nestable, OctetStringRef};
+use der_asn1::{BorrowedItem, DecodeItem, Described, Item, Nestable, OctetStringRef, WrittenItem};
 use spki::AlgorithmIdentifierRef;
 use std::alloc::Global;
 
 /// An encrypted private key with the algorithm of its encryption (RFC 5958, 3), borrowed from the
 /// input.
-#[derive(Clone, Copy, Drop)]
+#[derive(Clone, Copy, Debug, Drop, PartialEq, Eq)]
 pub struct EncryptedPrivateKeyInfo<'a> {
     /// The algorithm of the encryption.
     pub encryption_algorithm: AlgorithmIdentifierRef<'a>,
@@ -107,6 +107,12 @@ impl<'a, R: Lends<Borrowed = &'a [u8]>> DecodeItem<R> for EncryptedPrivateKeyInf
 
 impl<'a> BorrowedItem for EncryptedPrivateKeyInfo<'a> {
     ghost borrowed = { refl };
+}
+
+impl<'a> WrittenItem for EncryptedPrivateKeyInfo<'a> {
+    ghost written = { λ v. refl };
+
+    ghost writes_valid = { λ v is. is };
 }
 
 impl<'a> Nestable for EncryptedPrivateKeyInfo<'a> {

@@ -11,11 +11,13 @@ use der::{
     Decode, DecodeValue, Encode, Error, FieldsCall, FromFields, HasFields, Header, IsValue, Lends,
     Reader, Sequence, SliceReader, decode_sequence, field_refs,
 };
-use der_asn1::{BorrowedItem, DecodeItem, Described, IntRef, Item, Nestable, OctetStringRef};
+use der_asn1::{
+    BorrowedItem, DecodeItem, Described, IntRef, Item, Nestable, OctetStringRef, WrittenItem,
+};
 use std::alloc::Global;
 
 /// The parameters of encryption with a password by PBES1 (RFC 8018, A.3), borrowed from the input.
-#[derive(Clone, Copy, Drop)]
+#[derive(Clone, Copy, Debug, Drop, PartialEq, Eq)]
 pub struct PbeParameter<'a> {
     /// The salt, which should have eight octets. Their number is not checked.
     pub salt: OctetStringRef<'a>,
@@ -101,6 +103,12 @@ impl<'a, R: Lends<Borrowed = &'a [u8]>> DecodeItem<R> for PbeParameter<'a> {
 
 impl<'a> BorrowedItem for PbeParameter<'a> {
     ghost borrowed = { refl };
+}
+
+impl<'a> WrittenItem for PbeParameter<'a> {
+    ghost written = { λ v. refl };
+
+    ghost writes_valid = { λ v is. is };
 }
 
 impl<'a> Nestable for PbeParameter<'a> {

@@ -11,12 +11,12 @@ use der::{
     Decode, DecodeValue, Encode, Error, FieldsCall, FromFields, HasFields, Header, IsValue, Lends,
     Reader, Sequence, SliceReader, decode_sequence, field_refs,
 };
-use der_asn1::{BorrowedItem, DecodeItem, Described, Item, Nestable};
+use der_asn1::{BorrowedItem, DecodeItem, Described, Item, Nestable, WrittenItem};
 use spki::AlgorithmIdentifierRef;
 use std::alloc::Global;
 
 /// The parameters of encryption with a password by PBES2 (RFC 8018, A.4), borrowed from the input.
-#[derive(Clone, Copy, Drop)]
+#[derive(Clone, Copy, Debug, Drop, PartialEq, Eq)]
 pub struct Pbes2Params<'a> {
     /// The algorithm that derives the key from the password.
     pub key_derivation_func: AlgorithmIdentifierRef<'a>,
@@ -105,6 +105,12 @@ impl<'a, R: Lends<Borrowed = &'a [u8]>> DecodeItem<R> for Pbes2Params<'a> {
 
 impl<'a> BorrowedItem for Pbes2Params<'a> {
     ghost borrowed = { refl };
+}
+
+impl<'a> WrittenItem for Pbes2Params<'a> {
+    ghost written = { λ v. refl };
+
+    ghost writes_valid = { λ v is. is };
 }
 
 impl<'a> Nestable for Pbes2Params<'a> {

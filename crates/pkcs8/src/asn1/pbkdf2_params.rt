@@ -17,14 +17,14 @@ use der::{
 };
 use der_asn1::{
     BorrowedItem, DecodeItem, DefaultOf, DefaultedTo, Described, DescribedChoice, IntRef, Item,
-    Nestable, Optional,
+    Nestable, Optional, WrittenItem,
 };
 use spki::AlgorithmIdentifierRef;
 use std::alloc::Global;
 
 /// The parameters of PBKDF2 (RFC 8018, A.2), borrowed from the input. The RFC requires that the
 /// numbers are positive, which decoding does not check.
-#[derive(Drop)]
+#[derive(Debug, Drop, PartialEq, Eq)]
 pub struct Pbkdf2Params<'a> {
     /// The salt.
     pub salt: Pbkdf2Salt<'a>,
@@ -135,6 +135,12 @@ impl<'a, R: Lends<Borrowed = &'a [u8]>> DecodeItem<R> for Pbkdf2Params<'a> {
 
 impl<'a> BorrowedItem for Pbkdf2Params<'a> {
     ghost borrowed = { refl };
+}
+
+impl<'a> WrittenItem for Pbkdf2Params<'a> {
+    ghost written = { λ v. refl };
+
+    ghost writes_valid = { λ v is. is };
 }
 
 impl<'a> Nestable for Pbkdf2Params<'a> {

@@ -1,7 +1,7 @@
 //! Written by asn1_compile from the module PrivateKeys: change the module instead.
 //!
 //! Pbkdf2Salt.
-ghost use Rattle.std.specs.Prelude.{false};
+ghost use Rattle.std.specs.Prelude.{◌↔◌, IsTrue, false};
 ghost use Rattle.std.proofs.Common.{refl};
 ghost use Rattle.der.specs.Prelude.{map_ok};
 ghost use Rattle.der_asn1.specs.Item.{decodes_same};
@@ -11,14 +11,14 @@ ghost use Rattle.pkcs8.specs.declared.asn1.pbkdf2_salt.Pbkdf2Salt.TheVariants as
 
 use der::{Decode, Encode, Error, FromFields, Lends, Length, Reader, SliceReader, Tag, Writer};
 use der_asn1::{
-    BorrowedItem, Choice, DecodeItem, Described, DescribedChoice, Either, Item, OctetStringRef,
-    decode_choice,
+    BorrowedItem, Choice, DecodeChoice, DecodeItem, Described, DescribedChoice, Either, Item,
+    OctetStringRef, WrittenItem, decode_choice,
 };
 use spki::AlgorithmIdentifierRef;
 use std::alloc::Global;
 
 /// A salt (RFC 8018, A.2), borrowed from the input.
-#[derive(Clone, Copy, Drop)]
+#[derive(Clone, Copy, Debug, Drop, PartialEq, Eq)]
 pub enum Pbkdf2Salt<'a> {
     /// specified
     Specified(OctetStringRef<'a>),
@@ -72,13 +72,17 @@ impl<'a, R: Lends<Borrowed = &'a [u8]>> Decode<R> for Pbkdf2Salt<'a> {
     }
 }
 
-impl<'a, R: Lends<Borrowed = &'a [u8]>> Choice<R> for Pbkdf2Salt<'a> {
+impl<'a> Choice for Pbkdf2Salt<'a> {
     ghost chooses = { ⟦<Pbkdf2Salt<'a> as DescribedChoice>⟧.alternative.tags };
 
-    fn can_decode(tag: Tag) -> bool {
-        <Pbkdf2SaltAlternatives<'a> as Choice<R>>::can_decode(tag)
+    fn can_decode(tag: Tag) -> bool
+        ensures { IsTrue result ↔ ⟦<Pbkdf2Salt<'a> as DescribedChoice>⟧.alternative.tags tag }
+    {
+        <Pbkdf2SaltAlternatives<'a> as Choice>::can_decode(tag)
     }
+}
 
+impl<'a, R: Lends<Borrowed = &'a [u8]>> DecodeChoice<R> for Pbkdf2Salt<'a> {
     ghost begins = { ⟦<Pbkdf2Salt<'a> as DescribedChoice>⟧.alternative.begins };
 }
 
@@ -138,4 +142,10 @@ impl<'a, R: Lends<Borrowed = &'a [u8]>> DecodeItem<R> for Pbkdf2Salt<'a> {
 
 impl<'a> BorrowedItem for Pbkdf2Salt<'a> {
     ghost borrowed = { refl };
+}
+
+impl<'a> WrittenItem for Pbkdf2Salt<'a> {
+    ghost written = { λ v. refl };
+
+    ghost writes_valid = { λ v is. is };
 }

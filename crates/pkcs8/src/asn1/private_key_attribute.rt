@@ -13,11 +13,12 @@ use der::{
 };
 use der_asn1::{
     AnyRef, BorrowedItem, DecodeItem, Described, Item, Nestable, ObjectIdentifierRef, SetOf,
+    WrittenItem,
 };
 use std::alloc::Global;
 
 /// An attribute of a private key (RFC 5652, 5.3), borrowed from the input.
-#[derive(Clone, Copy, Drop)]
+#[derive(Clone, Copy, Debug, Drop, PartialEq, Eq)]
 pub struct PrivateKeyAttribute<'a> {
     /// The type of the attribute, as an object identifier.
     pub oid: ObjectIdentifierRef<'a>,
@@ -101,6 +102,12 @@ impl<'a, R: Lends<Borrowed = &'a [u8]>> DecodeItem<R> for PrivateKeyAttribute<'a
 
 impl<'a> BorrowedItem for PrivateKeyAttribute<'a> {
     ghost borrowed = { refl };
+}
+
+impl<'a> WrittenItem for PrivateKeyAttribute<'a> {
+    ghost written = { λ v. refl };
+
+    ghost writes_valid = { λ v is. is };
 }
 
 impl<'a> Nestable for PrivateKeyAttribute<'a> {

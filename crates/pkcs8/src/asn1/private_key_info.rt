@@ -16,14 +16,14 @@ use der::{
 };
 use der_asn1::{
     BitStringRef, BorrowedItem, DecodeItem, Described, Implicit, Item, NamedInteger, Nestable,
-    OctetStringRef, Optional,
+    OctetStringRef, Optional, WrittenItem,
 };
 use spki::AlgorithmIdentifierRef;
 use std::alloc::Global;
 
 /// A private key with its algorithm (RFC 5958, 2, where it is OneAsymmetricKey), borrowed from the
 /// input.
-#[derive(Clone, Copy, Drop)]
+#[derive(Clone, Copy, Debug, Drop, PartialEq, Eq)]
 pub struct PrivateKeyInfo<'a> {
     /// The version of the format, 1 or 2.
     pub version: NamedInteger<Version>,
@@ -155,6 +155,12 @@ impl<'a, R: Lends<Borrowed = &'a [u8]>> DecodeItem<R> for PrivateKeyInfo<'a> {
 
 impl<'a> BorrowedItem for PrivateKeyInfo<'a> {
     ghost borrowed = { refl };
+}
+
+impl<'a> WrittenItem for PrivateKeyInfo<'a> {
+    ghost written = { λ v. refl };
+
+    ghost writes_valid = { λ v is. is };
 }
 
 impl<'a> Nestable for PrivateKeyInfo<'a> {

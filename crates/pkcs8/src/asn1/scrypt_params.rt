@@ -14,12 +14,13 @@ use der::{
 };
 use der_asn1::{
     BorrowedItem, DecodeItem, Described, IntRef, Item, Nestable, OctetStringRef, Optional,
+    WrittenItem,
 };
 use std::alloc::Global;
 
 /// The parameters of scrypt (RFC 7914, 7), borrowed from the input. The RFC requires that the
 /// numbers are positive, which decoding does not check.
-#[derive(Clone, Copy, Drop)]
+#[derive(Clone, Copy, Debug, Drop, PartialEq, Eq)]
 pub struct ScryptParams<'a> {
     /// The salt.
     pub salt: OctetStringRef<'a>,
@@ -147,6 +148,12 @@ impl<'a, R: Lends<Borrowed = &'a [u8]>> DecodeItem<R> for ScryptParams<'a> {
 
 impl<'a> BorrowedItem for ScryptParams<'a> {
     ghost borrowed = { refl };
+}
+
+impl<'a> WrittenItem for ScryptParams<'a> {
+    ghost written = { λ v. refl };
+
+    ghost writes_valid = { λ v is. is };
 }
 
 impl<'a> Nestable for ScryptParams<'a> {

@@ -14,11 +14,12 @@ use der::{
 };
 use der_asn1::{
     AnyRef, BorrowedItem, DecodeItem, Described, IntRef, Item, Nestable, ObjectIdentifierRef,
+    WrittenItem,
 };
 use std::alloc::Global;
 
 /// A field of 2^m elements (SEC 1, C.1), borrowed from the input.
-#[derive(Clone, Copy, Drop)]
+#[derive(Clone, Copy, Debug, Drop, PartialEq, Eq)]
 pub struct CharacteristicTwo<'a> {
     /// The power m.
     pub m: IntRef<'a>,
@@ -109,6 +110,12 @@ impl<'a, R: Lends<Borrowed = &'a [u8]>> DecodeItem<R> for CharacteristicTwo<'a> 
 
 impl<'a> BorrowedItem for CharacteristicTwo<'a> {
     ghost borrowed = { refl };
+}
+
+impl<'a> WrittenItem for CharacteristicTwo<'a> {
+    ghost written = { λ v. refl };
+
+    ghost writes_valid = { λ v is. is };
 }
 
 impl<'a> Nestable for CharacteristicTwo<'a> {

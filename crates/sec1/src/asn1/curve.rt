@@ -13,11 +13,13 @@ use der::{
     Decode, DecodeValue, Encode, Error, FieldsCall, FromFields, HasFields, Header, IsValue, Lends,
     Reader, Sequence, SliceReader, decode_sequence, field_refs,
 };
-use der_asn1::{BitStringRef, BorrowedItem, DecodeItem, Described, Item, Nestable, Optional};
+use der_asn1::{
+    BitStringRef, BorrowedItem, DecodeItem, Described, Item, Nestable, Optional, WrittenItem,
+};
 use std::alloc::Global;
 
 /// The coefficients of a curve (SEC 1, C.2; RFC 3279, 2.3.5), borrowed from the input.
-#[derive(Clone, Copy, Drop)]
+#[derive(Clone, Copy, Debug, Drop, PartialEq, Eq)]
 pub struct Curve<'a> {
     /// The coefficient a.
     pub a: FieldElement<'a>,
@@ -109,6 +111,12 @@ impl<'a, R: Lends<Borrowed = &'a [u8]>> DecodeItem<R> for Curve<'a> {
 
 impl<'a> BorrowedItem for Curve<'a> {
     ghost borrowed = { refl };
+}
+
+impl<'a> WrittenItem for Curve<'a> {
+    ghost written = { λ v. refl };
+
+    ghost writes_valid = { λ v is. is };
 }
 
 impl<'a> Nestable for Curve<'a> {

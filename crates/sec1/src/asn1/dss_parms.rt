@@ -12,11 +12,11 @@ use der::{
     Decode, DecodeValue, Encode, Error, FieldsCall, FromFields, HasFields, Header, IsValue, Lends,
     Reader, Sequence, SliceReader, decode_sequence, field_refs,
 };
-use der_asn1::{BorrowedItem, DecodeItem, Described, IntRef, Item, Nestable};
+use der_asn1::{BorrowedItem, DecodeItem, Described, IntRef, Item, Nestable, WrittenItem};
 use std::alloc::Global;
 
 /// The parameters of DSA keys (RFC 3279, 2.3.2), borrowed from the input.
-#[derive(Clone, Copy, Drop)]
+#[derive(Clone, Copy, Debug, Drop, PartialEq, Eq)]
 pub struct DssParms<'a> {
     /// The modulus p.
     pub p: IntRef<'a>,
@@ -102,6 +102,12 @@ impl<'a, R: Lends<Borrowed = &'a [u8]>> DecodeItem<R> for DssParms<'a> {
 
 impl<'a> BorrowedItem for DssParms<'a> {
     ghost borrowed = { refl };
+}
+
+impl<'a> WrittenItem for DssParms<'a> {
+    ghost written = { λ v. refl };
+
+    ghost writes_valid = { λ v is. is };
 }
 
 impl<'a> Nestable for DssParms<'a> {

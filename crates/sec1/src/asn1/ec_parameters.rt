@@ -1,7 +1,7 @@
 //! Written by asn1_compile from the module SEC1: change the module instead.
 //!
 //! EcParameters.
-ghost use Rattle.std.specs.Prelude.{false};
+ghost use Rattle.std.specs.Prelude.{◌↔◌, IsTrue, false};
 ghost use Rattle.std.proofs.Common.{refl};
 ghost use Rattle.der.specs.Prelude.{map_ok};
 ghost use Rattle.der_asn1.specs.Item.{decodes_same};
@@ -14,14 +14,14 @@ use crate::asn1::ec_parameters_part2::EcParametersPart2;
 use crate::asn1::specified_ec_domain::SpecifiedEcDomain;
 use der::{Decode, Encode, Error, FromFields, Lends, Length, Reader, SliceReader, Tag, Writer};
 use der_asn1::{
-    BorrowedItem, Choice, DecodeItem, DescribedChoice, Either, Item, Null, ObjectIdentifierRef,
-    decode_choice,
+    BorrowedItem, Choice, DecodeChoice, DecodeItem, DescribedChoice, Either, Item, Null,
+    ObjectIdentifierRef, WrittenItem, decode_choice,
 };
 use std::alloc::Global;
 
 /// An elliptic curve (RFC 5480, 2.1.1; SEC 1, C.2). RFC 5480 requires `namedCurve` in certificates;
 /// decoding accepts all three.
-#[derive(Clone, Copy, Drop)]
+#[derive(Clone, Copy, Debug, Drop, PartialEq, Eq)]
 pub enum EcParameters<'a> {
     /// namedCurve
     NamedCurve(ObjectIdentifierRef<'a>),
@@ -88,13 +88,17 @@ impl<'a, R: Lends<Borrowed = &'a [u8]>> Decode<R> for EcParameters<'a> {
     }
 }
 
-impl<'a, R: Lends<Borrowed = &'a [u8]>> Choice<R> for EcParameters<'a> {
+impl<'a> Choice for EcParameters<'a> {
     ghost chooses = { ⟦<EcParameters<'a> as DescribedChoice>⟧.alternative.tags };
 
-    fn can_decode(tag: Tag) -> bool {
-        <EcParametersAlternatives<'a> as Choice<R>>::can_decode(tag)
+    fn can_decode(tag: Tag) -> bool
+        ensures { IsTrue result ↔ ⟦<EcParameters<'a> as DescribedChoice>⟧.alternative.tags tag }
+    {
+        <EcParametersAlternatives<'a> as Choice>::can_decode(tag)
     }
+}
 
+impl<'a, R: Lends<Borrowed = &'a [u8]>> DecodeChoice<R> for EcParameters<'a> {
     ghost begins = { ⟦<EcParameters<'a> as DescribedChoice>⟧.alternative.begins };
 }
 
@@ -158,4 +162,10 @@ impl<'a, R: Lends<Borrowed = &'a [u8]>> DecodeItem<R> for EcParameters<'a> {
 
 impl<'a> BorrowedItem for EcParameters<'a> {
     ghost borrowed = { refl };
+}
+
+impl<'a> WrittenItem for EcParameters<'a> {
+    ghost written = { λ v. refl };
+
+    ghost writes_valid = { λ v is. is };
 }

@@ -1,13 +1,14 @@
 //! Written by asn1_compile from the module SEC1: change the module instead.
 //!
 //! EcParametersPart1.
-ghost use Rattle.std.specs.Prelude.{false};
+ghost use Rattle.std.specs.Prelude.{◌↔◌, IsTrue, false};
 ghost use Rattle.der.specs.Prelude.{map_ok};
 ghost use Rattle.der_asn1.specs.Meaning.{alternative, choice_of, either};
 
 use der::{Decode, Encode, Error, FromFields, Lends, Length, Reader, SliceReader, Tag, Writer};
 use der_asn1::{
-    Choice, Described, DescribedChoice, Either, Null, ObjectIdentifierRef, decode_choice,
+    Choice, DecodeChoice, Described, DescribedChoice, Either, Null, ObjectIdentifierRef,
+    decode_choice,
 };
 use std::alloc::Global;
 
@@ -56,14 +57,19 @@ impl<'a, R: Lends<Borrowed = &'a [u8]>> Decode<R> for EcParametersPart1<'a> {
     }
 }
 
-impl<'a, R: Lends<Borrowed = &'a [u8]>> Choice<R> for EcParametersPart1<'a> {
+impl<'a> Choice for EcParametersPart1<'a> {
     ghost chooses = { ⟦<EcParametersPart1<'a> as DescribedChoice>⟧.alternative.tags };
 
     #[inline(always)]
-    fn can_decode(tag: Tag) -> bool {
-        <EcParametersPart1Alternatives<'a> as Choice<R>>::can_decode(tag)
+    fn can_decode(tag: Tag) -> bool
+        ensures { IsTrue result ↔
+            ⟦<EcParametersPart1<'a> as DescribedChoice>⟧.alternative.tags tag }
+    {
+        <EcParametersPart1Alternatives<'a> as Choice>::can_decode(tag)
     }
+}
 
+impl<'a, R: Lends<Borrowed = &'a [u8]>> DecodeChoice<R> for EcParametersPart1<'a> {
     ghost begins = { ⟦<EcParametersPart1<'a> as DescribedChoice>⟧.alternative.begins };
 }
 

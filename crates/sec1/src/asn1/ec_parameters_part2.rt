@@ -1,13 +1,13 @@
 //! Written by asn1_compile from the module SEC1: change the module instead.
 //!
 //! EcParametersPart2.
-ghost use Rattle.std.specs.Prelude.{false};
+ghost use Rattle.std.specs.Prelude.{◌↔◌, IsTrue, false};
 ghost use Rattle.der.specs.Prelude.{map_ok};
 ghost use Rattle.der_asn1.specs.Meaning.{alternative, choice_of};
 
 use crate::asn1::specified_ec_domain::SpecifiedEcDomain;
 use der::{Decode, Encode, Error, FromFields, Lends, Length, Reader, SliceReader, Tag, Writer};
-use der_asn1::{Choice, Described, DescribedChoice, decode_choice};
+use der_asn1::{Choice, DecodeChoice, Described, DescribedChoice, decode_choice};
 use std::alloc::Global;
 
 // Some alternatives of a EcParameters.
@@ -54,14 +54,19 @@ impl<'a, R: Lends<Borrowed = &'a [u8]>> Decode<R> for EcParametersPart2<'a> {
     }
 }
 
-impl<'a, R: Lends<Borrowed = &'a [u8]>> Choice<R> for EcParametersPart2<'a> {
+impl<'a> Choice for EcParametersPart2<'a> {
     ghost chooses = { ⟦<EcParametersPart2<'a> as DescribedChoice>⟧.alternative.tags };
 
     #[inline(always)]
-    fn can_decode(tag: Tag) -> bool {
-        <EcParametersPart2Alternatives<'a> as Choice<R>>::can_decode(tag)
+    fn can_decode(tag: Tag) -> bool
+        ensures { IsTrue result ↔
+            ⟦<EcParametersPart2<'a> as DescribedChoice>⟧.alternative.tags tag }
+    {
+        <EcParametersPart2Alternatives<'a> as Choice>::can_decode(tag)
     }
+}
 
+impl<'a, R: Lends<Borrowed = &'a [u8]>> DecodeChoice<R> for EcParametersPart2<'a> {
     ghost begins = { ⟦<EcParametersPart2<'a> as DescribedChoice>⟧.alternative.begins };
 }
 

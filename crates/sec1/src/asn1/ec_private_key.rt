@@ -15,12 +15,12 @@ use der::{
 };
 use der_asn1::{
     BitStringRef, BorrowedItem, DecodeItem, Described, Explicit, Implicit, IntRef, Item, Nestable,
-    OctetStringRef, Optional,
+    OctetStringRef, Optional, WrittenItem,
 };
 use std::alloc::Global;
 
 /// A private key of an elliptic curve (RFC 5915, 3), borrowed from the input.
-#[derive(Clone, Copy, Drop)]
+#[derive(Clone, Copy, Debug, Drop, PartialEq, Eq)]
 pub struct EcPrivateKey<'a> {
     /// The version, which should be 1. Decoding does not check this.
     pub version: IntRef<'a>,
@@ -129,6 +129,12 @@ impl<'a, R: Lends<Borrowed = &'a [u8]>> DecodeItem<R> for EcPrivateKey<'a> {
 
 impl<'a> BorrowedItem for EcPrivateKey<'a> {
     ghost borrowed = { refl };
+}
+
+impl<'a> WrittenItem for EcPrivateKey<'a> {
+    ghost written = { λ v. refl };
+
+    ghost writes_valid = { λ v is. is };
 }
 
 impl<'a> Nestable for EcPrivateKey<'a> {

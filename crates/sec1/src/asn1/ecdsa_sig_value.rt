@@ -11,11 +11,11 @@ use der::{
     Decode, DecodeValue, Encode, Error, FieldsCall, FromFields, HasFields, Header, IsValue, Lends,
     Reader, Sequence, SliceReader, decode_sequence, field_refs,
 };
-use der_asn1::{BorrowedItem, DecodeItem, Described, IntRef, Item, Nestable};
+use der_asn1::{BorrowedItem, DecodeItem, Described, IntRef, Item, Nestable, WrittenItem};
 use std::alloc::Global;
 
 /// A signature of ECDSA (RFC 3279, 2.2.3), borrowed from the input.
-#[derive(Clone, Copy, Drop)]
+#[derive(Clone, Copy, Debug, Drop, PartialEq, Eq)]
 pub struct EcdsaSigValue<'a> {
     /// The number r.
     pub r: IntRef<'a>,
@@ -97,6 +97,12 @@ impl<'a, R: Lends<Borrowed = &'a [u8]>> DecodeItem<R> for EcdsaSigValue<'a> {
 
 impl<'a> BorrowedItem for EcdsaSigValue<'a> {
     ghost borrowed = { refl };
+}
+
+impl<'a> WrittenItem for EcdsaSigValue<'a> {
+    ghost written = { λ v. refl };
+
+    ghost writes_valid = { λ v is. is };
 }
 
 impl<'a> Nestable for EcdsaSigValue<'a> {

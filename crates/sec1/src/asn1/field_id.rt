@@ -11,11 +11,13 @@ use der::{
     Decode, DecodeValue, Encode, Error, FieldsCall, FromFields, HasFields, Header, IsValue, Lends,
     Reader, Sequence, SliceReader, decode_sequence, field_refs,
 };
-use der_asn1::{AnyRef, BorrowedItem, DecodeItem, Described, Item, Nestable, ObjectIdentifierRef};
+use der_asn1::{
+    AnyRef, BorrowedItem, DecodeItem, Described, Item, Nestable, ObjectIdentifierRef, WrittenItem,
+};
 use std::alloc::Global;
 
 /// A field (SEC 1, C.1; RFC 3279, 2.3.5), borrowed from the input.
-#[derive(Clone, Copy, Drop)]
+#[derive(Clone, Copy, Debug, Drop, PartialEq, Eq)]
 pub struct FieldId<'a> {
     /// The type of the field.
     pub field_type: ObjectIdentifierRef<'a>,
@@ -100,6 +102,12 @@ impl<'a, R: Lends<Borrowed = &'a [u8]>> DecodeItem<R> for FieldId<'a> {
 
 impl<'a> BorrowedItem for FieldId<'a> {
     ghost borrowed = { refl };
+}
+
+impl<'a> WrittenItem for FieldId<'a> {
+    ghost written = { λ v. refl };
+
+    ghost writes_valid = { λ v is. is };
 }
 
 impl<'a> Nestable for FieldId<'a> {

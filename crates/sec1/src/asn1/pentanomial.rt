@@ -12,11 +12,11 @@ use der::{
     Decode, DecodeValue, Encode, Error, FieldsCall, FromFields, HasFields, Header, IsValue, Lends,
     Reader, Sequence, SliceReader, decode_sequence, field_refs,
 };
-use der_asn1::{BorrowedItem, DecodeItem, Described, IntRef, Item, Nestable};
+use der_asn1::{BorrowedItem, DecodeItem, Described, IntRef, Item, Nestable, WrittenItem};
 use std::alloc::Global;
 
 /// The exponents of x^m + x^k3 + x^k2 + x^k1 + 1 (SEC 1, C.1), borrowed from the input.
-#[derive(Clone, Copy, Drop)]
+#[derive(Clone, Copy, Debug, Drop, PartialEq, Eq)]
 pub struct Pentanomial<'a> {
     /// k1
     pub k1: IntRef<'a>,
@@ -102,6 +102,12 @@ impl<'a, R: Lends<Borrowed = &'a [u8]>> DecodeItem<R> for Pentanomial<'a> {
 
 impl<'a> BorrowedItem for Pentanomial<'a> {
     ghost borrowed = { refl };
+}
+
+impl<'a> WrittenItem for Pentanomial<'a> {
+    ghost written = { λ v. refl };
+
+    ghost writes_valid = { λ v is. is };
 }
 
 impl<'a> Nestable for Pentanomial<'a> {

@@ -15,13 +15,15 @@ use der::{
     Decode, DecodeValue, Encode, Error, FieldsCall, FromFields, HasFields, Header, IsValue, Lends,
     Reader, Sequence, SliceReader, decode_sequence, field_refs,
 };
-use der_asn1::{BorrowedItem, DecodeItem, Described, IntRef, Item, Nestable, Optional};
+use der_asn1::{
+    BorrowedItem, DecodeItem, Described, IntRef, Item, Nestable, Optional, WrittenItem,
+};
 use spki::AlgorithmIdentifierRef;
 use std::alloc::Global;
 
 /// A curve that its numbers specify (SEC 1, C.2; RFC 3279, 2.3.5, where it is ECParameters),
 /// borrowed from the input.
-#[derive(Clone, Copy, Drop)]
+#[derive(Clone, Copy, Debug, Drop, PartialEq, Eq)]
 pub struct SpecifiedEcDomain<'a> {
     /// The version, which should be 1, 2 or 3. Decoding does not check this.
     pub version: IntRef<'a>,
@@ -151,6 +153,12 @@ impl<'a, R: Lends<Borrowed = &'a [u8]>> DecodeItem<R> for SpecifiedEcDomain<'a> 
 
 impl<'a> BorrowedItem for SpecifiedEcDomain<'a> {
     ghost borrowed = { refl };
+}
+
+impl<'a> WrittenItem for SpecifiedEcDomain<'a> {
+    ghost written = { λ v. refl };
+
+    ghost writes_valid = { λ v is. is };
 }
 
 impl<'a> Nestable for SpecifiedEcDomain<'a> {

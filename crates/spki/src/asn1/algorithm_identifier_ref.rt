@@ -13,11 +13,12 @@ use der::{
 };
 use der_asn1::{
     AnyRef, BorrowedItem, DecodeItem, Described, Item, Nestable, ObjectIdentifierRef, Optional,
+    WrittenItem,
 };
 use std::alloc::Global;
 
 /// An algorithm with its parameters (RFC 5280, 4.1.1.2), borrowed from the input.
-#[derive(Clone, Copy, Drop)]
+#[derive(Clone, Copy, Debug, Drop, PartialEq, Eq)]
 pub struct AlgorithmIdentifierRef<'a> {
     /// The object identifier of the algorithm.
     pub oid: ObjectIdentifierRef<'a>,
@@ -101,6 +102,12 @@ impl<'a, R: Lends<Borrowed = &'a [u8]>> DecodeItem<R> for AlgorithmIdentifierRef
 
 impl<'a> BorrowedItem for AlgorithmIdentifierRef<'a> {
     ghost borrowed = { refl };
+}
+
+impl<'a> WrittenItem for AlgorithmIdentifierRef<'a> {
+    ghost written = { λ v. refl };
+
+    ghost writes_valid = { λ v is. is };
 }
 
 impl<'a> Nestable for AlgorithmIdentifierRef<'a> {

@@ -12,11 +12,11 @@ use der::{
     Decode, DecodeValue, Encode, Error, FieldsCall, FromFields, HasFields, Header, IsValue, Lends,
     Reader, Sequence, SliceReader, decode_sequence, field_refs,
 };
-use der_asn1::{BitStringRef, BorrowedItem, DecodeItem, Described, Item, Nestable};
+use der_asn1::{BitStringRef, BorrowedItem, DecodeItem, Described, Item, Nestable, WrittenItem};
 use std::alloc::Global;
 
 /// A public key with its algorithm (RFC 5280, 4.1.2.7), borrowed from the input.
-#[derive(Clone, Copy, Drop)]
+#[derive(Clone, Copy, Debug, Drop, PartialEq, Eq)]
 pub struct SubjectPublicKeyInfoRef<'a> {
     /// The algorithm of the key.
     pub algorithm: AlgorithmIdentifierRef<'a>,
@@ -106,6 +106,12 @@ impl<'a, R: Lends<Borrowed = &'a [u8]>> DecodeItem<R> for SubjectPublicKeyInfoRe
 
 impl<'a> BorrowedItem for SubjectPublicKeyInfoRef<'a> {
     ghost borrowed = { refl };
+}
+
+impl<'a> WrittenItem for SubjectPublicKeyInfoRef<'a> {
+    ghost written = { λ v. refl };
+
+    ghost writes_valid = { λ v is. is };
 }
 
 impl<'a> Nestable for SubjectPublicKeyInfoRef<'a> {

@@ -14,12 +14,12 @@ use der::{
 };
 use der_asn1::{
     BooleanRef, BorrowedItem, DecodeItem, Described, GeneralizedTime, IntRef, Item, Nestable,
-    SequenceOf, Utf8StringRef,
+    SequenceOf, Utf8StringRef, WrittenItem,
 };
 use std::alloc::Global;
 
 /// A visit, borrowed from the input.
-#[derive(Clone, Copy, Drop)]
+#[derive(Clone, Copy, Debug, Drop, PartialEq, Eq)]
 pub struct Visit<'a> {
     /// The number of the ticket.
     pub ticket: IntRef<'a>,
@@ -129,6 +129,12 @@ impl<'a, R: Lends<Borrowed = &'a [u8]>> DecodeItem<R> for Visit<'a> {
 
 impl<'a> BorrowedItem for Visit<'a> {
     ghost borrowed = { refl };
+}
+
+impl<'a> WrittenItem for Visit<'a> {
+    ghost written = { λ v. refl };
+
+    ghost writes_valid = { λ v is. is };
 }
 
 impl<'a> Nestable for Visit<'a> {

@@ -14,11 +14,12 @@ use der::{
 };
 use der_asn1::{
     BorrowedItem, DecodeItem, Described, DescribedChoice, Item, Nestable, ObjectIdentifierRef,
+    WrittenItem,
 };
 use std::alloc::Global;
 
 /// Where information is found (RFC 5280, 4.2.2.1), borrowed from the input.
-#[derive(Clone, Copy, Drop)]
+#[derive(Clone, Copy, Debug, Drop, PartialEq, Eq)]
 pub struct AccessDescription<'a> {
     /// The kind of the information.
     pub access_method: ObjectIdentifierRef<'a>,
@@ -118,6 +119,12 @@ impl<'a, R: Lends<Borrowed = &'a [u8]>> DecodeItem<R> for AccessDescription<'a> 
 
 impl<'a> BorrowedItem for AccessDescription<'a> {
     ghost borrowed = { refl };
+}
+
+impl<'a> WrittenItem for AccessDescription<'a> {
+    ghost written = { λ v. refl };
+
+    ghost writes_valid = { λ v is. is };
 }
 
 impl<'a> Nestable for AccessDescription<'a> {

@@ -12,11 +12,13 @@ use der::{
     Decode, DecodeValue, Encode, Error, FieldsCall, FromFields, HasFields, Header, IsValue, Lends,
     Reader, Sequence, SliceReader, decode_sequence, field_refs,
 };
-use der_asn1::{BorrowedItem, DecodeItem, Described, Item, Nestable, ObjectIdentifierRef};
+use der_asn1::{
+    BorrowedItem, DecodeItem, Described, Item, Nestable, ObjectIdentifierRef, WrittenItem,
+};
 use std::alloc::Global;
 
 /// An attribute with its values (RFC 2986, 4.1; RFC 5280, 4.2.1.8), borrowed from the input.
-#[derive(Clone, Copy, Drop)]
+#[derive(Clone, Copy, Debug, Drop, PartialEq, Eq)]
 pub struct Attribute<'a> {
     /// The type of the attribute, as an object identifier.
     pub oid: ObjectIdentifierRef<'a>,
@@ -98,6 +100,12 @@ impl<'a, R: Lends<Borrowed = &'a [u8]>> DecodeItem<R> for Attribute<'a> {
 
 impl<'a> BorrowedItem for Attribute<'a> {
     ghost borrowed = { refl };
+}
+
+impl<'a> WrittenItem for Attribute<'a> {
+    ghost written = { λ v. refl };
+
+    ghost writes_valid = { λ v is. is };
 }
 
 impl<'a> Nestable for Attribute<'a> {

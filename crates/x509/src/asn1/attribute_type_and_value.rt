@@ -11,11 +11,13 @@ use der::{
     Decode, DecodeValue, Encode, Error, FieldsCall, FromFields, HasFields, Header, IsValue, Lends,
     Reader, Sequence, SliceReader, decode_sequence, field_refs,
 };
-use der_asn1::{AnyRef, BorrowedItem, DecodeItem, Described, Item, Nestable, ObjectIdentifierRef};
+use der_asn1::{
+    AnyRef, BorrowedItem, DecodeItem, Described, Item, Nestable, ObjectIdentifierRef, WrittenItem,
+};
 use std::alloc::Global;
 
 /// An attribute of a name (RFC 5280, 4.1.2.4), borrowed from the input.
-#[derive(Clone, Copy, Drop)]
+#[derive(Clone, Copy, Debug, Drop, PartialEq, Eq)]
 pub struct AttributeTypeAndValue<'a> {
     /// The type of the attribute, as an object identifier.
     pub oid: ObjectIdentifierRef<'a>,
@@ -97,6 +99,12 @@ impl<'a, R: Lends<Borrowed = &'a [u8]>> DecodeItem<R> for AttributeTypeAndValue<
 
 impl<'a> BorrowedItem for AttributeTypeAndValue<'a> {
     ghost borrowed = { refl };
+}
+
+impl<'a> WrittenItem for AttributeTypeAndValue<'a> {
+    ghost written = { λ v. refl };
+
+    ghost writes_valid = { λ v is. is };
 }
 
 impl<'a> Nestable for AttributeTypeAndValue<'a> {

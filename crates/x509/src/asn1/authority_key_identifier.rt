@@ -15,12 +15,14 @@ use der::{
     Decode, DecodeValue, Encode, Error, FieldsCall, FromFields, HasFields, Header, IsValue, Lends,
     Reader, Sequence, SliceReader, decode_sequence, field_refs,
 };
-use der_asn1::{BorrowedItem, DecodeItem, Described, Implicit, Item, Nestable, Optional};
+use der_asn1::{
+    BorrowedItem, DecodeItem, Described, Implicit, Item, Nestable, Optional, WrittenItem,
+};
 use std::alloc::Global;
 
 /// Which key of the issuer signed the certificate or the list (RFC 5280, 4.2.1.1 and 5.2.1),
 /// borrowed from the input.
-#[derive(Clone, Copy, Drop)]
+#[derive(Clone, Copy, Debug, Drop, PartialEq, Eq)]
 pub struct AuthorityKeyIdentifier<'a> {
     /// The identifier of the issuer's key, if present.
     pub key_identifier: Optional<Implicit<KeyIdentifier<'a>, 0>>,
@@ -137,6 +139,12 @@ impl<'a, R: Lends<Borrowed = &'a [u8]>> DecodeItem<R> for AuthorityKeyIdentifier
 
 impl<'a> BorrowedItem for AuthorityKeyIdentifier<'a> {
     ghost borrowed = { refl };
+}
+
+impl<'a> WrittenItem for AuthorityKeyIdentifier<'a> {
+    ghost written = { λ v. refl };
+
+    ghost writes_valid = { λ v is. is };
 }
 
 impl<'a> Nestable for AuthorityKeyIdentifier<'a> {

@@ -13,13 +13,13 @@ use der::{
 };
 use der_asn1::{
     BooleanRef, BorrowedItem, DecodeItem, DefaultValue, Defaulted, Described, IntRef, Item,
-    Nestable, Optional,
+    Nestable, Optional, WrittenItem,
 };
 use std::alloc::Global;
 
 /// Whether the subject is a certification authority, and how many of them may follow it (RFC 5280,
 /// 4.2.1.9), borrowed from the input.
-#[derive(Clone, Copy, Drop)]
+#[derive(Clone, Copy, Debug, Drop, PartialEq, Eq)]
 pub struct BasicConstraints<'a> {
     /// Whether the subject is a certification authority. The default is false.
     pub ca: Defaulted<BooleanRef<'a>>,
@@ -108,6 +108,12 @@ impl<'a, R: Lends<Borrowed = &'a [u8]>> DecodeItem<R> for BasicConstraints<'a> {
 
 impl<'a> BorrowedItem for BasicConstraints<'a> {
     ghost borrowed = { refl };
+}
+
+impl<'a> WrittenItem for BasicConstraints<'a> {
+    ghost written = { λ v. refl };
+
+    ghost writes_valid = { λ v is. is };
 }
 
 impl<'a> Nestable for BasicConstraints<'a> {

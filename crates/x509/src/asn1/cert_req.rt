@@ -13,12 +13,12 @@ use der::{
     Decode, DecodeValue, Encode, Error, FieldsCall, FromFields, HasFields, Header, IsValue, Lends,
     Reader, Sequence, SliceReader, decode_sequence, field_refs,
 };
-use der_asn1::{BitStringRef, BorrowedItem, DecodeItem, Described, Item, Nestable};
+use der_asn1::{BitStringRef, BorrowedItem, DecodeItem, Described, Item, Nestable, WrittenItem};
 use spki::AlgorithmIdentifierRef;
 use std::alloc::Global;
 
 /// A certification request (RFC 2986, 4.2), borrowed from the input.
-#[derive(Clone, Copy, Drop)]
+#[derive(Clone, Copy, Debug, Drop, PartialEq, Eq)]
 pub struct CertReq<'a> {
     /// The part of the request that the signature covers.
     pub info: CertReqInfo<'a>,
@@ -112,6 +112,12 @@ impl<'a, R: Lends<Borrowed = &'a [u8]>> DecodeItem<R> for CertReq<'a> {
 
 impl<'a> BorrowedItem for CertReq<'a> {
     ghost borrowed = { refl };
+}
+
+impl<'a> WrittenItem for CertReq<'a> {
+    ghost written = { λ v. refl };
+
+    ghost writes_valid = { λ v is. is };
 }
 
 impl<'a> Nestable for CertReq<'a> {

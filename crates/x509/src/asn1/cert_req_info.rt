@@ -15,13 +15,15 @@ use der::{
     Decode, DecodeValue, Encode, Error, FieldsCall, FromFields, HasFields, Header, IsValue, Lends,
     Reader, Sequence, SliceReader, decode_sequence, field_refs,
 };
-use der_asn1::{BorrowedItem, DecodeItem, Described, Implicit, Item, NamedInteger, Nestable};
+use der_asn1::{
+    BorrowedItem, DecodeItem, Described, Implicit, Item, NamedInteger, Nestable, WrittenItem,
+};
 use spki::SubjectPublicKeyInfoRef;
 use std::alloc::Global;
 
 /// The part of a certification request that its signature covers (RFC 2986, 4.1), borrowed from the
 /// input.
-#[derive(Clone, Copy, Drop)]
+#[derive(Clone, Copy, Debug, Drop, PartialEq, Eq)]
 pub struct CertReqInfo<'a> {
     /// The version of the request. Only version 1 is accepted.
     pub version: NamedInteger<CertReqVersion>,
@@ -126,6 +128,12 @@ impl<'a, R: Lends<Borrowed = &'a [u8]>> DecodeItem<R> for CertReqInfo<'a> {
 
 impl<'a> BorrowedItem for CertReqInfo<'a> {
     ghost borrowed = { refl };
+}
+
+impl<'a> WrittenItem for CertReqInfo<'a> {
+    ghost written = { λ v. refl };
+
+    ghost writes_valid = { λ v is. is };
 }
 
 impl<'a> Nestable for CertReqInfo<'a> {

@@ -13,12 +13,12 @@ use der::{
     Decode, DecodeValue, Encode, Error, FieldsCall, FromFields, HasFields, Header, IsValue, Lends,
     Reader, Sequence, SliceReader, decode_sequence, field_refs,
 };
-use der_asn1::{BitStringRef, BorrowedItem, DecodeItem, Described, Item, Nestable};
+use der_asn1::{BitStringRef, BorrowedItem, DecodeItem, Described, Item, Nestable, WrittenItem};
 use spki::AlgorithmIdentifierRef;
 use std::alloc::Global;
 
 /// A certificate (RFC 5280, 4.1), borrowed from the input.
-#[derive(Clone, Copy, Drop)]
+#[derive(Clone, Copy, Debug, Drop, PartialEq, Eq)]
 pub struct Certificate<'a> {
     /// The part of the certificate that the signature covers.
     pub tbs_certificate: TbsCertificate<'a>,
@@ -116,6 +116,12 @@ impl<'a, R: Lends<Borrowed = &'a [u8]>> DecodeItem<R> for Certificate<'a> {
 
 impl<'a> BorrowedItem for Certificate<'a> {
     ghost borrowed = { refl };
+}
+
+impl<'a> WrittenItem for Certificate<'a> {
+    ghost written = { λ v. refl };
+
+    ghost writes_valid = { λ v is. is };
 }
 
 impl<'a> Nestable for Certificate<'a> {

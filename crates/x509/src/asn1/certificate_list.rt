@@ -13,12 +13,12 @@ use der::{
     Decode, DecodeValue, Encode, Error, FieldsCall, FromFields, HasFields, Header, IsValue, Lends,
     Reader, Sequence, SliceReader, decode_sequence, field_refs,
 };
-use der_asn1::{BitStringRef, BorrowedItem, DecodeItem, Described, Item, Nestable};
+use der_asn1::{BitStringRef, BorrowedItem, DecodeItem, Described, Item, Nestable, WrittenItem};
 use spki::AlgorithmIdentifierRef;
 use std::alloc::Global;
 
 /// A list of revoked certificates (RFC 5280, 5.1), borrowed from the input.
-#[derive(Clone, Copy, Drop)]
+#[derive(Clone, Copy, Debug, Drop, PartialEq, Eq)]
 pub struct CertificateList<'a> {
     /// The part of the list that the signature covers.
     pub tbs_cert_list: TbsCertList<'a>,
@@ -117,6 +117,12 @@ impl<'a, R: Lends<Borrowed = &'a [u8]>> DecodeItem<R> for CertificateList<'a> {
 
 impl<'a> BorrowedItem for CertificateList<'a> {
     ghost borrowed = { refl };
+}
+
+impl<'a> WrittenItem for CertificateList<'a> {
+    ghost written = { λ v. refl };
+
+    ghost writes_valid = { λ v is. is };
 }
 
 impl<'a> Nestable for CertificateList<'a> {

@@ -1,7 +1,7 @@
 //! Written by asn1_compile from the module X509: change the module instead.
 //!
 //! DirectoryString.
-ghost use Rattle.std.specs.Prelude.{false};
+ghost use Rattle.std.specs.Prelude.{◌↔◌, IsTrue, false};
 ghost use Rattle.std.proofs.Common.{refl};
 ghost use Rattle.der.specs.Prelude.{map_ok};
 ghost use Rattle.der_asn1.specs.Item.{decodes_same};
@@ -13,14 +13,14 @@ use crate::asn1::directory_string_part1::DirectoryStringPart1;
 use crate::asn1::directory_string_part2::DirectoryStringPart2;
 use der::{Decode, Encode, Error, FromFields, Lends, Length, Reader, SliceReader, Tag, Writer};
 use der_asn1::{
-    BmpStringRef, BorrowedItem, Choice, DecodeItem, DescribedChoice, Either, Item,
-    PrintableStringRef, TeletexStringRef, Utf8StringRef, decode_choice,
+    BmpStringRef, BorrowedItem, Choice, DecodeChoice, DecodeItem, DescribedChoice, Either, Item,
+    PrintableStringRef, TeletexStringRef, Utf8StringRef, WrittenItem, decode_choice,
 };
 use std::alloc::Global;
 
 /// A text of a name (RFC 5280, 4.1.2.4), borrowed from the input. The library has no
 /// UniversalString, which is left out. That the text is not empty is not checked.
-#[derive(Clone, Copy, Drop)]
+#[derive(Clone, Copy, Debug, Drop, PartialEq, Eq)]
 pub enum DirectoryString<'a> {
     /// teletexString
     TeletexString(TeletexStringRef<'a>),
@@ -101,13 +101,17 @@ impl<'a, R: Lends<Borrowed = &'a [u8]>> Decode<R> for DirectoryString<'a> {
     }
 }
 
-impl<'a, R: Lends<Borrowed = &'a [u8]>> Choice<R> for DirectoryString<'a> {
+impl<'a> Choice for DirectoryString<'a> {
     ghost chooses = { ⟦<DirectoryString<'a> as DescribedChoice>⟧.alternative.tags };
 
-    fn can_decode(tag: Tag) -> bool {
-        <DirectoryStringAlternatives<'a> as Choice<R>>::can_decode(tag)
+    fn can_decode(tag: Tag) -> bool
+        ensures { IsTrue result ↔ ⟦<DirectoryString<'a> as DescribedChoice>⟧.alternative.tags tag }
+    {
+        <DirectoryStringAlternatives<'a> as Choice>::can_decode(tag)
     }
+}
 
+impl<'a, R: Lends<Borrowed = &'a [u8]>> DecodeChoice<R> for DirectoryString<'a> {
     ghost begins = { ⟦<DirectoryString<'a> as DescribedChoice>⟧.alternative.begins };
 }
 
@@ -175,4 +179,10 @@ impl<'a, R: Lends<Borrowed = &'a [u8]>> DecodeItem<R> for DirectoryString<'a> {
 
 impl<'a> BorrowedItem for DirectoryString<'a> {
     ghost borrowed = { refl };
+}
+
+impl<'a> WrittenItem for DirectoryString<'a> {
+    ghost written = { λ v. refl };
+
+    ghost writes_valid = { λ v is. is };
 }

@@ -1,13 +1,14 @@
 //! Written by asn1_compile from the module X509: change the module instead.
 //!
 //! DirectoryStringPart2.
-ghost use Rattle.std.specs.Prelude.{false};
+ghost use Rattle.std.specs.Prelude.{◌↔◌, IsTrue, false};
 ghost use Rattle.der.specs.Prelude.{map_ok};
 ghost use Rattle.der_asn1.specs.Meaning.{alternative, choice_of, either};
 
 use der::{Decode, Encode, Error, FromFields, Lends, Length, Reader, SliceReader, Tag, Writer};
 use der_asn1::{
-    BmpStringRef, Choice, Described, DescribedChoice, Either, Utf8StringRef, decode_choice,
+    BmpStringRef, Choice, DecodeChoice, Described, DescribedChoice, Either, Utf8StringRef,
+    decode_choice,
 };
 use std::alloc::Global;
 
@@ -55,14 +56,19 @@ impl<'a, R: Lends<Borrowed = &'a [u8]>> Decode<R> for DirectoryStringPart2<'a> {
     }
 }
 
-impl<'a, R: Lends<Borrowed = &'a [u8]>> Choice<R> for DirectoryStringPart2<'a> {
+impl<'a> Choice for DirectoryStringPart2<'a> {
     ghost chooses = { ⟦<DirectoryStringPart2<'a> as DescribedChoice>⟧.alternative.tags };
 
     #[inline(always)]
-    fn can_decode(tag: Tag) -> bool {
-        <DirectoryStringPart2Alternatives<'a> as Choice<R>>::can_decode(tag)
+    fn can_decode(tag: Tag) -> bool
+        ensures { IsTrue result ↔
+            ⟦<DirectoryStringPart2<'a> as DescribedChoice>⟧.alternative.tags tag }
+    {
+        <DirectoryStringPart2Alternatives<'a> as Choice>::can_decode(tag)
     }
+}
 
+impl<'a, R: Lends<Borrowed = &'a [u8]>> DecodeChoice<R> for DirectoryStringPart2<'a> {
     ghost begins = { ⟦<DirectoryStringPart2<'a> as DescribedChoice>⟧.alternative.begins };
 }
 

@@ -12,11 +12,11 @@ use der::{
     Decode, DecodeValue, Encode, Error, FieldsCall, FromFields, HasFields, Header, IsValue, Lends,
     Reader, Sequence, SliceReader, decode_sequence, field_refs,
 };
-use der_asn1::{BorrowedItem, DecodeItem, Described, DescribedChoice, Item, Nestable};
+use der_asn1::{BorrowedItem, DecodeItem, Described, DescribedChoice, Item, Nestable, WrittenItem};
 use std::alloc::Global;
 
 /// What an explicit tag has in it: a [`DirectoryString`].
-#[derive(Clone, Copy, Drop)]
+#[derive(Clone, Copy, Debug, Drop, PartialEq, Eq)]
 pub struct DirectoryStringTagged<'a> {
     /// The value behind the tag.
     pub value: DirectoryString<'a>,
@@ -99,6 +99,12 @@ impl<'a, R: Lends<Borrowed = &'a [u8]>> DecodeItem<R> for DirectoryStringTagged<
 
 impl<'a> BorrowedItem for DirectoryStringTagged<'a> {
     ghost borrowed = { refl };
+}
+
+impl<'a> WrittenItem for DirectoryStringTagged<'a> {
+    ghost written = { λ v. refl };
+
+    ghost writes_valid = { λ v is. is };
 }
 
 impl<'a> Nestable for DirectoryStringTagged<'a> {

@@ -1,7 +1,7 @@
 //! Written by asn1_compile from the module X509: change the module instead.
 //!
 //! DisplayText.
-ghost use Rattle.std.specs.Prelude.{false};
+ghost use Rattle.std.specs.Prelude.{◌↔◌, IsTrue, false};
 ghost use Rattle.std.proofs.Common.{refl};
 ghost use Rattle.der.specs.Prelude.{map_ok};
 ghost use Rattle.der_asn1.specs.Item.{decodes_same};
@@ -13,14 +13,14 @@ use crate::asn1::display_text_part1::DisplayTextPart1;
 use crate::asn1::display_text_part2::DisplayTextPart2;
 use der::{Decode, Encode, Error, FromFields, Lends, Length, Reader, SliceReader, Tag, Writer};
 use der_asn1::{
-    BmpStringRef, BorrowedItem, Choice, DecodeItem, DescribedChoice, Either, Ia5StringRef, Item,
-    Utf8StringRef, VisibleStringRef, decode_choice,
+    BmpStringRef, BorrowedItem, Choice, DecodeChoice, DecodeItem, DescribedChoice, Either,
+    Ia5StringRef, Item, Utf8StringRef, VisibleStringRef, WrittenItem, decode_choice,
 };
 use std::alloc::Global;
 
 /// A text of a notice (RFC 5280, 4.2.1.4), borrowed from the input. That it has 1 to 200 characters
 /// is not checked.
-#[derive(Clone, Copy, Drop)]
+#[derive(Clone, Copy, Debug, Drop, PartialEq, Eq)]
 pub enum DisplayText<'a> {
     /// ia5String
     Ia5String(Ia5StringRef<'a>),
@@ -97,13 +97,17 @@ impl<'a, R: Lends<Borrowed = &'a [u8]>> Decode<R> for DisplayText<'a> {
     }
 }
 
-impl<'a, R: Lends<Borrowed = &'a [u8]>> Choice<R> for DisplayText<'a> {
+impl<'a> Choice for DisplayText<'a> {
     ghost chooses = { ⟦<DisplayText<'a> as DescribedChoice>⟧.alternative.tags };
 
-    fn can_decode(tag: Tag) -> bool {
-        <DisplayTextAlternatives<'a> as Choice<R>>::can_decode(tag)
+    fn can_decode(tag: Tag) -> bool
+        ensures { IsTrue result ↔ ⟦<DisplayText<'a> as DescribedChoice>⟧.alternative.tags tag }
+    {
+        <DisplayTextAlternatives<'a> as Choice>::can_decode(tag)
     }
+}
 
+impl<'a, R: Lends<Borrowed = &'a [u8]>> DecodeChoice<R> for DisplayText<'a> {
     ghost begins = { ⟦<DisplayText<'a> as DescribedChoice>⟧.alternative.begins };
 }
 
@@ -171,4 +175,10 @@ impl<'a, R: Lends<Borrowed = &'a [u8]>> DecodeItem<R> for DisplayText<'a> {
 
 impl<'a> BorrowedItem for DisplayText<'a> {
     ghost borrowed = { refl };
+}
+
+impl<'a> WrittenItem for DisplayText<'a> {
+    ghost written = { λ v. refl };
+
+    ghost writes_valid = { λ v is. is };
 }

@@ -15,11 +15,13 @@ use der::{
     Decode, DecodeValue, Encode, Error, FieldsCall, FromFields, HasFields, Header, IsValue, Lends,
     Reader, Sequence, SliceReader, decode_sequence, field_refs,
 };
-use der_asn1::{BorrowedItem, DecodeItem, Described, Implicit, Item, Nestable, Optional};
+use der_asn1::{
+    BorrowedItem, DecodeItem, Described, Implicit, Item, Nestable, Optional, WrittenItem,
+};
 use std::alloc::Global;
 
 /// Where a revocation list is found (RFC 5280, 4.2.1.13), borrowed from the input.
-#[derive(Clone, Copy, Drop)]
+#[derive(Clone, Copy, Debug, Drop, PartialEq, Eq)]
 pub struct DistributionPoint<'a> {
     /// The place, if present. The RFC requires it or `crl_issuer`, but decoding does not check this.
     pub distribution_point: Optional<Implicit<DistributionPointNameTagged<'a>, 0>>,
@@ -124,6 +126,12 @@ impl<'a, R: Lends<Borrowed = &'a [u8]>> DecodeItem<R> for DistributionPoint<'a> 
 
 impl<'a> BorrowedItem for DistributionPoint<'a> {
     ghost borrowed = { refl };
+}
+
+impl<'a> WrittenItem for DistributionPoint<'a> {
+    ghost written = { λ v. refl };
+
+    ghost writes_valid = { λ v is. is };
 }
 
 impl<'a> Nestable for DistributionPoint<'a> {

@@ -1,7 +1,7 @@
 //! Written by asn1_compile from the module X509: change the module instead.
 //!
 //! DistributionPointName.
-ghost use Rattle.std.specs.Prelude.{false};
+ghost use Rattle.std.specs.Prelude.{◌↔◌, IsTrue, false};
 ghost use Rattle.std.proofs.Common.{refl};
 ghost use Rattle.der.specs.Prelude.{map_ok};
 ghost use Rattle.der_asn1.specs.Item.{decodes_same};
@@ -13,14 +13,14 @@ use crate::asn1::general_names::GeneralNames;
 use crate::asn1::relative_distinguished_name::RelativeDistinguishedName;
 use der::{Decode, Encode, Error, FromFields, Lends, Length, Reader, SliceReader, Tag, Writer};
 use der_asn1::{
-    BorrowedItem, Choice, DecodeItem, Described, DescribedChoice, Either, Implicit, Item,
-    decode_choice,
+    BorrowedItem, Choice, DecodeChoice, DecodeItem, Described, DescribedChoice, Either, Implicit,
+    Item, WrittenItem, decode_choice,
 };
 use std::alloc::Global;
 
 /// The name of a place where a revocation list is found (RFC 5280, 4.2.1.13), borrowed from the
 /// input.
-#[derive(Clone, Copy, Drop)]
+#[derive(Clone, Copy, Debug, Drop, PartialEq, Eq)]
 pub enum DistributionPointName<'a> {
     /// Its names.
     FullName(Implicit<GeneralNames<'a>, 0>),
@@ -78,13 +78,18 @@ impl<'a, R: Lends<Borrowed = &'a [u8]>> Decode<R> for DistributionPointName<'a> 
     }
 }
 
-impl<'a, R: Lends<Borrowed = &'a [u8]>> Choice<R> for DistributionPointName<'a> {
+impl<'a> Choice for DistributionPointName<'a> {
     ghost chooses = { ⟦<DistributionPointName<'a> as DescribedChoice>⟧.alternative.tags };
 
-    fn can_decode(tag: Tag) -> bool {
-        <DistributionPointNameAlternatives<'a> as Choice<R>>::can_decode(tag)
+    fn can_decode(tag: Tag) -> bool
+        ensures { IsTrue result ↔
+            ⟦<DistributionPointName<'a> as DescribedChoice>⟧.alternative.tags tag }
+    {
+        <DistributionPointNameAlternatives<'a> as Choice>::can_decode(tag)
     }
+}
 
+impl<'a, R: Lends<Borrowed = &'a [u8]>> DecodeChoice<R> for DistributionPointName<'a> {
     ghost begins = { ⟦<DistributionPointName<'a> as DescribedChoice>⟧.alternative.begins };
 }
 
@@ -145,4 +150,10 @@ impl<'a, R: Lends<Borrowed = &'a [u8]>> DecodeItem<R> for DistributionPointName<
 
 impl<'a> BorrowedItem for DistributionPointName<'a> {
     ghost borrowed = { refl };
+}
+
+impl<'a> WrittenItem for DistributionPointName<'a> {
+    ghost written = { λ v. refl };
+
+    ghost writes_valid = { λ v is. is };
 }

@@ -12,11 +12,11 @@ use der::{
     Decode, DecodeValue, Encode, Error, FieldsCall, FromFields, HasFields, Header, IsValue, Lends,
     Reader, Sequence, SliceReader, decode_sequence, field_refs,
 };
-use der_asn1::{BorrowedItem, DecodeItem, Described, DescribedChoice, Item, Nestable};
+use der_asn1::{BorrowedItem, DecodeItem, Described, DescribedChoice, Item, Nestable, WrittenItem};
 use std::alloc::Global;
 
 /// What an explicit tag has in it: a [`DistributionPointName`].
-#[derive(Clone, Copy, Drop)]
+#[derive(Clone, Copy, Debug, Drop, PartialEq, Eq)]
 pub struct DistributionPointNameTagged<'a> {
     /// The value behind the tag.
     pub value: DistributionPointName<'a>,
@@ -98,6 +98,12 @@ impl<'a, R: Lends<Borrowed = &'a [u8]>> DecodeItem<R> for DistributionPointNameT
 
 impl<'a> BorrowedItem for DistributionPointNameTagged<'a> {
     ghost borrowed = { refl };
+}
+
+impl<'a> WrittenItem for DistributionPointNameTagged<'a> {
+    ghost written = { λ v. refl };
+
+    ghost writes_valid = { λ v is. is };
 }
 
 impl<'a> Nestable for DistributionPointNameTagged<'a> {

@@ -12,12 +12,14 @@ use der::{
     Decode, DecodeValue, Encode, Error, FieldsCall, FromFields, HasFields, Header, IsValue, Lends,
     Reader, Sequence, SliceReader, decode_sequence, field_refs,
 };
-use der_asn1::{BorrowedItem, DecodeItem, Described, Implicit, Item, Nestable, Optional};
+use der_asn1::{
+    BorrowedItem, DecodeItem, Described, Implicit, Item, Nestable, Optional, WrittenItem,
+};
 use std::alloc::Global;
 
 /// The name of one party in an exchange of business data (RFC 5280, 4.2.1.6), borrowed from the
 /// input.
-#[derive(Clone, Copy, Drop)]
+#[derive(Clone, Copy, Debug, Drop, PartialEq, Eq)]
 pub struct EdiPartyName<'a> {
     /// Who assigned the name, if present.
     pub name_assigner: Optional<Implicit<DirectoryStringTagged<'a>, 0>>,
@@ -108,6 +110,12 @@ impl<'a, R: Lends<Borrowed = &'a [u8]>> DecodeItem<R> for EdiPartyName<'a> {
 
 impl<'a> BorrowedItem for EdiPartyName<'a> {
     ghost borrowed = { refl };
+}
+
+impl<'a> WrittenItem for EdiPartyName<'a> {
+    ghost written = { λ v. refl };
+
+    ghost writes_valid = { λ v is. is };
 }
 
 impl<'a> Nestable for EdiPartyName<'a> {

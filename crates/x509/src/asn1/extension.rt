@@ -14,12 +14,12 @@ use der::{
 };
 use der_asn1::{
     BooleanRef, BorrowedItem, DecodeItem, DefaultValue, Defaulted, Described, Item, Nestable,
-    ObjectIdentifierRef, OctetStringRef,
+    ObjectIdentifierRef, OctetStringRef, WrittenItem,
 };
 use std::alloc::Global;
 
 /// An extension (RFC 5280, 4.1 and 4.2), borrowed from the input.
-#[derive(Clone, Copy, Drop)]
+#[derive(Clone, Copy, Debug, Drop, PartialEq, Eq)]
 pub struct Extension<'a> {
     /// The type of the extension, as an object identifier.
     pub extn_id: ObjectIdentifierRef<'a>,
@@ -119,6 +119,12 @@ impl<'a, R: Lends<Borrowed = &'a [u8]>> DecodeItem<R> for Extension<'a> {
 
 impl<'a> BorrowedItem for Extension<'a> {
     ghost borrowed = { refl };
+}
+
+impl<'a> WrittenItem for Extension<'a> {
+    ghost written = { λ v. refl };
+
+    ghost writes_valid = { λ v is. is };
 }
 
 impl<'a> Nestable for Extension<'a> {

@@ -12,12 +12,12 @@ use der::{
     DecodeValue, EncodeValue, Error, FromFields, Header, IsValue, Lends, Length, Reader, Sequence,
     SliceReader, Writer, decode_wrapped,
 };
-use der_asn1::{BorrowedItem, DecodeItem, Described, Item, Nestable, SequenceOf};
+use der_asn1::{BorrowedItem, DecodeItem, Described, Item, Nestable, SequenceOf, WrittenItem};
 use std::alloc::Global;
 
 /// The extensions of a certificate (RFC 5280, 4.1), of a revocation list or of one of its entries
 /// (5.1), borrowed from the input.
-#[derive(Clone, Copy, Drop)]
+#[derive(Clone, Copy, Debug, Drop, PartialEq, Eq)]
 pub struct Extensions<'a> {
     /// The list: a SEQUENCE OF its items.
     pub items: SequenceOf<'a, Extension<'a>>,
@@ -97,6 +97,12 @@ impl<'a, R: Lends<Borrowed = &'a [u8]>> DecodeItem<R> for Extensions<'a> {
 
 impl<'a> BorrowedItem for Extensions<'a> {
     ghost borrowed = { refl };
+}
+
+impl<'a> WrittenItem for Extensions<'a> {
+    ghost written = { λ v. refl };
+
+    ghost writes_valid = { λ v is. is };
 }
 
 impl<'a> Nestable for Extensions<'a> {

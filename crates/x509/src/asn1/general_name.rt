@@ -1,7 +1,7 @@
 //! Written by asn1_compile from the module X509: change the module instead.
 //!
 //! GeneralName.
-ghost use Rattle.std.specs.Prelude.{false};
+ghost use Rattle.std.specs.Prelude.{◌↔◌, IsTrue, false};
 ghost use Rattle.std.proofs.Common.{refl};
 ghost use Rattle.der.specs.Prelude.{map_ok};
 ghost use Rattle.der_asn1.specs.Item.{decodes_same};
@@ -17,14 +17,15 @@ use crate::asn1::name::Name;
 use crate::asn1::other_name::OtherName;
 use der::{Decode, Encode, Error, FromFields, Lends, Length, Reader, SliceReader, Tag, Writer};
 use der_asn1::{
-    BorrowedItem, Choice, DecodeItem, DescribedChoice, Either, Explicit, Ia5StringRef, Implicit,
-    Item, ObjectIdentifierRef, OctetStringRef, SequenceRef, decode_choice,
+    BorrowedItem, Choice, DecodeChoice, DecodeItem, DescribedChoice, Either, Explicit,
+    Ia5StringRef, Implicit, Item, ObjectIdentifierRef, OctetStringRef, SequenceRef, WrittenItem,
+    decode_choice,
 };
 use std::alloc::Global;
 
 /// A name of one of nine forms (RFC 5280, 4.2.1.6), borrowed from the input. The contents of
 /// x400Address are not checked.
-#[derive(Clone, Copy, Drop)]
+#[derive(Clone, Copy, Debug, Drop, PartialEq, Eq)]
 pub enum GeneralName<'a> {
     /// otherName
     OtherName(Implicit<OtherName<'a>, 0>),
@@ -157,13 +158,17 @@ impl<'a, R: Lends<Borrowed = &'a [u8]>> Decode<R> for GeneralName<'a> {
     }
 }
 
-impl<'a, R: Lends<Borrowed = &'a [u8]>> Choice<R> for GeneralName<'a> {
+impl<'a> Choice for GeneralName<'a> {
     ghost chooses = { ⟦<GeneralName<'a> as DescribedChoice>⟧.alternative.tags };
 
-    fn can_decode(tag: Tag) -> bool {
-        <GeneralNameAlternatives<'a> as Choice<R>>::can_decode(tag)
+    fn can_decode(tag: Tag) -> bool
+        ensures { IsTrue result ↔ ⟦<GeneralName<'a> as DescribedChoice>⟧.alternative.tags tag }
+    {
+        <GeneralNameAlternatives<'a> as Choice>::can_decode(tag)
     }
+}
 
+impl<'a, R: Lends<Borrowed = &'a [u8]>> DecodeChoice<R> for GeneralName<'a> {
     ghost begins = { ⟦<GeneralName<'a> as DescribedChoice>⟧.alternative.begins };
 }
 
@@ -251,4 +256,10 @@ impl<'a, R: Lends<Borrowed = &'a [u8]>> DecodeItem<R> for GeneralName<'a> {
 
 impl<'a> BorrowedItem for GeneralName<'a> {
     ghost borrowed = { refl };
+}
+
+impl<'a> WrittenItem for GeneralName<'a> {
+    ghost written = { λ v. refl };
+
+    ghost writes_valid = { λ v is. is };
 }

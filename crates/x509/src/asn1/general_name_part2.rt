@@ -1,7 +1,7 @@
 //! Written by asn1_compile from the module X509: change the module instead.
 //!
 //! GeneralNamePart2.
-ghost use Rattle.std.specs.Prelude.{false};
+ghost use Rattle.std.specs.Prelude.{◌↔◌, IsTrue, false};
 ghost use Rattle.der.specs.Prelude.{map_ok};
 ghost use Rattle.der_asn1.specs.Meaning.{alternative, choice_of, either};
 
@@ -9,7 +9,8 @@ use crate::asn1::edi_party_name::EdiPartyName;
 use crate::asn1::name::Name;
 use der::{Decode, Encode, Error, FromFields, Lends, Length, Reader, SliceReader, Tag, Writer};
 use der_asn1::{
-    Choice, Described, DescribedChoice, Either, Explicit, Implicit, SequenceRef, decode_choice,
+    Choice, DecodeChoice, Described, DescribedChoice, Either, Explicit, Implicit, SequenceRef,
+    decode_choice,
 };
 use std::alloc::Global;
 
@@ -62,14 +63,18 @@ impl<'a, R: Lends<Borrowed = &'a [u8]>> Decode<R> for GeneralNamePart2<'a> {
     }
 }
 
-impl<'a, R: Lends<Borrowed = &'a [u8]>> Choice<R> for GeneralNamePart2<'a> {
+impl<'a> Choice for GeneralNamePart2<'a> {
     ghost chooses = { ⟦<GeneralNamePart2<'a> as DescribedChoice>⟧.alternative.tags };
 
     #[inline(always)]
-    fn can_decode(tag: Tag) -> bool {
-        <GeneralNamePart2Alternatives<'a> as Choice<R>>::can_decode(tag)
+    fn can_decode(tag: Tag) -> bool
+        ensures { IsTrue result ↔ ⟦<GeneralNamePart2<'a> as DescribedChoice>⟧.alternative.tags tag }
+    {
+        <GeneralNamePart2Alternatives<'a> as Choice>::can_decode(tag)
     }
+}
 
+impl<'a, R: Lends<Borrowed = &'a [u8]>> DecodeChoice<R> for GeneralNamePart2<'a> {
     ghost begins = { ⟦<GeneralNamePart2<'a> as DescribedChoice>⟧.alternative.begins };
 }
 

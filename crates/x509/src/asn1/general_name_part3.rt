@@ -1,14 +1,14 @@
 //! Written by asn1_compile from the module X509: change the module instead.
 //!
 //! GeneralNamePart3.
-ghost use Rattle.std.specs.Prelude.{false};
+ghost use Rattle.std.specs.Prelude.{◌↔◌, IsTrue, false};
 ghost use Rattle.der.specs.Prelude.{map_ok};
 ghost use Rattle.der_asn1.specs.Meaning.{alternative, choice_of, either};
 
 use der::{Decode, Encode, Error, FromFields, Lends, Length, Reader, SliceReader, Tag, Writer};
 use der_asn1::{
-    Choice, Described, DescribedChoice, Either, Ia5StringRef, Implicit, ObjectIdentifierRef,
-    OctetStringRef, decode_choice,
+    Choice, DecodeChoice, Described, DescribedChoice, Either, Ia5StringRef, Implicit,
+    ObjectIdentifierRef, OctetStringRef, decode_choice,
 };
 use std::alloc::Global;
 
@@ -61,14 +61,18 @@ impl<'a, R: Lends<Borrowed = &'a [u8]>> Decode<R> for GeneralNamePart3<'a> {
     }
 }
 
-impl<'a, R: Lends<Borrowed = &'a [u8]>> Choice<R> for GeneralNamePart3<'a> {
+impl<'a> Choice for GeneralNamePart3<'a> {
     ghost chooses = { ⟦<GeneralNamePart3<'a> as DescribedChoice>⟧.alternative.tags };
 
     #[inline(always)]
-    fn can_decode(tag: Tag) -> bool {
-        <GeneralNamePart3Alternatives<'a> as Choice<R>>::can_decode(tag)
+    fn can_decode(tag: Tag) -> bool
+        ensures { IsTrue result ↔ ⟦<GeneralNamePart3<'a> as DescribedChoice>⟧.alternative.tags tag }
+    {
+        <GeneralNamePart3Alternatives<'a> as Choice>::can_decode(tag)
     }
+}
 
+impl<'a, R: Lends<Borrowed = &'a [u8]>> DecodeChoice<R> for GeneralNamePart3<'a> {
     ghost begins = { ⟦<GeneralNamePart3<'a> as DescribedChoice>⟧.alternative.begins };
 }
 

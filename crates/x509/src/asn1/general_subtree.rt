@@ -16,12 +16,12 @@ use der::{
 };
 use der_asn1::{
     BorrowedItem, DecodeItem, DefaultU64, DefaultValue, Defaulted, Described, DescribedChoice,
-    Implicit, IntegerOf, Item, Nestable, Optional, WithDefault,
+    Implicit, IntegerOf, Item, Nestable, Optional, WithDefault, WrittenItem,
 };
 use std::alloc::Global;
 
 /// All names below a name (RFC 5280, 4.2.1.10), borrowed from the input.
-#[derive(Clone, Copy, Drop)]
+#[derive(Clone, Copy, Debug, Drop, PartialEq, Eq)]
 pub struct GeneralSubtree<'a> {
     /// The name.
     pub base: GeneralName<'a>,
@@ -132,6 +132,12 @@ impl<'a, R: Lends<Borrowed = &'a [u8]>> DecodeItem<R> for GeneralSubtree<'a> {
 
 impl<'a> BorrowedItem for GeneralSubtree<'a> {
     ghost borrowed = { refl };
+}
+
+impl<'a> WrittenItem for GeneralSubtree<'a> {
+    ghost written = { λ v. refl };
+
+    ghost writes_valid = { λ v is. is };
 }
 
 impl<'a> Nestable for GeneralSubtree<'a> {

@@ -12,12 +12,12 @@ use der::{
     DecodeValue, EncodeValue, Error, FromFields, Header, IsValue, Lends, Length, Reader, Sequence,
     SliceReader, Writer, decode_wrapped,
 };
-use der_asn1::{BorrowedItem, DecodeItem, Described, Item, Nestable, SequenceOf};
+use der_asn1::{BorrowedItem, DecodeItem, Described, Item, Nestable, SequenceOf, WrittenItem};
 use std::alloc::Global;
 
 /// Sets of names (RFC 5280, 4.2.1.10), borrowed from the input. That there is at least one is not
 /// checked.
-#[derive(Clone, Copy, Drop)]
+#[derive(Clone, Copy, Debug, Drop, PartialEq, Eq)]
 pub struct GeneralSubtrees<'a> {
     /// The list: a SEQUENCE OF its items.
     pub items: SequenceOf<'a, GeneralSubtree<'a>>,
@@ -98,6 +98,12 @@ impl<'a, R: Lends<Borrowed = &'a [u8]>> DecodeItem<R> for GeneralSubtrees<'a> {
 
 impl<'a> BorrowedItem for GeneralSubtrees<'a> {
     ghost borrowed = { refl };
+}
+
+impl<'a> WrittenItem for GeneralSubtrees<'a> {
+    ghost written = { λ v. refl };
+
+    ghost writes_valid = { λ v is. is };
 }
 
 impl<'a> Nestable for GeneralSubtrees<'a> {

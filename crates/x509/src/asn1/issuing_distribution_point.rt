@@ -16,13 +16,13 @@ use der::{
 };
 use der_asn1::{
     BooleanRef, BorrowedItem, DecodeItem, DefaultValue, Defaulted, Described, Implicit, Item,
-    Nestable, Optional,
+    Nestable, Optional, WrittenItem,
 };
 use std::alloc::Global;
 
 /// Which certificates and reasons a revocation list covers (RFC 5280, 5.2.5), borrowed from the
 /// input.
-#[derive(Clone, Copy, Drop)]
+#[derive(Clone, Copy, Debug, Drop, PartialEq, Eq)]
 pub struct IssuingDistributionPoint<'a> {
     /// Where the list is found, if present.
     pub distribution_point: Optional<Implicit<DistributionPointNameTagged<'a>, 0>>,
@@ -171,6 +171,12 @@ impl<'a, R: Lends<Borrowed = &'a [u8]>> DecodeItem<R> for IssuingDistributionPoi
 
 impl<'a> BorrowedItem for IssuingDistributionPoint<'a> {
     ghost borrowed = { refl };
+}
+
+impl<'a> WrittenItem for IssuingDistributionPoint<'a> {
+    ghost written = { λ v. refl };
+
+    ghost writes_valid = { λ v is. is };
 }
 
 impl<'a> Nestable for IssuingDistributionPoint<'a> {

@@ -12,11 +12,11 @@ use der::{
     DecodeValue, EncodeValue, Error, FromFields, Header, IsValue, Lends, Length, Reader, Sequence,
     SliceReader, Writer, decode_wrapped,
 };
-use der_asn1::{BorrowedItem, DecodeItem, Described, Item, Nestable, SequenceOf};
+use der_asn1::{BorrowedItem, DecodeItem, Described, Item, Nestable, SequenceOf, WrittenItem};
 use std::alloc::Global;
 
 /// A distinguished name (RFC 5280, 4.1.2.4), borrowed from the input.
-#[derive(Clone, Copy, Drop)]
+#[derive(Clone, Copy, Debug, Drop, PartialEq, Eq)]
 pub struct Name<'a> {
     /// The list: a SEQUENCE OF its items.
     pub levels: SequenceOf<'a, RelativeDistinguishedName<'a>>,
@@ -97,6 +97,12 @@ impl<'a, R: Lends<Borrowed = &'a [u8]>> DecodeItem<R> for Name<'a> {
 
 impl<'a> BorrowedItem for Name<'a> {
     ghost borrowed = { refl };
+}
+
+impl<'a> WrittenItem for Name<'a> {
+    ghost written = { λ v. refl };
+
+    ghost writes_valid = { λ v is. is };
 }
 
 impl<'a> Nestable for Name<'a> {

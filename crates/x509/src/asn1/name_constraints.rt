@@ -12,12 +12,14 @@ use der::{
     Decode, DecodeValue, Encode, Error, FieldsCall, FromFields, HasFields, Header, IsValue, Lends,
     Reader, Sequence, SliceReader, decode_sequence, field_refs,
 };
-use der_asn1::{BorrowedItem, DecodeItem, Described, Implicit, Item, Nestable, Optional};
+use der_asn1::{
+    BorrowedItem, DecodeItem, Described, Implicit, Item, Nestable, Optional, WrittenItem,
+};
 use std::alloc::Global;
 
 /// The names that a certification authority may issue certificates for (RFC 5280, 4.2.1.10),
 /// borrowed from the input. That at least one list is present is not checked.
-#[derive(Clone, Copy, Drop)]
+#[derive(Clone, Copy, Debug, Drop, PartialEq, Eq)]
 pub struct NameConstraints<'a> {
     /// The names that are permitted, if they are limited.
     pub permitted_subtrees: Optional<Implicit<GeneralSubtrees<'a>, 0>>,
@@ -114,6 +116,12 @@ impl<'a, R: Lends<Borrowed = &'a [u8]>> DecodeItem<R> for NameConstraints<'a> {
 
 impl<'a> BorrowedItem for NameConstraints<'a> {
     ghost borrowed = { refl };
+}
+
+impl<'a> WrittenItem for NameConstraints<'a> {
+    ghost written = { λ v. refl };
+
+    ghost writes_valid = { λ v is. is };
 }
 
 impl<'a> Nestable for NameConstraints<'a> {

@@ -14,11 +14,12 @@ use der::{
 };
 use der_asn1::{
     BorrowedItem, DecodeItem, Described, DescribedChoice, IntRef, Item, Nestable, SequenceOf,
+    WrittenItem,
 };
 use std::alloc::Global;
 
 /// Notices of an organization, by their numbers (RFC 5280, 4.2.1.4), borrowed from the input.
-#[derive(Clone, Copy, Drop)]
+#[derive(Clone, Copy, Debug, Drop, PartialEq, Eq)]
 pub struct NoticeReference<'a> {
     /// The organization.
     pub organization: DisplayText<'a>,
@@ -113,6 +114,12 @@ impl<'a, R: Lends<Borrowed = &'a [u8]>> DecodeItem<R> for NoticeReference<'a> {
 
 impl<'a> BorrowedItem for NoticeReference<'a> {
     ghost borrowed = { refl };
+}
+
+impl<'a> WrittenItem for NoticeReference<'a> {
+    ghost written = { λ v. refl };
+
+    ghost writes_valid = { λ v is. is };
 }
 
 impl<'a> Nestable for NoticeReference<'a> {

@@ -13,11 +13,12 @@ use der::{
 };
 use der_asn1::{
     BorrowedItem, DecodeItem, Described, ExplicitAny, Item, Nestable, ObjectIdentifierRef,
+    WrittenItem,
 };
 use std::alloc::Global;
 
 /// A name whose form its object identifier gives (RFC 5280, 4.2.1.6), borrowed from the input.
-#[derive(Clone, Copy, Drop)]
+#[derive(Clone, Copy, Debug, Drop, PartialEq, Eq)]
 pub struct OtherName<'a> {
     /// The form of the name.
     pub type_id: ObjectIdentifierRef<'a>,
@@ -99,6 +100,12 @@ impl<'a, R: Lends<Borrowed = &'a [u8]>> DecodeItem<R> for OtherName<'a> {
 
 impl<'a> BorrowedItem for OtherName<'a> {
     ghost borrowed = { refl };
+}
+
+impl<'a> WrittenItem for OtherName<'a> {
+    ghost written = { λ v. refl };
+
+    ghost writes_valid = { λ v is. is };
 }
 
 impl<'a> Nestable for OtherName<'a> {

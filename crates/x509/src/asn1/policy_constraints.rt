@@ -12,12 +12,14 @@ use der::{
     Decode, DecodeValue, Encode, Error, FieldsCall, FromFields, HasFields, Header, IsValue, Lends,
     Reader, Sequence, SliceReader, decode_sequence, field_refs,
 };
-use der_asn1::{BorrowedItem, DecodeItem, Described, Implicit, Item, Nestable, Optional};
+use der_asn1::{
+    BorrowedItem, DecodeItem, Described, Implicit, Item, Nestable, Optional, WrittenItem,
+};
 use std::alloc::Global;
 
 /// What a chain of certificates must fulfil as to policies (RFC 5280, 4.2.1.11), borrowed from the
 /// input. That at least one number is present is not checked.
-#[derive(Clone, Copy, Drop)]
+#[derive(Clone, Copy, Debug, Drop, PartialEq, Eq)]
 pub struct PolicyConstraints<'a> {
     /// After how many certificates a policy is required, if present.
     pub require_explicit_policy: Optional<Implicit<SkipCerts<'a>, 0>>,
@@ -114,6 +116,12 @@ impl<'a, R: Lends<Borrowed = &'a [u8]>> DecodeItem<R> for PolicyConstraints<'a> 
 
 impl<'a> BorrowedItem for PolicyConstraints<'a> {
     ghost borrowed = { refl };
+}
+
+impl<'a> WrittenItem for PolicyConstraints<'a> {
+    ghost written = { λ v. refl };
+
+    ghost writes_valid = { λ v is. is };
 }
 
 impl<'a> Nestable for PolicyConstraints<'a> {

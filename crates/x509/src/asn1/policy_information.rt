@@ -14,11 +14,12 @@ use der::{
 };
 use der_asn1::{
     BorrowedItem, DecodeItem, Described, Item, Nestable, ObjectIdentifierRef, Optional, SequenceOf,
+    WrittenItem,
 };
 use std::alloc::Global;
 
 /// A policy with its qualifiers (RFC 5280, 4.2.1.4), borrowed from the input.
-#[derive(Clone, Copy, Drop)]
+#[derive(Clone, Copy, Debug, Drop, PartialEq, Eq)]
 pub struct PolicyInformation<'a> {
     /// The object identifier of the policy.
     pub policy_identifier: ObjectIdentifierRef<'a>,
@@ -113,6 +114,12 @@ impl<'a, R: Lends<Borrowed = &'a [u8]>> DecodeItem<R> for PolicyInformation<'a> 
 
 impl<'a> BorrowedItem for PolicyInformation<'a> {
     ghost borrowed = { refl };
+}
+
+impl<'a> WrittenItem for PolicyInformation<'a> {
+    ghost written = { λ v. refl };
+
+    ghost writes_valid = { λ v is. is };
 }
 
 impl<'a> Nestable for PolicyInformation<'a> {

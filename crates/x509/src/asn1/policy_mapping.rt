@@ -11,12 +11,14 @@ use der::{
     Decode, DecodeValue, Encode, Error, FieldsCall, FromFields, HasFields, Header, IsValue, Lends,
     Reader, Sequence, SliceReader, decode_sequence, field_refs,
 };
-use der_asn1::{BorrowedItem, DecodeItem, Described, Item, Nestable, ObjectIdentifierRef};
+use der_asn1::{
+    BorrowedItem, DecodeItem, Described, Item, Nestable, ObjectIdentifierRef, WrittenItem,
+};
 use std::alloc::Global;
 
 /// A policy of the issuer, and the subject's policy that equals it (RFC 5280, 4.2.1.5), borrowed
 /// from the input.
-#[derive(Clone, Copy, Drop)]
+#[derive(Clone, Copy, Debug, Drop, PartialEq, Eq)]
 pub struct PolicyMapping<'a> {
     /// The policy of the issuer.
     pub issuer_domain_policy: ObjectIdentifierRef<'a>,
@@ -106,6 +108,12 @@ impl<'a, R: Lends<Borrowed = &'a [u8]>> DecodeItem<R> for PolicyMapping<'a> {
 
 impl<'a> BorrowedItem for PolicyMapping<'a> {
     ghost borrowed = { refl };
+}
+
+impl<'a> WrittenItem for PolicyMapping<'a> {
+    ghost written = { λ v. refl };
+
+    ghost writes_valid = { λ v is. is };
 }
 
 impl<'a> Nestable for PolicyMapping<'a> {

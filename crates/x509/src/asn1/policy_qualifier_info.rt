@@ -11,11 +11,13 @@ use der::{
     Decode, DecodeValue, Encode, Error, FieldsCall, FromFields, HasFields, Header, IsValue, Lends,
     Reader, Sequence, SliceReader, decode_sequence, field_refs,
 };
-use der_asn1::{AnyRef, BorrowedItem, DecodeItem, Described, Item, Nestable, ObjectIdentifierRef};
+use der_asn1::{
+    AnyRef, BorrowedItem, DecodeItem, Described, Item, Nestable, ObjectIdentifierRef, WrittenItem,
+};
 use std::alloc::Global;
 
 /// A qualifier of a policy (RFC 5280, 4.2.1.4), borrowed from the input.
-#[derive(Clone, Copy, Drop)]
+#[derive(Clone, Copy, Debug, Drop, PartialEq, Eq)]
 pub struct PolicyQualifierInfo<'a> {
     /// The kind of the qualifier.
     pub policy_qualifier_id: ObjectIdentifierRef<'a>,
@@ -105,6 +107,12 @@ impl<'a, R: Lends<Borrowed = &'a [u8]>> DecodeItem<R> for PolicyQualifierInfo<'a
 
 impl<'a> BorrowedItem for PolicyQualifierInfo<'a> {
     ghost borrowed = { refl };
+}
+
+impl<'a> WrittenItem for PolicyQualifierInfo<'a> {
+    ghost written = { λ v. refl };
+
+    ghost writes_valid = { λ v is. is };
 }
 
 impl<'a> Nestable for PolicyQualifierInfo<'a> {

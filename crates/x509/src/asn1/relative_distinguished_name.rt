@@ -12,11 +12,11 @@ use der::{
     DecodeValue, EncodeValue, Error, FixedTag, FromFields, Header, IsValue, Lawful, Lends, Length,
     ReadValue, Reader, SliceReader, Tag, Writer, WrittenValue, decode_wrapped,
 };
-use der_asn1::{BorrowedItem, DecodeItem, Described, Item, Nestable, SetOf};
+use der_asn1::{BorrowedItem, DecodeItem, Described, Item, Nestable, SetOf, WrittenItem};
 use std::alloc::Global;
 
 /// One level of a name (RFC 5280, 4.1.2.4), borrowed from the input.
-#[derive(Clone, Copy, Drop)]
+#[derive(Clone, Copy, Debug, Drop, PartialEq, Eq)]
 pub struct RelativeDistinguishedName<'a> {
     /// The list: a SET OF its items.
     pub attributes: SetOf<'a, AttributeTypeAndValue<'a>>,
@@ -131,6 +131,12 @@ impl<'a, R: Lends<Borrowed = &'a [u8]>> DecodeItem<R> for RelativeDistinguishedN
 
 impl<'a> BorrowedItem for RelativeDistinguishedName<'a> {
     ghost borrowed = { refl };
+}
+
+impl<'a> WrittenItem for RelativeDistinguishedName<'a> {
+    ghost written = { λ v. refl };
+
+    ghost writes_valid = { λ v is. is };
 }
 
 impl<'a> Nestable for RelativeDistinguishedName<'a> {

@@ -15,11 +15,13 @@ use der::{
     Decode, DecodeValue, Encode, Error, FieldsCall, FromFields, HasFields, Header, IsValue, Lends,
     Reader, Sequence, SliceReader, decode_sequence, field_refs,
 };
-use der_asn1::{BorrowedItem, DecodeItem, Described, DescribedChoice, Item, Nestable, Optional};
+use der_asn1::{
+    BorrowedItem, DecodeItem, Described, DescribedChoice, Item, Nestable, Optional, WrittenItem,
+};
 use std::alloc::Global;
 
 /// An entry of a revocation list (RFC 5280, 5.1.2.6), borrowed from the input.
-#[derive(Clone, Copy, Drop)]
+#[derive(Clone, Copy, Debug, Drop, PartialEq, Eq)]
 pub struct RevokedCertificate<'a> {
     /// The serial number of the certificate.
     pub user_certificate: CertificateSerialNumber<'a>,
@@ -127,6 +129,12 @@ impl<'a, R: Lends<Borrowed = &'a [u8]>> DecodeItem<R> for RevokedCertificate<'a>
 
 impl<'a> BorrowedItem for RevokedCertificate<'a> {
     ghost borrowed = { refl };
+}
+
+impl<'a> WrittenItem for RevokedCertificate<'a> {
+    ghost written = { λ v. refl };
+
+    ghost writes_valid = { λ v is. is };
 }
 
 impl<'a> Nestable for RevokedCertificate<'a> {

@@ -19,13 +19,14 @@ use der::{
 };
 use der_asn1::{
     BorrowedItem, DecodeItem, Described, DescribedChoice, Explicit, Item, Nestable, Optional,
+    WrittenItem,
 };
 use spki::AlgorithmIdentifierRef;
 use std::alloc::Global;
 
 /// The part of a revocation list that its signature covers (RFC 5280, 5.1.2), borrowed from the
 /// input.
-#[derive(Clone, Copy, Drop)]
+#[derive(Clone, Copy, Debug, Drop, PartialEq, Eq)]
 pub struct TbsCertList<'a> {
     /// The version of the list, if present. The RFC allows version 2 alone, but decoding also
     /// accepts 1 and 3.
@@ -189,6 +190,12 @@ impl<'a, R: Lends<Borrowed = &'a [u8]>> DecodeItem<R> for TbsCertList<'a> {
 
 impl<'a> BorrowedItem for TbsCertList<'a> {
     ghost borrowed = { refl };
+}
+
+impl<'a> WrittenItem for TbsCertList<'a> {
+    ghost written = { λ v. refl };
+
+    ghost writes_valid = { λ v is. is };
 }
 
 impl<'a> Nestable for TbsCertList<'a> {

@@ -19,13 +19,13 @@ use der::{
 };
 use der_asn1::{
     BitStringRef, BorrowedItem, DecodeItem, DefaultValue, Defaulted, Described, Explicit, Implicit,
-    Item, Nestable, Optional,
+    Item, Nestable, Optional, WrittenItem,
 };
 use spki::{AlgorithmIdentifierRef, SubjectPublicKeyInfoRef};
 use std::alloc::Global;
 
 /// The part of a certificate that its signature covers (RFC 5280, 4.1.2), borrowed from the input.
-#[derive(Clone, Copy, Drop)]
+#[derive(Clone, Copy, Debug, Drop, PartialEq, Eq)]
 pub struct TbsCertificate<'a> {
     /// The version of the certificate: 1, 2 or 3. The default is 1.
     pub version: Defaulted<Explicit<Version<'a>, 0>>,
@@ -210,6 +210,12 @@ impl<'a, R: Lends<Borrowed = &'a [u8]>> DecodeItem<R> for TbsCertificate<'a> {
 
 impl<'a> BorrowedItem for TbsCertificate<'a> {
     ghost borrowed = { refl };
+}
+
+impl<'a> WrittenItem for TbsCertificate<'a> {
+    ghost written = { λ v. refl };
+
+    ghost writes_valid = { λ v is. is };
 }
 
 impl<'a> Nestable for TbsCertificate<'a> {

@@ -1,7 +1,7 @@
 //! Written by asn1_compile from the module X509: change the module instead.
 //!
 //! Time.
-ghost use Rattle.std.specs.Prelude.{false};
+ghost use Rattle.std.specs.Prelude.{◌↔◌, IsTrue, false};
 ghost use Rattle.std.proofs.Common.{refl};
 ghost use Rattle.der.specs.Prelude.{map_ok};
 ghost use Rattle.der_asn1.specs.Item.{decodes_same};
@@ -11,14 +11,14 @@ ghost use Rattle.x509.specs.declared.asn1.time.Time.TheVariants as variant;
 
 use der::{Decode, Encode, Error, FromFields, Lends, Length, Reader, SliceReader, Tag, Writer};
 use der_asn1::{
-    BorrowedItem, Choice, DecodeItem, Described, DescribedChoice, Either, GeneralizedTime, Item,
-    UtcTime, decode_choice,
+    BorrowedItem, Choice, DecodeChoice, DecodeItem, Described, DescribedChoice, Either,
+    GeneralizedTime, Item, UtcTime, WrittenItem, decode_choice,
 };
 use std::alloc::Global;
 
 /// A time (RFC 5280, 4.1.2.5). The RFC requires a UTCTime until the end of 2049 and a
 /// GeneralizedTime after that. Decoding also accepts a GeneralizedTime for an earlier time.
-#[derive(Clone, Copy, Drop)]
+#[derive(Clone, Copy, Debug, Drop, PartialEq, Eq)]
 pub enum Time {
     /// utcTime
     UtcTime(UtcTime),
@@ -71,13 +71,17 @@ impl<'a, R: Lends<Borrowed = &'a [u8]>> Decode<R> for Time {
     }
 }
 
-impl<'a, R: Lends<Borrowed = &'a [u8]>> Choice<R> for Time {
+impl Choice for Time {
     ghost chooses = { ⟦<Time as DescribedChoice>⟧.alternative.tags };
 
-    fn can_decode(tag: Tag) -> bool {
-        <TimeAlternatives as Choice<R>>::can_decode(tag)
+    fn can_decode(tag: Tag) -> bool
+        ensures { IsTrue result ↔ ⟦<Time as DescribedChoice>⟧.alternative.tags tag }
+    {
+        <TimeAlternatives as Choice>::can_decode(tag)
     }
+}
 
+impl<'a, R: Lends<Borrowed = &'a [u8]>> DecodeChoice<R> for Time {
     ghost begins = { ⟦<Time as DescribedChoice>⟧.alternative.begins };
 }
 
@@ -136,4 +140,10 @@ impl<'a, R: Lends<Borrowed = &'a [u8]>> DecodeItem<R> for Time {
 
 impl<'a> BorrowedItem for Time {
     ghost borrowed = { refl };
+}
+
+impl WrittenItem for Time {
+    ghost written = { λ v. refl };
+
+    ghost writes_valid = { λ v is. is };
 }

@@ -13,11 +13,13 @@ use der::{
     Decode, DecodeValue, Encode, Error, FieldsCall, FromFields, HasFields, Header, IsValue, Lends,
     Reader, Sequence, SliceReader, decode_sequence, field_refs,
 };
-use der_asn1::{BorrowedItem, DecodeItem, Described, DescribedChoice, Item, Nestable, Optional};
+use der_asn1::{
+    BorrowedItem, DecodeItem, Described, DescribedChoice, Item, Nestable, Optional, WrittenItem,
+};
 use std::alloc::Global;
 
 /// A notice to the user of a certificate (RFC 5280, 4.2.1.4), borrowed from the input.
-#[derive(Clone, Copy, Drop)]
+#[derive(Clone, Copy, Debug, Drop, PartialEq, Eq)]
 pub struct UserNotice<'a> {
     /// Where the text of the notice is found, if present.
     pub notice_ref: Optional<NoticeReference<'a>>,
@@ -111,6 +113,12 @@ impl<'a, R: Lends<Borrowed = &'a [u8]>> DecodeItem<R> for UserNotice<'a> {
 
 impl<'a> BorrowedItem for UserNotice<'a> {
     ghost borrowed = { refl };
+}
+
+impl<'a> WrittenItem for UserNotice<'a> {
+    ghost written = { λ v. refl };
+
+    ghost writes_valid = { λ v is. is };
 }
 
 impl<'a> Nestable for UserNotice<'a> {

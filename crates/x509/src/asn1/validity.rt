@@ -12,12 +12,12 @@ use der::{
     Decode, DecodeValue, Encode, Error, FieldsCall, FromFields, HasFields, Header, IsValue, Lends,
     Reader, Sequence, SliceReader, decode_sequence, field_refs,
 };
-use der_asn1::{BorrowedItem, DecodeItem, Described, DescribedChoice, Item, Nestable};
+use der_asn1::{BorrowedItem, DecodeItem, Described, DescribedChoice, Item, Nestable, WrittenItem};
 use std::alloc::Global;
 
 /// The period in which a certificate is valid (RFC 5280, 4.1.2.5): the times at its two ends
 /// included.
-#[derive(Clone, Copy, Drop)]
+#[derive(Clone, Copy, Debug, Drop, PartialEq, Eq)]
 pub struct Validity {
     /// The first time at which the certificate is valid.
     pub not_before: Time,
@@ -107,6 +107,12 @@ impl<'a, R: Lends<Borrowed = &'a [u8]>> DecodeItem<R> for Validity {
 
 impl<'a> BorrowedItem for Validity {
     ghost borrowed = { refl };
+}
+
+impl WrittenItem for Validity {
+    ghost written = { λ v. refl };
+
+    ghost writes_valid = { λ v is. is };
 }
 
 impl Nestable for Validity {

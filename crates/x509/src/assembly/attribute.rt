@@ -5,7 +5,7 @@ ghost use Rattle.der.specs.Prelude.{ElementWritten, element_octets, map_ok};
 ghost use Rattle.der_asn1.specs.AnyElement.{AnyElementRead};
 ghost use Rattle.der_asn1.specs.AnyRef.{AnyRead};
 ghost use Rattle.der_asn1.specs.ListAnswers.{SetWalked};
-ghost use Rattle.x509.specs.Assembly.{WrittenThenRead};
+ghost use Rattle.der_asn1.specs.Assembly.{WrittenThenRead};
 
 use super::written::write_value;
 use crate::asn1::Attribute;

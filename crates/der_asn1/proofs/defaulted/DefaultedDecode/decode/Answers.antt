@@ -12,7 +12,7 @@ returns-then-is_finished-clause-exact g c reliable = default_at_end c.default_va
 
 pub returns-in_err-tag-clause-complete : goal.returns-in_err-tag-clause-complete
 returns-in_err-tag-clause-complete g c v m reliable working h deep =
-    absurd (default_no_field g.T.Choice.chooses g.T.DefaultValue.is_default g.T.Decode.is_next g.met.T.Choice.begins (g.R.Reader.state c.args.reader.now) v.0 m (g.met.R.Reader.sound_state c.args.reader.now) (λ e. (let yes = c.is_finished.ensures.1 e in let no = c.if-is_finished.false in cc)) reliable working c.in_err-tag.ensures h)
+    absurd (default_no_field g.T.Choice.chooses g.T.DefaultValue.is_default g.T.Decode.is_next g.met.T.DecodeChoice.begins (g.R.Reader.state c.args.reader.now) v.0 m (g.met.R.Reader.sound_state c.args.reader.now) (λ e. (let yes = c.is_finished.ensures.1 e in let no = c.if-is_finished.false in cc)) reliable working c.in_err-tag.ensures h)
 
 pub returns-in_err-tag-clause-exact : goal.returns-in_err-tag-clause-exact
 returns-in_err-tag-clause-exact g c =
@@ -26,7 +26,7 @@ returns-then-not-can_decode-clause-ok g c working still =
 
 pub returns-then-not-can_decode-clause-complete : goal.returns-then-not-can_decode-clause-complete
 returns-then-not-can_decode-clause-complete g c v m reliable working h deep =
-    inl (refl, stays_there (g.R.Reader.state c.args.reader.now) m (default_before g.T.Choice.chooses g.T.DefaultValue.is_default g.T.Decode.is_next g.met.T.Choice.begins (g.R.Reader.state c.args.reader.now) v.0 m c.in_ok-tag.ensures (λ is. (let yes = c.can_decode.ensures.1 is in let no = c.if-not-can_decode.true in cc)) h))
+    inl (refl, stays_there (g.R.Reader.state c.args.reader.now) m (default_before g.T.Choice.chooses g.T.DefaultValue.is_default g.T.Decode.is_next g.met.T.DecodeChoice.begins (g.R.Reader.state c.args.reader.now) v.0 m c.in_ok-tag.ensures (λ is. (let yes = c.can_decode.ensures.1 is in let no = c.if-not-can_decode.true in cc)) h))
 
 pub returns-then-not-can_decode-clause-exact : goal.returns-then-not-can_decode-clause-exact
 returns-then-not-can_decode-clause-exact g c reliable =
@@ -35,7 +35,7 @@ returns-then-not-can_decode-clause-exact g c reliable =
 pub returns-in_err-value-clause-complete : goal.returns-in_err-value-clause-complete
 returns-in_err-value-clause-complete g c v m reliable working h deep =
     let p = err_from_is_err_and c.from_residual-in_err-value.result c.from_residual-in_err-value.ensures.1 in
-    rw (p.1, p.2) (default_lacks g.T.Choice.chooses g.T.DefaultValue.is_default g.T.Decode.is_next g.met.T.Choice.begins (g.R.Reader.state c.args.reader.now) g.T.Decode.decode_levels g.T.Error.DecodeError.out_of_memory g.T.Decode.allocates (g.R.Reader.state c.decode.new.reader) c.in_ok-tag.ensures (c.can_decode.ensures.0 c.if-not-can_decode.false) v.0 m working h deep c.in_err-value.field-0.0 (λ w n. c.in_err-value.ensures.complete w n reliable))
+    rw (p.1, p.2) (default_lacks g.T.Choice.chooses g.T.DefaultValue.is_default g.T.Decode.is_next g.met.T.DecodeChoice.begins (g.R.Reader.state c.args.reader.now) g.T.Decode.decode_levels g.T.Error.DecodeError.out_of_memory g.T.Decode.allocates (g.R.Reader.state c.decode.new.reader) c.in_ok-tag.ensures (c.can_decode.ensures.0 c.if-not-can_decode.false) v.0 m working h deep c.in_err-value.field-0.0 (λ w n. c.in_err-value.ensures.complete w n reliable))
 
 pub returns-in_err-value-clause-exact : goal.returns-in_err-value-clause-exact
 returns-in_err-value-clause-exact g c =
@@ -45,7 +45,7 @@ returns-in_err-value-clause-exact g c =
 pub returns-then-is_written_default-clause-complete : goal.returns-then-is_written_default-clause-complete
 returns-then-is_written_default-clause-complete g c v m reliable working h deep =
     let both = c.is_written_default.ensures.0 c.if-is_written_default.true in
-    absurd (default_not_written g.T.Choice.chooses g.T.DefaultValue.is_default g.T.Decode.is_next g.met.T.Choice.begins (g.R.Reader.state c.args.reader.now) g.T.Decode.decode_levels g.T.Error.DecodeError.out_of_memory g.T.Decode.allocates (g.R.Reader.state c.decode.new.reader) c.in_ok-tag.ensures (c.can_decode.ensures.0 c.if-not-can_decode.false) v.0 m working h deep c.in_ok-value.value (λ w n. c.in_ok-value.ensures.complete w n reliable) g.met.T.HasDefault.reported c.in_ok-value.ensures.ok (sym c.encoding_rules.ensures ∙ both.0) both.1)
+    absurd (default_not_written g.T.Choice.chooses g.T.DefaultValue.is_default g.T.Decode.is_next g.met.T.DecodeChoice.begins (g.R.Reader.state c.args.reader.now) g.T.Decode.decode_levels g.T.Error.DecodeError.out_of_memory g.T.Decode.allocates (g.R.Reader.state c.decode.new.reader) c.in_ok-tag.ensures (c.can_decode.ensures.0 c.if-not-can_decode.false) v.0 m working h deep c.in_ok-value.value (λ w n. c.in_ok-value.ensures.complete w n reliable) g.met.T.HasDefault.reported c.in_ok-value.ensures.ok (sym c.encoding_rules.ensures ∙ both.0) both.1)
 
 pub returns-then-is_written_default-clause-exact : goal.returns-then-is_written_default-clause-exact
 returns-then-is_written_default-clause-exact g c reliable =
@@ -55,7 +55,7 @@ returns-then-is_written_default-clause-exact g c reliable =
 
 pub returns-clause-complete : goal.returns-clause-complete
 returns-clause-complete g c v m reliable working h deep =
-    default_reads g.T.Choice.chooses g.T.DefaultValue.is_default g.T.Decode.is_next g.met.T.Choice.begins (g.R.Reader.state c.args.reader.now) g.T.Decode.decode_levels g.T.Error.DecodeError.out_of_memory g.T.Decode.allocates (g.R.Reader.state c.decode.new.reader) c.in_ok-tag.ensures (c.can_decode.ensures.0 c.if-not-can_decode.false) v.0 m working h deep c.in_ok-value.value (λ w n. c.in_ok-value.ensures.complete w n reliable)
+    default_reads g.T.Choice.chooses g.T.DefaultValue.is_default g.T.Decode.is_next g.met.T.DecodeChoice.begins (g.R.Reader.state c.args.reader.now) g.T.Decode.decode_levels g.T.Error.DecodeError.out_of_memory g.T.Decode.allocates (g.R.Reader.state c.decode.new.reader) c.in_ok-tag.ensures (c.can_decode.ensures.0 c.if-not-can_decode.false) v.0 m working h deep c.in_ok-value.value (λ w n. c.in_ok-value.ensures.complete w n reliable)
 
 pub returns-clause-exact : goal.returns-clause-exact
 returns-clause-exact g c reliable =

@@ -9,7 +9,7 @@ use Rattle.der_asn1.proofs.either.EitherDecode.decode.Goals as goal
 
 pub returns-in_err-tag-clause-complete : goal.returns-in_err-tag-clause-complete
 returns-in_err-tag-clause-complete g c v m reliable working h deep =
-    absurd (no_tag_neither g.A.Choice.chooses g.B.Choice.chooses g.A.Decode.is_next g.B.Decode.is_next g.met.A.Choice.begins g.met.B.Choice.begins (g.R.Reader.state c.args.reader.now) v m h reliable working c.in_err-tag.ensures)
+    absurd (no_tag_neither g.A.Choice.chooses g.B.Choice.chooses g.A.Decode.is_next g.B.Decode.is_next g.met.A.DecodeChoice.begins g.met.B.DecodeChoice.begins (g.R.Reader.state c.args.reader.now) v m h reliable working c.in_err-tag.ensures)
 
 pub returns-in_err-tag-clause-exact : goal.returns-in_err-tag-clause-exact
 returns-in_err-tag-clause-exact g c =
@@ -19,7 +19,7 @@ returns-in_err-tag-clause-exact g c =
 pub returns-in_err-first-clause-complete : goal.returns-in_err-first-clause-complete
 returns-in_err-first-clause-complete g c v m reliable working h deep =
     let p = err_from_is_err_and c.from_residual-in_err-first.result c.from_residual-in_err-first.ensures.1 in
-    let there = first_next g.A.Choice.chooses g.B.Choice.chooses g.A.Decode.is_next g.B.Decode.is_next g.met.A.Choice.begins g.met.B.Choice.begins (g.R.Reader.state c.args.reader.now) v m h c.in_ok-tag.ensures (c.can_decode.ensures.0 c.if-can_decode.true) in
+    let there = first_next g.A.Choice.chooses g.B.Choice.chooses g.A.Decode.is_next g.B.Decode.is_next g.met.A.DecodeChoice.begins g.met.B.DecodeChoice.begins (g.R.Reader.state c.args.reader.now) v m h c.in_ok-tag.ensures (c.can_decode.ensures.0 c.if-can_decode.true) in
     rw (p.1, p.2) (first_lacks g.row.A.Denot g.row.A.Denot g.A.Error.DecodeError.out_of_memory g.A.Decode.allocates g.B.Decode.allocates (g.R.Reader.state c.args.reader.now) (g.R.Reader.state c.decode.new.reader) m (c.in_err-first.ensures.complete there.0 m reliable working there.1 (first_deep g.A.Decode.decode_levels g.B.Decode.decode_levels (g.R.Reader.state c.args.reader.now) deep)))
 
 pub returns-in_err-first-clause-exact : goal.returns-in_err-first-clause-exact
@@ -29,7 +29,7 @@ returns-in_err-first-clause-exact g c =
 
 pub returns-then-can_decode-clause-complete : goal.returns-then-can_decode-clause-complete
 returns-then-can_decode-clause-complete g c v m reliable working h deep =
-    let there = first_next g.A.Choice.chooses g.B.Choice.chooses g.A.Decode.is_next g.B.Decode.is_next g.met.A.Choice.begins g.met.B.Choice.begins (g.R.Reader.state c.args.reader.now) v m h c.in_ok-tag.ensures (c.can_decode.ensures.0 c.if-can_decode.true) in
+    let there = first_next g.A.Choice.chooses g.B.Choice.chooses g.A.Decode.is_next g.B.Decode.is_next g.met.A.DecodeChoice.begins g.met.B.DecodeChoice.begins (g.R.Reader.state c.args.reader.now) v m h c.in_ok-tag.ensures (c.can_decode.ensures.0 c.if-can_decode.true) in
     either_reads {C = Either g.row.A.Denot g.row.B.Denot} g.A.Error.DecodeError.out_of_memory g.A.Decode.allocates (g.A.Decode.allocates || g.B.Decode.allocates) (g.R.Reader.state c.args.reader.now) (g.R.Reader.state c.decode.new.reader) m c.in_ok-first.first (First c.in_ok-first.first) (c.in_ok-first.ensures.complete there.0 m reliable working there.1 (first_deep g.A.Decode.decode_levels g.B.Decode.decode_levels (g.R.Reader.state c.args.reader.now) deep))
 
 pub returns-then-can_decode-clause-exact : goal.returns-then-can_decode-clause-exact
@@ -38,7 +38,7 @@ returns-then-can_decode-clause-exact g c reliable =
 
 pub returns-then-not-can_decode-clause-complete : goal.returns-then-not-can_decode-clause-complete
 returns-then-not-can_decode-clause-complete g c v m reliable working h deep =
-    absurd (other_tag_neither g.A.Choice.chooses g.B.Choice.chooses g.A.Decode.is_next g.B.Decode.is_next g.met.A.Choice.begins g.met.B.Choice.begins (g.R.Reader.state c.args.reader.now) v m h c.in_ok-tag.ensures (λ is. (let yes = c.can_decode.ensures.1 is in let no = c.if-can_decode.false in cc)) (λ is. (let yes = c.can_decode-2.ensures.1 is in let no = c.if-not-can_decode.true in cc)))
+    absurd (other_tag_neither g.A.Choice.chooses g.B.Choice.chooses g.A.Decode.is_next g.B.Decode.is_next g.met.A.DecodeChoice.begins g.met.B.DecodeChoice.begins (g.R.Reader.state c.args.reader.now) v m h c.in_ok-tag.ensures (λ is. (let yes = c.can_decode.ensures.1 is in let no = c.if-can_decode.false in cc)) (λ is. (let yes = c.can_decode-2.ensures.1 is in let no = c.if-not-can_decode.true in cc)))
 
 pub returns-then-not-can_decode-clause-exact : goal.returns-then-not-can_decode-clause-exact
 returns-then-not-can_decode-clause-exact g c reliable =
@@ -48,7 +48,7 @@ returns-then-not-can_decode-clause-exact g c reliable =
 pub returns-in_err-second-clause-complete : goal.returns-in_err-second-clause-complete
 returns-in_err-second-clause-complete g c v m reliable working h deep =
     let p = err_from_is_err_and c.from_residual-in_err-second.result c.from_residual-in_err-second.ensures.1 in
-    let there = second_next g.A.Choice.chooses g.B.Choice.chooses g.A.Decode.is_next g.B.Decode.is_next g.met.A.Choice.begins g.met.B.Choice.begins (g.R.Reader.state c.args.reader.now) v m h c.in_ok-tag.ensures (λ is. (let yes = c.can_decode.ensures.1 is in let no = c.if-can_decode.false in cc)) in
+    let there = second_next g.A.Choice.chooses g.B.Choice.chooses g.A.Decode.is_next g.B.Decode.is_next g.met.A.DecodeChoice.begins g.met.B.DecodeChoice.begins (g.R.Reader.state c.args.reader.now) v m h c.in_ok-tag.ensures (λ is. (let yes = c.can_decode.ensures.1 is in let no = c.if-can_decode.false in cc)) in
     rw (p.1, p.2) (second_lacks g.row.B.Denot g.row.B.Denot g.A.Error.DecodeError.out_of_memory g.A.Decode.allocates g.B.Decode.allocates (g.R.Reader.state c.args.reader.now) (g.R.Reader.state c.decode-2.new.reader) m (c.in_err-second.ensures.complete there.0 m reliable working there.1 (second_deep g.A.Decode.decode_levels g.B.Decode.decode_levels (g.R.Reader.state c.args.reader.now) deep)))
 
 pub returns-in_err-second-clause-exact : goal.returns-in_err-second-clause-exact
@@ -62,7 +62,7 @@ returns-clause-ok g c working still =
 
 pub returns-clause-complete : goal.returns-clause-complete
 returns-clause-complete g c v m reliable working h deep =
-    let there = second_next g.A.Choice.chooses g.B.Choice.chooses g.A.Decode.is_next g.B.Decode.is_next g.met.A.Choice.begins g.met.B.Choice.begins (g.R.Reader.state c.args.reader.now) v m h c.in_ok-tag.ensures (λ is. (let yes = c.can_decode.ensures.1 is in let no = c.if-can_decode.false in cc)) in
+    let there = second_next g.A.Choice.chooses g.B.Choice.chooses g.A.Decode.is_next g.B.Decode.is_next g.met.A.DecodeChoice.begins g.met.B.DecodeChoice.begins (g.R.Reader.state c.args.reader.now) v m h c.in_ok-tag.ensures (λ is. (let yes = c.can_decode.ensures.1 is in let no = c.if-can_decode.false in cc)) in
     either_reads {C = Either g.row.A.Denot g.row.B.Denot} g.A.Error.DecodeError.out_of_memory g.B.Decode.allocates (g.A.Decode.allocates || g.B.Decode.allocates) (g.R.Reader.state c.args.reader.now) (g.R.Reader.state c.decode-2.new.reader) m c.in_ok-second.second (Second c.in_ok-second.second) (c.in_ok-second.ensures.complete there.0 m reliable working there.1 (second_deep g.A.Decode.decode_levels g.B.Decode.decode_levels (g.R.Reader.state c.args.reader.now) deep))
 
 pub returns-clause-exact : goal.returns-clause-exact

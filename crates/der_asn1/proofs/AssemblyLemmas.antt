@@ -6,7 +6,7 @@ use Rattle.der.specs.Encode.{PlacesErrors}
 use Rattle.der.specs.Prelude.{Error, WriterAnswer}
 use Rattle.der.specs.Writer.{WriterState}
 use Rattle.der_asn1.specs.SequenceOf.{AllValid, joined_encodings}
-use Rattle.x509.specs.Assembly.{ValuesWritten}
+use Rattle.der_asn1.specs.Assembly.{ValuesWritten}
 
 module _ {A : Type 0} (encoding : A → List ℕ) where
   pub joined-append : (vs ws : List A) → joined_encodings encoding (vs ++ ws) ≡ joined_encodings encoding vs ++ joined_encodings encoding ws

@@ -4,12 +4,14 @@ ghost use Rattle.der.specs.Prelude.{map_ok};
 ghost use Rattle.der_asn1.specs.ListAnswers.{ListWalked, SetWalked};
 ghost use Rattle.der_asn1.specs.SequenceOf.{AllValid, joined_encodings};
 ghost use Rattle.der_asn1.specs.SetOf.{EncodingsAscendAfter};
-ghost use Rattle.x509.specs.Assembly.{ListAssembled};
+ghost use Rattle.der_asn1.specs.Assembly.{ListAssembled};
 
-use super::written::write_values;
-use super::written_items::WrittenItem;
+use super::written_item::WrittenItem;
+use super::written_values::write_values;
+use crate::item::DecodeItem;
+use crate::sequence_of::SequenceOf;
+use crate::set_of::SetOf;
 use der::{Error, SliceReader};
-use der_asn1::{DecodeItem, SequenceOf, SetOf};
 use std::alloc::Global;
 
 /// The SEQUENCE OF these items, in this order. Their encodings are written to the start of
