@@ -3,7 +3,9 @@
 mod departures;
 mod files;
 mod json;
+mod messages;
 mod names;
 mod octets;
 mod printed;
+mod texts;
 mod unknown;

@@ -17,13 +17,19 @@ fn is_unknown(rt: &impl Abort, alloc: Global, octets: &[u8]) -> Vec<u8> {
 fn values_of_other_types_are_elements(rt: HostRuntime) {
     let alloc = rt.alloc();
     is_unknown(&rt, alloc, &SIGNATURE);
-    is_unknown(&rt, alloc, &PARAMETERS);
     is_unknown(&rt, alloc, &LDAP);
     let snmp = is_unknown(&rt, alloc, &SNMP);
     has(&rt, &snmp, "OCTET STRING :7075626C6963\n");
     let kerberos = is_unknown(&rt, alloc, &KERBEROS);
     has(&rt, &kerberos, "GeneralizedTime :20240101000000Z\n");
     has(&rt, &kerberos, "GeneralString :EXAMPLE\n");
+}
+
+#[test]
+fn parameters_are_no_key(rt: HostRuntime) {
+    let printed = is_shown(&rt, rt.alloc(), &PARAMETERS, 0);
+    has(&rt, &printed, "DH Parameters: (512 bit)\nP: 00:d7:2c:26:");
+    has(&rt, &printed, "G: 2 (0x2)\n");
 }
 
 #[test]

@@ -3,7 +3,7 @@
 use crate::json::put_json_encrypted;
 use crate::options::Shown;
 use crate::place::Place;
-use crate::show::{Show, put_plain};
+use crate::show::{Show, put_place, put_plain};
 use crate::values::show_values;
 use der_show_text::{Characters, Style, put_text};
 use pem::{Block, Blocks};
@@ -87,6 +87,10 @@ fn show_encrypted(show: &mut Show<'_>, place: &Place<'_>, block: &Block<'_>) {
         }
         Shown::Json => put_json_encrypted(show, place, info),
         Shown::Departures => {}
+        Shown::Short => {
+            put_place(&mut show.page.out, place);
+            show.page.put("encrypted (RFC 1421)\n");
+        }
         _ => show.error(place, "the block is encrypted, and cannot be converted"),
     }
 }

@@ -51,7 +51,7 @@ impl<'i, 'a> Departures<'i, 'a> {
                 let alloc = show.page.alloc;
                 self.put_places(alloc, &mut show.page.out, place);
             }
-            Shown::Json => {}
+            Shown::Json | Shown::Short => {}
             Shown::Der | Shown::Pem => {
                 show.page.out.flush();
                 self.put_places(show.page.alloc, &mut show.errors, place);
@@ -196,7 +196,12 @@ fn put_rule(out: &mut Output, rule: Rule) {
 
 /// Prints how many departures a file has, and how many of these are not even BER.
 pub fn put_totals(show: &mut Show<'_>) {
-    if show.departures == 0 || !matches!(show.options.shown, Shown::Text | Shown::Departures) {
+    if show.departures == 0
+        || !matches!(
+            show.options.shown,
+            Shown::Text | Shown::Departures | Shown::Short
+        )
+    {
         return;
     }
     show.page.number(show.departures as u64);

@@ -6,6 +6,7 @@ use crate::json::{begin_file, end_file};
 use crate::options::Shown;
 use crate::place::Place;
 use crate::show::Show;
+use crate::texts::pem_text;
 use crate::values::show_values;
 use der_show_tree::{ANY, is_encoding};
 use pem::Blocks;
@@ -29,15 +30,36 @@ pub fn show_octets(show: &mut Show<'_>, file: &str, octets: &[u8]) {
     }
     if is_pem(octets) {
         show_blocks(show, &place, octets);
-    } else if is_other_text(show, octets) {
-        show.error(&place, "the file is a text without a PEM block");
-    } else {
-        show_values(show, &place, octets);
+    } else if !show_other_text(show, &place, octets) {
+        if is_other_text(show, octets) {
+            show.error(&place, "the file is a text without a PEM block");
+        } else {
+            show_values(show, &place, octets);
+        }
     }
     if show.options.shown == Shown::Json {
         end_file(show);
     }
     put_totals(show);
+}
+
+// Shows the blocks of a text that is PEM but for its form, and returns true if it has one.
+fn show_other_text(show: &mut Show<'_>, place: &Place<'_>, octets: &[u8]) -> bool {
+    let has_mark = matches!(octets, [0xFF, 0xFE, ..] | [0xFE, 0xFF, ..]);
+    if !has_mark && !is_plain(octets) {
+        return false;
+    }
+    match pem_text(show.page.alloc, octets) {
+        Ok(text) if is_pem(text.as_slice()) => {
+            show_blocks(show, place, text.as_slice());
+            true
+        }
+        Ok(_) => false,
+        Err(_) => {
+            show.memory_error(place);
+            true
+        }
+    }
 }
 
 // Whether the octets are text, and no element.

@@ -2,22 +2,27 @@
 
 /// What the program does.
 pub static ABOUT: &str = "\
-Shows what DER, BER and PEM files hold: certificates, requests, revocation lists, keys, signed and encrypted \
-messages, PKCS #12, OCSP and timestamps by their fields, and any other file as elements. A file is shown as far as \
+Shows what DER, BER and PEM files hold, and messages in mail: certificates, requests, revocation lists, keys, signed \
+and encrypted messages, PKCS #12, OCSP and timestamps by their fields, and any other file as elements. A file is shown as far as \
 it can be read. Below it is a list of the departures: places that depart from the Distinguished Encoding Rules.";
 
 /// What stands below the options.
 pub static AFTER: &str = "\
 Kinds: certificate, request, crl, public-key, private-key, encrypted-private-key, rsa-private-key, rsa-public-key,
-ec-private-key, ec-parameters, dsa-private-key, dsa-parameters, dh-parameters, cms, pkcs12, ocsp-request,
-ocsp-response, timestamp-request, timestamp-response
+ec-private-key, ec-parameters, dsa-private-key, dsa-parameters, dh-parameters, x942-parameters, cms, signed-data,
+pkcs12, ocsp-request, ocsp-response, timestamp-request, timestamp-response, spkac, attribute-certificate,
+certificate-pair
 
 In --json, fields have the names of the ASN.1 modules. Octets are in hexadecimal, and so are numbers that are
 negative or not below 2^53. Control characters, characters that cannot be seen and those that change the direction of
 a line are escaped everywhere: on lines as \\ and two digits for each octet in UTF-8, in JSON as \\u and four digits.
 
+A text may have a byte order mark, be in UTF-16 or be indented. Of mail, the parts application/pkcs7-* in base64 are
+shown. Fingerprints are SHA-256 and SHA-1 of the DER of a certificate, or of its public key.
+
 --der writes messages that are BER, and not DER, in DER. Nothing is verified and nothing is decrypted. Secret parts of
-keys are printed by --json, --der, --pem and --tree, and by nothing else. There are no fingerprints.
+keys are printed by --json, --der, --pem, --tree and --schema. Elements of a file of no known kind are printed too,
+unless a label says that it is a private key; and at a departure up to 16 octets.
 
 The exit status is 0 if all was shown and nothing departs from DER; 1 if there is a departure, or if a file cannot be
 read, which standard error says; and 2 if the words are no command.";

@@ -56,14 +56,6 @@ fn begin_value(show: &mut Show<'_>, place: &Place<'_>, kind: &str, start: usize)
     show.page.number(start as u64);
 }
 
-fn word_of(target: Target) -> &'static str {
-    match target {
-        Target::Kind(kind) => kind.word(),
-        Target::Elements => "elements",
-        Target::Node(_) => "value",
-    }
-}
-
 /// Prints a value as an object.
 pub fn put_json_value(
     show: &mut Show<'_>,
@@ -72,7 +64,7 @@ pub fn put_json_value(
     value: Cursor<'_>,
     departures: Departures<'_, '_>,
 ) {
-    begin_value(show, place, word_of(target), departures.base);
+    begin_value(show, place, target.word(), departures.base);
     if matches!(target, Target::Kind(Kind::Certificate)) && show.options.is_lint {
         put_json_lint(show, value.octets());
     }

@@ -17,6 +17,7 @@ mod place;
 mod print;
 mod program;
 mod show;
+mod texts;
 mod value;
 mod values;
 

@@ -3,6 +3,7 @@
 use crate::help::{ABOUT, AFTER};
 use clap::error::ErrorKind;
 use clap::{Arg, ArgAction, Command, Error};
+use der_asn1::{GeneralizedTimeFormat, TimeFormat};
 use der_show_tree::Kind;
 use std::alloc::{AllocError, Global};
 
@@ -19,6 +20,8 @@ pub enum Shown {
     Pem,
     /// Departures, and nothing else.
     Departures,
+    /// A line for each value.
+    Short,
 }
 
 /// The options of the command line: how to read a file, and what to print.
@@ -34,6 +37,10 @@ pub struct Options {
     pub shown: Shown,
     /// The kind of the file, if the option `--as` says it.
     pub kind: Option<Kind>,
+    /// After how many columns lines of text are folded, or 0: the option `--width`.
+    pub width: usize,
+    /// The time from which days are counted, in seconds since 1970: the option `--now`.
+    pub now: Option<i64>,
 }
 
 impl Options {
@@ -45,6 +52,8 @@ impl Options {
             is_lint: false,
             shown: Shown::Text,
             kind: None,
+            width: 0,
+            now: None,
         }
     }
 }
@@ -64,6 +73,14 @@ pub struct ShowCommand<'a> {
 
 const NO_KIND: &str = "the value of '--as' is no kind; --help lists them";
 
+const NO_WIDTH: &str = "the value of '--width' is no number";
+
+const NO_TIME: &str =
+    "the value of '--now' is no date as 2026-01-31, and no time as 2026-01-31T23:59:59Z";
+
+/// After how many columns lines are folded, if no option says it.
+const WIDTH: usize = 100;
+
 const NO_TYPE: &str = "'--schema' needs '--type', the name of a type in the table";
 
 impl<'a> ShowCommand<'a> {
@@ -82,6 +99,7 @@ impl<'a> ShowCommand<'a> {
             ("der", Shown::Der),
             ("pem", Shown::Pem),
             ("strict", Shown::Departures),
+            ("short", Shown::Short),
         ] {
             if matches.get_flag(name) {
                 options.shown = shown;
@@ -91,6 +109,19 @@ impl<'a> ShowCommand<'a> {
             options.kind = Kind::of_word(word);
             if options.kind.is_none() {
                 return Err(command.error(ErrorKind::ValueValidation, NO_KIND)?);
+            }
+        }
+        options.width = WIDTH;
+        if let Some(word) = matches.get_str("width") {
+            let Ok(width) = word.parse::<usize>() else {
+                return Err(command.error(ErrorKind::ValueValidation, NO_WIDTH)?);
+            };
+            options.width = width;
+        }
+        if let Some(word) = matches.get_str("now") {
+            options.now = seconds_of(word);
+            if options.now.is_none() {
+                return Err(command.error(ErrorKind::ValueValidation, NO_TIME)?);
             }
         }
         let mut files = Vec::new(alloc);
@@ -107,6 +138,28 @@ impl<'a> ShowCommand<'a> {
             schema,
             type_name,
         })
+    }
+}
+
+// A date, or a time of UTC, in seconds since 1970.
+fn seconds_of(word: &str) -> Option<i64> {
+    let mut octets = *b"00000000000000Z";
+    let mut count = 0usize;
+    for octet in word.bytes() {
+        if octet.is_ascii_digit() {
+            *octets.get_mut(count)? = octet;
+            count = count.saturating_add(1);
+        }
+    }
+    let form = if count == 8 { 10 } else { 20 };
+    if word.len() != form || !matches!(count, 8 | 14) {
+        return None;
+    }
+    let at = GeneralizedTimeFormat::from_contents(&octets)?;
+    if at.is_valid() {
+        Some(at.unix_seconds())
+    } else {
+        None
     }
 }
 
@@ -127,6 +180,23 @@ fn text<'a>(alloc: Global, name: &'a str, value: &'a str, help: &'a str) -> Arg<
 // What the program takes.
 fn command<'a>(alloc: Global, version: &'a str) -> Result<Command<'a>, AllocError> {
     let shown: [&'static str; 4] = ["json", "der", "pem", "strict"];
+    let short = flag(
+        alloc,
+        "short",
+        "Print a line for each value: its kind, name, key, days and fingerprint",
+    );
+    let width = text(
+        alloc,
+        "width",
+        "COLUMNS",
+        "Fold lines of text after so many columns; 100 if not given, never for 0",
+    );
+    let now = text(
+        alloc,
+        "now",
+        "TIME",
+        "Count the days that --short prints from this date, or time of UTC",
+    );
     let files = Arg::new(alloc, "file")
         .value_name("FILE")
         .action(ArgAction::Append)
@@ -172,6 +242,9 @@ fn command<'a>(alloc: Global, version: &'a str) -> Result<Command<'a>, AllocErro
         .arg(der.conflicts_with("json")?)?
         .arg(pem.conflicts_with_all(&shown[..2])?)?
         .arg(strict.conflicts_with_all(&shown[..3])?)?
+        .arg(short.conflicts_with_all(&shown)?)?
+        .arg(now)?
+        .arg(width)?
         .arg(text(alloc, "schema", "TABLE", "Read by this table of types"))?
         .arg(text(alloc, "type", "NAME", "The type of the files in the table"))?
         .arg(ber)?

@@ -52,7 +52,7 @@ fn put_key(page: &mut Page<'_>, kind: Kind, value: Cursor<'_>) {
         Kind::EcParameters => put_ec_parameters(page, value),
         Kind::DsaPrivateKey => put_dsa_private_key(page, value),
         Kind::DsaParameters => put_dsa_parameters(page, value),
-        Kind::DhParameters => put_dh_parameters(page, value),
+        Kind::DhParameters | Kind::X942Parameters => put_dh_parameters(page, value),
         _ => put_typed(page, value),
     }
 }

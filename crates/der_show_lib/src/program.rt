@@ -167,6 +167,10 @@ fn new_show<'s>(
     out: Output,
     errors: Output,
 ) -> Show<'s> {
+    let mut out = out;
+    if options.shown == Shown::Text {
+        out.width = options.width;
+    }
     Show {
         page: Page::new(alloc, schema, out, options.has_offsets),
         errors,

@@ -6,9 +6,10 @@ use crate::json::put_json_value;
 use crate::options::Shown;
 use crate::place::Place;
 use crate::print::{put_text_value, put_typed};
-use crate::show::Show;
+use crate::show::{Show, put_place};
 use asn1_cursor::Cursor;
 use asn1_tree::{Departure, Rule};
+use der_show_print::put_short_line;
 use der_show_tree::{ANY, Kind, read_as};
 
 /// What a value is read as.
@@ -23,6 +24,15 @@ pub enum Target {
 }
 
 impl Target {
+    /// The word for what it is.
+    pub fn word(self) -> &'static str {
+        match self {
+            Target::Kind(kind) => kind.word(),
+            Target::Elements => "elements",
+            Target::Node(_) => "value",
+        }
+    }
+
     /// The index of its type in the table.
     pub fn node(self) -> u32 {
         match self {
@@ -83,6 +93,10 @@ fn put_root(
             crate::print::put_octets(show, place, target, written, departures.items);
         }
         (Shown::Departures, _) => {}
+        (Shown::Short, _) => {
+            put_place(&mut show.page.out, place);
+            put_short_line(&mut show.page, target.word(), root, show.options.now);
+        }
     }
 }
 

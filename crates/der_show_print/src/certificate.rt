@@ -2,10 +2,11 @@
 
 use crate::algorithm::put_algorithm_line;
 use crate::extensions::put_extensions;
+use crate::fingerprint::put_fingerprints;
 use crate::name::put_name_line;
 use crate::page::Page;
 use crate::public_key::put_public_key;
-use crate::title::{colons_line, count_line, serial_line, text_line, time_line, version_line};
+use crate::title::{colons_line, count_line, long_serial_line, text_line, time_line, version_line};
 use crate::values::{bit_octets, contents, items, put_long};
 use asn1_cursor::Cursor;
 use der_show_text::put_octets;
@@ -14,7 +15,7 @@ use der_show_text::put_octets;
 pub fn put_certificate(page: &mut Page<'_>, certificate: Cursor<'_>) {
     if let Some(signed) = certificate.at("tbsCertificate") {
         version_line(page, signed.at("version"));
-        serial_line(page, "Serial Number: ", signed.at("serialNumber"));
+        long_serial_line(page, "Serial Number: ", signed.at("serialNumber"));
         put_algorithm_line(page, "Signature Algorithm: ", signed.at("signature"));
         put_name_line(page, "Issuer: ", signed.at("issuer"));
         time_line(page, "Not Before: ", signed.at("validity.notBefore"));
@@ -28,6 +29,7 @@ pub fn put_certificate(page: &mut Page<'_>, certificate: Cursor<'_>) {
         put_extensions(page, "X509v3 extensions:", signed.at("extensions"));
     }
     put_signature(page, certificate);
+    put_fingerprints(page, "", certificate.octets());
 }
 
 /// Prints lines with the algorithm and the length of a signature.

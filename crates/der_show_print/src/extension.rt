@@ -11,7 +11,7 @@ use crate::page::Page;
 use crate::policies::{put_mappings, put_policies};
 use crate::timestamps::put_timestamps;
 use crate::title::{colons_line, decimal_line, name_line, text_line, time_line};
-use crate::values::{contents, items, put_colons, put_long, put_small};
+use crate::values::{contents, digits_of, items, put_colons, put_long, put_small};
 use asn1_cursor::Cursor;
 use ber::Universal;
 use der::Tag;
@@ -96,14 +96,6 @@ fn put_authority_key(page: &mut Page<'_>, element: Cursor<'_>) {
         page.put("serial:");
         put_colons(page, digits_of(contents(number)));
         page.end();
-    }
-}
-
-// A number without the zero octet before others.
-fn digits_of(octets: &[u8]) -> &[u8] {
-    match octets {
-        [0, rest @ ..] if !rest.is_empty() => rest,
-        all => all,
     }
 }
 

@@ -5,6 +5,7 @@ use crate::frame::{Frame, FrameKind};
 use crate::page::Page;
 use crate::printer::Printer;
 use crate::scalars::{put_element, put_joined, put_tag, put_value};
+use crate::words::put_words;
 use asn1_cursor::Cursor;
 use asn1_schema::{NodeKind, Schema};
 use ber::Universal;
@@ -149,9 +150,29 @@ impl<'s> Walk<'s> {
         node.kind == NodeKind::Choice && node.parts.count == 1
     }
 
+    // Prints a value of a type that has words of its own, and returns true if it is one.
+    fn put_in_words(&mut self, element: Cursor<'_>) -> bool {
+        let out = mem::replace(&mut self.printer.out, Output::new(self.alloc, Sink::Memory));
+        let mut page = Page::new(self.alloc, self.schema, out, self.printer.has_offsets);
+        page.indent = self.printer.depth.saturating_mul(4);
+        page.base = self.base;
+        let is_put = put_words(&mut page, element);
+        self.printer.out = page.out;
+        is_put
+    }
+
     // Prints a value after its name, or begins it.
     fn put(&mut self, element: Cursor<'_>, wrappers: u32, is_named: bool) {
         let is_constructed = element.is_constructed();
+        if is_named
+            && is_constructed
+            && self.printer.form == Form::Lines
+            && self.put_in_words(element)
+        {
+            self.skipped = Some(element.entry().depth);
+            self.close_wrappers(wrappers);
+            return;
+        }
         match element.kind() {
             Some(NodeKind::Explicit) => self.enter(element, FrameKind::Inner, is_named, wrappers),
             Some(NodeKind::SequenceOf | NodeKind::SetOf) => {

@@ -103,7 +103,25 @@ pub fn put_ec_parameters(page: &mut Page<'_>, parameters: Cursor<'_>) {
             put_long(page, contents(field));
         }
         page.end();
+        put_curve_numbers(page, parameters);
     }
+}
+
+// The numbers of a curve without a name, in the words of openssl; a polynomial of its field is left out.
+fn put_curve_numbers(page: &mut Page<'_>, parameters: Cursor<'_>) {
+    match parameters.at("fieldID.parameters") {
+        Some(prime) if is_of(prime, Universal::Integer) => put_number(page, "Prime: ", Some(prime)),
+        _ => {}
+    }
+    for (title, path) in [
+        ("A: ", "curve.a"),
+        ("B: ", "curve.b"),
+        ("Generator: ", "base"),
+        ("Order: ", "order"),
+    ] {
+        put_number(page, title, parameters.at(path));
+    }
+    put_exponent(page, "Cofactor: ", parameters.at("cofactor"));
 }
 
 /// Prints the numbers p, q and g of DSA (RFC 3279, 2.3.2).

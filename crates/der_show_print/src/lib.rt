@@ -15,6 +15,7 @@ mod encryption;
 mod extension;
 mod extensions;
 mod fields;
+mod fingerprint;
 mod flags;
 mod form;
 mod frame;
@@ -32,10 +33,12 @@ mod public_key;
 mod request;
 mod revocation;
 mod scalars;
+mod short;
 mod tags;
 mod timestamps;
 mod title;
 mod values;
+mod words;
 
 pub use certificate::{put_certificate, put_trust};
 pub use encryption::put_encrypted_key;
@@ -53,4 +56,5 @@ pub use private_keys::{
 pub use public_key::put_public_key;
 pub use request::put_request;
 pub use revocation::put_revocation_list;
+pub use short::put_short_line;
 pub use tags::{put_header_tag, tag_of_universal};

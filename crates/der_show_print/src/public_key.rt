@@ -1,12 +1,13 @@
 //! Public keys.
 
 use crate::algorithm::put_parameters;
+use crate::fingerprint::put_fingerprints;
 use crate::inside::{held, held_base, read_held};
 use crate::keys::{
     curve_bits, first_of, put_dh_numbers, put_dsa_numbers, put_ec_parameters, put_rsa_numbers,
 };
 use crate::page::Page;
-use crate::values::{bit_octets, contents};
+use crate::values::{bit_octets, contents, put_identifier_of, put_long};
 use asn1_cursor::Cursor;
 use ber::{Universal, read_element};
 use der_show_text::{bit_count, put_octets_with};
@@ -40,9 +41,14 @@ pub fn kind_of(identifier: &[u8]) -> KeyKind {
     }
 }
 
-/// Prints the lines of a SubjectPublicKeyInfo: its algorithm, its size, its curve or parameters, and the
-/// key.
+/// Prints the lines of a SubjectPublicKeyInfo: its algorithm, its size, its curve or parameters, the key, and
+/// its fingerprints.
 pub fn put_public_key(page: &mut Page<'_>, key: Cursor<'_>) {
+    put_key_fields(page, key);
+    put_fingerprints(page, "Key ", key.octets());
+}
+
+fn put_key_fields(page: &mut Page<'_>, key: Cursor<'_>) {
     let (Some(algorithm), Some(bits)) = (key.at("algorithm"), key.at("subjectPublicKey")) else {
         return;
     };
@@ -51,7 +57,7 @@ pub fn put_public_key(page: &mut Page<'_>, key: Cursor<'_>) {
     };
     page.at(algorithm);
     page.put("Public Key Algorithm: ");
-    crate::values::put_identifier_of(page, identifier);
+    put_identifier_of(page, identifier);
     page.end();
     let parameters = algorithm.at("parameters");
     let kind = kind_of(contents(identifier));
@@ -69,6 +75,33 @@ pub fn put_public_key(page: &mut Page<'_>, key: Cursor<'_>) {
         _ => put_key_octets(page, bits, bit_octets(bits)),
     }
     put_key_parameters(page, kind, parameters);
+}
+
+/// Prints the algorithm of a key and its size, after a semicolon.
+pub fn put_short_key(page: &mut Page<'_>, key: Cursor<'_>) {
+    let Some(identifier) = key.at("algorithm.algorithm") else {
+        return;
+    };
+    page.put("; ");
+    put_long(page, contents(identifier));
+    let kind = kind_of(contents(identifier));
+    let size = match kind {
+        KeyKind::Rsa => modulus_bits(page, key),
+        _ => size_of(kind, key.at("algorithm.parameters")),
+    };
+    if let Some(size) = size {
+        page.put(" ");
+        page.number(size);
+        page.put(" bit");
+    }
+}
+
+// The bits of the modulus of a key of RSA.
+fn modulus_bits(page: &mut Page<'_>, key: Cursor<'_>) -> Option<u64> {
+    let octets = held(key.at("subjectPublicKey")?);
+    let tree = read_held(page, RSA_PUBLIC_KEY, octets)?;
+    let root = Cursor::root(octets, page.schema, &tree)?;
+    Some(bit_count(contents(root.at("modulus")?)))
 }
 
 // The line with the size of a key: the bits of the curve's order or of the prime p, or the octets of the key.

@@ -3,8 +3,7 @@
 use crate::page::Page;
 use crate::values::contents;
 use asn1_cursor::Cursor;
-use der_show_text::put_octets_with;
-use std::fmt::Write;
+use der_show_text::{put_octets_with, put_unix_time};
 
 /// Prints the timestamps that the OCTET STRING holds: a list whose length and items' lengths have two
 /// octets. Octets that are no such list are printed in hexadecimal.
@@ -14,15 +13,11 @@ pub fn put_timestamps(page: &mut Page<'_>, element: Cursor<'_>) {
         all => all,
     };
     for _ in 0..contents(element).len() {
-        let [high, low, after @ ..] = rest else {
-            break;
-        };
-        let length = usize::from(u16::from_be_bytes([*high, *low]));
-        let Some(item) = after.get(..length) else {
+        let Some((item, after)) = split_vector(rest) else {
             break;
         };
         put_timestamp(page, element, item);
-        rest = after.get(length..).unwrap_or(&[]);
+        rest = after;
     }
     if !rest.is_empty() {
         page.at(element);
@@ -32,36 +27,68 @@ pub fn put_timestamps(page: &mut Page<'_>, element: Cursor<'_>) {
     }
 }
 
-// Its version, its log, and when it was made. The signature is printed as octets.
+// Its version, its log, when it was made, its extensions and its signature, in the words of openssl. Octets of
+// another version, or that end too early, are printed in hexadecimal.
 fn put_timestamp(page: &mut Page<'_>, element: Cursor<'_>, item: &[u8]) {
     page.line(element, "Signed Certificate Timestamp:");
     page.deeper();
-    let version = item.first().copied().unwrap_or(0);
-    page.beside();
-    let number = u64::from(version).saturating_add(1);
-    let _ = write!(page.out, "Version   : v{number} (0x{version:x})");
-    page.end();
-    page.beside();
-    page.put("Log ID    : ");
-    put_octets_with(&mut page.out, item.get(1..33).unwrap_or(&[]), true);
-    page.end();
-    page.beside();
-    page.put("Timestamp : ");
-    put_milliseconds(page, item.get(33..41).unwrap_or(&[]));
-    page.end();
-    page.beside();
-    page.put("Signature : ");
-    put_octets_with(&mut page.out, item.get(41..).unwrap_or(&[]), true);
-    page.end();
+    if put_fields(page, item).is_none() {
+        put_titled(page, "Octets    : ", item);
+    }
     page.higher();
 }
 
-// Milliseconds since 1970, in decimal.
-fn put_milliseconds(page: &mut Page<'_>, octets: &[u8]) {
+fn put_fields(page: &mut Page<'_>, item: &[u8]) -> Option<()> {
+    let (log, moment) = (item.get(1..33)?, item.get(33..41)?);
+    let (extensions, rest) = split_vector(item.get(41..)?)?;
+    let (signature, after) = split_vector(rest.get(2..)?)?;
+    if item.first() != Some(&0) || !after.is_empty() {
+        return None;
+    }
+    page.line_beside("Version   : v1 (0x0)");
+    put_titled(page, "Log ID    : ", log);
+    page.beside();
+    page.put("Timestamp : ");
+    put_unix_time(&mut page.out, milliseconds(moment));
+    page.end();
+    if extensions.is_empty() {
+        page.line_beside("Extensions: none");
+    } else {
+        put_titled(page, "Extensions: ", extensions);
+    }
+    page.beside();
+    page.put("Signature : ");
+    match rest {
+        [4, 3, ..] => page.put("ecdsa-with-SHA256"),
+        [4, 1, ..] => page.put("sha256WithRSAEncryption"),
+        _ => put_octets_with(&mut page.out, rest.get(..2).unwrap_or(&[]), true),
+    }
+    page.end();
+    put_titled(page, "            ", signature);
+    Some(())
+}
+
+fn put_titled(page: &mut Page<'_>, title: &str, octets: &[u8]) {
+    page.beside();
+    page.put(title);
+    put_octets_with(&mut page.out, octets, true);
+    page.end();
+}
+
+// Octets after their count, which has two octets, and what follows them.
+fn split_vector(octets: &[u8]) -> Option<(&[u8], &[u8])> {
+    let [high, low, after @ ..] = octets else {
+        return None;
+    };
+    let len = usize::from(u16::from_be_bytes([*high, *low]));
+    Some((after.get(..len)?, after.get(len..)?))
+}
+
+// Milliseconds since 1970.
+fn milliseconds(octets: &[u8]) -> u64 {
     let mut number = 0u64;
     for octet in octets {
         number = number.wrapping_mul(256).wrapping_add(u64::from(*octet));
     }
-    page.number(number);
-    page.put(" ms since 1970");
+    number
 }

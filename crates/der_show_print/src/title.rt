@@ -2,10 +2,12 @@
 
 use crate::page::Page;
 use crate::values::{
-    contents, put_decimal, put_identifier_of, put_long, put_small, put_text_or_octets, put_time_of,
+    contents, digits_of, put_decimal, put_identifier_of, put_long, put_small, put_text_or_octets,
+    put_time_of,
 };
 use asn1_cursor::Cursor;
 use der_show_text::{put_integer, put_octets, put_octets_with};
+use std::fmt::Write;
 
 fn begin(page: &mut Page<'_>, title: &str, element: Cursor<'_>) {
     page.at(element);
@@ -44,6 +46,24 @@ pub fn serial_line(page: &mut Page<'_>, title: &str, element: Option<Cursor<'_>>
     if let Some(element) = element {
         begin(page, title, element);
         put_integer(&mut page.out, contents(element));
+        page.end();
+    }
+}
+
+/// A line with a serial number as `openssl x509 -text` writes it: in decimal and hexadecimal if it has 64 bits at
+/// most, or else its octets in hexadecimal.
+pub fn long_serial_line(page: &mut Page<'_>, title: &str, element: Option<Cursor<'_>>) {
+    if let Some(element) = element {
+        begin(page, title, element);
+        match (element.number(), contents(element)) {
+            (Some(number), _) => {
+                let sign = if number < 0 { "-" } else { "" };
+                let size = number.unsigned_abs();
+                let _ = write!(page.out, "{number} ({sign}{size:#x})");
+            }
+            (None, [0x80..=0xFF, ..]) => put_integer(&mut page.out, contents(element)),
+            (None, octets) => put_octets_with(&mut page.out, digits_of(octets), false),
+        }
         page.end();
     }
 }

@@ -42,6 +42,14 @@ pub fn tag_of(element: Cursor<'_>) -> Option<Tag> {
     tag_of_universal(element.untagged().universal()?)
 }
 
+/// The octets of a number without the zero octet before others.
+pub fn digits_of(octets: &[u8]) -> &[u8] {
+    match octets {
+        [0, rest @ ..] if !rest.is_empty() => rest,
+        all => all,
+    }
+}
+
 /// Prints the text of a string, and returns true. Prints nothing and returns false if the element is no
 /// string, or if its contents are no text.
 pub fn put_text_of(page: &mut Page<'_>, element: Cursor<'_>, style: Style) -> bool {

@@ -2,51 +2,23 @@
 
 use crate::output::Output;
 use crate::style::Style;
+use unicode::properties::{GeneralCategory, is_default_ignorable_code_point};
 
 /// Whether a character must not be printed as it is: a control character, a character that cannot be
 /// seen, or one that changes the direction of the line around it. These are the categories Cc, Cf, Zl
-/// and Zp of Unicode, and what Unicode calls Default_Ignorable_Code_Point.
+/// and Zp of Unicode, what Unicode calls Default_Ignorable_Code_Point, and the Braille pattern without dots.
 pub fn is_hidden(c: char) -> bool {
-    c.is_control() || is_hidden_below(c as u32) || is_hidden_above(c as u32)
-}
-
-// Those below U+2000.
-fn is_hidden_below(code: u32) -> bool {
-    matches!(
-        code,
-        0xAD | 0x34F
-            | 0x600..=0x605
-            | 0x61C
-            | 0x6DD
-            | 0x70F
-            | 0x890..=0x891
-            | 0x8E2
-            | 0x115F..=0x1160
-            | 0x17B4..=0x17B5
-            | 0x180B..=0x180F
-    )
-}
-
-// Those from U+2000 on.
-fn is_hidden_above(code: u32) -> bool {
-    matches!(
-        code,
-        0x200B..=0x200F
-            | 0x2028..=0x202E
-            | 0x2060..=0x206F
-            | 0x2800
-            | 0x3164
-            | 0xFE00..=0xFE0F
-            | 0xFEFF
-            | 0xFFA0
-            | 0xFFF0..=0xFFFB
-            | 0x110BD
-            | 0x110CD
-            | 0x13430..=0x1343F
-            | 0x1BCA0..=0x1BCA3
-            | 0x1D173..=0x1D17A
-            | 0xE0000..=0xE0FFF
-    )
+    if c.is_ascii() {
+        return c.is_control();
+    }
+    let is_format = matches!(
+        GeneralCategory::for_char(c),
+        GeneralCategory::Control
+            | GeneralCategory::Format
+            | GeneralCategory::LineSeparator
+            | GeneralCategory::ParagraphSeparator
+    );
+    is_format || is_default_ignorable_code_point(c) || c == '\u{2800}'
 }
 
 /// Prints a character, escaped as the style says.

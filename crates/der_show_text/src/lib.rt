@@ -24,4 +24,4 @@ pub use numbers::{
 pub use output::{Output, Sink};
 pub use strings::{Characters, is_text, put_text, put_value_text};
 pub use style::Style;
-pub use times::{put_iso_time, put_time};
+pub use times::{put_iso_time, put_time, put_unix_time};

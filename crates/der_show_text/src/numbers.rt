@@ -1,12 +1,28 @@
 //! Octets and numbers.
 
-use crate::output::Output;
+use crate::output::{Output, hex_digit};
 
 /// Prints octets in upper-case hexadecimal.
 pub fn put_octets(out: &mut Output, octets: &[u8]) {
-    for octet in octets {
-        out.put_hex(*octet, true);
+    for chunk in octets.chunks(32) {
+        put_chunk(out, chunk);
     }
+}
+
+// Prints at most 32 octets.
+fn put_chunk(out: &mut Output, chunk: &[u8]) {
+    let mut digits = [b'0'; 64];
+    for (at, octet) in chunk.iter().enumerate() {
+        let place = at.saturating_mul(2);
+        if let Some(digit) = digits.get_mut(place) {
+            *digit = hex_digit(*octet >> 4, true);
+        }
+        if let Some(digit) = digits.get_mut(place.saturating_add(1)) {
+            *digit = hex_digit(*octet & 15, true);
+        }
+    }
+    let count = chunk.len().saturating_mul(2);
+    out.put_bytes(digits.get(..count).unwrap_or(&[]));
 }
 
 /// Prints octets in hexadecimal, with `:` between two of them.

@@ -7,6 +7,15 @@ use std::io::{Stderr, Stdout, Write};
 /// How many octets are kept before they are written.
 const BUFFERED: usize = 32768;
 
+/// From so many columns before the end of a line on, it is folded at a space, which is not printed.
+const NEAR: usize = 16;
+
+/// From so many columns before the end of a line on, it is folded after a colon.
+const NEARER: usize = 4;
+
+/// By how many spaces the rest of a folded line is indented more than the line.
+const FOLDED: usize = 4;
+
 /// Where the text goes.
 #[derive(Clone, Copy)]
 pub enum Sink {
@@ -29,6 +38,12 @@ pub struct Output {
     pub sink: Sink,
     /// Whether the text was not written whole.
     pub has_failed: bool,
+    /// After how many columns a line is folded; 0 for never.
+    pub width: usize,
+    // How many columns the line has so far.
+    column: usize,
+    // How many of these are spaces at its start.
+    indent: usize,
 }
 
 impl Output {
@@ -38,6 +53,9 @@ impl Output {
             buffer: Vec::new(alloc),
             sink,
             has_failed: false,
+            width: 0,
+            column: 0,
+            indent: 0,
         }
     }
 
@@ -46,8 +64,74 @@ impl Output {
         self.put_bytes(text.as_bytes());
     }
 
-    /// Prints the octets as they are.
+    /// Prints the octets as they are, but for folding.
     pub fn put_bytes(&mut self, octets: &[u8]) {
+        if self.width == 0 || self.is_short(octets) {
+            self.push(octets);
+            self.column = self.column.saturating_add(octets.len());
+            return;
+        }
+        for octet in octets {
+            self.put_folded(*octet);
+        }
+    }
+
+    // Whether the octets are a part of a line that is not folded in it. Only their last octet may be the end of a line.
+    fn is_short(&self, octets: &[u8]) -> bool {
+        let end = self
+            .column
+            .saturating_add(octets.len())
+            .saturating_add(NEAR);
+        let has_end = matches!(octets, [b'\n', ..] | [.., b'\n']);
+        end < self.width && self.indent < self.column && !has_end
+    }
+
+    // Prints an octet, before which the line is folded if it is full. Octets inside a character have no column.
+    fn put_folded(&mut self, octet: u8) {
+        match octet {
+            b'\n' => {
+                self.column = 0;
+                self.indent = 0;
+            }
+            0x80..=0xBF => {}
+            b' ' if self.indent < self.column && self.column.saturating_add(NEAR) >= self.width => {
+                self.fold();
+                return;
+            }
+            _ => {
+                if self.is_full() {
+                    self.fold();
+                }
+                if octet == b' ' && self.indent == self.column {
+                    self.indent = self.indent.saturating_add(1);
+                }
+                self.column = self.column.saturating_add(1);
+            }
+        }
+        self.push(&[octet]);
+    }
+
+    // Whether the line has no column left, or few, and ends as a part of it does.
+    fn is_full(&self) -> bool {
+        let margin = match self.buffer.last() {
+            Some(b':') => NEARER,
+            _ => 0,
+        };
+        self.column.saturating_add(margin) >= self.width
+    }
+
+    // Begins another line, with more spaces than the line that is folded.
+    fn fold(&mut self) {
+        let indent = self.indent.saturating_add(FOLDED).min(self.width / 2);
+        self.push(b"\n");
+        for _ in 0..indent {
+            self.push(b" ");
+        }
+        self.column = indent;
+        self.indent = indent.saturating_sub(FOLDED);
+    }
+
+    fn push(&mut self, octets: &[u8]) {
         if self.has_failed {
             return;
         }
@@ -125,7 +209,7 @@ impl fmt::Write for Output {
 }
 
 // The digit for a number below 16.
-fn hex_digit(number: u8, is_upper: bool) -> u8 {
+pub(crate) fn hex_digit(number: u8, is_upper: bool) -> u8 {
     let first = if is_upper { b'A' } else { b'a' };
     match number {
         0..=9 => b'0'.wrapping_add(number),

@@ -29,6 +29,26 @@ pub fn put_time(out: &mut Output, tag: Tag, contents: &[u8]) -> bool {
     true
 }
 
+/// Prints a time in milliseconds since 1970 in the form of `Jan  2 03:04:05.678 2006 GMT`, or the number if it is
+/// after the year 9999.
+pub fn put_unix_time(out: &mut Output, milliseconds: u64) {
+    let Some(at) = DateTime::from_unix_seconds((milliseconds / 1000) as i64) else {
+        out.put_number(milliseconds);
+        return;
+    };
+    let month = month_name(at.month);
+    let _ = write!(
+        out,
+        "{month} {:>2} {:02}:{:02}:{:02}.{:03} {} GMT",
+        at.day,
+        at.hour,
+        at.minute,
+        at.second,
+        milliseconds % 1000,
+        at.year
+    );
+}
+
 /// Prints a time in the form of `2006-01-02T03:04:05Z`, or returns false and prints nothing if the
 /// element is no time in the form of DER.
 pub fn put_iso_time(out: &mut Output, tag: Tag, contents: &[u8]) -> bool {

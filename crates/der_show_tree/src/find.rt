@@ -7,14 +7,14 @@ ghost use Rattle.asn1_tree.specs.Encoding.{IsDer, IsBer};
 use crate::damaged::typed_len;
 use crate::kind::{KINDS, Kind};
 use crate::outline::{has_deep_outline, has_outline};
-use crate::plausible::is_plausible;
+use crate::plausible::{is_certain, is_plausible};
 use asn1_schema::Schema;
 use asn1_tree::{Tree, is_ber, read};
 use std::alloc::{AllocError, Global};
 
 /// The kind of which the octets are one value: the first one of which they are an encoding by BER, or else the one
-/// whose types most of the octets have, if these are three quarters. `None` if they are of no kind. Fails if an
-/// allocation fails.
+/// whose identifier they begin with, or whose types most of the octets have, if these are three quarters. `None` if
+/// they are of no kind. Fails if an allocation fails.
 pub fn find_kind(
     alloc: Global,
     schema: &Schema<'_>,
@@ -79,6 +79,9 @@ fn damaged_kind(
     let (mut best, mut most) = (None, 0usize);
     for kind in KINDS {
         if has_outline(schema, kind.node(), octets) && is_plausible(kind, octets) {
+            if is_certain(kind, octets) {
+                return Ok(Some(kind));
+            }
             let tree = read_as(alloc, schema, kind.node(), octets)?;
             let typed = typed_len(schema, &tree);
             if typed > most {

@@ -43,10 +43,20 @@ pub enum Kind {
     TimestampRequest,
     /// A response with a timestamp (RFC 3161, 2.4.2).
     TimestampResponse,
+    /// Parameters of Diffie-Hellman with a group of prime order (RFC 3279, 2.3.3).
+    X942Parameters,
+    /// The signed content of a message without the message around it (RFC 5652, 5.1).
+    SignedData,
+    /// A public key and a word, signed, as browsers sent them.
+    SignedKey,
+    /// What a holder may do (RFC 5755, 4.1).
+    AttributeCertificate,
+    /// Two certificates of authorities for each other (X.509, 2005, 11.2.3).
+    CertificatePair,
 }
 
 /// All kinds.
-pub static KINDS: [Kind; 19] = [
+pub static KINDS: [Kind; 24] = [
     Kind::Certificate,
     Kind::Request,
     Kind::RevocationList,
@@ -66,6 +76,11 @@ pub static KINDS: [Kind; 19] = [
     Kind::OcspResponse,
     Kind::TimestampRequest,
     Kind::TimestampResponse,
+    Kind::X942Parameters,
+    Kind::SignedData,
+    Kind::SignedKey,
+    Kind::AttributeCertificate,
+    Kind::CertificatePair,
 ];
 
 impl Kind {
@@ -91,6 +106,11 @@ impl Kind {
             Kind::OcspResponse => "ocsp-response",
             Kind::TimestampRequest => "timestamp-request",
             Kind::TimestampResponse => "timestamp-response",
+            Kind::X942Parameters => "x942-parameters",
+            Kind::SignedData => "signed-data",
+            Kind::SignedKey => "spkac",
+            Kind::AttributeCertificate => "attribute-certificate",
+            Kind::CertificatePair => "certificate-pair",
         }
     }
 
@@ -126,6 +146,11 @@ impl Kind {
             Kind::OcspResponse => "OCSP RESPONSE",
             Kind::TimestampRequest => "TIMESTAMP REQUEST",
             Kind::TimestampResponse => "TIMESTAMP RESPONSE",
+            Kind::X942Parameters => "X9.42 DH PARAMETERS",
+            Kind::SignedData => "SIGNED DATA",
+            Kind::SignedKey => "SPKAC",
+            Kind::AttributeCertificate => "ATTRIBUTE CERTIFICATE",
+            Kind::CertificatePair => "CERTIFICATE PAIR",
         }
     }
 
@@ -135,6 +160,7 @@ impl Kind {
             "X509 CERTIFICATE" | "TRUSTED CERTIFICATE" => Some(Kind::Certificate),
             "NEW CERTIFICATE REQUEST" => Some(Kind::Request),
             "PKCS7" | "PKCS #7 SIGNED DATA" => Some(Kind::Message),
+            "SM2 PARAMETERS" => Some(Kind::EcParameters),
             _ => of_own_label(label),
         }
     }
@@ -161,6 +187,11 @@ impl Kind {
             Kind::OcspResponse => table::OCSP_RESPONSE,
             Kind::TimestampRequest => table::TIMESTAMP_REQUEST,
             Kind::TimestampResponse => table::TIMESTAMP_RESPONSE,
+            Kind::X942Parameters => table::X942_PARAMETERS,
+            Kind::SignedData => table::SIGNED_DATA,
+            Kind::SignedKey => table::SIGNED_KEY,
+            Kind::AttributeCertificate => table::ATTRIBUTE_CERTIFICATE,
+            Kind::CertificatePair => table::CERTIFICATE_PAIR,
         }
     }
 }
