@@ -1,9 +1,11 @@
 //! Values by the names of their fields.
 
+use crate::certificate::put_certificate;
 use crate::form::Form;
 use crate::frame::{Frame, FrameKind};
 use crate::page::Page;
 use crate::printer::Printer;
+use crate::revocation::put_revocation_list;
 use crate::scalars::{put_element, put_joined, put_tag, put_value};
 use crate::words::put_words;
 use asn1_cursor::Cursor;
@@ -29,7 +31,8 @@ struct Walk<'s> {
     skipped: Option<u8>,
 }
 
-/// Prints a value and the values inside it with the names of their fields. Offsets of lines count from `base`.
+/// Prints a value and the values inside it with the names of their fields. Offsets of lines count from `base`. On
+/// lines, certificates and revocation lists inside it are printed as they are on their own.
 pub fn print_fields(
     alloc: Global,
     schema: &Schema<'_>,
@@ -37,24 +40,14 @@ pub fn print_fields(
     root: Cursor<'_>,
     base: usize,
 ) -> Printer {
-    let mut walk = Walk {
-        printer,
-        schema,
-        alloc,
-        base,
-        frames: Vec::new(alloc),
-        is_keyed: true,
-        skipped: None,
-    };
-    let depth = root.entry().depth;
+    let mut walk = Walk::new(alloc, schema, printer, base);
     for index in root.index()..usize::MAX {
-        let Some(element) = root.element(index) else {
+        let Some(element) = inside(root, index) else {
             break;
         };
-        if index > root.index() && element.entry().depth <= depth {
-            break;
+        if let Some(wrappers) = walk.pass(element, index == root.index(), true) {
+            walk.put_whole(element, wrappers);
         }
-        walk.pass(element, index == root.index());
     }
     walk.leave_to(0);
     walk.printer
@@ -67,17 +60,46 @@ pub fn put_field_lines(page: &mut Page<'_>, element: Cursor<'_>) {
     let mut printer = Printer::new(out, Form::Lines);
     printer.has_offsets = page.has_offsets;
     printer.depth = page.indent / 4;
-    let printer = print_fields(alloc, page.schema, printer, element, page.base);
-    page.out = printer.out;
+    let mut walk = Walk::new(alloc, page.schema, printer, page.base);
+    for index in element.index()..usize::MAX {
+        let Some(found) = inside(element, index) else {
+            break;
+        };
+        let _ = walk.pass(found, index == element.index(), false);
+    }
+    walk.leave_to(0);
+    page.out = walk.printer.out;
+}
+
+// The element with an index, if it is the root or inside it.
+fn inside(root: Cursor<'_>, index: usize) -> Option<Cursor<'_>> {
+    let element = root.element(index)?;
+    if index > root.index() && element.entry().depth <= root.entry().depth {
+        return None;
+    }
+    Some(element)
 }
 
 impl<'s> Walk<'s> {
-    // Prints an element, or begins it.
-    fn pass(&mut self, element: Cursor<'_>, is_root: bool) {
+    fn new(alloc: Global, schema: &'s Schema<'s>, printer: Printer, base: usize) -> Self {
+        Walk {
+            printer,
+            schema,
+            alloc,
+            base,
+            frames: Vec::new(alloc),
+            is_keyed: true,
+            skipped: None,
+        }
+    }
+
+    // Prints an element, or begins it. A certificate or a revocation list is left to a caller that wants such values
+    // whole: returned is how many objects to close after it.
+    fn pass(&mut self, element: Cursor<'_>, is_root: bool, wants_wholes: bool) -> Option<u32> {
         let entry = element.entry();
         if let Some(depth) = self.skipped {
             if entry.depth > depth {
-                return;
+                return None;
             }
             self.skipped = None;
         }
@@ -86,14 +108,40 @@ impl<'s> Walk<'s> {
         }
         if !self.is_keyed && self.is_in_inner() {
             self.skipped = Some(entry.depth);
-            return;
+            return None;
         }
         if !self.is_keyed {
             self.put_key(element);
         }
         self.is_keyed = false;
         let wrappers = self.put_alternative(element);
+        let is_line = !is_root && self.printer.form == Form::Lines;
+        if is_line && wants_wholes && is_whole(element) {
+            self.skipped = Some(entry.depth);
+            return Some(wrappers);
+        }
+        if is_line && element.is_constructed() && self.put_in_words(element) {
+            self.skipped = Some(entry.depth);
+            self.close_wrappers(wrappers);
+            return None;
+        }
         self.put(element, wrappers, !is_root);
+        None
+    }
+
+    // Prints a certificate or a revocation list below its name.
+    fn put_whole(&mut self, element: Cursor<'_>, wrappers: u32) {
+        let out = mem::replace(&mut self.printer.out, Output::new(self.alloc, Sink::Memory));
+        let mut page = Page::new(self.alloc, self.schema, out, self.printer.has_offsets);
+        page.indent = self.printer.depth.saturating_add(1).saturating_mul(4);
+        page.base = self.base;
+        page.end();
+        match element.type_name() {
+            Some("Certificate") => put_certificate(&mut page, element),
+            _ => put_revocation_list(&mut page, element),
+        }
+        self.printer.out = page.out;
+        self.close_wrappers(wrappers);
     }
 
     fn is_in_inner(&self) -> bool {
@@ -164,15 +212,6 @@ impl<'s> Walk<'s> {
     // Prints a value after its name, or begins it.
     fn put(&mut self, element: Cursor<'_>, wrappers: u32, is_named: bool) {
         let is_constructed = element.is_constructed();
-        if is_named
-            && is_constructed
-            && self.printer.form == Form::Lines
-            && self.put_in_words(element)
-        {
-            self.skipped = Some(element.entry().depth);
-            self.close_wrappers(wrappers);
-            return;
-        }
         match element.kind() {
             Some(NodeKind::Explicit) => self.enter(element, FrameKind::Inner, is_named, wrappers),
             Some(NodeKind::SequenceOf | NodeKind::SetOf) => {
@@ -301,6 +340,12 @@ impl<'s> Walk<'s> {
             self.printer.close("}", true);
         }
     }
+}
+
+// Whether a value is a certificate or a revocation list.
+fn is_whole(element: Cursor<'_>) -> bool {
+    element.is_constructed()
+        && matches!(element.type_name(), Some("Certificate" | "CertificateList"))
 }
 
 // Whether a SEQUENCE or a SET has fields, or nothing.

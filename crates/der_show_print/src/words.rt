@@ -1,15 +1,13 @@
 //! Values that have words of their own inside of other values.
 
-use crate::certificate::put_certificate;
 use crate::general_name::put_general_names;
 use crate::name::put_name;
 use crate::page::Page;
 use crate::public_key::put_public_key;
-use crate::revocation::put_revocation_list;
 use asn1_cursor::Cursor;
 
-/// Prints a name on the line that was begun, or a certificate, a revocation list or a public key on lines below
-/// it, as they are printed on their own, and returns true. Prints nothing and returns false for another type.
+/// Prints a name on the line that was begun, or a public key on lines below it, as they are printed on their own,
+/// and returns true. Prints nothing and returns false for another type.
 pub fn put_words(page: &mut Page<'_>, value: Cursor<'_>) -> bool {
     match value.type_name() {
         Some("Name") => {
@@ -22,14 +20,10 @@ pub fn put_words(page: &mut Page<'_>, value: Cursor<'_>) -> bool {
             put_general_names(page, value);
             page.end();
         }
-        Some(name @ ("Certificate" | "CertificateList" | "SubjectPublicKeyInfo")) => {
+        Some("SubjectPublicKeyInfo") => {
             page.end();
             page.deeper();
-            match name {
-                "Certificate" => put_certificate(page, value),
-                "CertificateList" => put_revocation_list(page, value),
-                _ => put_public_key(page, value),
-            }
+            put_public_key(page, value);
             page.higher();
         }
         _ => return false,
