@@ -4,6 +4,7 @@ mod departures;
 mod files;
 mod json;
 mod messages;
+mod modules;
 mod names;
 mod octets;
 mod printed;

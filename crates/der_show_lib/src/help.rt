@@ -21,8 +21,8 @@ A text may have a byte order mark, be in UTF-16 or be indented. Of mail, the par
 shown. Fingerprints are SHA-256 and SHA-1 of the DER of a certificate, or of its public key.
 
 --der writes messages that are BER, and not DER, in DER. Nothing is verified and nothing is decrypted. Secret parts of
-keys are printed by --json, --der, --pem, --tree and --schema. Elements of a file of no known kind are printed too,
-unless a label says that it is a private key; and at a departure up to 16 octets.
+keys are printed by --json, --der, --pem, --tree, --schema and --module. Elements of a file of no known kind are
+printed too, unless a label says that it is a private key; and at a departure up to 16 octets.
 
 The exit status is 0 if all was shown and nothing departs from DER; 1 if there is a departure, or if a file cannot be
 read, which standard error says; and 2 if the words are no command.";

@@ -67,7 +67,9 @@ pub struct ShowCommand<'a> {
     pub files: Vec<&'a str>,
     /// The path of a table of types, in place of the program's own.
     pub schema: Option<&'a str>,
-    /// The name of the type of the files in this table.
+    /// The path of a file with modules, of which a table is made in place of the program's own.
+    pub module: Option<&'a str>,
+    /// The name of the type of the files, in this table or in these modules.
     pub type_name: Option<&'a str>,
 }
 
@@ -81,7 +83,9 @@ const NO_TIME: &str =
 /// After how many columns lines are folded, if no option says it.
 const WIDTH: usize = 100;
 
-const NO_TYPE: &str = "'--schema' needs '--type', the name of a type in the table";
+const NO_TYPE: &str = "'--schema' and '--module' need '--type', the name of a type";
+
+const TWO_TABLES: &str = "'--schema' cannot be used with '--module'";
 
 impl<'a> ShowCommand<'a> {
     /// Parses the words of the command line, of which the first one is the name of the program. The
@@ -128,14 +132,19 @@ impl<'a> ShowCommand<'a> {
         for file in matches.get_strs("file").unwrap_or(&[]) {
             files.push(*file)?;
         }
-        let (schema, type_name) = (matches.get_str("schema"), matches.get_str("type"));
-        if schema.is_some() != type_name.is_some() {
+        let (schema, module) = (matches.get_str("schema"), matches.get_str("module"));
+        let type_name = matches.get_str("type");
+        if schema.is_some() && module.is_some() {
+            return Err(command.error(ErrorKind::ValueValidation, TWO_TABLES)?);
+        }
+        if (schema.is_some() || module.is_some()) != type_name.is_some() {
             return Err(command.error(ErrorKind::ValueValidation, NO_TYPE)?);
         }
         Ok(ShowCommand {
             options,
             files,
             schema,
+            module,
             type_name,
         })
     }
@@ -246,6 +255,12 @@ fn command<'a>(alloc: Global, version: &'a str) -> Result<Command<'a>, AllocErro
         .arg(now)?
         .arg(width)?
         .arg(text(alloc, "schema", "TABLE", "Read by this table of types"))?
+        .arg(text(
+            alloc,
+            "module",
+            "MODULE",
+            "Read by the types of this module",
+        ))?
         .arg(text(alloc, "type", "NAME", "The type of the files in the table"))?
         .arg(ber)?
         .arg(files)

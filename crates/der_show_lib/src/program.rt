@@ -1,10 +1,10 @@
 //! The program as a function of its arguments, files and outputs.
 
 use crate::files::show_octets;
+use crate::modules::{NoTable, table_of_modules};
 use crate::options::{Options, ShowCommand, Shown};
 use crate::place::Place;
 use crate::show::{Show, put_plain};
-use anyhow::Result;
 use asn1_schema::Schema;
 use clap::error::ErrorKind;
 use der_show_print::Page;
@@ -15,7 +15,7 @@ use std::env::Args;
 use std::fmt::Write;
 use std::io::Read;
 use std::rt::Files;
-use std::{fs, io};
+use std::{fs, io, str};
 
 /// The version of the program.
 const VERSION: &str = "0.2.0";
@@ -108,18 +108,44 @@ fn run<R: Files + Input + AllocGlobal>(
 ) -> Finished {
     match table_of(rt, command) {
         Ok(table) => run_with(rt, command, table.as_slice(), out, errors),
-        Err(error) => {
-            let _ = write!(errors, "error: {error}\n");
+        Err(NoTable::Line(line)) => {
+            errors.put("error: ");
+            errors.put(line.as_str());
+            finish_run(1, out, errors)
+        }
+        Err(NoTable::OutOfMemory) => {
+            errors.put("error: out of memory\n");
             finish_run(1, out, errors)
         }
     }
 }
 
 // The octets of the table of types: that of the program, or that of the user.
-fn table_of<R: Files + Input + AllocGlobal>(rt: &R, command: &ShowCommand<'_>) -> Result<Vec<u8>> {
+fn table_of<R: Files + Input + AllocGlobal>(
+    rt: &R,
+    command: &ShowCommand<'_>,
+) -> std::result::Result<Vec<u8>, NoTable> {
+    if let Some(path) = command.module {
+        let octets = read_file(rt, path)?;
+        let Ok(text) = str::from_utf8(octets.as_slice()) else {
+            let line = format!(in rt.alloc(); "{path}: the module is not UTF-8\n")?;
+            return Err(NoTable::Line(line));
+        };
+        return table_of_modules(rt.alloc(), path, text, command.type_name.unwrap_or(""));
+    }
     match command.schema {
-        Some(path) => Ok(fs::read(rt, path)?),
+        Some(path) => read_file(rt, path),
         None => Ok(table_octets(rt.alloc())?),
+    }
+}
+
+fn read_file<R: Files + AllocGlobal>(rt: &R, path: &str) -> std::result::Result<Vec<u8>, NoTable> {
+    match fs::read(rt, path) {
+        Ok(octets) => Ok(octets),
+        Err(error) => {
+            let line = format!(in rt.alloc(); "{path}: {error}\n")?;
+            Err(NoTable::Line(line))
+        }
     }
 }
 
@@ -143,7 +169,7 @@ fn run_with<R: Files + Input + AllocGlobal>(
     };
     let mut node = None;
     if let Some(name) = command.type_name {
-        node = schema.find_node(name);
+        node = schema.find_node(last_name(name));
         if node.is_none() {
             errors.put("error: the table has no type of this name: ");
             put_plain(&mut errors, name);
@@ -158,6 +184,14 @@ fn run_with<R: Files + Input + AllocGlobal>(
         files => show_files(rt, &mut show, files),
     }
     finish_run(show.status, show.page.out, show.errors)
+}
+
+// The name of a type without that of its module.
+fn last_name(name: &str) -> &str {
+    match name.rsplit_once('.') {
+        Some((_, last)) => last,
+        None => name,
+    }
 }
 
 fn new_show<'s>(
