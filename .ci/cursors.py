@@ -31,8 +31,8 @@ def run(is_stored):
     """Returns whether the program finds the elements that openssl finds, and the values."""
     if is_stored:
         store()
-    octets, nodes = trees.table_of(False)
     with tempfile.TemporaryDirectory() as folder:
+        octets, nodes = trees.table_of(folder, False)
         with open(f"{folder}/table", "wb") as file:
             file.write(octets)
         checker.lay_program(NAME, f"{folder}/{NAME}")
