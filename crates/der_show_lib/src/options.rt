@@ -186,57 +186,56 @@ fn text<'a>(alloc: Global, name: &'a str, value: &'a str, help: &'a str) -> Arg<
         .help(help)
 }
 
+// The options that say what is printed, of which a command line has one at most.
+const FORMS: [&str; 4] = ["json", "der", "pem", "strict"];
+
 // What the program takes.
 fn command<'a>(alloc: Global, version: &'a str) -> Result<Command<'a>, AllocError> {
-    let shown: [&'static str; 4] = ["json", "der", "pem", "strict"];
-    let short = flag(
-        alloc,
-        "short",
-        "Print a line for each value: its kind, name, key, days and fingerprint",
-    );
-    let width = text(
-        alloc,
-        "width",
-        "COLUMNS",
-        "Fold lines of text after so many columns; 100 if not given, never for 0",
-    );
-    let now = text(
-        alloc,
-        "now",
-        "TIME",
-        "Count the days that --short prints from this date, or time of UTC",
-    );
+    let command = Command::new(alloc, "der_show")
+        .version(version)
+        .about(ABOUT)
+        .after_help(AFTER);
+    let command = add_readings(alloc, command)?;
+    let command = add_forms(alloc, command)?;
+    let command = add_lines(alloc, command)?;
+    let command = add_types(alloc, command)?;
     let files = Arg::new(alloc, "file")
         .value_name("FILE")
         .action(ArgAction::Append)
         .num_args(0..)
         .help("The files; standard input for none, and for -");
+    let ber = flag(alloc, "ber", "Does nothing: BER is always read").hide(true);
+    command.arg(ber)?.arg(files)
+}
+
+// Adds the options of how a file is read and shown.
+fn add_readings<'a>(alloc: Global, command: Command<'a>) -> Result<Command<'a>, AllocError> {
     let kind = text(
         alloc,
         "as",
         "KIND",
         "Take the files for values of this kind, whatever their tags and labels say",
     );
-    let command = Command::new(alloc, "der_show")
-        .version(version)
-        .about(ABOUT)
-        .after_help(AFTER)
-        .arg(kind)?
-        .arg(flag(
-            alloc,
-            "tree",
-            "Print a line for each element, even of a known kind",
-        ))?
-        .arg(flag(
-            alloc,
-            "offsets",
-            "Begin each line with the offset of its element",
-        ))?
-        .arg(flag(
-            alloc,
-            "lint",
-            "Print the rules of RFC 5280 that a certificate breaks",
-        ))?;
+    let tree = flag(
+        alloc,
+        "tree",
+        "Print a line for each element, even of a known kind",
+    );
+    let offsets = flag(
+        alloc,
+        "offsets",
+        "Begin each line with the offset of its element",
+    );
+    let lint = flag(
+        alloc,
+        "lint",
+        "Print the rules of RFC 5280 that a certificate breaks",
+    );
+    command.arg(kind)?.arg(tree)?.arg(offsets)?.arg(lint)
+}
+
+// Adds the options that say what is printed.
+fn add_forms<'a>(alloc: Global, command: Command<'a>) -> Result<Command<'a>, AllocError> {
     let json = flag(alloc, "json", "Print one object of JSON for each file");
     let der = flag(alloc, "der", "Print the octets of the values");
     let pem = flag(alloc, "pem", "Print the values as PEM blocks");
@@ -245,23 +244,52 @@ fn command<'a>(alloc: Global, version: &'a str) -> Result<Command<'a>, AllocErro
         "strict",
         "Print the departures from DER, and nothing else",
     );
-    let ber = flag(alloc, "ber", "Does nothing: BER is always read").hide(true);
     command
         .arg(json)?
         .arg(der.conflicts_with("json")?)?
-        .arg(pem.conflicts_with_all(&shown[..2])?)?
-        .arg(strict.conflicts_with_all(&shown[..3])?)?
-        .arg(short.conflicts_with_all(&shown)?)?
+        .arg(pem.conflicts_with_all(&FORMS[..2])?)?
+        .arg(strict.conflicts_with_all(&FORMS[..3])?)
+}
+
+// Adds the options of lines of text.
+fn add_lines<'a>(alloc: Global, command: Command<'a>) -> Result<Command<'a>, AllocError> {
+    let short = flag(
+        alloc,
+        "short",
+        "Print a line for each value: its kind, name, key, days and fingerprint",
+    );
+    let now = text(
+        alloc,
+        "now",
+        "TIME",
+        "Count the days that --short prints from this date, or time of UTC",
+    );
+    let width = text(
+        alloc,
+        "width",
+        "COLUMNS",
+        "Fold lines of text after so many columns; 100 if not given, never for 0",
+    );
+    command
+        .arg(short.conflicts_with_all(&FORMS)?)?
         .arg(now)?
-        .arg(width)?
-        .arg(text(alloc, "schema", "TABLE", "Read by this table of types"))?
-        .arg(text(
-            alloc,
-            "module",
-            "MODULE",
-            "Read by the types of this module",
-        ))?
-        .arg(text(alloc, "type", "NAME", "The type of the files in the table"))?
-        .arg(ber)?
-        .arg(files)
+        .arg(width)
+}
+
+// Adds the options of types of the user.
+fn add_types<'a>(alloc: Global, command: Command<'a>) -> Result<Command<'a>, AllocError> {
+    let schema = text(alloc, "schema", "TABLE", "Read by this table of types");
+    let module = text(
+        alloc,
+        "module",
+        "MODULE",
+        "Read by the types of this module",
+    );
+    let name = text(
+        alloc,
+        "type",
+        "NAME",
+        "The type of the files in the table or the module",
+    );
+    command.arg(schema)?.arg(module)?.arg(name)
 }
