@@ -186,9 +186,6 @@ fn text<'a>(alloc: Global, name: &'a str, value: &'a str, help: &'a str) -> Arg<
         .help(help)
 }
 
-// The options that say what is printed, of which a command line has one at most.
-const FORMS: [&str; 4] = ["json", "der", "pem", "strict"];
-
 // What the program takes.
 fn command<'a>(alloc: Global, version: &'a str) -> Result<Command<'a>, AllocError> {
     let command = Command::new(alloc, "der_show")
@@ -236,6 +233,7 @@ fn add_readings<'a>(alloc: Global, command: Command<'a>) -> Result<Command<'a>, 
 
 // Adds the options that say what is printed.
 fn add_forms<'a>(alloc: Global, command: Command<'a>) -> Result<Command<'a>, AllocError> {
+    let forms: [&'static str; 3] = ["json", "der", "pem"];
     let json = flag(alloc, "json", "Print one object of JSON for each file");
     let der = flag(alloc, "der", "Print the octets of the values");
     let pem = flag(alloc, "pem", "Print the values as PEM blocks");
@@ -247,12 +245,13 @@ fn add_forms<'a>(alloc: Global, command: Command<'a>) -> Result<Command<'a>, All
     command
         .arg(json)?
         .arg(der.conflicts_with("json")?)?
-        .arg(pem.conflicts_with_all(&FORMS[..2])?)?
-        .arg(strict.conflicts_with_all(&FORMS[..3])?)
+        .arg(pem.conflicts_with_all(&forms[..2])?)?
+        .arg(strict.conflicts_with_all(&forms[..3])?)
 }
 
 // Adds the options of lines of text.
 fn add_lines<'a>(alloc: Global, command: Command<'a>) -> Result<Command<'a>, AllocError> {
+    let forms: [&'static str; 4] = ["json", "der", "pem", "strict"];
     let short = flag(
         alloc,
         "short",
@@ -271,7 +270,7 @@ fn add_lines<'a>(alloc: Global, command: Command<'a>) -> Result<Command<'a>, All
         "Fold lines of text after so many columns; 100 if not given, never for 0",
     );
     command
-        .arg(short.conflicts_with_all(&FORMS)?)?
+        .arg(short.conflicts_with_all(&forms[..4])?)?
         .arg(now)?
         .arg(width)
 }
