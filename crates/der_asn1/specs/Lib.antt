@@ -35,6 +35,7 @@ pub mod UnixTime
 pub mod SetOf
 pub mod Arcs
 pub mod Alphabets
+pub mod AsciiLemmas
 pub mod ListAnswers
 pub mod Meaning
 pub mod TupleFields
@@ -44,6 +45,7 @@ pub mod Assembly
 pub mod UnknownWalk
 pub mod TagClasses
 pub mod Printed
+pub mod DateTimeText
 pub mod DefaultedTo
 pub mod ZeroOctet
 pub mod BitStringOf

@@ -43,14 +43,4 @@ impl<'a> Checked<'a, Utf8StringGrammar> {
     {
         Checked::formed(text.as_bytes())
     }
-
-    /// The contents, as a `str`.
-    pub fn as_str(&self) -> &'a str
-        ensures { result.now ≡ self.now.octets.now }
-    {
-        match std::str::from_utf8(self.octets()) {
-            Ok(text) => text,
-            Err(_) => unreachable!(),
-        }
-    }
 }

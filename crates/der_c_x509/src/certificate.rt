@@ -8,12 +8,9 @@ ghost use Rattle.der_c_x509.specs.Calls.{ReadsWhole};
 
 use crate::algorithm::{DerAlgorithm, algorithm_of};
 use crate::public_key::{DerPublicKey, public_key_of};
-use crate::signed::{field_in_middle, signed_part_of};
 use crate::strings::{bits_of, span_of};
 use crate::time::seconds_of;
-use der::{
-    DecodeValue, Encode, EncodeRef, FixedTag, ReadValue, SliceReader, WrittenValue, field_refs,
-};
+use der::{DecodeValue, Encode, FixedTag, ReadValue, SliceReader, WrittenValue};
 use der_asn1::{BitStringRef, Explicit, Implicit, Optional, lawful_from_der};
 use der_c_core::{DerBits, DerError, DerSpan, c_error};
 use spki::SubjectPublicKeyInfoRef;
@@ -131,18 +128,8 @@ fn certificate_key_of<'a>(octets: &'a [u8], signed: &TbsCertificate<'a>) -> DerP
     ensures { IsPublicKeyOf ⟦<SubjectPublicKeyInfoRef<'a> as Encode>⟧.encoding
         signed.now.subject_public_key_info result }
 {
-    let key = &signed.subject_public_key_info;
-    let whole = field_in_middle(
-        octets,
-        &field_refs!(
-            signed,
-            (version, serial_number, signature, issuer, validity)
-        ),
-        &EncodeRef(&signed.subject),
-        key,
-        &field_refs!(signed, (issuer_unique_id, subject_unique_id, extensions)),
-    );
-    public_key_of(whole.octets, key)
+    let whole = signed.public_key_octets(octets);
+    public_key_of(whole, &signed.subject_public_key_info)
 }
 
 // A certificate as a struct of C. `octets` are its encoding.
@@ -155,10 +142,11 @@ fn certificate_of<'a>(octets: &'a [u8], value: &Certificate<'a>) -> DerCertifica
         ⟦<SubjectPublicKeyInfoRef<'a> as Encode>⟧.encoding value.now result }
 {
     let signed = &value.tbs_certificate;
-    let rest = field_refs!(value, (signature_algorithm, signature));
-    let signed_part = signed_part_of(octets, signed, &rest);
+    let signed_octets = value.signed_octets(octets);
     DerCertificate {
-        signed_part,
+        signed_part: DerSpan {
+            octets: signed_octets,
+        },
         serial_number: span_of(&signed.serial_number),
         issuer: DerSpan {
             octets: signed.issuer.levels.octets(),
@@ -167,7 +155,7 @@ fn certificate_of<'a>(octets: &'a [u8], value: &Certificate<'a>) -> DerCertifica
             octets: signed.subject.levels.octets(),
         },
         signed_algorithm: algorithm_of(&signed.signature),
-        public_key: certificate_key_of(signed_part.octets, signed),
+        public_key: certificate_key_of(signed_octets, signed),
         issuer_unique_id: optional_bits_of(&signed.issuer_unique_id),
         subject_unique_id: optional_bits_of(&signed.subject_unique_id),
         extensions: extensions_of(&signed.extensions),

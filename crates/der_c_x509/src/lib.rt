@@ -20,7 +20,6 @@ mod request;
 mod revocation_list;
 mod revoked;
 mod shapes;
-mod signed;
 mod strings;
 mod subject_names;
 mod time;

@@ -7,11 +7,8 @@ ghost use Rattle.der_c_x509.specs.Request.{IsRequestOf};
 
 use crate::algorithm::{DerAlgorithm, algorithm_of};
 use crate::public_key::{DerPublicKey, public_key_of};
-use crate::signed::{field_between, signed_part_of};
 use crate::strings::bits_of;
-use der::{
-    DecodeValue, Encode, EncodeRef, FixedTag, ReadValue, SliceReader, WrittenValue, field_refs,
-};
+use der::{DecodeValue, Encode, FixedTag, ReadValue, SliceReader, WrittenValue};
 use der_asn1::lawful_from_der;
 use der_c_core::{DerBits, DerError, DerSpan, c_error};
 use spki::SubjectPublicKeyInfoRef;
@@ -60,21 +57,16 @@ fn request_of<'a>(octets: &'a [u8], value: &CertReq<'a>) -> DerRequest<'a>
         ⟦<SubjectPublicKeyInfoRef<'a> as Encode>⟧.encoding value.now result }
 {
     let signed = &value.info;
-    let rest = field_refs!(value, (algorithm, signature));
-    let signed_part = signed_part_of(octets, signed, &rest);
-    let key = &signed.public_key;
-    let key_octets = field_between(
-        signed_part.octets,
-        &field_refs!(signed, (version, subject)),
-        key,
-        &EncodeRef(&signed.attributes),
-    );
+    let signed_octets = value.signed_octets(octets);
+    let key_octets = signed.public_key_octets(signed_octets);
     DerRequest {
-        signed_part,
+        signed_part: DerSpan {
+            octets: signed_octets,
+        },
         subject: DerSpan {
             octets: signed.subject.levels.octets(),
         },
-        public_key: public_key_of(key_octets.octets, key),
+        public_key: public_key_of(key_octets, &signed.public_key),
         attributes: DerSpan {
             octets: signed.attributes.0.octets(),
         },

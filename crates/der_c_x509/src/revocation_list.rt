@@ -8,10 +8,9 @@ ghost use Rattle.der_c_x509.specs.RevocationList.{IsRevocationListOf};
 
 use crate::algorithm::{DerAlgorithm, algorithm_of};
 use crate::certificate::{extensions_of, version_of};
-use crate::signed::signed_part_of;
 use crate::strings::bits_of;
 use crate::time::{optional_seconds_of, seconds_of};
-use der::{DecodeValue, Encode, FixedTag, ReadValue, SliceReader, WrittenValue, field_refs};
+use der::{DecodeValue, Encode, FixedTag, ReadValue, SliceReader, WrittenValue};
 use der_asn1::{Optional, SequenceOf, lawful_from_der};
 use der_c_core::{DerBits, DerError, DerSpan, c_error};
 use std::alloc::Global;
@@ -104,9 +103,10 @@ fn list_of<'a>(octets: &'a [u8], value: &CertificateList<'a>) -> DerRevocationLi
     ensures { IsRevocationListOf ⟦<TbsCertList<'a> as Encode>⟧.encoding value.now result }
 {
     let signed = &value.tbs_cert_list;
-    let rest = field_refs!(value, (signature_algorithm, signature));
     DerRevocationList {
-        signed_part: signed_part_of(octets, signed, &rest),
+        signed_part: DerSpan {
+            octets: value.signed_octets(octets),
+        },
         signed_algorithm: algorithm_of(&signed.signature),
         issuer: DerSpan {
             octets: signed.issuer.levels.octets(),

@@ -6,6 +6,7 @@
 
 pub mod asn1;
 mod checks;
+mod parts;
 
 pub use asn1::{
     AcceptableResponses, ArchiveCutoff, BasicOcspResponse, BasicOcspResponseFields, CertId,

@@ -7,5 +7,6 @@ mod KeepLemmas
 mod LintLemmas
 pub mod NameLemmas
 mod NamePlaceLemmas
+mod PartLemmas
 pub mod NameWalkLemmas
 mod PolicyLemmas

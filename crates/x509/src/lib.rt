@@ -9,6 +9,7 @@ mod assembly;
 mod checks;
 mod find;
 mod lint;
+mod parts;
 mod text;
 mod version;
 
@@ -122,6 +123,9 @@ pub use lint::NameRule;
 pub use lint::Place;
 pub use lint::RULES;
 pub use lint::Rule;
+pub use parts::field_between;
+pub use parts::field_in_middle;
+pub use parts::first_field;
 pub use text::Latin1;
 pub use text::Text;
 pub use version::CertificateVersionGrammar;

@@ -1,7 +1,7 @@
 use Rattle.std.proofs.Common.{◌++◌, length}
 use Rattle.der.specs.Prelude.{Sequence, header_octets}
-use Rattle.der_c_x509.proofs.SignedLemmas.{field_ends}
-use Rattle.der_c_x509.proofs.signed.field_between.Goals as goal
+use Rattle.x509.proofs.PartLemmas.{field_ends}
+use Rattle.x509.proofs.parts.field.field_between.Goals as goal
 
 pub part_before-requires-clause-ends : goal.part_before-requires-clause-ends
 part_before-requires-clause-ends g c =

@@ -1,81 +1,72 @@
-//! The part of a certificate, a request or a revocation list that its signature covers.
+//! A field of a SEQUENCE, as a part of the octets of the SEQUENCE.
 ghost use Rattle.std.specs.Prelude.{◌≡◌, ◌<◌, ◌^◌, ◌++◌, ℕ, List, length};
 ghost use Rattle.der.specs.Prelude.{Sequence, element_octets, header_octets};
 
 use der::Encode;
-use der_c_core::DerSpan;
 
-// The octets of the signed part. `octets` are a SEQUENCE that begins with it; `rest` are the other
-// fields.
-pub(crate) fn signed_part_of<'a, T: Encode, U: Encode>(
-    octets: &'a [u8],
-    _signed: &T,
-    rest: &U,
-) -> DerSpan<'a>
+/// The octets of the first field of a SEQUENCE. `octets` are the whole encoding of the SEQUENCE;
+/// `rest` are its other fields.
+pub fn first_field<'a, T: Encode, U: Encode>(octets: &'a [u8], _first: &T, rest: &U) -> &'a [u8]
     requires whole { octets.now
-        ≡ element_octets Sequence (T.encoding _signed.now ++ U.encoding rest.now) }
+        ≡ element_octets Sequence (T.encoding _first.now ++ U.encoding rest.now) }
     requires short { length octets.now < 2 ^ 32 }
     requires rest { U.encodable rest.now }
-    ensures { result.octets.now ≡ T.encoding _signed.now }
+    ensures { result.now ≡ T.encoding _first.now }
 {
     let start = header_count(octets);
     let end = octets.len() - count_of(rest);
-    DerSpan {
-        octets: &octets[start..end],
-    }
+    &octets[start..end]
 }
 
-// The octets of a field of a SEQUENCE: `value`, with the fields `first` in front of it, and `rest`
-// behind it.
-pub(crate) fn field_between<'a, F: Encode, T: Encode, U: Encode>(
+/// The octets of a field of a SEQUENCE: `value`, with the fields `first` before it, and `rest` after
+/// it.
+pub fn field_between<'a, F: Encode, T: Encode, U: Encode>(
     octets: &'a [u8],
     _first: &F,
     value: &T,
     rest: &U,
-) -> DerSpan<'a>
+) -> &'a [u8]
     requires whole { octets.now ≡ element_octets Sequence
         (F.encoding _first.now ++ (T.encoding value.now ++ U.encoding rest.now)) }
     requires short { length octets.now < 2 ^ 32 }
     requires value { T.encodable value.now }
     requires rest { U.encodable rest.now }
-    ensures { result.octets.now ≡ T.encoding value.now }
+    ensures { result.now ≡ T.encoding value.now }
 {
     part_before(octets, value, rest)
 }
 
-// The octets of a field of a SEQUENCE: `value`, with the fields `first` and `second` in front of
-// it, and `rest` behind it.
-pub(crate) fn field_in_middle<'a, F: Encode, S: Encode, T: Encode, U: Encode>(
+/// The octets of a field of a SEQUENCE: `value`, with the fields `first` and `second` before it, and
+/// `rest` after it.
+pub fn field_in_middle<'a, F: Encode, S: Encode, T: Encode, U: Encode>(
     octets: &'a [u8],
     _first: &F,
     _second: &S,
     value: &T,
     rest: &U,
-) -> DerSpan<'a>
+) -> &'a [u8]
     requires whole { octets.now ≡ element_octets Sequence (F.encoding _first.now
         ++ (S.encoding _second.now ++ (T.encoding value.now ++ U.encoding rest.now))) }
     requires short { length octets.now < 2 ^ 32 }
     requires value { T.encodable value.now }
     requires rest { U.encodable rest.now }
-    ensures { result.octets.now ≡ T.encoding value.now }
+    ensures { result.now ≡ T.encoding value.now }
 {
     part_before(octets, value, rest)
 }
 
-// The octets of a value in front of `rest`, with which `octets` end.
-fn part_before<'a, T: Encode, U: Encode>(octets: &'a [u8], value: &T, rest: &U) -> DerSpan<'a>
+// The octets of a value before `rest`, with which `octets` end.
+fn part_before<'a, T: Encode, U: Encode>(octets: &'a [u8], value: &T, rest: &U) -> &'a [u8]
     requires ends { (front : List ℕ)
         × (octets.now ≡ front ++ (T.encoding value.now ++ U.encoding rest.now)) }
     requires short { length octets.now < 2 ^ 32 }
     requires value { T.encodable value.now }
     requires rest { U.encodable rest.now }
-    ensures { result.octets.now ≡ T.encoding value.now }
+    ensures { result.now ≡ T.encoding value.now }
 {
     let count = count_of(value);
     let end = octets.len() - count_of(rest);
-    DerSpan {
-        octets: &octets[end - count..end],
-    }
+    &octets[end - count..end]
 }
 
 // The number of octets of the header with which the encoding of a SEQUENCE begins.
