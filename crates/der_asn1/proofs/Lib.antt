@@ -8,6 +8,7 @@ pub mod IntegerReadLemmas
 pub mod RangeLemmas
 pub mod EnumerationLemmas
 pub mod TimeLemmas
+pub mod FractionLemmas
 pub mod UnknownLemmas
 pub mod UnknownWalkLemmas
 pub mod AdditionsLemmas

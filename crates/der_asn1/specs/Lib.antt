@@ -46,6 +46,7 @@ pub mod UnknownWalk
 pub mod TagClasses
 pub mod Printed
 pub mod DateTimeText
+pub mod FractionalTime
 pub mod DefaultedTo
 pub mod ZeroOctet
 pub mod BitStringOf
