@@ -114,6 +114,7 @@ pub use asn1::TimeStampToken;
 pub use asn1::TsaPolicyId;
 pub use asn1::TstInfo;
 pub use asn1::TstInfoFields;
+pub use der_asn1::FractionalTimeRef;
 pub use der_segments::Segmented;
 pub use encrypted_octets::EncryptedOctets;
 pub use ess_cert_id_v2::EssCertIdV2;

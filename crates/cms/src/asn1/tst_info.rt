@@ -8,6 +8,7 @@ ghost use Rattle.der_asn1.specs.Item.{decodes_same};
 ghost use Rattle.der_asn1.specs.Meaning.{alternative, defaulted, field, optional, sequence, sequence_is_item, sequence_item};
 ghost use Rattle.der_asn1.specs.TupleFields.{ten_fields};
 
+use crate::FractionalTimeRef;
 use crate::asn1::accuracy::Accuracy;
 use crate::asn1::general_name_tagged::GeneralNameTagged;
 use crate::asn1::message_imprint::MessageImprint;
@@ -17,8 +18,8 @@ use der::{
     Reader, Sequence, SliceReader, decode_sequence, field_refs,
 };
 use der_asn1::{
-    BooleanRef, BorrowedItem, DecodeItem, DefaultValue, Defaulted, Described, GeneralizedTime,
-    Implicit, IntRef, Item, Nestable, Optional, WrittenItem,
+    BooleanRef, BorrowedItem, DecodeItem, DefaultValue, Defaulted, Described, Implicit, IntRef,
+    Item, Nestable, Optional, WrittenItem,
 };
 use std::alloc::Global;
 use x509::Extensions;
@@ -34,8 +35,8 @@ pub struct TstInfo<'a> {
     pub message_imprint: MessageImprint<'a>,
     /// The serial number of the timestamp.
     pub serial_number: IntRef<'a>,
-    /// When the timestamp was made. The RFC allows fractions of a second, and decoding refuses them.
-    pub gen_time: GeneralizedTime,
+    /// When the timestamp was made. It may have a fraction of a second.
+    pub gen_time: FractionalTimeRef<'a>,
     /// How exact the time is, if present.
     pub accuracy: Optional<Accuracy<'a>>,
     /// Whether the order of all timestamps of the authority is that of their times. The default is
@@ -55,7 +56,7 @@ pub type TstInfoFields<'a> = (
     TsaPolicyId<'a>,
     MessageImprint<'a>,
     IntRef<'a>,
-    GeneralizedTime,
+    FractionalTimeRef<'a>,
     Optional<Accuracy<'a>>,
     Defaulted<BooleanRef<'a>>,
     Optional<IntRef<'a>>,
@@ -110,7 +111,7 @@ impl<'a> Sequence for TstInfo<'a> {
         (field (alternative ⟦<TsaPolicyId<'a> as Described>⟧.element)) (field (alternative
         ⟦<MessageImprint<'a> as Described>⟧.element)) (field (alternative
         ⟦<IntRef<'a> as Described>⟧.element)) (field (alternative
-        ⟦<GeneralizedTime as Described>⟧.element)) (optional (alternative
+        ⟦<FractionalTimeRef<'a> as Described>⟧.element)) (optional (alternative
         ⟦<Accuracy<'a> as Described>⟧.element)) (defaulted
         ⟦<BooleanRef<'a> as DefaultValue>⟧.is_default (alternative
         ⟦<BooleanRef<'a> as Described>⟧.element)) (optional (alternative
