@@ -1,11 +1,5 @@
 pub mod FindLemmas
-mod ItemLemmas
-mod EncodingLemmas
-mod FirstLemmas
-mod AttributeLemmas
-mod KeepLemmas
-mod LintLemmas
+pub mod ItemLemmas
+pub mod EncodingLemmas
 pub mod NameLemmas
-mod NamePlaceLemmas
 pub mod NameWalkLemmas
-mod PolicyLemmas

@@ -6,10 +6,10 @@
 
 mod asn1;
 mod assembly;
-mod checks;
+mod criticality;
 mod find;
-mod lint;
 mod text;
+mod times;
 mod version;
 
 pub use asn1::AccessDescription;
@@ -102,9 +102,6 @@ pub use asn1::X520name;
 pub use asn1::values;
 pub use assembly::attribute_of;
 pub use assembly::extension_of;
-pub use checks::first_repeated_policy;
-pub use checks::has_distinct_policies;
-pub use checks::has_item;
 pub use find::FindError;
 pub use find::Known;
 pub use find::KnownAttribute;
@@ -114,14 +111,6 @@ pub use find::Occurrence;
 pub use find::Typed;
 pub use find::attr;
 pub use find::ext;
-pub use lint::AttributeRule;
-pub use lint::ExtensionRule;
-pub use lint::Finding;
-pub use lint::Lint;
-pub use lint::NameRule;
-pub use lint::Place;
-pub use lint::RULES;
-pub use lint::Rule;
 pub use text::Latin1;
 pub use text::Text;
 pub use version::CertificateVersionGrammar;
