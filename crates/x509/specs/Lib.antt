@@ -8,3 +8,4 @@ pub mod CertificateLists
 pub mod Criticality
 pub mod CertificateTimes
 pub mod Firsts
+pub mod ExtensionIdentifiers

@@ -3,17 +3,9 @@
 use Rattle.std.specs.Prelude.{◌≡◌, ◌≢◌, ◌⊎◌, ◌≤◌, ℕ, List, [], ◌∷◌, count_by}
 use Rattle.std.specs.Str.{bytes_eq}
 use Rattle.der.specs.Prelude.{BitString, Sequence, element_octets}
-use Rattle.der_asn1.specs.Arcs.{oid_octets}
+use Rattle.x509.specs.ExtensionIdentifiers.{id_ce, id_pe}
 use Rattle.x509.specs.Criticality.{IsCritical}
 use Rattle.x509.specs.declared.asn1.extension.Extension.{Extension}
-
--- the identifier 2.5.29.n (4.2.1)
-abbrev pub id_ce : ℕ → List ℕ
-id_ce n = oid_octets (2 ∷ 5 ∷ 29 ∷ n ∷ [])
-
--- the identifier 1.3.6.1.5.5.7.1.n (4.2.2)
-abbrev pub id_pe : ℕ → List ℕ
-id_pe n = oid_octets (1 ∷ 3 ∷ 6 ∷ 1 ∷ 5 ∷ 5 ∷ 7 ∷ 1 ∷ n ∷ [])
 
 -- nameConstraints (4.2.1.10), policyConstraints (4.2.1.11) and inhibitAnyPolicy (4.2.1.14) must be
 -- critical
