@@ -4,6 +4,7 @@ use der::{DecodeBytes, Encode, Error, ErrorKind, Length, Tag, TagNumber};
 use der_asn1::DateTime;
 use std::alloc::Global;
 use x509::{Certificate, Time};
+use x509_lint::checks::{has_fields_of_version, has_same_algorithms};
 
 /// Ed25519, version 3, with four extensions: `openssl req -x509 -set_serial 0x4A7B -subj
 /// /CN=example.org -addext keyUsage=critical,digitalSignature`.
@@ -181,8 +182,8 @@ fn checks_with(alloc: Global, place: usize, octet: u8) -> Option<(bool, bool)> {
     }
     let certificate = Certificate::from_der(alloc, &octets).ok()?;
     Some((
-        certificate.tbs_certificate.has_fields_of_version(),
-        certificate.has_same_algorithms(),
+        has_fields_of_version(&certificate.tbs_certificate),
+        has_same_algorithms(&certificate),
     ))
 }
 

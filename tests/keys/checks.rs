@@ -4,10 +4,12 @@ use crate::keys::certificates::SELF_SIGNED;
 use der::DecodeBytes;
 use der_asn1::IntRef;
 use std::alloc::Global;
-use x509::{
-    Certificate, CertificatePolicies, Extensions, GeneralNames, TbsCertificate,
-    first_repeated_policy, has_distinct_policies, has_item,
-};
+use x509::{Certificate, CertificatePolicies, Extensions, GeneralNames, TbsCertificate};
+use x509_lint::checks::extensions::instances;
+use x509_lint::checks::policies::{first_repeated_policy, has_distinct_policies};
+use x509_lint::checks::presence::has_item;
+use x509_lint::checks::serial_number;
+use x509_lint::keeps_all_rules;
 
 // Whether a certificate may have a serial number of these contents.
 fn has_valid_serial_number(alloc: Global, octets: &[u8]) -> Option<bool> {
@@ -17,7 +19,7 @@ fn has_valid_serial_number(alloc: Global, octets: &[u8]) -> Option<bool> {
         serial_number,
         ..certificate.tbs_certificate
     };
-    Some(fields.has_valid_serial_number())
+    Some(serial_number::has_valid_serial_number(&fields))
 }
 
 #[test]
@@ -65,19 +67,19 @@ fn extensions_with_an_identifier_are_counted(rt: HostRuntime) {
     same_at(
         &rt,
         "1.2.3.4",
-        extensions.instances(alloc, &[0x2A, 0x03, 0x04]),
+        instances(alloc, &extensions, &[0x2A, 0x03, 0x04]),
         2,
     );
     same_at(
         &rt,
         "1.2.3.5",
-        extensions.instances(alloc, &[0x2A, 0x03, 0x05]),
+        instances(alloc, &extensions, &[0x2A, 0x03, 0x05]),
         1,
     );
     same_at(
         &rt,
         "1.2.3.6",
-        extensions.instances(alloc, &[0x2A, 0x03, 0x06]),
+        instances(alloc, &extensions, &[0x2A, 0x03, 0x06]),
         0,
     );
 }
@@ -89,7 +91,7 @@ fn keeps_all_rules_with(alloc: Global, place: usize, octet: u8) -> Option<bool> 
         octets[place] = octet;
     }
     let certificate = Certificate::from_der(alloc, &octets).ok()?;
-    Some(certificate.keeps_all_rules(alloc))
+    Some(keeps_all_rules(alloc, &certificate))
 }
 
 // The version is octet 11.

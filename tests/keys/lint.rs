@@ -4,10 +4,8 @@ use crate::keys::certificates::SELF_SIGNED;
 use der::DecodeBytes;
 use der_asn1::{DateTime, Explicit, GeneralizedTime, Optional};
 use std::alloc::Global;
-use x509::{
-    AttributeRule, Certificate, ExtensionRule, Extensions, Finding, Name, NameRule, Place, Rule,
-    TbsCertificate, Time, Validity,
-};
+use x509::{Certificate, Extensions, Name, TbsCertificate, Time, Validity};
+use x509_lint::{AttributeRule, ExtensionRule, Finding, NameRule, Place, Rule};
 
 // A certification authority: `openssl req -x509 -utf8 -set_serial 0x1234` with Ed25519 and the
 // subject `/C=SE/ST=Sk\xE5ne/O=Example/CN=CA/emailAddress=a@example.org`, and the extensions
@@ -58,7 +56,7 @@ type Findings = (Option<Finding>, Option<Finding>, Option<Finding>);
 
 // The first three findings; and none if there are more.
 fn findings(alloc: Global, certificate: &Certificate<'_>) -> Findings {
-    let mut lint = certificate.lint(alloc);
+    let mut lint = x509_lint::findings(alloc, certificate);
     let first = lint.next();
     let second = lint.next();
     let third = lint.next();

@@ -14,7 +14,7 @@ ghost use Rattle.der_c_x509.specs.Request.{IsRequestOf};
 ghost use Rattle.der_c_x509.specs.RevocationList.{IsRevocationListOf};
 ghost use Rattle.der_c_x509.specs.Revoked.{IsRevokedOf};
 ghost use Rattle.std.specs.Prelude.{false, ◌<◌, ◌^◌, ◌≡◌};
-ghost use Rattle.x509.specs.ExtensionChecks.{id_ce};
+ghost use Rattle.x509.specs.ExtensionIdentifiers.{id_ce};
 ghost use Rattle.x509.specs.Find.{FindsExtension, WholeRead};
 
 use der::{Decode, DecodeValue, Encode, FixedTag, ReadValue, SliceReader, WrittenValue};

@@ -1,6 +1,6 @@
 //! Whether the subject may issue certificates.
 ghost use Rattle.std.specs.Prelude.{◌≡◌};
-ghost use Rattle.x509.specs.ExtensionChecks.{id_ce};
+ghost use Rattle.x509.specs.ExtensionIdentifiers.{id_ce};
 ghost use Rattle.x509.specs.Find.{FindsExtension, WholeRead};
 ghost use Rattle.der_c_x509.specs.Constraints.{IsConstraintsAnswer, IsPathLengthAnswer, ReadsConstraints};
 ghost use Rattle.der_c_x509.specs.FindCalls.{FindsIn, RefusesList};

@@ -1,7 +1,7 @@
 //! What a key may be used for.
 ghost use Rattle.std.specs.Prelude.{◌≡◌, ◌<◌, ◌^◌};
 ghost use Rattle.der_asn1.specs.NamedBits.{has_bit};
-ghost use Rattle.x509.specs.ExtensionChecks.{id_ce};
+ghost use Rattle.x509.specs.ExtensionIdentifiers.{id_ce};
 ghost use Rattle.x509.specs.Find.{FindsExtension, WholeRead};
 ghost use Rattle.der_c_x509.specs.FindCalls.{FindsIn, ReadsKnown, RefusesList};
 ghost use Rattle.der_c_x509.specs.Known.{IsKeyUsageOf, first_bits};

@@ -1,6 +1,6 @@
 //! Further names of the subject.
 ghost use Rattle.std.specs.Prelude.{◌≡◌};
-ghost use Rattle.x509.specs.ExtensionChecks.{id_ce};
+ghost use Rattle.x509.specs.ExtensionIdentifiers.{id_ce};
 ghost use Rattle.x509.specs.Find.{FindsExtension, WholeRead};
 ghost use Rattle.der_c_x509.specs.FindCalls.{FindsIn, ReadsKnown, RefusesList};
 ghost use Rattle.der_c_x509.specs.Known.{IsNamesOf};

@@ -12,6 +12,7 @@ use der_show_text::{Characters, Output, Style, put_text};
 use der_show_tree::Kind;
 use std::fmt::Write;
 use x509::Certificate;
+use x509_lint::findings;
 
 /// Begins the object of a file.
 pub fn begin_file(show: &mut Show<'_>, file: &str) {
@@ -86,7 +87,7 @@ fn put_json_lint(show: &mut Show<'_>, octets: &[u8]) {
     };
     show.page.put(",\n      \"lint\": [");
     let mut is_first = true;
-    for finding in certificate.lint(alloc) {
+    for finding in findings(alloc, &certificate) {
         show.page.put(if is_first { "\"" } else { ", \"" });
         is_first = false;
         let _ = write!(show.page.out, "{finding}\"");

@@ -5,6 +5,7 @@ use der::DecodeBytes;
 use der_show_print::Page;
 use std::fmt::Write;
 use x509::Certificate;
+use x509_lint::findings;
 
 /// Prints a line for each rule of RFC 5280 that the certificate breaks, and that decoding does not check.
 pub fn put_lint(page: &mut Page<'_>, octets: &[u8]) {
@@ -12,7 +13,7 @@ pub fn put_lint(page: &mut Page<'_>, octets: &[u8]) {
         return;
     };
     let mut count = 0u64;
-    for finding in certificate.lint(page.alloc) {
+    for finding in findings(page.alloc, &certificate) {
         page.beside();
         let _ = write!(page.out, "Lint: {finding}");
         page.end();

@@ -6,11 +6,11 @@
 
 mod asn1;
 mod assembly;
-mod checks;
+mod criticality;
 mod find;
-mod lint;
 mod parts;
 mod text;
+mod times;
 mod version;
 
 pub use asn1::AccessDescription;
@@ -103,9 +103,6 @@ pub use asn1::X520name;
 pub use asn1::values;
 pub use assembly::attribute_of;
 pub use assembly::extension_of;
-pub use checks::first_repeated_policy;
-pub use checks::has_distinct_policies;
-pub use checks::has_item;
 pub use find::FindError;
 pub use find::Known;
 pub use find::KnownAttribute;
@@ -115,14 +112,6 @@ pub use find::Occurrence;
 pub use find::Typed;
 pub use find::attr;
 pub use find::ext;
-pub use lint::AttributeRule;
-pub use lint::ExtensionRule;
-pub use lint::Finding;
-pub use lint::Lint;
-pub use lint::NameRule;
-pub use lint::Place;
-pub use lint::RULES;
-pub use lint::Rule;
 pub use parts::field_between;
 pub use parts::field_in_middle;
 pub use parts::first_field;

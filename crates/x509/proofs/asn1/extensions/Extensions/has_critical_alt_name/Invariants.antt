@@ -1,9 +1,0 @@
-use Rattle.std.proofs.Common.{All}
-use Rattle.x509.specs.ExtensionChecks.{IsCriticalAltName}
-use Rattle.x509.proofs.asn1.extensions.Extensions.has_critical_alt_name.Given as goal
-
-abbrev pub invariant-loop-extension : goal.invariant-loop-extension
-invariant-loop-extension l =
-    (goal.iterator-loop-extension).can_next l.extension-iterator ×
-    (goal.iterator-loop-extension).is_finite l.extension-iterator
-    × All (λ v. IsCriticalAltName v → ⊥) l.yielded

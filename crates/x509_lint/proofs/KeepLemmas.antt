@@ -1,0 +1,62 @@
+-- Lemmas: items with the same encoding keep the same rules.
+use Rattle.std.proofs.Common.{◌≡◌, ◌≤◌, ℕ, List, sym, subst, ◌∙◌}
+use Rattle.der_asn1.specs.AnyRef.{any_contents}
+use Rattle.x509.proofs.EncodingLemmas.{attribute_same, extension_same, level_same}
+use Rattle.x509_lint.specs.AttributeChecks.{AllowsLength, AreCharactersOf, character_count}
+use Rattle.x509_lint.specs.CertificateChecks.{ExtensionKeeps}
+use Rattle.x509.specs.CertificateLists.{AreAttributes, IsAttribute, IsExtension, IsLevel, attribute_encoding, extension_encoding, level_encoding}
+use Rattle.x509_lint.specs.ExtensionChecks.{IsCriticalAltName, MustBeCritical, MustNotBeCritical, MustNotBeEmpty, instances}
+use Rattle.x509.specs.Firsts.{FailsFirstAt}
+use Rattle.x509_lint.specs.NameChecks.{AttributeKeeps, IsFirstAttribute, LevelKeeps, LevelOctetsKeep}
+use Rattle.x509.specs.declared.asn1.attribute_type_and_value.AttributeTypeAndValue.{AttributeTypeAndValue}
+use Rattle.x509.specs.declared.asn1.extension.Extension.{Extension}
+use Rattle.x509.specs.declared.asn1.relative_distinguished_name.RelativeDistinguishedName.{RelativeDistinguishedName}
+use Rattle.x509_lint.specs.declared.attribute_rule.AttributeRule.{AttributeRule}
+use Rattle.x509_lint.specs.declared.attribute_rule.AttributeRule.TheVariants.{Length, Characters}
+use Rattle.x509_lint.specs.declared.extension_rule.ExtensionRule.{ExtensionRule}
+use Rattle.x509_lint.specs.declared.extension_rule.ExtensionRule.TheVariants.{Instances, Critical, NotCritical, NotEmpty, Usage}
+use Rattle.x509_lint.specs.declared.name_rule.NameRule.{NameRule}
+
+pub attribute_keep : (rule : AttributeRule) (v w : AttributeTypeAndValue) → IsAttribute v → IsAttribute w → attribute_encoding v ≡ attribute_encoding w → AttributeKeeps rule v → AttributeKeeps rule w
+attribute_keep Length v w is are e h =
+    let same = attribute_same v w e in
+    subst (λ i. AllowsLength i (character_count w.value.tag (any_contents w.value))) same.0
+    (subst (λ t. AllowsLength v.oid.octets.now (character_count t (any_contents w.value))) same.1.0
+    (subst (λ c. AllowsLength v.oid.octets.now (character_count v.value.tag c)) same.1.1 h))
+attribute_keep Characters v w is are e h =
+    let same = attribute_same v w e in
+    subst (λ t. AreCharactersOf t (any_contents w.value)) same.1.0 (subst (λ c. AreCharactersOf v.value.tag c) same.1.1 h)
+
+pub level_keep : (rule : NameRule) (v w : RelativeDistinguishedName) → IsLevel v → IsLevel w → level_encoding v ≡ level_encoding w → LevelKeeps rule v → LevelKeeps rule w
+level_keep rule v w is are e h = subst (LevelOctetsKeep rule) (level_same v w e) h
+
+pub extension_keep : (rule : ExtensionRule) (items : List Extension) (v w : Extension) → IsExtension v → IsExtension w → extension_encoding v ≡ extension_encoding w
+    → ExtensionKeeps rule items v → ExtensionKeeps rule items w
+extension_keep Instances items v w is are e h = subst (λ i. instances i items ≤ 1) (extension_same v w e).0 h
+extension_keep Critical items v w is are e h =
+    let same = extension_same v w e in
+    λ must. sym same.1.0 ∙ h (subst MustBeCritical (sym same.0) must)
+extension_keep NotCritical items v w is are e h =
+    let same = extension_same v w e in
+    λ must critical. h (subst MustNotBeCritical (sym same.0) must) (same.1.0 ∙ critical)
+extension_keep NotEmpty items v w is are e h =
+    let same = extension_same v w e in
+    λ must empty. h (subst MustNotBeEmpty (sym same.0) must) (same.1.1 ∙ empty)
+extension_keep Usage items v w is are e h =
+    let same = extension_same v w e in
+    λ id none. h (same.0 ∙ id) (same.1.1 ∙ none)
+
+-- levels with the same encoding have the same first attribute that breaks a rule
+pub first_attribute_keep : (rule : AttributeRule) (place : ℕ) (v w : RelativeDistinguishedName) → IsLevel v → IsLevel w → level_encoding v ≡ level_encoding w
+    → IsFirstAttribute rule place v → IsFirstAttribute rule place w
+first_attribute_keep rule place v w is are e h =
+    subst (λ octets. (l : AreAttributes octets) → FailsFirstAt (AttributeKeeps rule) l.items place) (level_same v w e) h
+
+-- extensions with the same encoding are critical alternative names or are not
+pub alt_name_keep : (v w : Extension) → IsExtension v → IsExtension w → extension_encoding v ≡ extension_encoding w → IsCriticalAltName v → IsCriticalAltName w
+alt_name_keep v w is are e h =
+    let same = extension_same v w e in
+    (sym same.0 ∙ h.0, sym same.1.0 ∙ h.1)
+
+pub other_keep : (v w : Extension) → IsExtension v → IsExtension w → extension_encoding v ≡ extension_encoding w → (IsCriticalAltName v → ⊥) → IsCriticalAltName w → ⊥
+other_keep v w is are e other h = other (alt_name_keep w v are is (sym e) h)

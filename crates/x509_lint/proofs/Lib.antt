@@ -1,0 +1,6 @@
+mod FirstLemmas
+mod AttributeLemmas
+mod KeepLemmas
+mod LintLemmas
+mod NamePlaceLemmas
+mod PolicyLemmas

@@ -1,0 +1,9 @@
+pub mod Checks
+pub mod ValidityChecks
+pub mod SerialNumbers
+pub mod ExtensionChecks
+pub mod AttributeChecks
+pub mod NameChecks
+pub mod CertificateChecks
+pub mod Lint
+pub mod PolicyChecks

@@ -1,0 +1,106 @@
+//! Checks of one attribute of a name (RFC 5280, 4.1.2.4 and A.1).
+ghost use Rattle.std.specs.Prelude.{◌≡◌, ◌↔◌, ◌<◌, ℕ, true, IfSome, IfNone, count_by};
+ghost use Rattle.x509_lint.specs.AttributeChecks.{AreCharactersOf, HasCharactersOfTag, HasLengthOfType, IsWithin};
+ghost use Rattle.x509_lint.specs.AttributeChecks.{begins_character, bounds_of, character_count, id_at};
+
+use crate::checks::identifiers::is;
+use der::Tag;
+use der_asn1::{
+    BmpStringRef, Ia5StringRef, NumericStringRef, PrintableStringRef, Utf8StringRef,
+    VisibleStringRef,
+};
+use x509::AttributeTypeAndValue;
+use x509::values::id_email_address;
+
+/// Whether the value has as many characters as RFC 5280, A.1, allows for the type of the
+/// attribute. Decoding does not check this.
+pub fn has_length_of_type(attribute: &AttributeTypeAndValue<'_>) -> bool
+    ensures { (result ≡ true) ↔ HasLengthOfType attribute.now }
+{
+    let count = character_count(attribute.value.tag, attribute.value.contents);
+    let id = attribute.oid.octets();
+    match arc_of(id) {
+        Some(arc) => is_within(bounds_of(arc), count),
+        None => !is(id, &id_email_address()) || is_within(Some((1, 255)), count),
+    }
+}
+
+/// Whether all characters of the value belong to the string type that its tag names (X.680 41).
+/// A value that is not a string has no such characters. Decoding does not check this.
+pub fn has_characters_of_tag(attribute: &AttributeTypeAndValue<'_>) -> bool
+    ensures { (result ≡ true) ↔ HasCharactersOfTag attribute.now }
+{
+    are_characters_of(attribute.value.tag, attribute.value.contents)
+}
+
+fn are_characters_of(tag: Tag, octets: &[u8]) -> bool
+    ensures { (result ≡ true) ↔ AreCharactersOf tag octets.now }
+{
+    match tag {
+        Tag::PrintableString => PrintableStringRef::new(octets).is_some(),
+        Tag::Ia5String => Ia5StringRef::new(octets).is_some(),
+        Tag::NumericString => NumericStringRef::new(octets).is_some(),
+        Tag::VisibleString => VisibleStringRef::new(octets).is_some(),
+        Tag::BmpString => BmpStringRef::new(octets).is_some(),
+        Tag::Utf8String => Utf8StringRef::new(octets).is_some(),
+        _ => true,
+    }
+}
+
+// The last arc of the identifier 2.5.4 and an arc below 128.
+fn arc_of(id: &[u8]) -> Option<u8>
+    ensures some { IfSome result (λ n. (n < 128) × (id.now ≡ id_at n)) }
+    ensures none { IfNone result ((n : ℕ) → n < 128 → id.now ≡ id_at n → ⊥) }
+{
+    match id {
+        [0x55, 0x04, arc] if *arc < 128 => Some(*arc),
+        _ => None,
+    }
+}
+
+// The least and the most characters of an attribute 2.5.4 and this arc.
+fn bounds_of(arc: u8) -> Option<(usize, usize)>
+    ensures { result ≡ bounds_of arc }
+{
+    match arc {
+        3 | 5 | 10 | 11 | 12 => Some((1, 64)),
+        7 | 8 | 65 => Some((1, 128)),
+        4 | 41 | 42 | 43 | 44 => Some((1, 32768)),
+        6 => Some((2, 2)),
+        _ => None,
+    }
+}
+
+fn is_within(bounds: Option<(usize, usize)>, count: usize) -> bool
+    ensures { (result ≡ true) ↔ IsWithin bounds count }
+{
+    match bounds {
+        Some((least, most)) => least <= count && count <= most,
+        None => true,
+    }
+}
+
+// The number of characters of a text with this tag.
+fn character_count(tag: Tag, octets: &[u8]) -> usize
+    ensures { result ≡ character_count tag octets.now }
+{
+    match tag {
+        Tag::Utf8String => count_of_characters(octets),
+        Tag::BmpString => octets.len() / 2,
+        _ => octets.len(),
+    }
+}
+
+// The number of characters of a text in UTF-8.
+fn count_of_characters(octets: &[u8]) -> usize
+    ensures { result ≡ count_by begins_character octets.now }
+{
+    octets.iter().filter(|octet| is_first(**octet)).count()
+}
+
+// Whether the octet begins a character in UTF-8.
+fn is_first(octet: u8) -> bool
+    ensures { result ≡ begins_character octet }
+{
+    octet < 128 || 191 < octet
+}

@@ -1,0 +1,107 @@
+//! Checks of one extension (RFC 5280, 4.2).
+ghost use Rattle.std.specs.Prelude.{◌≡◌, ◌↔◌, true};
+ghost use Rattle.x509_lint.specs.ExtensionChecks.{HasUsage, IsCriticalIfRequired, IsNotCriticalIfForbidden, IsNotEmpty};
+ghost use Rattle.x509_lint.specs.ExtensionChecks.{IsAccess, IsListOfNames, IsListOfPlaces, IsListOfPolicies, MustBeCritical, MustNotBeCritical, MustNotBeEmpty};
+
+use crate::checks::identifiers::is;
+use x509::Extension;
+use x509::values::{
+    id_ce_authority_key_identifier, id_ce_c_rl_distribution_points, id_ce_certificate_policies,
+    id_ce_ext_key_usage, id_ce_freshest_crl, id_ce_inhibit_any_policy, id_ce_issuer_alt_name,
+    id_ce_key_usage, id_ce_name_constraints, id_ce_policy_constraints, id_ce_policy_mappings,
+    id_ce_subject_alt_name, id_ce_subject_directory_attributes, id_ce_subject_key_identifier,
+    id_pe_authority_info_access, id_pe_subject_info_access,
+};
+
+/// Whether the extension is critical if it must be: nameConstraints, policyConstraints and
+/// inhibitAnyPolicy (RFC 5280, 4.2.1.10, 4.2.1.11, 4.2.1.14). Decoding does not check this.
+pub fn is_critical_if_required(extension: &Extension<'_>) -> bool
+    ensures { (result ≡ true) ↔ IsCriticalIfRequired extension.now }
+{
+    extension.is_critical() || !must_be_critical(extension.extn_id.octets())
+}
+
+/// Whether the extension is not critical if it must not be: authorityKeyIdentifier,
+/// subjectKeyIdentifier, subjectDirectoryAttributes, freshestCRL, authorityInfoAccess and
+/// subjectInfoAccess (RFC 5280, 4.2.1.1, 4.2.1.2, 4.2.1.8, 4.2.1.15, 4.2.2). Decoding does not
+/// check this.
+pub fn is_not_critical_if_forbidden(extension: &Extension<'_>) -> bool
+    ensures { (result ≡ true) ↔ IsNotCriticalIfForbidden extension.now }
+{
+    !extension.is_critical() || !must_not_be_critical(extension.extn_id.octets())
+}
+
+/// Whether the value is not an empty SEQUENCE, if RFC 5280, 4.2, requires that its SEQUENCE has
+/// an element. Decoding does not check this.
+pub fn is_not_empty(extension: &Extension<'_>) -> bool
+    ensures { (result ≡ true) ↔ IsNotEmpty extension.now }
+{
+    extension.extn_value.octets() != [0x30, 0x00].as_slice()
+        || !must_not_be_empty(extension.extn_id.octets())
+}
+
+/// Whether a keyUsage has a bit that is one (RFC 5280, 4.2.1.3). Decoding does not check this.
+pub fn has_usage(extension: &Extension<'_>) -> bool
+    ensures { (result ≡ true) ↔ HasUsage extension.now }
+{
+    extension.extn_value.octets() != [0x03, 0x01, 0x00].as_slice()
+        || !is(extension.extn_id.octets(), &id_ce_key_usage())
+}
+
+fn must_be_critical(id: &[u8]) -> bool
+    ensures { (result ≡ true) ↔ MustBeCritical id.now }
+{
+    is(id, &id_ce_name_constraints())
+        || is(id, &id_ce_policy_constraints())
+        || is(id, &id_ce_inhibit_any_policy())
+}
+
+fn must_not_be_critical(id: &[u8]) -> bool
+    ensures { (result ≡ true) ↔ MustNotBeCritical id.now }
+{
+    is(id, &id_ce_authority_key_identifier())
+        || is(id, &id_ce_subject_key_identifier())
+        || is(id, &id_ce_subject_directory_attributes())
+        || is(id, &id_ce_freshest_crl())
+        || is_access(id)
+}
+
+// Whether the identifier is that of authorityInfoAccess or subjectInfoAccess.
+fn is_access(id: &[u8]) -> bool
+    ensures { (result ≡ true) ↔ IsAccess id.now }
+{
+    is(id, &id_pe_authority_info_access()) || is(id, &id_pe_subject_info_access())
+}
+
+fn must_not_be_empty(id: &[u8]) -> bool
+    ensures { (result ≡ true) ↔ MustNotBeEmpty id.now }
+{
+    is_list_of_names(id) || is_list_of_policies(id) || is_list_of_places(id) || is_access(id)
+}
+
+// Whether the identifier is that of a list of names or attributes.
+fn is_list_of_names(id: &[u8]) -> bool
+    ensures { (result ≡ true) ↔ IsListOfNames id.now }
+{
+    is(id, &id_ce_subject_alt_name())
+        || is(id, &id_ce_issuer_alt_name())
+        || is(id, &id_ce_subject_directory_attributes())
+        || is(id, &id_ce_name_constraints())
+}
+
+// Whether the identifier is that of a list of policies or purposes.
+fn is_list_of_policies(id: &[u8]) -> bool
+    ensures { (result ≡ true) ↔ IsListOfPolicies id.now }
+{
+    is(id, &id_ce_certificate_policies())
+        || is(id, &id_ce_policy_mappings())
+        || is(id, &id_ce_policy_constraints())
+        || is(id, &id_ce_ext_key_usage())
+}
+
+// Whether the identifier is that of a list of places of revocation lists.
+fn is_list_of_places(id: &[u8]) -> bool
+    ensures { (result ≡ true) ↔ IsListOfPlaces id.now }
+{
+    is(id, &id_ce_c_rl_distribution_points()) || is(id, &id_ce_freshest_crl())
+}

@@ -1,0 +1,42 @@
+//! Checks that lists of a certificate are not empty.
+ghost use Rattle.std.specs.Prelude.{◌≡◌, ◌≢◌, ◌↔◌, [], true};
+ghost use Rattle.x509_lint.specs.CertificateChecks.{HasExtensionIfPresent, HasIssuer};
+ghost use Rattle.x509.specs.CertificateLists.{level_octets};
+
+use der_asn1::{Item, SequenceOf};
+use x509::{RelativeDistinguishedName, TbsCertificate};
+
+/// Whether a list has an item, as the size `1..MAX` requires, for example of the lists of RFC 5280,
+/// 4.2.1. Decoding does not check this.
+pub fn has_item<T: Item>(list: &SequenceOf<'_, T>) -> bool
+    ensures { (result ≡ true) ↔ (list.now.octets.now ≢ []) }
+{
+    !list.octets().is_empty()
+}
+
+/// Whether the level of a name has an attribute, as its size `1..MAX` requires (RFC 5280,
+/// 4.1.2.4). Decoding does not check this.
+pub fn has_attribute(level: &RelativeDistinguishedName<'_>) -> bool
+    ensures { (result ≡ true) ↔ (level_octets level.now ≢ []) }
+{
+    !level.attributes.octets().is_empty()
+}
+
+/// Whether the name of the issuer is not empty (RFC 5280, 4.1.2.4). Decoding does not check
+/// this.
+pub fn has_issuer(signed: &TbsCertificate<'_>) -> bool
+    ensures { (result ≡ true) ↔ HasIssuer signed.now }
+{
+    has_item(&signed.issuer.levels)
+}
+
+/// Whether there is an extension if the field `extensions` is present (RFC 5280, 4.1). Decoding
+/// does not check this.
+pub fn has_extension_if_present(signed: &TbsCertificate<'_>) -> bool
+    ensures { (result ≡ true) ↔ HasExtensionIfPresent signed.now }
+{
+    match &signed.extensions.0 {
+        Some(extensions) => has_item(&extensions.0.items),
+        None => true,
+    }
+}

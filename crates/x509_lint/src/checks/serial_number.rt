@@ -1,0 +1,31 @@
+//! The check of the serial number of a certificate (RFC 5280, 4.1.2.2).
+ghost use Rattle.std.specs.Prelude.{◌≡◌, ◌↔◌, true};
+ghost use Rattle.der_asn1.specs.Integer.{is_negative};
+ghost use Rattle.x509_lint.specs.SerialNumbers.{IsPositive, IsSerialNumber};
+
+use x509::TbsCertificate;
+
+/// Whether the serial number is positive and has at most 20 octets (RFC 5280, 4.1.2.2).
+/// Decoding does not check this.
+pub fn has_valid_serial_number(signed: &TbsCertificate<'_>) -> bool
+    ensures { (result ≡ true) ↔ IsSerialNumber signed.now.serial_number.octets.now }
+{
+    let octets = signed.serial_number.octets();
+    is_positive(octets) && octets.len() <= 20
+}
+
+// Whether the contents of an INTEGER are those of a positive number.
+fn is_positive(octets: &[u8]) -> bool
+    ensures { (result ≡ true) ↔ IsPositive octets.now }
+{
+    !has_minus_sign(octets) && octets != [0].as_slice()
+}
+
+fn has_minus_sign(octets: &[u8]) -> bool
+    ensures { result ≡ is_negative octets.now }
+{
+    match octets {
+        [first, ..] => *first >= 128,
+        [] => false,
+    }
+}

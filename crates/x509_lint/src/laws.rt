@@ -1,0 +1,16 @@
+//! Laws of the findings of a certificate, as contracts. Nothing calls the functions of this module.
+ghost use Rattle.std.specs.Prelude.{List};
+ghost use Rattle.std.specs.Iterator.{Drains};
+ghost use Rattle.x509_lint.specs.Lint.{AreFindings};
+ghost use Rattle.x509_lint.specs.declared.finding.Finding.{Finding as AFinding};
+ghost use Rattle.x509_lint.specs.declared.lint.Lint.{Lint as ALint};
+
+use crate::lint::Lint;
+
+/// If an iteration comes to its end, it has given exactly the findings of the certificate by the
+/// rules, in the order of the rules.
+fn gives_all_findings()
+    ensures { (lint : ALint) (findings : List AFinding)
+        → Drains ⟦<Lint<'static, 'static> as Iterator>⟧.next_gives lint findings
+        → AreFindings lint.certificate.now lint.rules.now findings }
+{}

@@ -1,0 +1,21 @@
+//! Rules for names.
+use crate::attribute_rule::AttributeRule;
+use std::fmt;
+
+/// A rule for names (RFC 5280, 4.1.2.4).
+#[derive(Clone, Copy, Debug, PartialEq, Eq)]
+pub enum NameRule {
+    /// Each level has an attribute.
+    Levels,
+    /// Each attribute keeps this rule.
+    Attributes(AttributeRule),
+}
+
+impl fmt::Display for NameRule {
+    fn fmt<W: fmt::Write>(&self, f: &mut fmt::Formatter<W>) -> fmt::Result {
+        match self {
+            NameRule::Levels => f.write_str("a level has no attribute (RFC 5280, 4.1.2.4)"),
+            NameRule::Attributes(rule) => write!(f, "{rule}"),
+        }
+    }
+}
