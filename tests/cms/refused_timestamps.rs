@@ -6,6 +6,7 @@ use crate::fixtures::errors::{trailing, unexpected};
 use cms::{Accuracy, PkiStatusInfo, TimeStampReq, TimeStampResp, TstInfo};
 use der::{DecodeBytes, Error, ErrorKind, Length, Tag};
 use std::alloc::Global;
+use std::process::Abort;
 
 // The error of the second request with another octet at a place.
 fn request_with(alloc: Global, place: usize, octet: u8) -> Option<Error> {

@@ -34,7 +34,7 @@ fn general_names_have_the_texts_of_openssl(rt: HostRuntime) {
         return;
     };
     let mut count = 0;
-    for (name, expected) in names.items.iter(alloc).zip(&TEXTS) {
+    for (name, expected) in names.iter(alloc).zip(&TEXTS) {
         match format!(in alloc; "{}", GeneralNameText::new(alloc, &name)) {
             Ok(text) => same_octets(&rt, text.as_bytes(), expected.as_bytes()),
             Err(_) => holds(&rt, false),
