@@ -41,10 +41,7 @@ impl<'a> AttributeText<'a> {
             Some(keyword) => f.write_str(keyword)?,
             None => write!(f, "{}", attribute.oid)?,
         }
-        let octets = attribute
-            .value
-            .to_der(self.alloc)
-            .map_err(|_| fmt::Error)?;
+        let octets = attribute.value.to_der(self.alloc).map_err(|_| fmt::Error)?;
         let text = OctetsText {
             octets: octets.as_slice(),
             separator: "",

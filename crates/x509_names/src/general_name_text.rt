@@ -1,49 +1,62 @@
 //! Names of a subjectAltName as text.
 
 use crate::escaped::Escaped;
-use crate::name_text::NameText;
+use crate::name_text::write_levels;
 use crate::octets_text::OctetsText;
 use std::alloc::Global;
 use std::fmt;
 use x509::GeneralName;
 
 /// A name of a subjectAltName, which is printed as its kind in the words of openssl, and its value:
-/// `DNS:example.org`, `IP Address:192.0.2.1`. Characters are escaped as in [`NameText`], so that no
+/// `DNS:example.org`, `IP Address:192.0.2.1`. Characters are escaped as in [`NameText`](crate::NameText), so that no
 /// `,` or line break of a value looks like the end of it. Of the names that are structures, an
 /// x400Address and an ediPartyName, the kind alone is printed; of an otherName its type, too.
 ///
 /// Printing fails if there is no memory.
 #[derive(Drop)]
-pub struct GeneralNameText<'a> {
-    name: GeneralName<'a>,
+pub struct GeneralNameText<'n, 'a> {
+    name: &'n GeneralName<'a>,
     alloc: Global,
 }
 
-impl<'a> GeneralNameText<'a> {
+impl<'n, 'a> GeneralNameText<'n, 'a> {
     /// The text of this name.
-    pub fn new(alloc: Global, name: &GeneralName<'a>) -> Self {
-        GeneralNameText { name: *name, alloc }
+    pub fn new(alloc: Global, name: &'n GeneralName<'a>) -> Self {
+        GeneralNameText { name, alloc }
     }
 }
 
-impl<'a> fmt::Display for GeneralNameText<'a> {
+impl<'n, 'a> fmt::Display for GeneralNameText<'n, 'a> {
     fn fmt<W: fmt::Write>(&self, f: &mut fmt::Formatter<W>) -> fmt::Result {
-        match &self.name {
-            GeneralName::Rfc822Name(text) => write!(f, "email:{}", Escaped(text.0.as_str())),
-            GeneralName::DnsName(text) => write!(f, "DNS:{}", Escaped(text.0.as_str())),
-            GeneralName::UniformResourceIdentifier(text) => {
-                write!(f, "URI:{}", Escaped(text.0.as_str()))
-            }
-            GeneralName::IpAddress(address) => write_address(address.0.octets(), f),
-            GeneralName::DirectoryName(name) => {
-                write!(f, "DirName:{}", NameText::new(self.alloc, &name.0))
-            }
-            GeneralName::RegisteredId(identifier) => write!(f, "Registered ID:{}", identifier.0),
-            GeneralName::OtherName(name) => write!(f, "othername:{}", name.0.type_id),
-            GeneralName::X400Address(_) => f.write_str("X400Name"),
-            GeneralName::EdiPartyName(_) => f.write_str("EdiPartyName"),
-        }
+        write_name(self.alloc, self.name, f)
     }
+}
+
+// Writes the kind of a name, and its value.
+fn write_name<W: fmt::Write>(
+    alloc: Global,
+    name: &GeneralName<'_>,
+    f: &mut fmt::Formatter<W>,
+) -> fmt::Result {
+    match name {
+        GeneralName::Rfc822Name(text) => write_text("email:", text.0.as_str(), f),
+        GeneralName::DnsName(text) => write_text("DNS:", text.0.as_str(), f),
+        GeneralName::UniformResourceIdentifier(text) => write_text("URI:", text.0.as_str(), f),
+        GeneralName::IpAddress(address) => write_address(address.0.octets(), f),
+        GeneralName::DirectoryName(name) => {
+            f.write_str("DirName:")?;
+            write_levels(alloc, &name.0, f)
+        }
+        GeneralName::RegisteredId(name) => write!(f, "Registered ID:{}", name.0),
+        GeneralName::OtherName(name) => write!(f, "othername:{}", name.0.type_id),
+        GeneralName::X400Address(_) => f.write_str("X400Name"),
+        GeneralName::EdiPartyName(_) => f.write_str("EdiPartyName"),
+    }
+}
+
+// Writes a kind and the characters of a name.
+fn write_text<W: fmt::Write>(kind: &str, text: &str, f: &mut fmt::Formatter<W>) -> fmt::Result {
+    write!(f, "{kind}{}", Escaped(text))
 }
 
 // Writes an address: four octets in decimal, sixteen as eight numbers in hexadecimal, and octets of

@@ -13,34 +13,43 @@ use x509::{Name, RelativeDistinguishedName};
 /// Printing takes time and memory in proportion to the size of the name. It fails if there is no
 /// memory.
 #[derive(Drop)]
-pub struct NameText<'a> {
-    name: Name<'a>,
+pub struct NameText<'n, 'a> {
+    name: &'n Name<'a>,
     alloc: Global,
 }
 
-impl<'a> NameText<'a> {
+impl<'n, 'a> NameText<'n, 'a> {
     /// The text of this name.
-    pub fn new(alloc: Global, name: &Name<'a>) -> Self {
-        NameText { name: *name, alloc }
+    pub fn new(alloc: Global, name: &'n Name<'a>) -> Self {
+        NameText { name, alloc }
     }
 }
 
-impl<'a> fmt::Display for NameText<'a> {
+impl<'n, 'a> fmt::Display for NameText<'n, 'a> {
     fn fmt<W: fmt::Write>(&self, f: &mut fmt::Formatter<W>) -> fmt::Result {
-        let mut levels = Vec::new(self.alloc);
-        for level in self.name.levels.iter(self.alloc) {
-            levels.push(level).map_err(|_| fmt::Error)?;
-        }
-        let mut is_first = true;
-        for level in levels.iter().rev() {
-            if !is_first {
-                f.write_str(",")?;
-            }
-            is_first = false;
-            write_level(self.alloc, level, f)?;
-        }
-        Ok(())
+        write_levels(self.alloc, self.name, f)
     }
+}
+
+// Writes the levels of a name, the last first.
+pub(crate) fn write_levels<W: fmt::Write>(
+    alloc: Global,
+    name: &Name<'_>,
+    f: &mut fmt::Formatter<W>,
+) -> fmt::Result {
+    let mut levels = Vec::new(alloc);
+    for level in name.levels.iter(alloc) {
+        levels.push(level).map_err(|_| fmt::Error)?;
+    }
+    let mut is_first = true;
+    for level in levels.iter().rev() {
+        if !is_first {
+            f.write_str(",")?;
+        }
+        is_first = false;
+        write_level(alloc, level, f)?;
+    }
+    Ok(())
 }
 
 // Writes the attributes of a level.
