@@ -1,6 +1,7 @@
 //! Values as JSON.
 
 use crate::departures::Departures;
+use crate::lint::put_finding;
 use crate::place::Place;
 use crate::print::take_output;
 use crate::show::Show;
@@ -10,7 +11,6 @@ use der::DecodeBytes;
 use der_show_print::{Form, Printer, print_fields};
 use der_show_text::{Characters, Output, Style, put_text};
 use der_show_tree::Kind;
-use std::fmt::Write;
 use x509::Certificate;
 use x509_lint::findings;
 
@@ -67,7 +67,7 @@ pub fn put_json_value(
 ) {
     begin_value(show, place, target.word(), departures.base);
     if matches!(target, Target::Kind(Kind::Certificate)) && show.options.is_lint {
-        put_json_lint(show, value.octets());
+        put_json_lint(show, value, departures.base);
     }
     show.page.put(",\n      \"value\": ");
     let alloc = show.page.alloc;
@@ -79,10 +79,10 @@ pub fn put_json_value(
     show.page.put("\n    }");
 }
 
-// The rules that a certificate breaks, as a list of texts.
-fn put_json_lint(show: &mut Show<'_>, octets: &[u8]) {
+// The rules that a certificate breaks, as a list of texts; none if the certificate is not DER.
+fn put_json_lint(show: &mut Show<'_>, value: Cursor<'_>, base: usize) {
     let alloc = show.page.alloc;
-    let Ok(certificate) = Certificate::from_der(alloc, octets) else {
+    let Ok(certificate) = Certificate::from_der(alloc, value.octets()) else {
         return;
     };
     show.page.put(",\n      \"lint\": [");
@@ -90,7 +90,9 @@ fn put_json_lint(show: &mut Show<'_>, octets: &[u8]) {
     for finding in findings(alloc, &certificate) {
         show.page.put(if is_first { "\"" } else { ", \"" });
         is_first = false;
-        let _ = write!(show.page.out, "{finding}\"");
+        put_finding(&mut show.page.out, value, base, &finding);
+        show.page.put("\"");
+        show.status = 1;
     }
     show.page.put("]");
 }

@@ -27,8 +27,8 @@ pub fn put_text_value(show: &mut Show<'_>, kind: Kind, value: Cursor<'_>) {
         Kind::Certificate => {
             put_certificate(page, value);
             put_warnings(page, value);
-            if show.options.is_lint {
-                put_lint(page, value.octets());
+            if show.options.is_lint && !put_lint(page, value) {
+                show.status = 1;
             }
         }
         Kind::Request => put_request(page, value),

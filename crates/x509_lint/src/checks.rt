@@ -6,15 +6,19 @@ ghost use Rattle.x509_lint.specs.Checks.{parameters_of, certificate_version_numb
 pub mod attribute;
 pub mod extension;
 pub mod extensions;
+pub mod found;
 mod identifiers;
+mod kinds;
 pub mod name;
 pub mod policies;
 pub mod presence;
 pub mod serial_number;
 pub mod subject;
 pub mod times;
+pub mod value;
+pub mod value_types;
 
-use der::Tag;
+use crate::elements::is_same_tag;
 use der_asn1::AnyRef;
 use spki::AlgorithmIdentifierRef;
 use x509::{Certificate, TbsCertificate};
@@ -82,10 +86,4 @@ fn is_same_element(first: &AnyRef<'_>, second: &AnyRef<'_>) -> bool
         ↔ (parameters_of (Some first.now) ≡ parameters_of (Some second.now)) }
 {
     is_same_tag(first.tag, second.tag) && first.contents == second.contents
-}
-
-fn is_same_tag(first: Tag, second: Tag) -> bool
-    ensures { (result ≡ true) ↔ (first ≡ second) }
-{
-    first == second
 }

@@ -1,0 +1,100 @@
+//! Checks of the values of extensions (RFC 5280, 4.2.1 and 4.2.2).
+ghost use Rattle.std.specs.Prelude.{◌≡◌, ◌↔◌, ◌^◌, ◌<◌, length, true};
+ghost use Rattle.der.specs.Prelude.{Integer};
+ghost use Rattle.x509_lint.specs.PolicyChecks.{AreDistinctPolicies};
+ghost use Rattle.x509_lint.specs.ValueRules.{HasDistinctPolicies, HasIssuerAndSerial, ValueKeeps};
+ghost use Rattle.x509_lint.specs.Values.{HasAuthority, HasPart};
+
+use crate::checks::identifiers::is;
+use crate::checks::kinds::{is_alt_names, is_points};
+use crate::checks::policies::has_distinct_policies;
+use crate::checks::value_types::has_value_of_type;
+use crate::elements::{contents_with, each_of_sequence};
+use crate::forms::context;
+use crate::group_test::GroupTest;
+use crate::part_test::PartTest;
+use crate::value_rule::ValueRule;
+use crate::values::{has_authority, has_part, is_not_negative};
+use der::Tag;
+use der_asn1::SequenceOf;
+use std::alloc::Global;
+use x509::PolicyInformation;
+use x509::values::{
+    id_ce_authority_key_identifier, id_ce_basic_constraints, id_ce_certificate_policies,
+    id_ce_inhibit_any_policy, id_ce_name_constraints, id_ce_policy_constraints,
+    id_ce_policy_mappings,
+};
+
+/// Whether the value of an extension with this identifier keeps the rule. This does not use
+/// `alloc`.
+pub fn value_keeps(alloc: Global, id: &[u8], value: &[u8], rule: ValueRule) -> bool
+    ensures { (result ≡ true) ↔ ValueKeeps rule id.now value.now }
+{
+    let numbers = PartTest::NotNegative;
+    match rule {
+        ValueRule::Contents => has_value_of_type(alloc, id, value),
+        ValueRule::PathLengthOfAuthority => {
+            !is(id, &id_ce_basic_constraints()) || is_limited_authority(alloc, value)
+        }
+        ValueRule::PathLength => {
+            !is(id, &id_ce_basic_constraints()) || each_of_sequence(alloc, value, &numbers)
+        }
+        ValueRule::PolicyNumbers => {
+            !is(id, &id_ce_policy_constraints()) || each_of_sequence(alloc, value, &numbers)
+        }
+        ValueRule::AnyPolicyNumber => {
+            !is(id, &id_ce_inhibit_any_policy()) || is_not_negative(alloc, value)
+        }
+        ValueRule::DistinctPolicies => {
+            !is(id, &id_ce_certificate_policies()) || are_distinct(alloc, value)
+        }
+        ValueRule::Mappings => {
+            !is(id, &id_ce_policy_mappings()) || each_of_sequence(alloc, value, &GroupTest::Mapping)
+        }
+        ValueRule::Points => { !is_points(id) || each_of_sequence(alloc, value, &GroupTest::Point) }
+        ValueRule::Subtrees => {
+            !is(id, &id_ce_name_constraints())
+                || each_of_sequence(alloc, value, &GroupTest::Subtrees)
+        }
+        ValueRule::IssuerAndSerial => {
+            !is(id, &id_ce_authority_key_identifier()) || has_issuer_and_serial(alloc, value)
+        }
+        ValueRule::Names(form) => {
+            !is_alt_names(id) || each_of_sequence(alloc, value, &PartTest::Form(form))
+        }
+    }
+}
+
+// Whether a basicConstraints without a cA that is true has no limit of a path.
+fn is_limited_authority(alloc: Global, value: &[u8]) -> bool
+    ensures { (result ≡ true) ↔ (HasPart Integer value.now → HasAuthority value.now) }
+{
+    !has_part(alloc, value, Tag::Integer) || has_authority(alloc, value)
+}
+
+fn has_issuer_and_serial(alloc: Global, value: &[u8]) -> bool
+    ensures { (result ≡ true) ↔ HasIssuerAndSerial value.now }
+{
+    let has_issuer = has_part(alloc, value, context(true, 1));
+    let has_serial = has_part(alloc, value, context(false, 2));
+    has_issuer == has_serial
+}
+
+// Whether no policy occurs twice in the value of a certificatePolicies.
+fn are_distinct(alloc: Global, value: &[u8]) -> bool
+    ensures { (result ≡ true) ↔ HasDistinctPolicies value.now }
+{
+    match contents_with(alloc, value, Tag::Sequence) {
+        Some(contents) => are_distinct_in(alloc, contents),
+        None => true,
+    }
+}
+
+fn are_distinct_in<'a>(alloc: Global, contents: &'a [u8]) -> bool
+    ensures { (result ≡ true) ↔ (length contents.now < 2 ^ 32 → AreDistinctPolicies contents.now) }
+{
+    match SequenceOf::<'a, PolicyInformation<'a>>::new(alloc, contents) {
+        Ok(policies) => has_distinct_policies(alloc, &policies),
+        Err(_) => true,
+    }
+}
