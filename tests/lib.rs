@@ -54,3 +54,5 @@ mod values;
 mod visits;
 #[cfg(test)]
 mod writers;
+#[cfg(test)]
+mod x509_names;

@@ -6,6 +6,7 @@ use crate::fixtures::errors::{trailing, unexpected};
 use cms::{Accuracy, PkiStatusInfo, TimeStampReq, TimeStampResp, TstInfo};
 use der::{DecodeBytes, Error, ErrorKind, Length, Tag};
 use std::alloc::Global;
+use std::process::Abort;
 
 // The error of the second request with another octet at a place.
 fn request_with(alloc: Global, place: usize, octet: u8) -> Option<Error> {
@@ -131,24 +132,31 @@ fn with_time(alloc: Global, time: &[u8]) -> Option<Error> {
     refusal::<TstInfo>(alloc, &octets[..end])
 }
 
-// RFC 3161, 2.4.2 allows the second of these times, which the library has no type for.
+// RFC 3161, 2.4.2, which cites X.690 11.7: seconds have to be there, a fraction has a full stop and
+// does not end in 0, and the time ends in Z.
 #[test]
-fn a_time_has_no_fractions_of_a_second(rt: HostRuntime) {
+fn a_fraction_of_a_second_has_one_form(rt: HostRuntime) {
     let alloc = rt.alloc();
-    let tag = Tag::GeneralizedTime;
     same(&rt, with_time(alloc, b"20261127043019Z"), None);
-    same_at(
-        &rt,
-        "tenths",
-        with_time(alloc, b"20261127043019.5Z"),
-        Some(ErrorKind::Value { tag }.at(Length::new(39))),
-    );
-    same_at(
-        &rt,
-        "no Z",
-        with_time(alloc, b"20261127043019"),
-        Some(ErrorKind::Value { tag }.at(Length::new(36))),
-    );
+    same(&rt, with_time(alloc, b"20261127043019.5Z"), None);
+    same(&rt, with_time(alloc, b"19990609001326.34352Z"), None);
+    refuses_time(&rt, alloc, b"20261127043019");
+    refuses_time(&rt, alloc, b"202611270430Z");
+    refuses_time(&rt, alloc, b"20261127043019.Z");
+    refuses_time(&rt, alloc, b"20261127043019.50Z");
+    refuses_time(&rt, alloc, b"20261127043019.0Z");
+    refuses_time(&rt, alloc, b"20261127043019,5Z");
+    refuses_time(&rt, alloc, b"20261127043019.5");
+    refuses_time(&rt, alloc, b"20261127043019.5+0100");
+    refuses_time(&rt, alloc, b"20261127043019.5ZZ");
+    refuses_time(&rt, alloc, b"20261327043019.5Z");
+}
+
+// The time is refused after its contents, which begin at octet 22.
+fn refuses_time(rt: &impl Abort, alloc: Global, time: &[u8]) {
+    let tag = Tag::GeneralizedTime;
+    let end = Length::new(22 + time.len() as u32);
+    same(rt, with_time(alloc, time), Some(ErrorKind::Value { tag }.at(end)));
 }
 
 // RFC 3161, 2.4.2: both parts are from 1 to 999.

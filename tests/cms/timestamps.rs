@@ -1,6 +1,6 @@
 //! Requests for timestamps, and responses.
 use super::timestamp_octets::{
-    FULL_REQUEST, REJECTED, REJECTED_ALGORITHM, REQUEST, RESPONSE, SHORT_RESPONSE,
+    FRACTION, FULL_REQUEST, REJECTED, REJECTED_ALGORITHM, REQUEST, RESPONSE, SHORT_RESPONSE,
 };
 use crate::checks::{holds, same, same_octets};
 use crate::fixtures::again::is_same;
@@ -35,6 +35,7 @@ fn responses_are_written_as_they_were(rt: HostRuntime) {
     holds(&rt, is_same::<SignedData>(alloc, &SHORT_RESPONSE[28..]));
     holds(&rt, is_same::<TstInfo>(alloc, &RESPONSE[73..199]));
     holds(&rt, is_same::<TstInfo>(alloc, &SHORT_RESPONSE[71..153]));
+    holds(&rt, is_same::<TstInfo>(alloc, &FRACTION));
 }
 
 // `openssl asn1parse` lists the digest, which is that of `openssl dgst -sha256 msg`, at octet 22.
@@ -189,6 +190,21 @@ fn a_timestamp_may_have_no_optional_field(rt: HostRuntime) {
     holds(&rt, !info.ordering.0.is_true());
     holds(&rt, info.nonce.0.is_none());
     holds(&rt, info.tsa.0.is_none());
+}
+
+// What `openssl ts -reply -text` prints: 03:49:03.714044.
+#[test]
+fn the_time_of_a_timestamp_has_a_fraction(rt: HostRuntime) {
+    let Ok(info) = TstInfo::from_der(rt.alloc(), &FRACTION) else {
+        holds(&rt, false);
+        return;
+    };
+    let time = info.gen_time.date_time();
+    same(&rt, (time.year, time.month, time.day), (2026, 11, 29));
+    same(&rt, (time.hour, time.minute, time.second), (3, 49, 3));
+    same(&rt, info.gen_time.nanoseconds(), 714_044_000);
+    let text = format!(in rt.alloc(); "{time}");
+    holds(&rt, text.is_ok_and(|it| it.as_str() == "2026-11-29T03:49:03Z"));
 }
 
 // Whether the octets are read and written as an accuracy, with these parts.

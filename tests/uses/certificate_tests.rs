@@ -1,6 +1,7 @@
 //! Tests of the summary of a certificate.
 use super::certificate::summary_of;
-use x509::{FindError, KeyUsageBit, Time};
+use der::DecodeBytes;
+use x509::{Certificate, FindError, KeyUsageBit, Time};
 
 // By `openssl req -x509 -newkey ed25519 -subj /CN=example.org`, with a keyUsage of digitalSignature
 // and keyEncipherment, and a subjectAltName of example.org, 192.0.2.1 and www.example.org.
@@ -72,4 +73,21 @@ fn octets_that_are_no_certificate_are_refused(rt: HostRuntime) {
         Err(FindError::Contents(_)) => {}
         _ => assert!(rt; false),
     }
+}
+
+// `openssl asn1parse` lists the signed part at octet 4 with 289 octets after its header of 4; the
+// issuer at 23, and the subject at 79, each with 22 octets after a header of 2; the key at 103, with
+// 42.
+#[test]
+fn parts_of_a_certificate_are_found(rt: HostRuntime) {
+    let Ok(certificate) = Certificate::from_der(rt.alloc(), &CERTIFICATE) else {
+        assert!(rt; false);
+        return;
+    };
+    let signed = certificate.signed_octets(&CERTIFICATE);
+    assert_eq!(rt; signed, &CERTIFICATE[4..297]);
+    let fields = &certificate.tbs_certificate;
+    assert_eq!(rt; fields.issuer_octets(signed), &CERTIFICATE[23..47]);
+    assert_eq!(rt; fields.subject_octets(signed), &CERTIFICATE[79..103]);
+    assert_eq!(rt; fields.public_key_octets(signed), &CERTIFICATE[103..147]);
 }

@@ -1,5 +1,6 @@
 pub mod CertificateVersion
 pub mod Find
+pub mod FindText
 pub mod Text
 pub mod Names
 pub mod DirectoryText

@@ -1,6 +1,7 @@
 //! Errors of lookups.
 
 use der::Error;
+use std::fmt;
 
 /// The error of a lookup by type.
 #[derive(Clone, Copy, Debug, PartialEq, Eq, Drop)]
@@ -11,3 +12,18 @@ pub enum FindError {
     /// contents: of the octets inside the extension's OCTET STRING, or inside the attribute's SET.
     Contents(Error),
 }
+
+impl fmt::Display for FindError {
+    ghost use Rattle.x509.specs.FindText.{find_error_text};
+
+    ghost output = { find_error_text };
+
+    fn fmt<W: fmt::Write>(&self, f: &mut fmt::Formatter<W>) -> fmt::Result {
+        match self {
+            FindError::Repeated => f.write_str("the type occurs more than once"),
+            FindError::Contents(error) => write!(f, "invalid contents: {error}"),
+        }
+    }
+}
+
+impl std::error::Error for FindError {}

@@ -1,0 +1,25 @@
+//! Characters of values, escaped.
+
+use std::fmt;
+
+// A text, which is printed as RFC 4514, 2.4 escapes it. Control characters of ASCII are written as two
+// hexadecimal digits, too.
+#[derive(Drop)]
+pub(crate) struct Escaped<'a>(pub(crate) &'a str);
+
+impl<'a> fmt::Display for Escaped<'a> {
+    fn fmt<W: fmt::Write>(&self, f: &mut fmt::Formatter<W>) -> fmt::Result {
+        let count = self.0.chars().count();
+        for (at, character) in self.0.chars().enumerate() {
+            let is_end = at == 0 || at + 1 == count;
+            match character {
+                '"' | '+' | ',' | ';' | '<' | '>' | '\\' => write!(f, "\\{character}")?,
+                '#' if at == 0 => f.write_str("\\#")?,
+                ' ' if is_end => f.write_str("\\ ")?,
+                '\0'..='\u{1F}' | '\u{7F}' => write!(f, "\\{:02X}", u32::from(character))?,
+                _ => f.write_char(character)?,
+            }
+        }
+        Ok(())
+    }
+}

@@ -1,0 +1,61 @@
+//! Names as text.
+
+use crate::attribute_text::AttributeText;
+use std::alloc::Global;
+use std::fmt;
+use std::vec::Vec;
+use x509::{Name, RelativeDistinguishedName};
+
+/// A name, which is printed as RFC 4514 writes it: the last level first, with `,` between levels and
+/// `+` between the attributes of a level, as `CN=example.org,O=Example`. A type without a short name
+/// in RFC 4514 or RFC 4519 is written as its OBJECT IDENTIFIER, and its value in hexadecimal.
+///
+/// Printing takes time and memory in proportion to the size of the name. It fails if there is no
+/// memory.
+#[derive(Drop)]
+pub struct NameText<'a> {
+    name: Name<'a>,
+    alloc: Global,
+}
+
+impl<'a> NameText<'a> {
+    /// The text of this name.
+    pub fn new(alloc: Global, name: &Name<'a>) -> Self {
+        NameText { name: *name, alloc }
+    }
+}
+
+impl<'a> fmt::Display for NameText<'a> {
+    fn fmt<W: fmt::Write>(&self, f: &mut fmt::Formatter<W>) -> fmt::Result {
+        let mut levels = Vec::new(self.alloc);
+        for level in self.name.levels.iter(self.alloc) {
+            levels.push(level).map_err(|_| fmt::Error)?;
+        }
+        let mut is_first = true;
+        for level in levels.iter().rev() {
+            if !is_first {
+                f.write_str(",")?;
+            }
+            is_first = false;
+            write_level(self.alloc, level, f)?;
+        }
+        Ok(())
+    }
+}
+
+// Writes the attributes of a level.
+fn write_level<W: fmt::Write>(
+    alloc: Global,
+    level: &RelativeDistinguishedName<'_>,
+    f: &mut fmt::Formatter<W>,
+) -> fmt::Result {
+    let mut is_first = true;
+    for attribute in level.attributes.iter(alloc) {
+        if !is_first {
+            f.write_str("+")?;
+        }
+        is_first = false;
+        write!(f, "{}", AttributeText { attribute, alloc })?;
+    }
+    Ok(())
+}

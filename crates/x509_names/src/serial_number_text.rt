@@ -1,0 +1,25 @@
+//! Serial numbers as text.
+
+use crate::octets_text::OctetsText;
+use der_asn1::IntRef;
+use std::fmt;
+
+/// A serial number, which is printed as the octets of its INTEGER in hexadecimal with `:` between
+/// them, as `0D:F6:CA`. The octet 0 before a positive number whose first bit is set is left out. A
+/// negative number is printed in two's complement, as it is encoded.
+#[derive(Drop)]
+pub struct SerialNumberText<'a>(pub IntRef<'a>);
+
+impl<'a> fmt::Display for SerialNumberText<'a> {
+    fn fmt<W: fmt::Write>(&self, f: &mut fmt::Formatter<W>) -> fmt::Result {
+        let octets = match self.0.octets() {
+            [0, rest @ ..] if !rest.is_empty() => rest,
+            octets => octets,
+        };
+        let text = OctetsText {
+            octets,
+            separator: ":",
+        };
+        write!(f, "{text}")
+    }
+}
