@@ -139,6 +139,7 @@ fn a_field_that_breaks_a_rule_is_found(rt: HostRuntime) {
 fn the_first_level_of_a_name_that_breaks_a_rule_is_found(rt: HostRuntime) {
     let length = NameRule::Attributes(AttributeRule::Length);
     let characters = NameRule::Attributes(AttributeRule::Characters);
+    let string_type = NameRule::Attributes(AttributeRule::StringType);
     same_at(
         &rt,
         "an issuer of country @E",
@@ -153,9 +154,13 @@ fn the_first_level_of_a_name_that_breaks_a_rule_is_found(rt: HostRuntime) {
     );
     same_at(
         &rt,
-        "an issuer of country Example",
+        "an issuer of country Example, in UTF-8",
         findings_with(rt.alloc(), 64, 6),
-        only(Rule::Issuer(length), Place::Attribute(2, 0)),
+        (
+            only(Rule::Issuer(length), Place::Attribute(2, 0)).0,
+            only(Rule::Issuer(string_type), Place::Attribute(2, 0)).0,
+            None,
+        ),
     );
     same_at(
         &rt,
@@ -165,9 +170,9 @@ fn the_first_level_of_a_name_that_breaks_a_rule_is_found(rt: HostRuntime) {
     );
     same_at(
         &rt,
-        "a subject whose common name is a country",
+        "a subject whose common name is a country, in UTF-8",
         findings_with(rt.alloc(), 207, 6),
-        (None, None, None),
+        only(Rule::Subject(string_type), Place::Attribute(3, 0)),
     );
 }
 

@@ -92,3 +92,20 @@ of_some_contents P octets t c b is h = (λ e. (c, is, h.0 e), λ some. h.1 (subs
 pub some_exactly : {A B : Type 0} (o : Option A) (b : Bool) → b ≡ is_some o → IsSome o ↔ B → (b ≡ true) ↔ B
 some_exactly (Some v) b e h = (λ _. h.0 refl, λ _. e)
 some_exactly None b e h = (λ t. absurd (let f : false ≡ true = sym e ∙ t in cc), λ held. absurd (let f : false ≡ true = h.1 held in cc))
+
+-- one of two things holds, so both do exactly if the other does
+pub both_with : {A B : Type 0} (b : Bool) → A → (b ≡ true) ↔ B → (b ≡ true) ↔ (A ↔ B)
+both_with b a h = (λ e. (λ _. h.0 e, λ _. a), λ same. h.1 (same.0 a))
+
+-- one of two things does not hold, so neither does exactly if the other does not
+pub both_without : {A B : Type 0} (b : Bool) → (A → ⊥) → (b ≡ true) ↔ B → (not b ≡ true) ↔ (A ↔ B)
+both_without true n h = (λ e. absurd (let f : false ≡ true = e in cc), λ same. absurd (n (same.1 (h.0 refl))))
+both_without false n h = (λ _. (λ a. absurd (n a), λ b. absurd (let f : false ≡ true = h.1 b in cc)), λ _. refl)
+
+-- two checks, the first of which holds
+pub and_with : {A B : Type 0} (b : Bool) → A → (b ≡ true) ↔ B → (b ≡ true) ↔ (A × B)
+and_with b a h = (λ e. (a, h.0 e), λ both. h.1 both.1)
+
+-- a check of what a premise demands, which holds
+pub given_exactly : {A B : Type 0} (b : Bool) → A → (b ≡ true) ↔ B → (b ≡ true) ↔ (A → B)
+given_exactly b a h = (λ e _. h.0 e, λ f. h.1 (f a))

@@ -1,6 +1,6 @@
 -- Checks of extensions (RFC 5280, 4.2), by their identifiers: whether an extension may or must be
 -- critical, and whether its value may be an empty SEQUENCE or no bits.
-use Rattle.std.specs.Prelude.{◌≡◌, ◌≢◌, ◌⊎◌, ◌≤◌, ℕ, List, [], ◌∷◌, count_by}
+use Rattle.std.specs.Prelude.{◌≡◌, ◌≢◌, ◌⊎◌, ◌≤◌, ℕ, List, [], count_by}
 use Rattle.std.specs.Str.{bytes_eq}
 use Rattle.der.specs.Prelude.{Sequence, element_octets}
 use Rattle.x509.specs.ExtensionIdentifiers.{id_ce, id_pe}

@@ -1,5 +1,5 @@
 -- Extensions that are looked for (`IsFound`), and pairs of them (`given_of`, `wanted_of`).
-use Rattle.std.specs.Prelude.{◌≡◌, ℕ, Bool, false, true, List}
+use Rattle.std.specs.Prelude.{◌≡◌, ℕ, Bool, false, List}
 use Rattle.der.specs.Prelude.{Integer}
 use Rattle.der_asn1.specs.ContextSpecific.{context_tag}
 use Rattle.der_asn1.specs.Forms.{is_false}

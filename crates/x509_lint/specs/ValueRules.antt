@@ -1,5 +1,5 @@
 -- Rules for the values of extensions (RFC 5280, 4.2.1 and 4.2.2): `ValueKeeps`.
-use Rattle.std.specs.Prelude.{◌≡◌, ◌⊎◌, ◌↔◌, ◌^◌, ◌<◌, ℕ, false, true, List, length}
+use Rattle.std.specs.Prelude.{◌≡◌, ◌↔◌, ◌^◌, ◌<◌, ℕ, false, true, List, length}
 use Rattle.der.specs.Prelude.{Integer, Sequence}
 use Rattle.der_asn1.specs.ContextSpecific.{context_tag}
 use Rattle.x509.specs.ExtensionIdentifiers.{id_ce}

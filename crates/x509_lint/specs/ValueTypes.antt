@@ -1,6 +1,7 @@
 -- The types of the values of extensions (RFC 5280, 4.2.1 and 4.2.2): `HasValueOfType`.
-use Rattle.std.specs.Prelude.{◌≡◌, ◌⊎◌, ℕ, true, List}
+use Rattle.std.specs.Prelude.{◌≡◌, ℕ, true, List}
 use Rattle.der.specs.Prelude.{BitString, Integer, OctetString, Sequence}
+use Rattle.der_asn1.specs.AnyRef.{IsAny}
 use Rattle.der_asn1.specs.Forms.{integer_form}
 use Rattle.der_asn1.specs.NamedBits.{named_bits_form}
 use Rattle.x509.specs.ExtensionIdentifiers.{id_ce}
@@ -14,7 +15,7 @@ use Rattle.x509.specs.contracts.asn1.name_constraints.NameConstraintsItem.TheImp
 use Rattle.x509.specs.contracts.asn1.policy_constraints.PolicyConstraintsItem.TheImpl as skips
 use Rattle.x509.specs.contracts.asn1.policy_information.PolicyInformationItem.TheImpl as policy
 use Rattle.x509.specs.contracts.asn1.policy_mapping.PolicyMappingItem.TheImpl as mapping
-use Rattle.x509_lint.specs.Elements.{AreElements, EachElement, IsElement}
+use Rattle.x509_lint.specs.Elements.{EachElement, IsElement, any_encoding}
 use Rattle.x509_lint.specs.ExtensionChecks.{IsAccess}
 use Rattle.x509_lint.specs.ExtensionKinds.{IsAltNames, IsPoints}
 use Rattle.x509_lint.specs.Items.{AreItems, IsListValue, IsStructValue}
@@ -35,7 +36,7 @@ IsNumberValue v = (c : List ℕ) × IsElement v Integer c × (integer_form c ≡
 
 -- an extKeyUsage is a SEQUENCE OF OBJECT IDENTIFIERs (4.2.1.12)
 abbrev pub ArePurposes : List ℕ → Type 0
-ArePurposes c = AreElements c × EachElement (PartKeeps part.Identifier) c
+ArePurposes c = AreItems IsAny any_encoding c × EachElement (PartKeeps part.Identifier) c
 
 abbrev pub IsPurposesValue : List ℕ → Type 0
 IsPurposesValue v = (c : List ℕ) × IsElement v Sequence c × ArePurposes c
@@ -67,6 +68,9 @@ HasKeys id v =
     × (id ≡ id_ce 19 → IsStructValue constraints.ghosts.item.valid constraints.ghosts.item.octets v)
     × (id ≡ id_ce 30 → IsStructValue subtrees.ghosts.item.valid subtrees.ghosts.item.octets v)
 
+abbrev pub HasPoliciesAndKeys : List ℕ → List ℕ → Type 0
+HasPoliciesAndKeys id v = HasPolicies id v × HasKeys id v
+
 -- the value of an extension with this identifier is one of the type that RFC 5280 gives it
 abbrev pub HasValueOfType : List ℕ → List ℕ → Type 0
-HasValueOfType id v = HasPlaces id v × HasPolicies id v × HasKeys id v
+HasValueOfType id v = HasPlaces id v × HasPoliciesAndKeys id v

@@ -1,6 +1,11 @@
 //! Checks of the values of extensions (RFC 5280, 4.2.1 and 4.2.2).
-ghost use Rattle.std.specs.Prelude.{◌≡◌, ◌↔◌, ◌^◌, ◌<◌, length, true};
+ghost use Rattle.std.specs.Prelude.{◌≡◌, ◌↔◌, ◌^◌, ◌<◌, length, false, true};
 ghost use Rattle.der.specs.Prelude.{Integer};
+ghost use Rattle.der_asn1.specs.ContextSpecific.{context_tag};
+ghost use Rattle.x509.specs.ExtensionIdentifiers.{id_ce};
+ghost use Rattle.x509_lint.specs.Elements.{EachOfSequence};
+ghost use Rattle.x509_lint.specs.ExtensionKinds.{IsPoints};
+ghost use Rattle.x509_lint.specs.Groups.{GroupKeeps};
 ghost use Rattle.x509_lint.specs.PolicyChecks.{AreDistinctPolicies};
 ghost use Rattle.x509_lint.specs.ValueRules.{HasDistinctPolicies, HasIssuerAndSerial, ValueKeeps};
 ghost use Rattle.x509_lint.specs.Values.{HasAuthority, HasPart};
@@ -45,17 +50,14 @@ pub fn value_keeps(alloc: Global, id: &[u8], value: &[u8], rule: ValueRule) -> b
         ValueRule::AnyPolicyNumber => {
             !is(id, &id_ce_inhibit_any_policy()) || is_not_negative(alloc, value)
         }
-        ValueRule::DistinctPolicies => {
-            !is(id, &id_ce_certificate_policies()) || are_distinct(alloc, value)
-        }
+        ValueRule::DistinctPolicies => has_policies_once(alloc, id, value),
         ValueRule::Mappings => {
-            !is(id, &id_ce_policy_mappings()) || each_of_sequence(alloc, value, &GroupTest::Mapping)
+            !is(id, &id_ce_policy_mappings()) || groups_keep(alloc, value, GroupTest::Mapping)
         }
-        ValueRule::Points => { !is_points(id) || each_of_sequence(alloc, value, &GroupTest::Point) }
-        ValueRule::Subtrees => {
-            !is(id, &id_ce_name_constraints())
-                || each_of_sequence(alloc, value, &GroupTest::Subtrees)
-        }
+        ValueRule::Points => has_points(alloc, id, value),
+
+        ValueRule::Subtrees => has_subtrees(alloc, id, value),
+
         ValueRule::IssuerAndSerial => {
             !is(id, &id_ce_authority_key_identifier()) || has_issuer_and_serial(alloc, value)
         }
@@ -63,6 +65,29 @@ pub fn value_keeps(alloc: Global, id: &[u8], value: &[u8], rule: ValueRule) -> b
             !is_alt_names(id) || each_of_sequence(alloc, value, &PartTest::Form(form))
         }
     }
+}
+
+// Whether no policy occurs twice, if the value is that of a certificatePolicies.
+fn has_policies_once(alloc: Global, id: &[u8], value: &[u8]) -> bool
+    ensures { (result ≡ true) ↔ (id.now ≡ id_ce 32 → HasDistinctPolicies value.now) }
+{
+    !is(id, &id_ce_certificate_policies()) || are_distinct(alloc, value)
+}
+
+// Whether each distribution point has a name or an issuer, if the value is a list of these.
+fn has_points(alloc: Global, id: &[u8], value: &[u8]) -> bool
+    ensures { (result ≡ true)
+        ↔ (IsPoints id.now → EachOfSequence (GroupKeeps GroupTest.Point) value.now) }
+{
+    !is_points(id) || groups_keep(alloc, value, GroupTest::Point)
+}
+
+// Whether each subtree has a base alone, if the value is that of a nameConstraints.
+fn has_subtrees(alloc: Global, id: &[u8], value: &[u8]) -> bool
+    ensures { (result ≡ true)
+        ↔ (id.now ≡ id_ce 30 → EachOfSequence (GroupKeeps GroupTest.Subtrees) value.now) }
+{
+    !is(id, &id_ce_name_constraints()) || groups_keep(alloc, value, GroupTest::Subtrees)
 }
 
 // Whether a basicConstraints without a cA that is true has no limit of a path.
@@ -75,9 +100,30 @@ fn is_limited_authority(alloc: Global, value: &[u8]) -> bool
 fn has_issuer_and_serial(alloc: Global, value: &[u8]) -> bool
     ensures { (result ≡ true) ↔ HasIssuerAndSerial value.now }
 {
-    let has_issuer = has_part(alloc, value, context(true, 1));
-    let has_serial = has_part(alloc, value, context(false, 2));
-    has_issuer == has_serial
+    if has_issuer(alloc, value) {
+        has_serial(alloc, value)
+    } else {
+        !has_serial(alloc, value)
+    }
+}
+
+fn has_issuer(alloc: Global, value: &[u8]) -> bool
+    ensures { (result ≡ true) ↔ HasPart (context_tag true 1) value.now }
+{
+    has_part(alloc, value, context(true, 1))
+}
+
+fn has_serial(alloc: Global, value: &[u8]) -> bool
+    ensures { (result ≡ true) ↔ HasPart (context_tag false 2) value.now }
+{
+    has_part(alloc, value, context(false, 2))
+}
+
+// Whether each mapping, distribution point or list of subtrees of a value keeps what the test demands.
+fn groups_keep(alloc: Global, value: &[u8], test: GroupTest) -> bool
+    ensures { (result ≡ true) ↔ EachOfSequence (GroupKeeps test) value.now }
+{
+    each_of_sequence(alloc, value, &test)
 }
 
 // Whether no policy occurs twice in the value of a certificatePolicies.

@@ -1,6 +1,6 @@
 //! Whether the value of an extension is one of its type (RFC 5280, 4.2.1 and 4.2.2).
 ghost use Rattle.std.specs.Prelude.{◌≡◌, ◌↔◌, true};
-ghost use Rattle.x509_lint.specs.ValueTypes.{ArePurposes, HasKeys, HasPlaces, HasPolicies, HasValueOfType, IsIdentifierValue, IsNumberValue, IsPurposesValue, IsUsageValue};
+ghost use Rattle.x509_lint.specs.ValueTypes.{ArePurposes, HasKeys, HasPlaces, HasPolicies, HasPoliciesAndKeys, HasValueOfType, IsIdentifierValue, IsNumberValue, IsPurposesValue, IsUsageValue};
 
 use crate::checks::extension::is_access;
 use crate::checks::identifiers::is;
@@ -27,7 +27,13 @@ use x509::{
 pub fn has_value_of_type<'a>(alloc: Global, id: &[u8], value: &'a [u8]) -> bool
     ensures { (result ≡ true) ↔ HasValueOfType id.now value.now }
 {
-    has_places(alloc, id, value) && has_policies(alloc, id, value) && has_keys(alloc, id, value)
+    has_places(alloc, id, value) && has_policies_and_keys(alloc, id, value)
+}
+
+fn has_policies_and_keys<'a>(alloc: Global, id: &[u8], value: &'a [u8]) -> bool
+    ensures { (result ≡ true) ↔ HasPoliciesAndKeys id.now value.now }
+{
+    has_policies(alloc, id, value) && has_keys(alloc, id, value)
 }
 
 // Names, attributes, and descriptions of places.
@@ -115,10 +121,14 @@ fn are_purposes<'a>(alloc: Global, value: &'a [u8]) -> bool
     ensures { (result ≡ true) ↔ IsPurposesValue value.now }
 {
     match contents_with(alloc, value, Tag::Sequence) {
-        Some(contents) => {
-            are_items::<'a, AnyRef<'a>>(alloc, contents)
-                && each_element(alloc, contents, &PartTest::Identifier)
-        }
+        Some(contents) => are_identifiers(alloc, contents),
         None => false,
     }
+}
+
+fn are_identifiers<'a>(alloc: Global, contents: &'a [u8]) -> bool
+    ensures { (result ≡ true) ↔ ArePurposes contents.now }
+{
+    are_items::<'a, AnyRef<'a>>(alloc, contents)
+        && each_element(alloc, contents, &PartTest::Identifier)
 }

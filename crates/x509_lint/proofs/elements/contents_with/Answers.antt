@@ -1,4 +1,4 @@
-use Rattle.std.proofs.Common.{sym, ap, ◌∙◌, subst}
+use Rattle.std.proofs.Common.{sym, ◌∙◌, subst}
 use Rattle.x509_lint.proofs.ElementLemmas.{element_same}
 use Rattle.x509_lint.specs.Elements.{IsElement}
 use Rattle.x509_lint.proofs.elements.contents_with.Goals as goal

@@ -1,7 +1,6 @@
 use Rattle.std.proofs.Common.{sym, ◌∙◌}
 use Rattle.der.specs.Prelude.{slice_state}
 use Rattle.x509_lint.proofs.ElementLemmas.{second}
-use Rattle.x509_lint.proofs.elements.only_of_list.Given as given
 use Rattle.x509_lint.proofs.elements.only_of_list.Goals as goal
 
 pub returns-then-is_some-clause-none : goal.returns-then-is_some-clause-none

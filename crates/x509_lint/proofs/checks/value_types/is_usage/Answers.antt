@@ -1,4 +1,4 @@
-use Rattle.std.proofs.Common.{◌≡◌, true, sym, ◌∙◌}
+use Rattle.std.proofs.Common.{◌≡◌, true}
 use Rattle.der.specs.Prelude.{BitString}
 use Rattle.der_asn1.specs.NamedBits.{named_bits_form}
 use Rattle.x509_lint.proofs.ElementLemmas.{of_some_contents, some_exactly}

@@ -1,0 +1,10 @@
+use Rattle.x509_lint.proofs.checks.value.value_keeps.Goals as goal
+
+pub returns-in-DistinctPolicies : goal.returns-in-DistinctPolicies
+returns-in-DistinctPolicies c = rw c.in-DistinctPolicies.is c.has_policies_once.ensures
+
+pub returns-in-Points : goal.returns-in-Points
+returns-in-Points c = rw c.in-Points.is c.has_points.ensures
+
+pub returns-in-Subtrees : goal.returns-in-Subtrees
+returns-in-Subtrees c = rw c.in-Subtrees.is c.has_subtrees.ensures
