@@ -23,6 +23,7 @@ PartKeeps (part.NotTagged u) t c = t ≢ u
 PartKeeps (part.NeitherTagged u w) t c = (t ≢ u) × (t ≢ w)
 PartKeeps part.NotAnyPolicy t c = c ≢ any_policy
 PartKeeps part.NotNegative t c = (t ≡ Boolean) ⊎ (is_negative c ≡ false)
+PartKeeps part.NotEmpty t c = c ≢ []
 PartKeeps part.Identifier t c = (t ≡ ObjectIdentifier) × (oid_form c ≡ true)
 PartKeeps part.Single t c = IsSingle c
 PartKeeps (part.Form rule) t c = FormKeeps rule t c

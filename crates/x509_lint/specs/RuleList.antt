@@ -9,7 +9,7 @@ use Rattle.x509_lint.specs.declared.rule.Rule.{Rule}
 use Rattle.x509_lint.specs.declared.rule.Rule.TheVariants as of
 use Rattle.x509_lint.specs.declared.value_rule.ValueRule.TheVariants as value
 
--- the place of a rule in the list, counted from 0: 45 rules have the places 0 to 44
+-- the place of a rule in the list, counted from 0: 47 rules have the places 0 to 46
 abbrev pub place_of : Rule → ℕ
 place_of of.VersionFields = 0
 place_of of.SameAlgorithms = 1
@@ -45,14 +45,16 @@ place_of (of.Extension (extension.Value (value.DistinctPolicies))) = 30
 place_of (of.Extension (extension.Value (value.Mappings))) = 31
 place_of (of.Extension (extension.Value (value.Points))) = 32
 place_of (of.Extension (extension.Value (value.Subtrees))) = 33
-place_of (of.Extension (extension.Value (value.IssuerAndSerial))) = 34
-place_of (of.Extension (extension.Value (value.Names (form.Mail)))) = 35
-place_of (of.Extension (extension.Value (value.Names (form.Host)))) = 36
-place_of (of.Extension (extension.Value (value.Names (form.Scheme)))) = 37
-place_of (of.Extension (extension.Value (value.Names (form.Address)))) = 38
-place_of (of.Extension (extension.Value (value.Names (form.Directory)))) = 39
-place_of (of.Pair (pair.CertSignOfAuthority)) = 40
-place_of (of.Pair (pair.UsageOfAuthority)) = 41
-place_of (of.Pair (pair.KeyIdentifierOfAuthority)) = 42
-place_of (of.Pair (pair.NameConstraintsOfAuthority)) = 43
-place_of (of.Pair (pair.PathLengthOfCertSign)) = 44
+place_of (of.Extension (extension.Value (value.SubtreesPresent))) = 34
+place_of (of.Extension (extension.Value (value.Locations))) = 35
+place_of (of.Extension (extension.Value (value.IssuerAndSerial))) = 36
+place_of (of.Extension (extension.Value (value.Names (form.Mail)))) = 37
+place_of (of.Extension (extension.Value (value.Names (form.Host)))) = 38
+place_of (of.Extension (extension.Value (value.Names (form.Scheme)))) = 39
+place_of (of.Extension (extension.Value (value.Names (form.Address)))) = 40
+place_of (of.Extension (extension.Value (value.Names (form.Directory)))) = 41
+place_of (of.Pair (pair.CertSignOfAuthority)) = 42
+place_of (of.Pair (pair.UsageOfAuthority)) = 43
+place_of (of.Pair (pair.KeyIdentifierOfAuthority)) = 44
+place_of (of.Pair (pair.NameConstraintsOfAuthority)) = 45
+place_of (of.Pair (pair.PathLengthOfCertSign)) = 46

@@ -4,6 +4,7 @@ use Rattle.der.specs.Prelude.{Integer, Sequence}
 use Rattle.der_asn1.specs.ContextSpecific.{context_tag}
 use Rattle.x509.specs.ExtensionIdentifiers.{id_ce}
 use Rattle.x509_lint.specs.Elements.{EachOfSequence, IsElement}
+use Rattle.x509_lint.specs.ExtensionChecks.{IsAccess}
 use Rattle.x509_lint.specs.ExtensionKinds.{IsAltNames, IsPoints}
 use Rattle.x509_lint.specs.Groups.{GroupKeeps}
 use Rattle.x509_lint.specs.Parts.{PartKeeps}
@@ -36,5 +37,7 @@ ValueKeeps value.DistinctPolicies id v = id ≡ id_ce 32 → HasDistinctPolicies
 ValueKeeps value.Mappings id v = id ≡ id_ce 33 → EachOfSequence (GroupKeeps group.Mapping) v
 ValueKeeps value.Points id v = IsPoints id → EachOfSequence (GroupKeeps group.Point) v
 ValueKeeps value.Subtrees id v = id ≡ id_ce 30 → EachOfSequence (GroupKeeps group.Subtrees) v
+ValueKeeps value.SubtreesPresent id v = id ≡ id_ce 30 → EachOfSequence (PartKeeps part.NotEmpty) v
+ValueKeeps value.Locations id v = IsAccess id → EachOfSequence (GroupKeeps group.Location) v
 ValueKeeps value.IssuerAndSerial id v = id ≡ id_ce 35 → HasIssuerAndSerial v
 ValueKeeps (value.Names r) id v = IsAltNames id → EachOfSequence (PartKeeps (part.Form r)) v

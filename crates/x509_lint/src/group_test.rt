@@ -5,6 +5,7 @@ ghost use Rattle.x509_lint.specs.Groups.{GroupKeeps};
 
 use crate::element_test::ElementTest;
 use crate::elements::each_element;
+use crate::form_rule::FormRule;
 use crate::forms::context;
 use crate::part_test::PartTest;
 use der::Tag;
@@ -17,6 +18,8 @@ pub enum GroupTest {
     Mapping,
     /// A distribution point (4.2.1.13) has a name or an issuer of lists.
     Point,
+    /// The location of an access description (4.2.2) has a scheme, if it is a URI.
+    Location,
     /// Each of the subtrees (4.2.1.10) has a base alone.
     Subtrees,
 }
@@ -28,6 +31,7 @@ impl ElementTest for GroupTest {
         match self {
             GroupTest::Mapping => each_element(alloc, contents, &PartTest::NotAnyPolicy),
             GroupTest::Point => !each_element(alloc, contents, &no_name_or_issuer()),
+            GroupTest::Location => each_element(alloc, contents, &PartTest::Form(FormRule::Scheme)),
             GroupTest::Subtrees => each_element(alloc, contents, &PartTest::Single),
         }
     }

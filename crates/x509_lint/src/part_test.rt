@@ -24,6 +24,8 @@ pub enum PartTest {
     NotAnyPolicy,
     /// The contents are not those of a negative number, unless the element is a BOOLEAN.
     NotNegative,
+    /// There are contents octets.
+    NotEmpty,
     /// The element is an OBJECT IDENTIFIER.
     Identifier,
     /// The contents are one element.
@@ -41,6 +43,7 @@ impl ElementTest for PartTest {
             PartTest::NeitherTagged(first, second) => is_neither(tag, first, second),
             PartTest::NotAnyPolicy => is_not_any_policy(contents),
             PartTest::NotNegative => is_same_tag(tag, Tag::Boolean) || !has_minus_sign(contents),
+            PartTest::NotEmpty => !contents.is_empty(),
             PartTest::Identifier => is_identifier(tag, contents),
             PartTest::Single => is_single(alloc, contents),
             PartTest::Form(rule) => form_keeps(tag, contents, rule),

@@ -8,7 +8,7 @@ use crate::rule::Rule;
 use crate::value_rule::ValueRule;
 
 /// All rules, in the order in which [`Lint`](crate::Lint) goes through them.
-pub const RULES: [Rule; 45] = [
+pub const RULES: [Rule; 47] = [
     Rule::VersionFields,
     Rule::SameAlgorithms,
     Rule::SerialNumber,
@@ -43,6 +43,8 @@ pub const RULES: [Rule; 45] = [
     Rule::Extension(ExtensionRule::Value(ValueRule::Mappings)),
     Rule::Extension(ExtensionRule::Value(ValueRule::Points)),
     Rule::Extension(ExtensionRule::Value(ValueRule::Subtrees)),
+    Rule::Extension(ExtensionRule::Value(ValueRule::SubtreesPresent)),
+    Rule::Extension(ExtensionRule::Value(ValueRule::Locations)),
     Rule::Extension(ExtensionRule::Value(ValueRule::IssuerAndSerial)),
     Rule::Extension(ExtensionRule::Value(ValueRule::Names(FormRule::Mail))),
     Rule::Extension(ExtensionRule::Value(ValueRule::Names(FormRule::Host))),

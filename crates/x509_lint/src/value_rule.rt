@@ -23,6 +23,11 @@ pub enum ValueRule {
     Points,
     /// Each subtree of a nameConstraints has neither minimum nor maximum (4.2.1.10).
     Subtrees,
+    /// Each list of subtrees of a nameConstraints has an item (4.2.1.10).
+    SubtreesPresent,
+    /// Each location of an authorityInfoAccess or a subjectInfoAccess has a scheme, if it is a URI
+    /// (4.2.2).
+    Locations,
     /// An authorityKeyIdentifier has both the name and the serial number of an issuer, or neither
     /// (4.2.1.1).
     IssuerAndSerial,
@@ -48,6 +53,10 @@ impl fmt::Display for ValueRule {
                 "a distribution point has neither a name nor an issuer (RFC 5280, 4.2.1.13)"
             }
             ValueRule::Subtrees => { "a subtree has a minimum or a maximum (RFC 5280, 4.2.1.10)" }
+            ValueRule::SubtreesPresent => "a list of subtrees is empty (RFC 5280, 4.2.1.10)",
+            ValueRule::Locations => {
+                "the URI of an access description has no scheme (RFC 5280, 4.2.2)"
+            }
             ValueRule::IssuerAndSerial => {
                 "an issuer is identified without a serial number, or the reverse (RFC 5280, 4.2.1.1)"
             }

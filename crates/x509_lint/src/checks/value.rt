@@ -4,12 +4,15 @@ ghost use Rattle.der.specs.Prelude.{Integer};
 ghost use Rattle.der_asn1.specs.ContextSpecific.{context_tag};
 ghost use Rattle.x509.specs.ExtensionIdentifiers.{id_ce};
 ghost use Rattle.x509_lint.specs.Elements.{EachOfSequence};
+ghost use Rattle.x509_lint.specs.ExtensionChecks.{IsAccess};
 ghost use Rattle.x509_lint.specs.ExtensionKinds.{IsPoints};
 ghost use Rattle.x509_lint.specs.Groups.{GroupKeeps};
+ghost use Rattle.x509_lint.specs.Parts.{PartKeeps};
 ghost use Rattle.x509_lint.specs.PolicyChecks.{AreDistinctPolicies};
 ghost use Rattle.x509_lint.specs.ValueRules.{HasDistinctPolicies, HasIssuerAndSerial, ValueKeeps};
 ghost use Rattle.x509_lint.specs.Values.{HasAuthority, HasPart};
 
+use crate::checks::extension::is_access;
 use crate::checks::identifiers::is;
 use crate::checks::kinds::{is_alt_names, is_points};
 use crate::checks::policies::has_distinct_policies;
@@ -58,6 +61,8 @@ pub fn value_keeps(alloc: Global, id: &[u8], value: &[u8], rule: ValueRule) -> b
 
         ValueRule::Subtrees => has_subtrees(alloc, id, value),
 
+        ValueRule::SubtreesPresent => has_subtrees_present(alloc, id, value),
+        ValueRule::Locations => has_locations(alloc, id, value),
         ValueRule::IssuerAndSerial => {
             !is(id, &id_ce_authority_key_identifier()) || has_issuer_and_serial(alloc, value)
         }
@@ -90,6 +95,22 @@ fn has_subtrees(alloc: Global, id: &[u8], value: &[u8]) -> bool
     !is(id, &id_ce_name_constraints()) || groups_keep(alloc, value, GroupTest::Subtrees)
 }
 
+// Whether each list of subtrees has an item, if the value is that of a nameConstraints.
+fn has_subtrees_present(alloc: Global, id: &[u8], value: &[u8]) -> bool
+    ensures { (result ≡ true)
+        ↔ (id.now ≡ id_ce 30 → EachOfSequence (PartKeeps PartTest.NotEmpty) value.now) }
+{
+    !is(id, &id_ce_name_constraints()) || parts_keep(alloc, value, PartTest::NotEmpty)
+}
+
+// Whether each location that is a URI has a scheme, if the value is one of access descriptions.
+fn has_locations(alloc: Global, id: &[u8], value: &[u8]) -> bool
+    ensures { (result ≡ true)
+        ↔ (IsAccess id.now → EachOfSequence (GroupKeeps GroupTest.Location) value.now) }
+{
+    !is_access(id) || groups_keep(alloc, value, GroupTest::Location)
+}
+
 // Whether a basicConstraints without a cA that is true has no limit of a path.
 fn is_limited_authority(alloc: Global, value: &[u8]) -> bool
     ensures { (result ≡ true) ↔ (HasPart Integer value.now → HasAuthority value.now) }
@@ -117,6 +138,13 @@ fn has_serial(alloc: Global, value: &[u8]) -> bool
     ensures { (result ≡ true) ↔ HasPart (context_tag false 2) value.now }
 {
     has_part(alloc, value, context(false, 2))
+}
+
+// Whether each element of a value keeps what the test demands.
+fn parts_keep(alloc: Global, value: &[u8], test: PartTest) -> bool
+    ensures { (result ≡ true) ↔ EachOfSequence (PartKeeps test) value.now }
+{
+    each_of_sequence(alloc, value, &test)
 }
 
 // Whether each mapping, distribution point or list of subtrees of a value keeps what the test demands.

@@ -8,3 +8,9 @@ returns-in-Points c = rw c.in-Points.is c.has_points.ensures
 
 pub returns-in-Subtrees : goal.returns-in-Subtrees
 returns-in-Subtrees c = rw c.in-Subtrees.is c.has_subtrees.ensures
+
+pub returns-in-SubtreesPresent : goal.returns-in-SubtreesPresent
+returns-in-SubtreesPresent c = rw c.in-SubtreesPresent.is c.has_subtrees_present.ensures
+
+pub returns-in-Locations : goal.returns-in-Locations
+returns-in-Locations c = rw c.in-Locations.is c.has_locations.ensures

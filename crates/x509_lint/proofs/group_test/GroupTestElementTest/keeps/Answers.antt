@@ -11,3 +11,6 @@ returns-in-Point c =
 
 pub returns-in-Subtrees : goal.returns-in-Subtrees
 returns-in-Subtrees c = rw c.in-Subtrees.is c.each_element-in-Subtrees.ensures
+
+pub returns-in-Location : goal.returns-in-Location
+returns-in-Location c = rw c.in-Location.is c.each_element-in-Location.ensures
