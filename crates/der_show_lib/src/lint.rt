@@ -6,9 +6,9 @@ use der_show_print::Page;
 use der_show_text::{Output, long_name};
 use std::alloc::Global;
 use std::fmt::Write;
-use x509::Certificate;
+use x509::{Certificate, CertificateList};
 use x509_lint::checks::value_types::has_value_of_type;
-use x509_lint::{Finding, Place, RULES, Rule, findings};
+use x509_lint::{Finding, LIST_RULES, Place, RULES, Rule, findings, list_keeps};
 
 /// Prints a line for each rule of RFC 5280 that the certificate breaks, and that decoding does not check; and
 /// how many rules were checked. Returns whether the certificate keeps them all.
@@ -38,6 +38,32 @@ pub fn put_lint(page: &mut Page<'_>, value: Cursor<'_>) -> bool {
             "; the values of {malformed} extensions are not decoded"
         );
     }
+    page.end();
+    count == 0
+}
+
+/// Prints a line for each rule of RFC 5280 that the revocation list breaks, and that decoding does not check;
+/// and how many rules were checked. Returns whether the list keeps them all.
+pub fn put_list_lint(page: &mut Page<'_>, value: Cursor<'_>) -> bool {
+    let Ok(list) = CertificateList::from_der(page.alloc, value.octets()) else {
+        page.line_beside("Lint: no rule is checked, since the list is not DER");
+        return false;
+    };
+    let mut count = 0usize;
+    for rule in LIST_RULES.iter() {
+        if !list_keeps(page.alloc, &list, *rule) {
+            page.beside();
+            let _ = write!(page.out, "Lint: list: {rule}");
+            page.end();
+            count = count.saturating_add(1);
+        }
+    }
+    page.beside();
+    let _ = write!(
+        page.out,
+        "Lint: {count} of {} rules are broken",
+        LIST_RULES.len()
+    );
     page.end();
     count == 0
 }

@@ -1,5 +1,5 @@
 -- Extensions that are looked for (`IsFound`), and pairs of them (`given_of`, `wanted_of`).
-use Rattle.std.specs.Prelude.{◌≡◌, ℕ, Bool, false, List}
+use Rattle.std.specs.Prelude.{◌≡◌, ℕ, Bool, false, true, List}
 use Rattle.der.specs.Prelude.{Integer}
 use Rattle.der_asn1.specs.ContextSpecific.{context_tag}
 use Rattle.der_asn1.specs.Forms.{is_false}
@@ -25,6 +25,11 @@ IsWanted test.KeyIdentifier id plain value = (id ≡ id_ce 35) × HasPart (conte
 IsWanted test.NameConstraints id plain value = id ≡ id_ce 30
 IsWanted test.Authority id plain value = (id ≡ id_ce 19) × HasAuthority value
 IsWanted test.PathLength id plain value = (id ≡ id_ce 19) × HasPart Integer value
+IsWanted test.Number id plain value = id ≡ id_ce 20
+IsWanted test.CriticalNumber id plain value = (id ≡ id_ce 20) × (plain ≡ false)
+IsWanted test.PlainDelta id plain value = (id ≡ id_ce 27) × (plain ≡ true)
+IsWanted test.PlainPoint id plain value = (id ≡ id_ce 28) × (plain ≡ true)
+IsWanted test.CriticalFreshest id plain value = (id ≡ id_ce 46) × (plain ≡ false)
 
 abbrev pub IsFound : ExtensionTest → Extension → Type 0
 IsFound t v = IsWanted t v.extn_id.octets.now (is_false v.critical.0.octets.now) v.extn_value.octets.now

@@ -20,3 +20,4 @@ pub mod NameChecks
 pub mod CertificateChecks
 pub mod Lint
 pub mod RuleList
+pub mod ListRules

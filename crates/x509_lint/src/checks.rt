@@ -9,6 +9,7 @@ pub mod extensions;
 pub mod found;
 mod identifiers;
 mod kinds;
+pub mod list;
 pub mod name;
 pub mod policies;
 pub mod presence;
@@ -24,7 +25,7 @@ use spki::AlgorithmIdentifierRef;
 use x509::{Certificate, TbsCertificate};
 
 // The number of a version: 0, 1 or 2.
-fn number_of(octets: &[u8]) -> u8
+pub(crate) fn number_of(octets: &[u8]) -> u8
     ensures { result ≡ certificate_version_number octets.now }
 {
     match octets {
@@ -60,7 +61,7 @@ pub fn has_same_algorithms(certificate: &Certificate<'_>) -> bool
 }
 
 // Whether two algorithms have the same identifier and the same parameters.
-fn is_same_algorithm(
+pub(crate) fn is_same_algorithm(
     first: &AlgorithmIdentifierRef<'_>,
     second: &AlgorithmIdentifierRef<'_>,
 ) -> bool

@@ -19,4 +19,14 @@ pub enum ExtensionTest {
     Authority,
     /// It is a basicConstraints with a pathLenConstraint (4.2.1.9).
     PathLength,
+    /// It is a cRLNumber (5.2.3).
+    Number,
+    /// It is a critical cRLNumber (5.2.3).
+    CriticalNumber,
+    /// It is a deltaCRLIndicator that is not critical (5.2.4).
+    PlainDelta,
+    /// It is an issuingDistributionPoint that is not critical (5.2.5).
+    PlainPoint,
+    /// It is a critical freshestCRL (5.2.6).
+    CriticalFreshest,
 }

@@ -12,8 +12,9 @@ use crate::values::{has_authority, has_cert_sign, has_part};
 use der::Tag;
 use std::alloc::Global;
 use x509::values::{
-    id_ce_authority_key_identifier, id_ce_basic_constraints, id_ce_key_usage,
-    id_ce_name_constraints, id_ce_subject_alt_name, id_ce_subject_key_identifier,
+    id_ce_authority_key_identifier, id_ce_basic_constraints, id_ce_c_rl_number,
+    id_ce_delta_crl_indicator, id_ce_freshest_crl, id_ce_issuing_distribution_point,
+    id_ce_key_usage, id_ce_name_constraints, id_ce_subject_alt_name, id_ce_subject_key_identifier,
 };
 use x509::{Extension, Extensions, TbsCertificate};
 
@@ -69,6 +70,17 @@ fn is_found(alloc: Global, extension: &Extension<'_>, test: ExtensionTest) -> bo
         }
         ExtensionTest::PathLength => {
             is(id, &id_ce_basic_constraints()) && has_part(alloc, value, Tag::Integer)
+        }
+        ExtensionTest::Number => is(id, &id_ce_c_rl_number()),
+        ExtensionTest::CriticalNumber => { is(id, &id_ce_c_rl_number()) && extension.is_critical() }
+        ExtensionTest::PlainDelta => {
+            is(id, &id_ce_delta_crl_indicator()) && !extension.is_critical()
+        }
+        ExtensionTest::PlainPoint => {
+            is(id, &id_ce_issuing_distribution_point()) && !extension.is_critical()
+        }
+        ExtensionTest::CriticalFreshest => {
+            is(id, &id_ce_freshest_crl()) && extension.is_critical()
         }
     }
 }
