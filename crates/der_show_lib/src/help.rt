@@ -24,5 +24,5 @@ shown. Fingerprints are SHA-256 and SHA-1 of the DER of a certificate, or of its
 keys are printed by --json, --der, --pem, --tree, --schema and --module. Elements of a file of no known kind are
 printed too, unless a label says that it is a private key; and at a departure up to 16 octets.
 
-The exit status is 0 if all was shown and nothing departs from DER; 1 if there is a departure, or if a file cannot be
-read, which standard error says; and 2 if the words are no command.";
+The exit status is 0 if all was shown and nothing departs from DER; 1 if there is a departure, if --lint finds a
+broken rule, or if a file cannot be read, which standard error says; and 2 if the words are no command.";

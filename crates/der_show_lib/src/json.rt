@@ -1,6 +1,7 @@
 //! Values as JSON.
 
 use crate::departures::Departures;
+use crate::lint::put_finding;
 use crate::place::Place;
 use crate::print::take_output;
 use crate::show::Show;
@@ -11,8 +12,8 @@ use der_show_print::{Form, Printer, print_fields};
 use der_show_text::{Characters, Output, Style, put_text};
 use der_show_tree::Kind;
 use std::fmt::Write;
-use x509::Certificate;
-use x509_lint::findings;
+use x509::{Certificate, CertificateList};
+use x509_lint::{LIST_RULES, findings, list_keeps};
 
 /// Begins the object of a file.
 pub fn begin_file(show: &mut Show<'_>, file: &str) {
@@ -67,7 +68,10 @@ pub fn put_json_value(
 ) {
     begin_value(show, place, target.word(), departures.base);
     if matches!(target, Target::Kind(Kind::Certificate)) && show.options.is_lint {
-        put_json_lint(show, value.octets());
+        put_json_lint(show, value, departures.base);
+    }
+    if matches!(target, Target::Kind(Kind::RevocationList)) && show.options.is_lint {
+        put_json_list_lint(show, value.octets());
     }
     show.page.put(",\n      \"value\": ");
     let alloc = show.page.alloc;
@@ -79,10 +83,10 @@ pub fn put_json_value(
     show.page.put("\n    }");
 }
 
-// The rules that a certificate breaks, as a list of texts.
-fn put_json_lint(show: &mut Show<'_>, octets: &[u8]) {
+// The rules that a certificate breaks, as a list of texts; none if the certificate is not DER.
+fn put_json_lint(show: &mut Show<'_>, value: Cursor<'_>, base: usize) {
     let alloc = show.page.alloc;
-    let Ok(certificate) = Certificate::from_der(alloc, octets) else {
+    let Ok(certificate) = Certificate::from_der(alloc, value.octets()) else {
         return;
     };
     show.page.put(",\n      \"lint\": [");
@@ -90,7 +94,28 @@ fn put_json_lint(show: &mut Show<'_>, octets: &[u8]) {
     for finding in findings(alloc, &certificate) {
         show.page.put(if is_first { "\"" } else { ", \"" });
         is_first = false;
-        let _ = write!(show.page.out, "{finding}\"");
+        put_finding(&mut show.page.out, value, base, &finding);
+        show.page.put("\"");
+        show.status = 1;
+    }
+    show.page.put("]");
+}
+
+// The rules that a revocation list breaks, as a list of texts; none if the list is not DER.
+fn put_json_list_lint(show: &mut Show<'_>, octets: &[u8]) {
+    let alloc = show.page.alloc;
+    let Ok(list) = CertificateList::from_der(alloc, octets) else {
+        return;
+    };
+    show.page.put(",\n      \"lint\": [");
+    let mut is_first = true;
+    for rule in LIST_RULES.iter() {
+        if !list_keeps(alloc, &list, *rule) {
+            show.page.put(if is_first { "\"" } else { ", \"" });
+            is_first = false;
+            let _ = write!(show.page.out, "list: {rule}\"");
+            show.status = 1;
+        }
     }
     show.page.put("]");
 }

@@ -3,24 +3,139 @@
 use asn1_cursor::Cursor;
 use der::DecodeBytes;
 use der_show_print::Page;
+use der_show_text::{Output, long_name};
+use std::alloc::Global;
 use std::fmt::Write;
-use x509::Certificate;
-use x509_lint::findings;
+use x509::{Certificate, CertificateList};
+use x509_lint::checks::value_types::has_value_of_type;
+use x509_lint::{Finding, LIST_RULES, Place, RULES, Rule, findings, list_keeps};
 
-/// Prints a line for each rule of RFC 5280 that the certificate breaks, and that decoding does not check.
-pub fn put_lint(page: &mut Page<'_>, octets: &[u8]) {
-    let Ok(certificate) = Certificate::from_der(page.alloc, octets) else {
-        return;
+/// Prints a line for each rule of RFC 5280 that the certificate breaks, and that decoding does not check; and
+/// how many rules were checked. Returns whether the certificate keeps them all.
+pub fn put_lint(page: &mut Page<'_>, value: Cursor<'_>) -> bool {
+    let Ok(certificate) = Certificate::from_der(page.alloc, value.octets()) else {
+        page.line_beside("Lint: no rule is checked, since the certificate is not DER");
+        return false;
     };
-    let mut count = 0u64;
+    let mut count = 0usize;
     for finding in findings(page.alloc, &certificate) {
         page.beside();
-        let _ = write!(page.out, "Lint: {finding}");
+        page.put("Lint: ");
+        put_finding(&mut page.out, value, page.base, &finding);
         page.end();
         count = count.saturating_add(1);
     }
-    if count == 0 {
-        page.line_beside("Lint: no rule is broken");
+    page.beside();
+    let _ = write!(
+        page.out,
+        "Lint: {count} of {} rules are broken",
+        RULES.len()
+    );
+    let malformed = malformed_count(page.alloc, &certificate);
+    if malformed > 0 {
+        let _ = write!(
+            page.out,
+            "; the values of {malformed} extensions are not decoded"
+        );
+    }
+    page.end();
+    count == 0
+}
+
+/// Prints a line for each rule of RFC 5280 that the revocation list breaks, and that decoding does not check;
+/// and how many rules were checked. Returns whether the list keeps them all.
+pub fn put_list_lint(page: &mut Page<'_>, value: Cursor<'_>) -> bool {
+    let Ok(list) = CertificateList::from_der(page.alloc, value.octets()) else {
+        page.line_beside("Lint: no rule is checked, since the list is not DER");
+        return false;
+    };
+    let mut count = 0usize;
+    for rule in LIST_RULES.iter() {
+        if !list_keeps(page.alloc, &list, *rule) {
+            page.beside();
+            let _ = write!(page.out, "Lint: list: {rule}");
+            page.end();
+            count = count.saturating_add(1);
+        }
+    }
+    page.beside();
+    let _ = write!(
+        page.out,
+        "Lint: {count} of {} rules are broken",
+        LIST_RULES.len()
+    );
+    page.end();
+    count == 0
+}
+
+// How many extensions have values that are not of their types. Rules for what is in these are not checked.
+fn malformed_count(alloc: Global, certificate: &Certificate<'_>) -> usize {
+    let Some(extensions) = &certificate.tbs_certificate.extensions.0 else {
+        return 0;
+    };
+    let mut count = 0usize;
+    for extension in extensions.0.items.iter(alloc) {
+        let (id, value) = (extension.extn_id.octets(), extension.extn_value.octets());
+        if !has_value_of_type(alloc, id, value) {
+            count = count.saturating_add(1);
+        }
+    }
+    count
+}
+
+/// Prints where the rule is broken, by the path of the element, its name and its offset, and the rule.
+pub fn put_finding(out: &mut Output, root: Cursor<'_>, base: usize, finding: &Finding) {
+    match element_of(root, finding) {
+        Some(element) => {
+            let _ = write!(out, "{}", element.place());
+            put_object_name(out, element);
+            let offset = base.saturating_add(element.entry().offset);
+            let _ = write!(out, " at offset {offset}");
+        }
+        None => out.put("certificate"),
+    }
+    let _ = write!(out, ": {}", finding.rule);
+}
+
+// The element that breaks the rule, if it is not the whole certificate.
+fn element_of<'a>(root: Cursor<'a>, finding: &Finding) -> Option<Cursor<'a>> {
+    let signed = root.at("tbsCertificate")?;
+    match finding.place {
+        Place::Extension(at) => return signed.at("extensions")?.untagged().item(at),
+        Place::Level(level) => return name_of(signed, finding.rule)?.item(level),
+        Place::Attribute(level, at) => return name_of(signed, finding.rule)?.item(level)?.item(at),
+        Place::Certificate => {}
+    }
+    match finding.rule {
+        Rule::SerialNumber => signed.at("serialNumber"),
+        Rule::TimeForms | Rule::TimeOrder => signed.at("validity"),
+        Rule::IssuerPresent => signed.at("issuer"),
+        Rule::SubjectPresent | Rule::AuthoritySubject => signed.at("subject"),
+        Rule::SameAlgorithms => root.at("signatureAlgorithm"),
+        Rule::VersionFields => signed.at("version"),
+        _ => None,
+    }
+}
+
+// The name that a rule is about.
+fn name_of<'a>(signed: Cursor<'a>, rule: Rule) -> Option<Cursor<'a>> {
+    match rule {
+        Rule::Issuer(_) => signed.at("issuer"),
+        _ => signed.at("subject"),
+    }
+}
+
+// Prints the name of the extension or the attribute.
+fn put_object_name(out: &mut Output, element: Cursor<'_>) {
+    let identifier = match element.at("extnID") {
+        Some(identifier) => Some(identifier),
+        None => element.at("type"),
+    };
+    let Some(identifier) = identifier else {
+        return;
+    };
+    if let Some(name) = long_name(identifier.contents()) {
+        let _ = write!(out, " ({name})");
     }
 }
 

@@ -226,7 +226,7 @@ fn add_readings<'a>(alloc: Global, command: Command<'a>) -> Result<Command<'a>, 
     let lint = flag(
         alloc,
         "lint",
-        "Print the rules of RFC 5280 that a certificate breaks",
+        "Print the rules of RFC 5280 that certificates and revocation lists break",
     );
     command.arg(kind)?.arg(tree)?.arg(offsets)?.arg(lint)
 }

@@ -1,6 +1,6 @@
 //! Values of known kinds.
 
-use crate::lint::{put_lint, put_warnings};
+use crate::lint::{put_lint, put_list_lint, put_warnings};
 use crate::message::message_der;
 use crate::options::Shown;
 use crate::place::Place;
@@ -27,12 +27,17 @@ pub fn put_text_value(show: &mut Show<'_>, kind: Kind, value: Cursor<'_>) {
         Kind::Certificate => {
             put_certificate(page, value);
             put_warnings(page, value);
-            if show.options.is_lint {
-                put_lint(page, value.octets());
+            if show.options.is_lint && !put_lint(page, value) {
+                show.status = 1;
             }
         }
         Kind::Request => put_request(page, value),
-        Kind::RevocationList => put_revocation_list(page, value),
+        Kind::RevocationList => {
+            put_revocation_list(page, value);
+            if show.options.is_lint && !put_list_lint(page, value) {
+                show.status = 1;
+            }
+        }
         Kind::PublicKey => put_public_key(page, value),
         Kind::Pfx => put_pfx(page, value),
         Kind::OcspRequest => put_ocsp_request(page, value),

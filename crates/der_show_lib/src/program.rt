@@ -29,7 +29,8 @@ pub struct Finished {
     /// The exit status:
     ///
     /// - 0 on success;
-    /// - 1 if a file cannot be read or its octets are refused, if an argument is not UTF-8, if an
+    /// - 1 if a file cannot be read or its octets are refused, if a certificate breaks a rule that
+    ///   is checked, if an argument is not UTF-8, if an
     ///   allocation fails, and in any case if writing to standard output fails;
     /// - 2 if the arguments are no command.
     pub status: u8,

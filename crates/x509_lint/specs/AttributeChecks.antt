@@ -1,9 +1,9 @@
 -- Checks of the attributes of names (RFC 5280, 4.1.2.4 and A.1): how many characters a value has
--- (`HasLengthOfType`), and which (`HasCharactersOfTag`).
-use Rattle.std.specs.Prelude.{◌≡◌, ◌<◌, ◌≤◌, ◌/◌, ◌==◌, ◌||◌, ℕ, Bool, true, nat_lt}
+-- (`HasLengthOfType`), which (`HasCharactersOfTag`), and of which type (`HasTypeOfAttribute`).
+use Rattle.std.specs.Prelude.{◌≡◌, ◌<◌, ◌≤◌, ◌/◌, ◌==◌, ◌||◌, ◌⊎◌, ℕ, Bool, false, true, nat_lt}
 use Rattle.std.specs.Prelude.{List, [], ◌∷◌, length, count_by, Option, Some, None, if◌then◌else◌}
 use Rattle.der.specs.Prelude.{Tag, BmpString, Ia5String, NumericString, PrintableString}
-use Rattle.der.specs.Prelude.{Utf8String, VisibleString}
+use Rattle.der.specs.Prelude.{TeletexString, Utf8String, VisibleString}
 use Rattle.std.specs.Str.{is_utf8}
 use Rattle.der_asn1.specs.Alphabets.{bmp_form, numeric_form, visible_form}
 use Rattle.der_asn1.specs.AnyRef.{any_contents}
@@ -71,3 +71,46 @@ AreCharactersOf _ octets = Unit {0}
 -- the value of an attribute has only characters of the type that its tag names
 abbrev pub HasCharactersOfTag : AttributeTypeAndValue → Type 0
 HasCharactersOfTag v = AreCharactersOf v.value.tag (any_contents v.value)
+
+-- domainComponent, 0.9.2342.19200300.100.1.25
+abbrev pub domain_component : List ℕ
+domain_component = 9 ∷ 146 ∷ 38 ∷ 137 ∷ 147 ∷ 242 ∷ 44 ∷ 100 ∷ 1 ∷ 25 ∷ []
+
+-- a DirectoryString: a TeletexString, a PrintableString, a UTF8String or a BMPString; a
+-- UniversalString is not decoded
+abbrev pub is_directory_tag : Tag → Bool
+is_directory_tag TeletexString = true
+is_directory_tag PrintableString = true
+is_directory_tag Utf8String = true
+is_directory_tag BmpString = true
+is_directory_tag _ = false
+
+abbrev pub is_printable_tag : Tag → Bool
+is_printable_tag PrintableString = true
+is_printable_tag _ = false
+
+abbrev pub is_ia5_tag : Tag → Bool
+is_ia5_tag Ia5String = true
+is_ia5_tag _ = false
+
+-- the types that A.1 gives an attribute 2.5.4.n: a PrintableString for serialNumber, countryName and
+-- dnQualifier; a DirectoryString for commonName, surname, localityName, stateOrProvinceName,
+-- organizationName, organizationalUnitName, title, name, givenName, initials, generationQualifier
+-- and pseudonym
+abbrev pub allows_tag : ℕ → Tag → Bool
+allows_tag n t =
+    if (n == 5) || (n == 6) || (n == 46) then is_printable_tag t
+    else if (n == 3) || (n == 4) || (n == 7) || (n == 8) || (n == 10) || (n == 11) || (n == 12)
+    || (n == 41) || (n == 42) || (n == 43) || (n == 44) || (n == 65) then is_directory_tag t
+    else true
+
+-- A.1 allows a value with this tag for an attribute of this type: domainComponent and emailAddress
+-- are IA5Strings
+abbrev pub AllowsType : List ℕ → Tag → Type 0
+AllowsType id t =
+    ((arc : ℕ) → arc < 128 → id ≡ id_at arc → allows_tag arc t ≡ true)
+    × ((id ≡ email_address) ⊎ (id ≡ domain_component) → is_ia5_tag t ≡ true)
+
+-- the value of an attribute has a type that A.1 allows for it
+abbrev pub HasTypeOfAttribute : AttributeTypeAndValue → Type 0
+HasTypeOfAttribute v = AllowsType v.oid.octets.now v.value.tag

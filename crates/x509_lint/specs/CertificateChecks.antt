@@ -1,10 +1,14 @@
 -- Rules for certificates (RFC 5280, 4.1 and 4.2): `Keeps`.
-use Rattle.std.specs.Prelude.{◌≢◌, ◌⊎◌, ℕ, List, [], All, IfSome, IsSomeAnd}
+use Rattle.std.specs.Prelude.{◌≡◌, ◌≢◌, ◌⊎◌, List, [], All, IfSome, IsSome, IsSomeAnd}
 use Rattle.x509.specs.CertificateLists.{AreExtensions}
 use Rattle.x509_lint.specs.Checks.{HasSameAlgorithms, MatchesCertificateVersion}
-use Rattle.x509_lint.specs.ExtensionChecks.{HasUsage, IsCriticalIfRequired, IsNotCriticalIfForbidden}
-use Rattle.x509_lint.specs.ExtensionChecks.{IsCriticalAltName, IsNotEmpty, IsOnlyInstance}
-use Rattle.x509.specs.Firsts.{IsFirstAt}
+use Rattle.x509_lint.specs.ExtensionChecks.{HasUsageIfKeyUsage, IsCriticalIfAuthority}
+use Rattle.x509_lint.specs.ExtensionChecks.{IsCriticalIfRequired, IsNotCriticalIfForbidden}
+use Rattle.x509_lint.specs.ExtensionChecks.{IsNotEmpty, IsOnlyInstance}
+use Rattle.x509_lint.specs.ExtensionTests.{HasFound, given_of, wanted_of}
+use Rattle.x509_lint.specs.ValueRules.{ValueKeeps}
+use Rattle.x509_lint.specs.declared.extension_test.ExtensionTest.{ExtensionTest}
+use Rattle.x509_lint.specs.declared.extension_test.ExtensionTest.TheVariants as test
 use Rattle.x509_lint.specs.NameChecks.{NameKeeps}
 use Rattle.x509_lint.specs.SerialNumbers.{IsSerialNumber}
 use Rattle.x509_lint.specs.ValidityChecks.{HasFormsOfYears, IsOrdered}
@@ -21,20 +25,33 @@ use Rattle.x509_lint.specs.declared.rule.Rule.TheVariants as of
 abbrev pub HasIssuer : TbsCertificate → Type 0
 HasIssuer v = v.issuer.levels.octets.now ≢ []
 
--- an extension is a critical subjectAltName, and the first such one is at this place
-abbrev pub IsFirstAltName : List Extension → ℕ → Type 0
-IsFirstAltName items place = IsFirstAt (λ v. IsCriticalAltName v → ⊥) IsCriticalAltName items place
-
--- one of these extensions is a critical subjectAltName
-abbrev pub HasCriticalAltName : Extensions → Type 0
-HasCriticalAltName v = (l : AreExtensions v) → (place : ℕ) × IsFirstAltName l.items place
+-- one of the extensions is looked for
+abbrev pub IsPresent : ExtensionTest → TbsCertificate → Type 0
+IsPresent t v = IsSomeAnd v.extensions.0 (λ e. HasFound t e.0)
 
 -- the subject has a name: the field `subject` has a level, or there is a critical subjectAltName
 -- (4.1.2.6, 4.2.1.6)
 abbrev pub HasSubject : TbsCertificate → Type 0
 HasSubject v =
-    (v.subject.levels.octets.now ≢ [])
-    ⊎ IsSomeAnd v.extensions.0 (λ e. HasCriticalAltName e.0)
+    (v.subject.levels.octets.now ≢ []) ⊎ IsPresent test.CriticalAltName v
+
+-- the subject has a level if it is an authority (4.1.2.6)
+abbrev pub HasAuthoritySubject : TbsCertificate → Type 0
+HasAuthoritySubject v = IsPresent test.Authority v → v.subject.levels.octets.now ≢ []
+
+-- issuer and subject have the same name, octet by octet
+abbrev pub IsSelfIssued : TbsCertificate → Type 0
+IsSelfIssued v = v.issuer.levels.octets.now ≡ v.subject.levels.octets.now
+
+-- an authorityKeyIdentifier with a keyIdentifier is present, unless issuer and subject have the same
+-- name (4.2.1.1)
+abbrev pub HasKeyIdentifier : TbsCertificate → Type 0
+HasKeyIdentifier v = IsSelfIssued v ⊎ IsPresent test.KeyIdentifier v
+
+-- there are no unique identifiers (4.1.2.8)
+abbrev pub HasNoUniqueIdentifier : TbsCertificate → Type 0
+HasNoUniqueIdentifier v =
+    (IsSome v.issuer_unique_id.0 → ⊥) × (IsSome v.subject_unique_id.0 → ⊥)
 
 -- if extensions are present, there is at least one (4.1)
 abbrev pub HasExtensionIfPresent : TbsCertificate → Type 0
@@ -46,7 +63,9 @@ ExtensionKeeps rule.Instances items v = IsOnlyInstance items v
 ExtensionKeeps rule.Critical items v = IsCriticalIfRequired v
 ExtensionKeeps rule.NotCritical items v = IsNotCriticalIfForbidden v
 ExtensionKeeps rule.NotEmpty items v = IsNotEmpty v
-ExtensionKeeps rule.Usage items v = HasUsage v
+ExtensionKeeps rule.Usage items v = HasUsageIfKeyUsage v
+ExtensionKeeps rule.AuthorityCritical items v = IsCriticalIfAuthority v
+ExtensionKeeps (rule.Value r) items v = ValueKeeps r v.extn_id.octets.now v.extn_value.octets.now
 
 -- all extensions keep a rule
 abbrev pub ExtensionsKeep : ExtensionRule → Extensions → Type 0
@@ -63,9 +82,13 @@ Keeps of.SameAlgorithms c = HasSameAlgorithms c
 Keeps of.SerialNumber c = IsSerialNumber c.tbs_certificate.serial_number.octets.now
 Keeps of.IssuerPresent c = HasIssuer c.tbs_certificate
 Keeps of.SubjectPresent c = HasSubject c.tbs_certificate
+Keeps of.UniqueIdentifiers c = HasNoUniqueIdentifier c.tbs_certificate
+Keeps of.AuthoritySubject c = HasAuthoritySubject c.tbs_certificate
+Keeps of.KeyIdentifier c = HasKeyIdentifier c.tbs_certificate
 Keeps of.TimeForms c = HasFormsOfYears c.tbs_certificate.validity
 Keeps of.TimeOrder c = IsOrdered c.tbs_certificate.validity
 Keeps (of.Issuer r) c = NameKeeps r c.tbs_certificate.issuer
 Keeps (of.Subject r) c = NameKeeps r c.tbs_certificate.subject
 Keeps of.ExtensionPresent c = HasExtensionIfPresent c.tbs_certificate
 Keeps (of.Extension r) c = ExtensionsKeepIfPresent r c.tbs_certificate
+Keeps (of.Pair p) c = IsPresent (given_of p) c.tbs_certificate → IsPresent (wanted_of p) c.tbs_certificate

@@ -1,10 +1,11 @@
 -- Checks of extensions (RFC 5280, 4.2), by their identifiers: whether an extension may or must be
 -- critical, and whether its value may be an empty SEQUENCE or no bits.
-use Rattle.std.specs.Prelude.{◌≡◌, ◌≢◌, ◌⊎◌, ◌≤◌, ℕ, List, [], ◌∷◌, count_by}
+use Rattle.std.specs.Prelude.{◌≡◌, ◌≢◌, ◌⊎◌, ◌≤◌, ℕ, List, [], count_by}
 use Rattle.std.specs.Str.{bytes_eq}
-use Rattle.der.specs.Prelude.{BitString, Sequence, element_octets}
+use Rattle.der.specs.Prelude.{Sequence, element_octets}
 use Rattle.x509.specs.ExtensionIdentifiers.{id_ce, id_pe}
 use Rattle.x509.specs.Criticality.{IsCritical}
+use Rattle.x509_lint.specs.Values.{HasAuthority, HasUsage}
 use Rattle.x509.specs.declared.asn1.extension.Extension.{Extension}
 
 -- nameConstraints (4.2.1.10), policyConstraints (4.2.1.11) and inhibitAnyPolicy (4.2.1.14) must be
@@ -46,19 +47,19 @@ IsCriticalIfRequired v = MustBeCritical v.extn_id.octets.now → IsCritical v
 abbrev pub IsNotCriticalIfForbidden : Extension → Type 0
 IsNotCriticalIfForbidden v = MustNotBeCritical v.extn_id.octets.now → IsCritical v → ⊥
 
--- a critical subjectAltName (4.2.1.6)
-abbrev pub IsCriticalAltName : Extension → Type 0
-IsCriticalAltName v = (v.extn_id.octets.now ≡ id_ce 17) × IsCritical v
+-- the basicConstraints of an authority is critical (4.2.1.9)
+abbrev pub IsCriticalIfAuthority : Extension → Type 0
+IsCriticalIfAuthority v =
+    v.extn_id.octets.now ≡ id_ce 19 → HasAuthority v.extn_value.octets.now → IsCritical v
 
 -- the value of an extension that is a SEQUENCE of at least one element is not an empty SEQUENCE
 abbrev pub IsNotEmpty : Extension → Type 0
 IsNotEmpty v =
     MustNotBeEmpty v.extn_id.octets.now → v.extn_value.octets.now ≢ element_octets Sequence []
 
--- a keyUsage has at least one bit that is one: it is not a BIT STRING without bits (4.2.1.3)
-abbrev pub HasUsage : Extension → Type 0
-HasUsage v =
-    v.extn_id.octets.now ≡ id_ce 15 → v.extn_value.octets.now ≢ element_octets BitString (0 ∷ [])
+-- a keyUsage has at least one bit that is one (4.2.1.3)
+abbrev pub HasUsageIfKeyUsage : Extension → Type 0
+HasUsageIfKeyUsage v = v.extn_id.octets.now ≡ id_ce 15 → HasUsage v.extn_value.octets.now
 
 -- the number of extensions with an identifier
 abbrev pub instances : List ℕ → List Extension → ℕ

@@ -1,13 +1,13 @@
 -- Rules for names (RFC 5280, 4.1.2.4): `NameKeeps`.
 use Rattle.std.specs.Prelude.{◌≢◌, List, [], ℕ, All, Option, Some, None}
-use Rattle.x509_lint.specs.AttributeChecks.{HasLengthOfType, HasCharactersOfTag}
+use Rattle.x509_lint.specs.AttributeChecks.{HasLengthOfType, HasCharactersOfTag, HasTypeOfAttribute}
 use Rattle.x509.specs.CertificateLists.{AreAttributes, AreLevels, level_octets}
 use Rattle.x509.specs.Firsts.{FailsFirstAt, IsFirstAt}
 use Rattle.x509.specs.declared.asn1.attribute_type_and_value.AttributeTypeAndValue.{AttributeTypeAndValue}
 use Rattle.x509.specs.declared.asn1.name.Name.{Name}
 use Rattle.x509.specs.declared.asn1.relative_distinguished_name.RelativeDistinguishedName.{RelativeDistinguishedName}
 use Rattle.x509_lint.specs.declared.attribute_rule.AttributeRule.{AttributeRule}
-use Rattle.x509_lint.specs.declared.attribute_rule.AttributeRule.TheVariants.{Length, Characters}
+use Rattle.x509_lint.specs.declared.attribute_rule.AttributeRule.TheVariants.{Length, Characters, StringType}
 use Rattle.x509_lint.specs.declared.name_rule.NameRule.{NameRule}
 use Rattle.x509_lint.specs.declared.name_rule.NameRule.TheVariants.{Levels, Attributes}
 
@@ -15,6 +15,7 @@ use Rattle.x509_lint.specs.declared.name_rule.NameRule.TheVariants.{Levels, Attr
 abbrev pub AttributeKeeps : AttributeRule → AttributeTypeAndValue → Type 0
 AttributeKeeps Length v = HasLengthOfType v
 AttributeKeeps Characters v = HasCharactersOfTag v
+AttributeKeeps StringType v = HasTypeOfAttribute v
 
 -- a level with these contents keeps a rule: it has an attribute, since its size is 1 at least; or
 -- all its attributes keep a rule

@@ -8,6 +8,8 @@ pub enum AttributeRule {
     Length,
     /// The value has only characters of the string type that its tag names.
     Characters,
+    /// The value has a string type that A.1 allows for its type.
+    StringType,
 }
 
 impl fmt::Display for AttributeRule {
@@ -15,6 +17,9 @@ impl fmt::Display for AttributeRule {
         f.write_str(match self {
             AttributeRule::Length => {
                 "an attribute has fewer or more characters than its type allows (RFC 5280, A.1)"
+            }
+            AttributeRule::StringType => {
+                "an attribute has a string type that its type does not allow (RFC 5280, A.1)"
             }
             AttributeRule::Characters => {
                 "an attribute has a character that its string type does not have (X.680, 41)"

@@ -5,10 +5,11 @@ ghost use Rattle.x509_lint.specs.Lint.{FindsPlace, IsExtensionPlace, IsNamePlace
 ghost use Rattle.x509_lint.specs.NameChecks.{NameKeeps};
 
 use crate::checks::extensions::first_failing_extension;
+use crate::checks::found::has_pair;
 use crate::checks::name::{first_failing_attribute, first_failing_level};
-use crate::checks::presence::{has_extension_if_present, has_issuer};
+use crate::checks::presence::{has_extension_if_present, has_issuer, has_no_unique_identifier};
 use crate::checks::serial_number::has_valid_serial_number;
-use crate::checks::subject::has_subject;
+use crate::checks::subject::{has_authority_subject, has_key_identifier, has_subject};
 use crate::checks::times::{has_forms_of_years, is_ordered};
 use crate::checks::{has_fields_of_version, has_same_algorithms};
 use crate::extension_rule::ExtensionRule;
@@ -29,12 +30,16 @@ pub(crate) fn broken_at(alloc: Global, certificate: &Certificate<'_>, rule: Rule
         Rule::SerialNumber => whole(has_valid_serial_number(fields)),
         Rule::IssuerPresent => whole(has_issuer(fields)),
         Rule::SubjectPresent => whole(has_subject(alloc, fields)),
+        Rule::UniqueIdentifiers => whole(has_no_unique_identifier(fields)),
+        Rule::AuthoritySubject => whole(has_authority_subject(alloc, fields)),
+        Rule::KeyIdentifier => whole(has_key_identifier(alloc, fields)),
         Rule::TimeForms => whole(has_forms_of_years(&fields.validity)),
         Rule::TimeOrder => whole(is_ordered(&fields.validity)),
         Rule::Issuer(rule) => name_place(alloc, &fields.issuer, rule),
         Rule::Subject(rule) => name_place(alloc, &fields.subject, rule),
         Rule::ExtensionPresent => whole(has_extension_if_present(fields)),
         Rule::Extension(rule) => extension_place(alloc, fields, rule),
+        Rule::Pair(rule) => whole(has_pair(alloc, fields, rule)),
     }
 }
 

@@ -6,21 +6,26 @@ ghost use Rattle.x509_lint.specs.Checks.{parameters_of, certificate_version_numb
 pub mod attribute;
 pub mod extension;
 pub mod extensions;
+pub mod found;
 mod identifiers;
+mod kinds;
+pub mod list;
 pub mod name;
 pub mod policies;
 pub mod presence;
 pub mod serial_number;
 pub mod subject;
 pub mod times;
+pub mod value;
+pub mod value_types;
 
-use der::Tag;
+use crate::elements::is_same_tag;
 use der_asn1::AnyRef;
 use spki::AlgorithmIdentifierRef;
 use x509::{Certificate, TbsCertificate};
 
 // The number of a version: 0, 1 or 2.
-fn number_of(octets: &[u8]) -> u8
+pub(crate) fn number_of(octets: &[u8]) -> u8
     ensures { result ≡ certificate_version_number octets.now }
 {
     match octets {
@@ -56,7 +61,7 @@ pub fn has_same_algorithms(certificate: &Certificate<'_>) -> bool
 }
 
 // Whether two algorithms have the same identifier and the same parameters.
-fn is_same_algorithm(
+pub(crate) fn is_same_algorithm(
     first: &AlgorithmIdentifierRef<'_>,
     second: &AlgorithmIdentifierRef<'_>,
 ) -> bool
@@ -82,10 +87,4 @@ fn is_same_element(first: &AnyRef<'_>, second: &AnyRef<'_>) -> bool
         ↔ (parameters_of (Some first.now) ≡ parameters_of (Some second.now)) }
 {
     is_same_tag(first.tag, second.tag) && first.contents == second.contents
-}
-
-fn is_same_tag(first: Tag, second: Tag) -> bool
-    ensures { (result ≡ true) ↔ (first ≡ second) }
-{
-    first == second
 }

@@ -1,4 +1,5 @@
 //! Rules for extensions.
+use crate::value_rule::ValueRule;
 use std::fmt;
 
 /// A rule for extensions (RFC 5280, 4.2).
@@ -14,6 +15,10 @@ pub enum ExtensionRule {
     NotEmpty,
     /// A keyUsage has a bit that is one (4.2.1.3).
     Usage,
+    /// The basicConstraints of an authority is critical (4.2.1.9).
+    AuthorityCritical,
+    /// The value keeps this rule (4.2.1, 4.2.2).
+    Value(ValueRule),
 }
 
 impl fmt::Display for ExtensionRule {
@@ -32,6 +37,10 @@ impl fmt::Display for ExtensionRule {
                 "an extension has no elements (RFC 5280, 4.2.1 and 4.2.2)"
             }
             ExtensionRule::Usage => "a keyUsage has no bit that is one (RFC 5280, 4.2.1.3)",
+            ExtensionRule::AuthorityCritical => {
+                "the basicConstraints of an authority is not critical (RFC 5280, 4.2.1.9)"
+            }
+            ExtensionRule::Value(rule) => return write!(f, "{rule}"),
         })
     }
 }

@@ -1,6 +1,7 @@
 //! Rules for certificates.
 use crate::extension_rule::ExtensionRule;
 use crate::name_rule::NameRule;
+use crate::pair_rule::PairRule;
 use std::fmt;
 
 /// A rule for certificates that decoding does not check (RFC 5280, 4.1 and 4.2).
@@ -17,6 +18,13 @@ pub enum Rule {
     /// The subject has a name: its name is not empty, or there is a critical subjectAltName
     /// (4.1.2.6, 4.2.1.6).
     SubjectPresent,
+    /// There are no unique identifiers (4.1.2.8).
+    UniqueIdentifiers,
+    /// The name of the subject is not empty, if it is an authority (4.1.2.6).
+    AuthoritySubject,
+    /// There is an authorityKeyIdentifier with a keyIdentifier, if issuer and subject are not the
+    /// same (4.2.1.1).
+    KeyIdentifier,
     /// Each time has the form that its year requires (4.1.2.5).
     TimeForms,
     /// The period of validity does not end before it begins (4.1.2.5).
@@ -29,6 +37,8 @@ pub enum Rule {
     ExtensionPresent,
     /// Each extension keeps this rule (4.2).
     Extension(ExtensionRule),
+    /// With the one extension, there is the other (4.2.1).
+    Pair(PairRule),
 }
 
 /// One sentence, which says how a certificate breaks the rule, and the section of the rule.
@@ -64,6 +74,16 @@ impl fmt::Display for Rule {
                 "the list of extensions is empty (RFC 5280, 4.1)",
             ),
             Rule::Extension(rule) => write!(f, "{rule}"),
+            Rule::Pair(rule) => write!(f, "{rule}"),
+            Rule::UniqueIdentifiers => {
+                f.write_str("a unique identifier is present (RFC 5280, 4.1.2.8)")
+            }
+            Rule::AuthoritySubject => {
+                f.write_str("the subject is an authority without a name (RFC 5280, 4.1.2.6)")
+            }
+            Rule::KeyIdentifier => f.write_str(
+                "no authorityKeyIdentifier has a keyIdentifier, though issuer and subject differ (RFC 5280, 4.2.1.1)",
+            ),
         }
     }
 }

@@ -1,7 +1,7 @@
 //! Checks of one attribute of a name (RFC 5280, 4.1.2.4 and A.1).
-ghost use Rattle.std.specs.Prelude.{◌≡◌, ◌↔◌, ◌<◌, ℕ, true, IfSome, IfNone, count_by};
-ghost use Rattle.x509_lint.specs.AttributeChecks.{AreCharactersOf, HasCharactersOfTag, HasLengthOfType, IsWithin};
-ghost use Rattle.x509_lint.specs.AttributeChecks.{begins_character, bounds_of, character_count, id_at};
+ghost use Rattle.std.specs.Prelude.{◌≡◌, ◌⊎◌, ◌↔◌, ◌<◌, ℕ, true, IfSome, IfNone, count_by};
+ghost use Rattle.x509_lint.specs.AttributeChecks.{AreCharactersOf, HasCharactersOfTag, HasLengthOfType, HasTypeOfAttribute, IsWithin};
+ghost use Rattle.x509_lint.specs.AttributeChecks.{allows_tag, begins_character, bounds_of, character_count, domain_component, email_address, id_at, is_directory_tag, is_ia5_tag, is_printable_tag};
 
 use crate::checks::identifiers::is;
 use der::Tag;
@@ -10,7 +10,7 @@ use der_asn1::{
     VisibleStringRef,
 };
 use x509::AttributeTypeAndValue;
-use x509::values::id_email_address;
+use x509::values::{id_domain_component, id_email_address};
 
 /// Whether the value has as many characters as RFC 5280, A.1, allows for the type of the
 /// attribute. Decoding does not check this.
@@ -31,6 +31,56 @@ pub fn has_characters_of_tag(attribute: &AttributeTypeAndValue<'_>) -> bool
     ensures { (result ≡ true) ↔ HasCharactersOfTag attribute.now }
 {
     are_characters_of(attribute.value.tag, attribute.value.contents)
+}
+
+/// Whether the value has a string type that RFC 5280, A.1, allows for the type of the attribute.
+/// Decoding does not check this.
+pub fn has_type_of_attribute(attribute: &AttributeTypeAndValue<'_>) -> bool
+    ensures { (result ≡ true) ↔ HasTypeOfAttribute attribute.now }
+{
+    let id = attribute.oid.octets();
+    match arc_of(id) {
+        Some(arc) => allows_tag(arc, attribute.value.tag),
+        None => !is_ia5_type(id) || is_ia5_tag(attribute.value.tag),
+    }
+}
+
+fn is_ia5_type(id: &[u8]) -> bool
+    ensures { (result ≡ true) ↔ ((id.now ≡ email_address) ⊎ (id.now ≡ domain_component)) }
+{
+    is(id, &id_email_address()) || is(id, &id_domain_component())
+}
+
+// Whether an attribute 2.5.4 and this arc may have a value with this tag.
+fn allows_tag(arc: u8, tag: Tag) -> bool
+    ensures { result ≡ allows_tag arc tag }
+{
+    match arc {
+        5 | 6 | 46 => is_printable_tag(tag),
+        3 | 4 | 7 | 8 | 10 | 11 | 12 | 41 | 42 | 43 | 44 | 65 => is_directory_tag(tag),
+        _ => true,
+    }
+}
+
+fn is_printable_tag(tag: Tag) -> bool
+    ensures { result ≡ is_printable_tag tag }
+{
+    matches!(tag, Tag::PrintableString)
+}
+
+fn is_directory_tag(tag: Tag) -> bool
+    ensures { result ≡ is_directory_tag tag }
+{
+    matches!(
+        tag,
+        Tag::TeletexString | Tag::PrintableString | Tag::Utf8String | Tag::BmpString
+    )
+}
+
+fn is_ia5_tag(tag: Tag) -> bool
+    ensures { result ≡ is_ia5_tag tag }
+{
+    matches!(tag, Tag::Ia5String)
 }
 
 fn are_characters_of(tag: Tag, octets: &[u8]) -> bool

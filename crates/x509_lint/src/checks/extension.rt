@@ -1,16 +1,18 @@
 //! Checks of one extension (RFC 5280, 4.2).
 ghost use Rattle.std.specs.Prelude.{◌≡◌, ◌↔◌, true};
-ghost use Rattle.x509_lint.specs.ExtensionChecks.{HasUsage, IsCriticalIfRequired, IsNotCriticalIfForbidden, IsNotEmpty};
+ghost use Rattle.x509_lint.specs.ExtensionChecks.{HasUsageIfKeyUsage, IsCriticalIfAuthority, IsCriticalIfRequired, IsNotCriticalIfForbidden, IsNotEmpty};
 ghost use Rattle.x509_lint.specs.ExtensionChecks.{IsAccess, IsListOfNames, IsListOfPlaces, IsListOfPolicies, MustBeCritical, MustNotBeCritical, MustNotBeEmpty};
 
 use crate::checks::identifiers::is;
+use crate::values::{has_authority, has_usage};
+use std::alloc::Global;
 use x509::Extension;
 use x509::values::{
-    id_ce_authority_key_identifier, id_ce_c_rl_distribution_points, id_ce_certificate_policies,
-    id_ce_ext_key_usage, id_ce_freshest_crl, id_ce_inhibit_any_policy, id_ce_issuer_alt_name,
-    id_ce_key_usage, id_ce_name_constraints, id_ce_policy_constraints, id_ce_policy_mappings,
-    id_ce_subject_alt_name, id_ce_subject_directory_attributes, id_ce_subject_key_identifier,
-    id_pe_authority_info_access, id_pe_subject_info_access,
+    id_ce_authority_key_identifier, id_ce_basic_constraints, id_ce_c_rl_distribution_points,
+    id_ce_certificate_policies, id_ce_ext_key_usage, id_ce_freshest_crl, id_ce_inhibit_any_policy,
+    id_ce_issuer_alt_name, id_ce_key_usage, id_ce_name_constraints, id_ce_policy_constraints,
+    id_ce_policy_mappings, id_ce_subject_alt_name, id_ce_subject_directory_attributes,
+    id_ce_subject_key_identifier, id_pe_authority_info_access, id_pe_subject_info_access,
 };
 
 /// Whether the extension is critical if it must be: nameConstraints, policyConstraints and
@@ -40,12 +42,23 @@ pub fn is_not_empty(extension: &Extension<'_>) -> bool
         || !must_not_be_empty(extension.extn_id.octets())
 }
 
-/// Whether a keyUsage has a bit that is one (RFC 5280, 4.2.1.3). Decoding does not check this.
-pub fn has_usage(extension: &Extension<'_>) -> bool
-    ensures { (result ≡ true) ↔ HasUsage extension.now }
+/// Whether a keyUsage has a bit that is one (RFC 5280, 4.2.1.3). Decoding does not check this. This
+/// does not use `alloc`.
+pub fn has_usage_if_key_usage(alloc: Global, extension: &Extension<'_>) -> bool
+    ensures { (result ≡ true) ↔ HasUsageIfKeyUsage extension.now }
 {
-    extension.extn_value.octets() != [0x03, 0x01, 0x00].as_slice()
-        || !is(extension.extn_id.octets(), &id_ce_key_usage())
+    !is(extension.extn_id.octets(), &id_ce_key_usage())
+        || has_usage(alloc, extension.extn_value.octets())
+}
+
+/// Whether the basicConstraints of an authority is critical (RFC 5280, 4.2.1.9). Decoding does not
+/// check this. This does not use `alloc`.
+pub fn is_critical_if_authority(alloc: Global, extension: &Extension<'_>) -> bool
+    ensures { (result ≡ true) ↔ IsCriticalIfAuthority extension.now }
+{
+    extension.is_critical()
+        || !is(extension.extn_id.octets(), &id_ce_basic_constraints())
+        || !has_authority(alloc, extension.extn_value.octets())
 }
 
 fn must_be_critical(id: &[u8]) -> bool
@@ -67,7 +80,7 @@ fn must_not_be_critical(id: &[u8]) -> bool
 }
 
 // Whether the identifier is that of authorityInfoAccess or subjectInfoAccess.
-fn is_access(id: &[u8]) -> bool
+pub(crate) fn is_access(id: &[u8]) -> bool
     ensures { (result ≡ true) ↔ IsAccess id.now }
 {
     is(id, &id_pe_authority_info_access()) || is(id, &id_pe_subject_info_access())

@@ -6,8 +6,10 @@ ghost use Rattle.x509_lint.specs.ExtensionChecks.{instances};
 ghost use Rattle.x509.specs.Firsts.{FirstFailing};
 
 use crate::checks::extension::{
-    has_usage, is_critical_if_required, is_not_critical_if_forbidden, is_not_empty,
+    has_usage_if_key_usage, is_critical_if_authority, is_critical_if_required,
+    is_not_critical_if_forbidden, is_not_empty,
 };
+use crate::checks::value::value_keeps;
 use crate::extension_rule::ExtensionRule;
 use std::alloc::Global;
 use x509::{Extension, Extensions};
@@ -67,6 +69,13 @@ fn extension_keeps(
         ExtensionRule::Critical => is_critical_if_required(extension),
         ExtensionRule::NotCritical => is_not_critical_if_forbidden(extension),
         ExtensionRule::NotEmpty => is_not_empty(extension),
-        ExtensionRule::Usage => has_usage(extension),
+        ExtensionRule::Usage => has_usage_if_key_usage(alloc, extension),
+        ExtensionRule::AuthorityCritical => is_critical_if_authority(alloc, extension),
+        ExtensionRule::Value(rule) => value_keeps(
+            alloc,
+            extension.extn_id.octets(),
+            extension.extn_value.octets(),
+            rule,
+        ),
     }
 }

@@ -5,7 +5,7 @@ ghost use Rattle.x509.specs.Firsts.{FirstFailing};
 ghost use Rattle.x509_lint.specs.NameChecks.{AttributeKeeps, FirstFailingAttribute, LevelKeeps, NameKeeps};
 
 use crate::attribute_rule::AttributeRule;
-use crate::checks::attribute::{has_characters_of_tag, has_length_of_type};
+use crate::checks::attribute::{has_characters_of_tag, has_length_of_type, has_type_of_attribute};
 use crate::checks::presence::has_attribute;
 use crate::name_rule::NameRule;
 use std::alloc::Global;
@@ -90,5 +90,6 @@ pub fn attribute_keeps(attribute: &AttributeTypeAndValue<'_>, rule: AttributeRul
     match rule {
         AttributeRule::Length => has_length_of_type(attribute),
         AttributeRule::Characters => has_characters_of_tag(attribute),
+        AttributeRule::StringType => has_type_of_attribute(attribute),
     }
 }

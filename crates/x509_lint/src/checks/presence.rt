@@ -1,6 +1,6 @@
 //! Checks that lists of a certificate are not empty.
 ghost use Rattle.std.specs.Prelude.{◌≡◌, ◌≢◌, ◌↔◌, [], true};
-ghost use Rattle.x509_lint.specs.CertificateChecks.{HasExtensionIfPresent, HasIssuer};
+ghost use Rattle.x509_lint.specs.CertificateChecks.{HasExtensionIfPresent, HasIssuer, HasNoUniqueIdentifier};
 ghost use Rattle.x509.specs.CertificateLists.{level_octets};
 
 use der_asn1::{Item, SequenceOf};
@@ -39,4 +39,11 @@ pub fn has_extension_if_present(signed: &TbsCertificate<'_>) -> bool
         Some(extensions) => has_item(&extensions.0.items),
         None => true,
     }
+}
+
+/// Whether there are no unique identifiers (RFC 5280, 4.1.2.8). Decoding does not check this.
+pub fn has_no_unique_identifier(signed: &TbsCertificate<'_>) -> bool
+    ensures { (result ≡ true) ↔ HasNoUniqueIdentifier signed.now }
+{
+    signed.issuer_unique_id.0.is_none() && signed.subject_unique_id.0.is_none()
 }

@@ -1,8 +1,8 @@
 //! The check of the serial number of a certificate (RFC 5280, 4.1.2.2).
 ghost use Rattle.std.specs.Prelude.{◌≡◌, ◌↔◌, true};
-ghost use Rattle.der_asn1.specs.Integer.{is_negative};
 ghost use Rattle.x509_lint.specs.SerialNumbers.{IsPositive, IsSerialNumber};
 
+use crate::part_test::has_minus_sign;
 use x509::TbsCertificate;
 
 /// Whether the serial number is positive and has at most 20 octets (RFC 5280, 4.1.2.2).
@@ -19,13 +19,4 @@ fn is_positive(octets: &[u8]) -> bool
     ensures { (result ≡ true) ↔ IsPositive octets.now }
 {
     !has_minus_sign(octets) && octets != [0].as_slice()
-}
-
-fn has_minus_sign(octets: &[u8]) -> bool
-    ensures { result ≡ is_negative octets.now }
-{
-    match octets {
-        [first, ..] => *first >= 128,
-        [] => false,
-    }
 }

@@ -1,13 +1,12 @@
-//! The check of the subject of a certificate (RFC 5280, 4.1.2.6).
+//! Checks of the names of a certificate (RFC 5280, 4.1.2.4, 4.1.2.6 and 4.2.1.1).
 ghost use Rattle.std.specs.Prelude.{◌≡◌, ◌↔◌, true};
-ghost use Rattle.x509_lint.specs.CertificateChecks.{HasCriticalAltName, HasSubject};
-ghost use Rattle.x509_lint.specs.ExtensionChecks.{IsCriticalAltName};
+ghost use Rattle.x509_lint.specs.CertificateChecks.{HasAuthoritySubject, HasKeyIdentifier, HasSubject, IsSelfIssued};
 
-use crate::checks::identifiers::is;
+use crate::checks::found::is_present;
 use crate::checks::presence::has_item;
+use crate::extension_test::ExtensionTest;
 use std::alloc::Global;
-use x509::values::id_ce_subject_alt_name;
-use x509::{Extension, Extensions, TbsCertificate};
+use x509::TbsCertificate;
 
 /// Whether the subject has a name: the field `subject` is not empty, or there is a critical
 /// subjectAltName (RFC 5280, 4.1.2.6, 4.2.1.6). Decoding does not check this. This does not use
@@ -15,30 +14,28 @@ use x509::{Extension, Extensions, TbsCertificate};
 pub fn has_subject(alloc: Global, signed: &TbsCertificate<'_>) -> bool
     ensures { (result ≡ true) ↔ HasSubject signed.now }
 {
-    if has_item(&signed.subject.levels) {
-        return true;
-    }
-    match &signed.extensions.0 {
-        Some(extensions) => has_critical_alt_name(alloc, &extensions.0),
-        None => false,
-    }
+    has_item(&signed.subject.levels) || is_present(alloc, signed, ExtensionTest::CriticalAltName)
 }
 
-/// Whether one of the extensions is a critical subjectAltName (RFC 5280, 4.2.1.6). This does
-/// not use `alloc`.
-pub fn has_critical_alt_name(alloc: Global, extensions: &Extensions<'_>) -> bool
-    ensures { (result ≡ true) ↔ HasCriticalAltName extensions.now }
+/// Whether the field `subject` is not empty, if the subject is an authority (RFC 5280, 4.1.2.6).
+/// This does not use `alloc`.
+pub fn has_authority_subject(alloc: Global, signed: &TbsCertificate<'_>) -> bool
+    ensures { (result ≡ true) ↔ HasAuthoritySubject signed.now }
 {
-    for extension in extensions.items.iter(alloc) {
-        if is_critical_alt_name(&extension) {
-            return true;
-        }
-    }
-    false
+    has_item(&signed.subject.levels) || !is_present(alloc, signed, ExtensionTest::Authority)
 }
 
-fn is_critical_alt_name(extension: &Extension<'_>) -> bool
-    ensures { (result ≡ true) ↔ IsCriticalAltName extension.now }
+/// Whether there is an authorityKeyIdentifier with a keyIdentifier, if issuer and subject are not
+/// the same (RFC 5280, 4.2.1.1). This does not use `alloc`.
+pub fn has_key_identifier(alloc: Global, signed: &TbsCertificate<'_>) -> bool
+    ensures { (result ≡ true) ↔ HasKeyIdentifier signed.now }
 {
-    is(extension.extn_id.octets(), &id_ce_subject_alt_name()) && extension.is_critical()
+    is_self_issued(signed) || is_present(alloc, signed, ExtensionTest::KeyIdentifier)
+}
+
+// Whether the issuer has the name of the subject, octet by octet.
+fn is_self_issued(signed: &TbsCertificate<'_>) -> bool
+    ensures { (result ≡ true) ↔ IsSelfIssued signed.now }
+{
+    signed.issuer.levels.octets() == signed.subject.levels.octets()
 }

@@ -8,5 +8,5 @@ pub returns-else-is_some : goal.returns-else-is_some
 returns-else-is_some c =
     let octets = c.args.octets.now in
     let none : generalized_form (whole_seconds octets) ≡ false =
-        false_from_ne_true _ (λ is. false≢true (sym c.if-is_some.false ∙ c.is_some.ensures ∙ c.seconds_from.ensures.some.1 is)) in
+    false_from_ne_true _ (λ is. false≢true (sym c.if-is_some.false ∙ c.is_some.ensures ∙ c.seconds_from.ensures.some.1 is)) in
     c.if-is_some.false ∙ sym (ap (λ b. b && ends_seconds (drop 14 octets)) none)

@@ -1,6 +1,6 @@
 use Rattle.std.proofs.Common.{sym, ◌∙◌}
 use Rattle.der.proofs.EqualityLemmas.{tag_equality}
-use Rattle.x509_lint.proofs.checks.is_same_tag.Goals as goal
+use Rattle.x509_lint.proofs.elements.is_same_tag.Goals as goal
 
 pub returns : goal.returns
 returns c =

@@ -1,0 +1,86 @@
+//! Extensions that are looked for among those of a certificate.
+ghost use Rattle.std.specs.Prelude.{◌≡◌, ◌↔◌, true};
+ghost use Rattle.der.specs.Prelude.{Integer};
+ghost use Rattle.x509_lint.specs.CertificateChecks.{IsPresent};
+ghost use Rattle.x509_lint.specs.ExtensionTests.{HasFound, IsFound, given_of, wanted_of};
+
+use crate::checks::identifiers::is;
+use crate::extension_test::ExtensionTest;
+use crate::forms::context;
+use crate::pair_rule::PairRule;
+use crate::values::{has_authority, has_cert_sign, has_part};
+use der::Tag;
+use std::alloc::Global;
+use x509::values::{
+    id_ce_authority_key_identifier, id_ce_basic_constraints, id_ce_c_rl_number,
+    id_ce_delta_crl_indicator, id_ce_freshest_crl, id_ce_issuing_distribution_point,
+    id_ce_key_usage, id_ce_name_constraints, id_ce_subject_alt_name, id_ce_subject_key_identifier,
+};
+use x509::{Extension, Extensions, TbsCertificate};
+
+/// Whether a certificate with the one extension has the other too. This does not use `alloc`.
+pub fn has_pair(alloc: Global, signed: &TbsCertificate<'_>, rule: PairRule) -> bool
+    ensures { (result ≡ true)
+        ↔ (IsPresent (given_of rule) signed.now → IsPresent (wanted_of rule) signed.now) }
+{
+    !is_present(alloc, signed, rule.given()) || is_present(alloc, signed, rule.wanted())
+}
+
+/// Whether the certificate has such an extension. This does not use `alloc`.
+pub fn is_present(alloc: Global, signed: &TbsCertificate<'_>, test: ExtensionTest) -> bool
+    ensures { (result ≡ true) ↔ IsPresent test signed.now }
+{
+    match &signed.extensions.0 {
+        Some(extensions) => has_extension(alloc, &extensions.0, test),
+        None => false,
+    }
+}
+
+/// Whether one of the extensions is looked for. This does not use `alloc`.
+pub fn has_extension(alloc: Global, extensions: &Extensions<'_>, test: ExtensionTest) -> bool
+    ensures { (result ≡ true) ↔ HasFound test extensions.now }
+{
+    for extension in extensions.items.iter(alloc) {
+        if is_found(alloc, &extension, test) {
+            return true;
+        }
+    }
+    false
+}
+
+// Whether the extension is looked for.
+fn is_found(alloc: Global, extension: &Extension<'_>, test: ExtensionTest) -> bool
+    ensures { (result ≡ true) ↔ IsFound test extension.now }
+{
+    let id = extension.extn_id.octets();
+    let value = extension.extn_value.octets();
+    match test {
+        ExtensionTest::CriticalAltName => {
+            is(id, &id_ce_subject_alt_name()) && extension.is_critical()
+        }
+        ExtensionTest::KeyUsage => is(id, &id_ce_key_usage()),
+        ExtensionTest::CertSign => is(id, &id_ce_key_usage()) && has_cert_sign(alloc, value),
+        ExtensionTest::SubjectKeyIdentifier => is(id, &id_ce_subject_key_identifier()),
+        ExtensionTest::KeyIdentifier => {
+            is(id, &id_ce_authority_key_identifier()) && has_part(alloc, value, context(false, 0))
+        }
+        ExtensionTest::NameConstraints => is(id, &id_ce_name_constraints()),
+        ExtensionTest::Authority => {
+            is(id, &id_ce_basic_constraints()) && has_authority(alloc, value)
+        }
+        ExtensionTest::PathLength => {
+            is(id, &id_ce_basic_constraints()) && has_part(alloc, value, Tag::Integer)
+        }
+        ExtensionTest::Number => is(id, &id_ce_c_rl_number()),
+        ExtensionTest::CriticalNumber => { is(id, &id_ce_c_rl_number()) && extension.is_critical() }
+        ExtensionTest::PlainDelta => {
+            is(id, &id_ce_delta_crl_indicator()) && !extension.is_critical()
+        }
+        ExtensionTest::PlainPoint => {
+            is(id, &id_ce_issuing_distribution_point()) && !extension.is_critical()
+        }
+        ExtensionTest::CriticalFreshest => {
+            is(id, &id_ce_freshest_crl()) && extension.is_critical()
+        }
+    }
+}

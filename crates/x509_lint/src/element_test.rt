@@ -1,0 +1,17 @@
+//! Tests of elements.
+ghost use Rattle.std.specs.Prelude.{◌≡◌, ◌↔◌, ℕ, List, true};
+ghost use Rattle.der.specs.Prelude.{Tag as ATag};
+
+use der::Tag;
+use std::alloc::Global;
+
+/// A test of an element, by its tag and its contents.
+///
+/// Ghost member (for proofs only): `keeps` says which elements keep the rule.
+pub trait ElementTest {
+    ghost keeps: { Self → ATag → List ℕ → Type 0 };
+
+    /// Whether an element with this tag and these contents keeps the rule.
+    fn keeps(&self, alloc: Global, tag: Tag, contents: &[u8]) -> bool
+        ensures { (result ≡ true) ↔ keeps self.now tag contents.now };
+}

@@ -1,0 +1,47 @@
+//! The forms of general names (RFC 5280, 4.2.1.6).
+ghost use Rattle.std.specs.Prelude.{◌≡◌, ◌↔◌, true};
+ghost use Rattle.der_asn1.specs.ContextSpecific.{context_tag};
+ghost use Rattle.x509_lint.specs.GeneralNameForms.{FormKeeps};
+
+pub mod host;
+pub mod mailbox;
+pub mod scheme;
+
+use crate::elements::is_same_tag;
+use crate::form_rule::FormRule;
+use der::{Tag, TagNumber};
+use host::is_host_name;
+use mailbox::is_mailbox;
+use scheme::has_scheme;
+
+/// Whether a general name with this tag and these contents keeps the rule.
+pub fn form_keeps(tag: Tag, contents: &[u8], rule: FormRule) -> bool
+    ensures { (result ≡ true) ↔ FormKeeps rule tag contents.now }
+{
+    match rule {
+        FormRule::Mail => !is_context(tag, false, 1) || is_mailbox(contents),
+        FormRule::Host => !is_context(tag, false, 2) || is_host_name(contents),
+        FormRule::Scheme => !is_context(tag, false, 6) || has_scheme(contents),
+        FormRule::Address => {
+            !is_context(tag, false, 7) || contents.len() == 4 || contents.len() == 16
+        }
+        FormRule::Directory => !is_context(tag, true, 4) || contents != [0x30, 0x00].as_slice(),
+    }
+}
+
+/// Whether the tag is context-specific, with this number.
+pub fn is_context(tag: Tag, constructed: bool, number: u32) -> bool
+    ensures { (result ≡ true) ↔ (tag ≡ context_tag constructed number) }
+{
+    is_same_tag(tag, context(constructed, number))
+}
+
+/// A context-specific tag.
+pub fn context(constructed: bool, number: u32) -> Tag
+    ensures { result ≡ context_tag constructed number }
+{
+    Tag::ContextSpecific {
+        constructed,
+        number: TagNumber::new(number),
+    }
+}

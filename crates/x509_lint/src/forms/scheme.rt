@@ -1,0 +1,43 @@
+//! Schemes of URIs (RFC 3986, 3.1).
+ghost use Rattle.std.specs.Prelude.{◌≡◌, ◌↔◌, ◌<◌, length, true};
+ghost use Rattle.x509_lint.specs.Separators.{HasScheme, fits_scheme, is_letter, is_scheme_octet};
+
+/// Whether the octets are a scheme, a colon, and at least one more octet.
+pub fn has_scheme(octets: &[u8]) -> bool
+    ensures { (result ≡ true) ↔ HasScheme octets.now }
+{
+    for at in 0..octets.len() {
+        let octet = octets[at];
+        if octet == b':' {
+            return at > 0 && octets.len() - at > 1;
+        }
+        if !fits_scheme(at, octet) {
+            return false;
+        }
+    }
+    false
+}
+
+// Whether an octet may be that of a scheme at this place.
+fn fits_scheme(at: usize, octet: u8) -> bool
+    ensures { result ≡ fits_scheme at octet }
+{
+    if at == 0 {
+        is_letter(octet)
+    } else {
+        is_scheme_octet(octet)
+    }
+}
+
+fn is_letter(octet: u8) -> bool
+    ensures { result ≡ is_letter octet }
+{
+    64 < octet && octet < 91 || 96 < octet && octet < 123
+}
+
+// A letter, a digit, or one of + - .
+fn is_scheme_octet(octet: u8) -> bool
+    ensures { result ≡ is_scheme_octet octet }
+{
+    is_letter(octet) || 47 < octet && octet < 58 || octet == 43 || octet == 45 || octet == 46
+}

@@ -1,0 +1,45 @@
+//! Tests of the elements inside of an element.
+ghost use Rattle.std.specs.Prelude.{◌≡◌, ◌↔◌, true};
+ghost use Rattle.der_asn1.specs.ContextSpecific.{context_tag};
+ghost use Rattle.x509_lint.specs.Groups.{GroupKeeps};
+
+use crate::element_test::ElementTest;
+use crate::elements::each_element;
+use crate::form_rule::FormRule;
+use crate::forms::context;
+use crate::part_test::PartTest;
+use der::Tag;
+use std::alloc::Global;
+
+/// A test of the elements inside of one element.
+#[derive(Clone, Copy, Debug, PartialEq, Eq)]
+pub enum GroupTest {
+    /// A policy mapping (RFC 5280, 4.2.1.5) does not name anyPolicy.
+    Mapping,
+    /// A distribution point (4.2.1.13) has a name or an issuer of lists.
+    Point,
+    /// The location of an access description (4.2.2) has a scheme, if it is a URI.
+    Location,
+    /// Each of the subtrees (4.2.1.10) has a base alone.
+    Subtrees,
+}
+
+impl ElementTest for GroupTest {
+    ghost keeps = { GroupKeeps };
+
+    fn keeps(&self, alloc: Global, _tag: Tag, contents: &[u8]) -> bool {
+        match self {
+            GroupTest::Mapping => each_element(alloc, contents, &PartTest::NotAnyPolicy),
+            GroupTest::Point => !each_element(alloc, contents, &no_name_or_issuer()),
+            GroupTest::Location => each_element(alloc, contents, &PartTest::Form(FormRule::Scheme)),
+            GroupTest::Subtrees => each_element(alloc, contents, &PartTest::Single),
+        }
+    }
+}
+
+// A test of the fields of a distribution point: none is a name or an issuer of lists.
+fn no_name_or_issuer() -> PartTest
+    ensures { result ≡ PartTest.NeitherTagged (context_tag true 0) (context_tag true 2) }
+{
+    PartTest::NeitherTagged(context(true, 0), context(true, 2))
+}

@@ -1,0 +1,42 @@
+//! Values of types in octets.
+ghost use Rattle.std.specs.Prelude.{◌≡◌, ◌↔◌, true};
+ghost use Rattle.x509_lint.specs.Items.{AreItems, IsListValue, IsStructValue};
+
+use crate::elements::contents_with;
+use crate::part_test::is_single;
+use der::{SliceReader, Tag};
+use der_asn1::{BorrowedItem, DecodeItem, SequenceOf};
+use std::alloc::Global;
+
+/// Whether the octets are a SEQUENCE OF values of the type.
+pub fn is_list_of<'a, T: DecodeItem<SliceReader<'a>> + BorrowedItem>(
+    alloc: Global,
+    octets: &'a [u8],
+) -> bool
+    ensures { (result ≡ true) ↔ IsListValue T.item.valid T.item.octets octets.now }
+{
+    match contents_with(alloc, octets, Tag::Sequence) {
+        Some(contents) => are_items::<T>(alloc, contents),
+        None => false,
+    }
+}
+
+/// Whether the octets are one value of the type.
+pub fn is_one_of<'a, T: DecodeItem<SliceReader<'a>> + BorrowedItem>(
+    alloc: Global,
+    octets: &'a [u8],
+) -> bool
+    ensures { (result ≡ true) ↔ IsStructValue T.item.valid T.item.octets octets.now }
+{
+    is_single(alloc, octets) && are_items::<T>(alloc, octets)
+}
+
+/// Whether the octets are values of the type, one after the other.
+pub fn are_items<'a, T: DecodeItem<SliceReader<'a>> + BorrowedItem>(
+    alloc: Global,
+    octets: &'a [u8],
+) -> bool
+    ensures { (result ≡ true) ↔ AreItems T.item.valid T.item.octets octets.now }
+{
+    SequenceOf::<'a, T>::new(alloc, octets).is_ok()
+}

@@ -1,0 +1,66 @@
+//! Rules for the values of extensions.
+use crate::form_rule::FormRule;
+use std::fmt;
+
+/// A rule for the values of extensions (RFC 5280, 4.2.1 and 4.2.2).
+#[derive(Clone, Copy, Debug, PartialEq, Eq)]
+pub enum ValueRule {
+    /// The value is one of the type of the extension.
+    Contents,
+    /// A basicConstraints has a pathLenConstraint only if its cA is true (4.2.1.9).
+    PathLengthOfAuthority,
+    /// The pathLenConstraint of a basicConstraints is not negative (4.2.1.9).
+    PathLength,
+    /// The numbers of a policyConstraints are not negative (4.2.1.11).
+    PolicyNumbers,
+    /// The number of an inhibitAnyPolicy is not negative (4.2.1.14).
+    AnyPolicyNumber,
+    /// No policy occurs twice in a certificatePolicies (4.2.1.4).
+    DistinctPolicies,
+    /// A policyMappings does not name anyPolicy (4.2.1.5).
+    Mappings,
+    /// Each distribution point has a name or an issuer of lists (4.2.1.13).
+    Points,
+    /// Each subtree of a nameConstraints has neither minimum nor maximum (4.2.1.10).
+    Subtrees,
+    /// Each list of subtrees of a nameConstraints has an item (4.2.1.10).
+    SubtreesPresent,
+    /// Each location of an authorityInfoAccess or a subjectInfoAccess has a scheme, if it is a URI
+    /// (4.2.2).
+    Locations,
+    /// An authorityKeyIdentifier has both the name and the serial number of an issuer, or neither
+    /// (4.2.1.1).
+    IssuerAndSerial,
+    /// Each name of a subjectAltName or an issuerAltName keeps this rule (4.2.1.6, 4.2.1.7).
+    Names(FormRule),
+}
+
+impl fmt::Display for ValueRule {
+    fn fmt<W: fmt::Write>(&self, f: &mut fmt::Formatter<W>) -> fmt::Result {
+        f.write_str(match self {
+            ValueRule::Contents => "the value of an extension is malformed (RFC 5280, 4.2)",
+            ValueRule::PathLengthOfAuthority => {
+                "a pathLenConstraint is present, but cA is not true (RFC 5280, 4.2.1.9)"
+            }
+            ValueRule::PathLength => "a pathLenConstraint is negative (RFC 5280, 4.2.1.9)",
+            ValueRule::PolicyNumbers => {
+                "a number of a policyConstraints is negative (RFC 5280, 4.2.1.11)"
+            }
+            ValueRule::AnyPolicyNumber => "an inhibitAnyPolicy is negative (RFC 5280, 4.2.1.14)",
+            ValueRule::DistinctPolicies => "a policy occurs twice (RFC 5280, 4.2.1.4)",
+            ValueRule::Mappings => "a policyMappings names anyPolicy (RFC 5280, 4.2.1.5)",
+            ValueRule::Points => {
+                "a distribution point has neither a name nor an issuer (RFC 5280, 4.2.1.13)"
+            }
+            ValueRule::Subtrees => { "a subtree has a minimum or a maximum (RFC 5280, 4.2.1.10)" }
+            ValueRule::SubtreesPresent => "a list of subtrees is empty (RFC 5280, 4.2.1.10)",
+            ValueRule::Locations => {
+                "the URI of an access description has no scheme (RFC 5280, 4.2.2)"
+            }
+            ValueRule::IssuerAndSerial => {
+                "an issuer is identified without a serial number, or the reverse (RFC 5280, 4.2.1.1)"
+            }
+            ValueRule::Names(rule) => return write!(f, "{rule}"),
+        })
+    }
+}
