@@ -44,9 +44,9 @@ whole_found {Child} {v} {w} {rest} {last} octets value end rules = yes_or_no (ho
     is on = let there = (all.exact rules on last).1 refl in subst (Child rules) (sym there.1.0) there.2
 
 -- the verdict on what was walked is that of the departures which notes have, if they are kept
-pub kept_verdict : {v : Verdict} {old new : Notes} → departures_of old ≡ [] → old.kept ≡ true → Logs v old new → v ≡ verdict_of (departures_of new)
-kept_verdict none kept logs =
-    let adds = logs.adds kept in
+pub kept_verdict : {v : Verdict} {old new : Notes} → departures_of old ≡ [] → old.kept ≡ true → Logs v old new → new.lost ≡ 0 → v ≡ verdict_of (departures_of new)
+kept_verdict none kept logs all =
+    let adds = (logs.adds kept all).1 in
     adds.verdict ∙ ap verdict_of (sym (adds.split ∙ ap (λ l. l ++ adds.added) none))
 
 pub exact_of : {P : EncodingRules → Type 0} {v w : Verdict} → v ≡ w → ((rules : EncodingRules) → (holds rules v ≡ true) ↔ P rules) → (rules : EncodingRules) → (holds rules w ≡ true) ↔ P rules

@@ -44,9 +44,10 @@ pub record Adds (v : Verdict) (old new : List Departure) : Type 0 where
   pub split : new ≡ old ++ added
   pub verdict : v ≡ verdict_of added
 
--- a walk adds such departures to its notes, if it keeps them, in the same memory
+-- a walk adds such departures to its notes, if it keeps them and none is lost, in the same memory
 pub record Logs (v : Verdict) (old new : Notes) : Type 0 where
   pub same : new.kept ≡ old.kept
   pub entries : new.entries.ghost_name ≡ old.entries.ghost_name
   pub departures : new.departures.ghost_name ≡ old.departures.ghost_name
-  pub adds : old.kept ≡ true → Adds v (departures_of old) (departures_of new)
+  pub adds : old.kept ≡ true → new.lost ≡ 0
+      → (old.lost ≡ 0) × Adds v (departures_of old) (departures_of new)

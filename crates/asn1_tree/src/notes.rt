@@ -14,6 +14,8 @@ pub(crate) struct Notes<'n> {
     /// How many of these are kept so far.
     pub entry_count: usize,
     pub departure_count: usize,
+    /// How many departures there was no room for, or more than can be counted.
+    pub lost: usize,
     /// Whether they are kept.
     pub kept: bool,
     /// The number of octets of the input.

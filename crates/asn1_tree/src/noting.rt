@@ -1,5 +1,5 @@
 //! What a walk notes.
-ghost use Rattle.std.specs.Prelude.{◌≡◌, ◌↔◌, ◌+◌, ◌++◌, ◌∷◌, ◌≤◌, true, [], length, IfOk, OnOk};
+ghost use Rattle.std.specs.Prelude.{◌≡◌, ◌↔◌, ◌+◌, ◌++◌, ◌∷◌, ◌<◌, ◌≤◌, true, [], length, IfOk, OnOk};
 ghost use Rattle.der_base.specs.declared.encoding_rules.EncodingRules.{EncodingRules};
 ghost use Rattle.asn1_tree.specs.Verdict.{holds};
 ghost use Rattle.asn1_tree.specs.declared.verdict.Verdict.TheVariants.{Der};
@@ -26,6 +26,7 @@ impl<'n> Notes<'n> {
         end: usize,
     ) -> Self
         ensures none { departures_of result ≡ [] }
+        ensures lost { result.lost ≡ 0 }
         ensures kept { result.kept ≡ kept }
         ensures end { result.end ≡ end }
         ensures entries { result.entries.ghost_name ≡ entries.entry.ghost_name }
@@ -36,6 +37,7 @@ impl<'n> Notes<'n> {
             departures,
             entry_count: 0,
             departure_count: 0,
+            lost: 0,
             kept,
             end,
         }
@@ -49,27 +51,41 @@ impl<'n> Notes<'n> {
         ensures end { OnOk result (self.new.end ≡ self.old.end) }
     {
         if self.kept {
-            self.add(Departure { rule, offset, node })?;
+            self.add(Departure { rule, offset, node });
         }
         Ok(rule.verdict())
     }
 
-    // Adds a departure, if there is room.
-    fn add(&mut self, departure: Departure) -> Result<(), Full>
+    // Adds a departure, or counts it if there is no room.
+    fn add(&mut self, departure: Departure)
         requires { departure.offset ≤ self.old.end }
-        ensures added { OnOk result
-            (departures_of self.new ≡ departures_of self.old ++ departure ∷ []) }
+        ensures added { self.new.lost ≡ 0 → (self.old.lost ≡ 0)
+            × (departures_of self.new ≡ departures_of self.old ++ departure ∷ []) }
         ensures kept { self.new.kept ≡ self.old.kept }
         ensures end { self.new.end ≡ self.old.end }
         ensures entries { self.new.entries.ghost_name ≡ self.old.entries.ghost_name }
         ensures departures { self.new.departures.ghost_name ≡ self.old.departures.ghost_name }
     {
-        if self.departure_count >= self.departures.len() {
-            return Err(Full);
+        if self.departure_count < self.departures.len() {
+            self.keep(departure);
+        } else {
+            self.lost = self.lost.saturating_add(1);
         }
+    }
+
+    // Adds a departure.
+    fn keep(&mut self, departure: Departure)
+        requires inside { departure.offset ≤ self.old.end }
+        requires room { self.old.departure_count < length self.old.departures.now }
+        ensures added { departures_of self.new ≡ departures_of self.old ++ departure ∷ [] }
+        ensures lost { self.new.lost ≡ self.old.lost }
+        ensures kept { self.new.kept ≡ self.old.kept }
+        ensures end { self.new.end ≡ self.old.end }
+        ensures entries { self.new.entries.ghost_name ≡ self.old.entries.ghost_name }
+        ensures departures { self.new.departures.ghost_name ≡ self.old.departures.ghost_name }
+    {
         self.departures[self.departure_count] = departure;
         self.departure_count += 1;
-        Ok(())
     }
 
     /// Notes a departure, if there is one.
@@ -134,6 +150,7 @@ impl<'n> Notes<'n> {
     fn place(&mut self, entry: Entry) -> Result<(), Full>
         requires { entry.offset + entry.header_len + entry.contents_len ≤ self.old.end }
         ensures same { departures_of self.new ≡ departures_of self.old }
+        ensures lost { self.new.lost ≡ self.old.lost }
         ensures kept { self.new.kept ≡ self.old.kept }
         ensures end { self.new.end ≡ self.old.end }
         ensures entries { self.new.entries.ghost_name ≡ self.old.entries.ghost_name }

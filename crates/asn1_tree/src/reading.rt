@@ -84,8 +84,8 @@ fn read_in(
         marks.as_mut_slice(),
         text.as_mut_slice(),
     ) {
-        Ok(found) => found,
-        Err(_) => return Ok(None),
+        Ok(found) if found.lost == 0 => found,
+        _ => return Ok(None),
     };
     entries.truncate(found.entries);
     departures.truncate(found.departures);

@@ -26,11 +26,12 @@ use asn1_schema::Schema;
 /// Reads octets as a value of a node of a table, as [`read`](crate::read) does, into memory of the caller: the
 /// elements and the departures. `marks` and `text` are room for what is needed on the way: a mark for each field
 /// of each SET around an element, and the text of a string in the constructed form. Nothing is allocated.
+/// Departures for which there is no room are counted, and the verdict is exact all the same.
 /// The caller must ensure that there is such a node.
 ///
 /// # Errors
 ///
-/// One of the four has no more room. Then try again with more: there are at most as many marks as the table
+/// There is no room for an element, or none on the way. Then try again with more: there are at most as many marks as the table
 /// has fields, for each of 64 levels, and the text has at most one octet more than the input.
 pub fn read_into(
     schema: &Schema<'_>,
@@ -42,9 +43,12 @@ pub fn read_into(
     text: &mut [u8],
 ) -> Result<Found, Full>
     requires { node < schema.now.counts.nodes }
-    ensures der { IfOk result (λ found. (found.departures ≡ 0)
+    ensures exact { IfOk result (λ found. (rules : EncodingRules) → (holds rules found.verdict ≡ true)
+        ↔ IsValue (types_in schema.now.octets.now) 64 rules None node octets.now) }
+    ensures der { IfOk result (λ found. found.lost ≡ 0 → (found.departures ≡ 0)
         ↔ IsDer (table_in schema.now.octets.now) node octets.now) }
-    ensures ber { IfOk result (λ found. AreOfDer (take found.departures departures.new)
+    ensures ber { IfOk result (λ found. found.lost ≡ 0
+        → AreOfDer (take found.departures departures.new)
         ↔ IsBer (table_in schema.now.octets.now) node octets.now) }
     ensures inside { IfOk result (λ found.
         are_inside (length octets.now) (take found.departures departures.new) ≡ true) }
@@ -54,10 +58,12 @@ pub fn read_into(
         (found.entries ≤ length entries.new) × (found.departures ≤ length departures.new)) }
 {
     let mut notes = Notes::new(entries, departures, true, octets.len());
-    walk(&mut notes, marks, text, schema, node, octets)?;
+    let verdict = walk(&mut notes, marks, text, schema, node, octets)?;
     Ok(Found {
         entries: notes.entry_count,
         departures: notes.departure_count,
+        lost: notes.lost,
+        verdict,
     })
 }
 
