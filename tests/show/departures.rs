@@ -85,9 +85,9 @@ fn departures_alone_are_printed_with_the_file(rt: HostRuntime) {
     let finished = show_in_memory(rt.alloc(), options, "f", &changed(361, &[0x04]));
     let text = "f: tbsCertificate.extensions[4].extnValue at offset 361: X.680 31: tag of another type; \
         found 04:02:02:04\n1 departure from DER, 1 of them from BER too\n";
-    crate::checks::same_octets(&rt, finished.out.buffer.as_slice(), text.as_bytes());
+    crate::checks::same_octets(&rt, finished.out.target.buffer.as_slice(), text.as_bytes());
     let finished = show_in_memory(rt.alloc(), options, "f", &CERTIFICATE);
-    crate::checks::same_octets(&rt, finished.out.buffer.as_slice(), b"");
+    crate::checks::same_octets(&rt, finished.out.target.buffer.as_slice(), b"");
     crate::checks::same(&rt, finished.status, 0);
 }
 

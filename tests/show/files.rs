@@ -26,7 +26,7 @@ pub const FIELDS: &str = "Public Key Algorithm: ED25519 (1.3.101.112)\n\
 #[test]
 fn a_block_is_shown_under_its_label(rt: HostRuntime) {
     let finished = show_in_memory(rt.alloc(), Options::new(), "f", KEY.as_bytes());
-    let printed = finished.out.buffer.as_slice();
+    let printed = finished.out.target.buffer.as_slice();
     let heading = b"PUBLIC KEY (line 2):\n";
     same_octets(&rt, printed.get(..heading.len()).unwrap_or(&[]), heading);
     same_octets(
@@ -43,7 +43,7 @@ fn a_label_that_does_not_match_is_reported(rt: HostRuntime) {
     let line =
         "error: f: CERTIFICATE at line 1: the label does not match the contents, which are of \
                 the kind public-key\n";
-    same_octets(&rt, finished.errors.buffer.as_slice(), line.as_bytes());
+    same_octets(&rt, finished.errors.target.buffer.as_slice(), line.as_bytes());
     same(&rt, finished.status, 1);
 }
 
@@ -52,11 +52,11 @@ fn der_and_pem_are_converted(rt: HostRuntime) {
     let mut options = Options::new();
     options.shown = Shown::Der;
     let der = show_in_memory(rt.alloc(), options, "f", KEY.as_bytes());
-    same(&rt, der.out.buffer.len(), 44);
+    same(&rt, der.out.target.buffer.len(), 44);
     options.shown = Shown::Pem;
-    let pem = show_in_memory(rt.alloc(), options, "f", der.out.buffer.as_slice());
+    let pem = show_in_memory(rt.alloc(), options, "f", der.out.target.buffer.as_slice());
     let expected = KEY.as_bytes().get(20..).unwrap_or(&[]);
-    same_octets(&rt, pem.out.buffer.as_slice(), expected);
+    same_octets(&rt, pem.out.target.buffer.as_slice(), expected);
 }
 
 // The first private key of RFC 8410, 10.3.
@@ -71,7 +71,7 @@ fn the_size_of_an_ed25519_key_is_that_of_its_octets(rt: HostRuntime) {
         Version: 1 (0x0)\n\
         Private Key Algorithm: ED25519 (1.3.101.112)\n\
         Private-Key: 32 octets, not shown\n";
-    same_octets(&rt, finished.out.buffer.as_slice(), lines.as_bytes());
+    same_octets(&rt, finished.out.target.buffer.as_slice(), lines.as_bytes());
     same(&rt, finished.status, 0);
 }
 
@@ -90,7 +90,7 @@ fn parameters_of_diffie_hellman_are_shown(rt: HostRuntime) {
         f6:c4:cf:09:36:41:c6:84:47:5c:4d:19:56:25:a7:a6:78:ab:31:4e:b4:f6:32:83:7a:14:85:d7:f0:42:\
         4a:42:9c:75:af\n\
         G: 2 (0x2)\n";
-    let printed = finished.out.buffer.as_slice();
+    let printed = finished.out.target.buffer.as_slice();
     same_octets(&rt, printed.get(..lines.len()).unwrap_or(&[]), lines);
     same(&rt, finished.status, 0);
 }

@@ -29,7 +29,7 @@ fn a_key_is_an_object_with_the_names_of_the_module(rt: HostRuntime) {
   ]
 }
 "#;
-    same_octets(&rt, finished.out.buffer.as_slice(), expected.as_bytes());
+    same_octets(&rt, finished.out.target.buffer.as_slice(), expected.as_bytes());
     same(&rt, finished.status, 0);
 }
 
@@ -46,7 +46,7 @@ fn departures_are_objects(rt: HostRuntime) {
   ]
 }
 "#;
-    has(&rt, &finished.out.buffer, expected);
-    has(&rt, &finished.out.buffer, r#""extnValue": {"tag": "OCTET STRING", "octets": "0204"}"#);
+    has(&rt, &finished.out.target.buffer, expected);
+    has(&rt, &finished.out.target.buffer, r#""extnValue": {"tag": "OCTET STRING", "octets": "0204"}"#);
     same(&rt, finished.status, 1);
 }

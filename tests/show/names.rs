@@ -20,10 +20,10 @@ fn is_printed(rt: &impl Abort, alloc: Global, octets: &[u8], text: &str) {
     let node = schema.find_node("Name").unwrap_or(0);
     if let Ok(tree) = read_as(alloc, &schema, node, octets) {
         if let Some(name) = Cursor::root(octets, &schema, &tree) {
-            put_name(&mut page, name);
+            put_name(&mut page.out, name);
         }
     }
-    same_octets(rt, page.out.buffer.as_slice(), text.as_bytes());
+    same_octets(rt, page.out.target.buffer.as_slice(), text.as_bytes());
 }
 
 #[test]

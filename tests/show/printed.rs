@@ -8,8 +8,8 @@ use std::process::Abort;
 pub fn is_shown(rt: &impl Abort, alloc: Global, octets: &[u8], status: u8) -> Vec<u8> {
     let finished = show_in_memory(alloc, Options::new(), "f", octets);
     same(rt, finished.status, status);
-    same(rt, finished.errors.buffer.len(), 0);
-    finished.out.buffer
+    same(rt, finished.errors.target.buffer.len(), 0);
+    finished.out.target.buffer
 }
 
 fn find(printed: &[u8], text: &str) -> bool {

@@ -1,6 +1,5 @@
 // All about one element: where it is, its whole value, and buttons that copy or save it.
 
-const MOST_TEXT = 20000;
 const MOST_LINKED = 16384;
 const MOST_COPIED = 1 << 20;
 const MOST_DIGESTED = 1 << 24;
@@ -41,26 +40,31 @@ async function putDigest(place, octets) {
   place.textContent = digest ? hexadecimal(new Uint8Array(digest)).replaceAll(' ', '') : 'not here';
 }
 
-// The labels of the elements around a node and of itself, from the outside.
-function pathOf(tree, labels, node) {
+// The names of the elements around a node and of itself, from the outside.
+function pathOf(tree, lines, node) {
   const names = [];
-  for (let at = node; at >= 0; at = tree.parent(at))
-    names.unshift(labels.get(tree.start[at]) ?? tagText(tree.tag[at]));
+  for (let at = node; at >= 0; at = tree.parent(at)) {
+    const { name, type, tag } = lines.of(tree.line[at]);
+    names.unshift(name || type || tag);
+  }
   return names.join(' › ');
 }
 
-function showDetails(place, { library, tree, treeView, selected: at }) {
+function showDetails(place, page) {
+  const { library, tree, lines, selected: at } = page;
   const start = tree.start[at], body = tree.body[at], end = tree.end[at], finish = tree.finish(at);
-  const { text, error } = valueOf(library, tree, at, MOST_TEXT);
+  const { text, type, tag } = lines.of(tree.line[at]);
   const facts = [
-    ['Type', `${tagText(tree.tag[at])}, ${tree.has(at, FLAG.constructed) ? 'constructed' : 'primitive'}`],
+    ['Type', `${type && `${type}: `}${tag.replace(/ \(\w+\)$/, '')}, ${tree.has(at, FLAG.constructed) ? 'constructed' : 'primitive'}`],
     ['Place', `offset ${start} (0x${start.toString(16)}), header ${counted(body - start, 'octet')}, contents ${counted(end - body, 'octet')} to ${end}`
       + (finish > end ? `, then ${finish - end} end-of-contents octets` : '')],
-    ['Inside of', pathOf(tree, treeView.labels, at)],
+    ['Inside of', pathOf(tree, lines, at)],
   ];
   const list = element('dl', '', ...facts.flatMap(([name, fact]) => [element('dt', '', name), element('dd', '', fact)]));
-  if (text || error)
-    list.append(element('dt', '', 'Value'), element('dd', error ? 'whole wrong' : 'whole', error ? `${errorText(error)}${text && `: ${text}`}` : text));
+  if (text)
+    list.append(element('dt', '', 'Value'), element('dd', 'whole', text));
+  for (const it of page.departuresAt(at))
+    list.append(element('dt', '', it.section), element('dd', 'whole wrong', `${it.rule}${it.ber ? '; BER allows it' : ''}`));
   const digits = () => hexadecimal(library.octets(start, finish)).replaceAll(' ', '');
   const buttons = element('p', 'buttons',
     ...(finish - start <= MOST_COPIED ? [button('Copy hexadecimal', it => copy(it, digits()))] : []),

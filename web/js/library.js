@@ -1,264 +1,211 @@
-// The proved library: the calls of bindings/c/yotremul/der.h in a WebAssembly memory of 64-bit
-// addresses. A struct that a call returns is written to an address that comes first; pointers, sizes
-// and tags are BigInt. Offsets in what is returned count from the start of the file.
+// The proved module (crates/der_page) in a WebAssembly memory of 64-bit addresses. Each call writes into memory that is
+// given to it; pointers and sizes are BigInt. Offsets count from the start of the value.
 
-const SLOT = { error: 0, reader: 64, inside: 128, count: 192, value: 256, struct: 512, text: 1024, file: 16384 };
-const TEXT_SPACE = SLOT.file - SLOT.text;
 const PAGE = 65536;
-const NODE_SIZE = 24;
-const KIND = { ok: 0, incomplete: 4, indefinite: 5, overlength: 13 };
-
-// An error of a call. `position` is an offset in the file, or null if the error has none.
-class DerError extends Error {
-  constructor(kind, text, position) {
-    super(text);
-    this.kind = kind;
-    this.position = position;
-  }
-}
+const ENTRY_SIZE = 40;
+const FOUND_SIZE = 40;
+const BLOCK_SIZE = 40;
+const NO_ROOM = -1n;
+const NONE = 0xffffffff;
+const FULL = 0xfffffffe;
+const BLOCKS = ['block', 'none', 'error', 'encrypted'];
 
 class Library {
   constructor(exports) {
     this.calls = exports;
-    this.base = Math.ceil(Number(exports.__heap_base.value) / 16) * 16;
-    this.length = 0;
-    this.bytes = new Uint8Array(0);
-    this.grow(SLOT.file);
-  }
-
-  at(slot) { return BigInt(this.base + slot); }
-
-  // Makes sure that the memory has so many octets from the base, and renews the views of it.
-  grow(size) {
-    const missing = this.base + size - this.calls.memory.buffer.byteLength;
-    if (missing > 0)
-      this.calls.memory.grow(BigInt(Math.ceil(missing / PAGE)));
-    if (this.bytes.buffer !== this.calls.memory.buffer) {
-      this.bytes = new Uint8Array(this.calls.memory.buffer);
-      this.view = new DataView(this.calls.memory.buffer);
-    }
+    this.top = Math.ceil(Number(exports.__heap_base.value) / 16) * 16;
+    const room = Number(exports.page_table_room()), at = this.take(room);
+    this.own = { at, length: Number(exports.page_table(BigInt(at), BigInt(room))) };
+    this.free = this.top;
   }
 
   version() {
-    const number = this.calls.der_version();
+    const number = this.calls.page_version();
     return [number / 10000, number / 100 % 100, number % 100].map(Math.floor).join('.');
   }
 
-  byte(slot) { return this.bytes[this.base + slot]; }
-  u16(slot) { return this.view.getUint16(this.base + slot, true); }
-  u32(slot) { return this.view.getUint32(this.base + slot, true); }
-  u64(slot) { return this.view.getBigUint64(this.base + slot, true); }
-  i64(slot) { return this.view.getBigInt64(this.base + slot, true); }
-
-  // Puts the file into the memory. It stays there until the next file.
-  load(octets) {
-    this.length = octets.length;
-    this.grow(SLOT.file + octets.length);
-    this.bytes.set(octets, this.base + SLOT.file);
+  // Takes memory above what is in use, and returns its address.
+  take(size) {
+    const at = this.top;
+    this.top = Math.ceil((at + size) / 16) * 16;
+    const missing = this.top - this.calls.memory.buffer.byteLength;
+    if (missing > 0)
+      this.grow(Math.ceil(missing / PAGE));
+    return at;
   }
 
-  octets(start, end) {
-    return this.bytes.subarray(this.base + SLOT.file + start, this.base + SLOT.file + end);
-  }
-
-  address(offset) { return this.at(SLOT.file + offset); }
-
-  clear(slot, length) { this.bytes.fill(0, this.base + slot, this.base + slot + length); }
-
-  textAt(length) {
-    return new TextDecoder().decode(this.bytes.subarray(this.base + SLOT.text, this.base + SLOT.text + length));
-  }
-
-  // The error of the last call, or null. Positions count from `origin`.
-  error(origin) {
-    const kind = this.byte(SLOT.error);
-    if (kind === KIND.ok)
-      return null;
-    let position = this.byte(SLOT.error + 1) ? origin + this.u32(SLOT.error + 4) : null;
-    if (kind === KIND.incomplete) {
-      // octets are missing where those that are there end; the text is to count from the file's start
-      for (const slot of [SLOT.error + 8, SLOT.error + 12])
-        this.view.setUint32(this.base + slot, origin + this.u32(slot), true);
-      position = this.u32(SLOT.error + 12);
-    }
-    // the page shows the position itself, since the text would count from the start of a part
-    this.bytes[this.base + SLOT.error + 1] = 0;
-    this.view.setUint32(this.base + SLOT.error + 4, 0, true);
-    const length = this.calls.der_error_text(this.at(SLOT.error), this.at(SLOT.text), 200n);
-    return new DerError(kind, this.textAt(Number(length)), position);
-  }
-
-  // Makes a call that returns an error, with these arguments after the error's address.
-  call(name, origin, ...words) {
-    this.calls[name](this.at(SLOT.error), ...words);
-    const error = this.error(origin);
-    if (error)
-      throw error;
-  }
-
-  // A part of the file; `start` is null if there are no octets in it and it is none of the file.
-  span(slot) {
-    const length = Number(this.u64(slot + 8));
-    const start = Number(this.u64(slot)) - this.base - SLOT.file;
-    const isInside = start >= 0 && start + length <= this.length;
-    return { start: isInside ? start : null, length };
-  }
-
-  bits(slot) { return { ...this.span(slot), unused: this.byte(slot + 16) }; }
-  any(slot) { return { ...this.span(slot), tag: Number(this.u64(slot + 16)) }; }
-  algorithm(slot) { return { identifier: this.span(slot), parameters: this.any(slot + 16) }; }
-
-  publicKey(slot) {
-    return { whole: this.span(slot), algorithm: this.algorithm(slot + 16), key: this.bits(slot + 56) };
-  }
-
-  // Reads a whole structure of the file by a call of certificates and keys.
-  whole(name, size, start, length) {
-    this.clear(SLOT.struct, size);
-    this.call(name, start, this.address(start), BigInt(length), this.at(SLOT.struct));
-  }
-
-  // The nodes of a part of the file: their memory is valid until the next call. `error` is null, or
-  // why the element at `stop` is refused.
-  readTree(start, end, isBer) {
-    const nodes = SLOT.file + Math.ceil(this.length / 16) * 16;
-    let capacity = Math.max(1024, Math.ceil((end - start) / 12));
-    for (;;) {
-      this.grow(nodes + capacity * NODE_SIZE);
-      this.clear(nodes, capacity * NODE_SIZE);
-      const reader = new Reader(this, start, end, isBer);
-      reader.enterState(SLOT.reader);
-      this.calls.der_read_tree(this.at(SLOT.error), this.at(SLOT.reader), this.at(nodes), BigInt(capacity), this.at(SLOT.count));
-      const count = Number(this.u64(SLOT.count));
-      const stop = start + Number(this.calls.der_position(this.at(SLOT.reader))), error = this.error(start);
-      if (!error || error.kind !== KIND.overlength || capacity > end - start)
-        return { view: new DataView(this.calls.memory.buffer, this.base + nodes, count * NODE_SIZE), count, error, stop };
-      capacity *= 2;
-    }
-  }
-
-  // Whether the octets are elements, one after another, with all that is inside of them.
-  isTree(start, end) {
-    const nodes = SLOT.file + Math.ceil(this.length / 16) * 16, capacity = 256;
-    this.grow(nodes + capacity * NODE_SIZE);
-    this.clear(nodes, capacity * NODE_SIZE);
-    new Reader(this, start, end, false).enterState(SLOT.reader);
-    this.calls.der_read_tree(this.at(SLOT.error), this.at(SLOT.reader), this.at(nodes), BigInt(capacity), this.at(SLOT.count));
-    const kind = this.byte(SLOT.error);
-    return kind === KIND.ok || kind === KIND.overlength;
-  }
-
-  // The dotted notation of an OBJECT IDENTIFIER, given its contents.
-  dotted(start, length) {
-    this.call('der_oid_text', 0, this.address(start), BigInt(length), this.at(SLOT.text), BigInt(TEXT_SPACE), this.at(SLOT.count));
-    return this.textAt(Number(this.u64(SLOT.count)));
-  }
-
-  // What a call that finds an extension by its type reads, in the contents of a list of extensions.
-  find(name, size, extensions) {
-    this.clear(SLOT.struct, size);
-    this.call(name, extensions.start, this.address(extensions.start), BigInt(extensions.length), this.at(SLOT.struct));
-  }
-}
-
-// A der_reader over a part of the file. Its 32 octets are kept here between the calls.
-class Reader {
-  constructor(library, start, end, isBer = false) {
-    this.library = library;
-    this.origin = start;
-    if (start === undefined)
-      return;
-    library.clear(SLOT.reader, 32);
-    library.call('der_reader_init', start, library.address(start), BigInt(end - start), isBer ? 1 : 0, library.at(SLOT.reader));
-    this.leaveState(SLOT.reader);
-  }
-
-  enterState(slot) { this.library.bytes.set(this.state, this.library.base + slot); }
-
-  leaveState(slot) {
-    const from = this.library.base + slot;
-    this.state = this.library.bytes.slice(from, from + 32);
-  }
-
-  // Makes a call on this reader, with these words after its address.
-  call(name, ...words) {
-    this.enterState(SLOT.reader);
+  // Engines from before the end of the proposal memory64, as that of Node 20, take a number here.
+  grow(pages) {
     try {
-      this.library.call(name, this.origin, this.library.at(SLOT.reader), ...words);
+      this.calls.memory.grow(BigInt(pages));
+    } catch (error) {
+      if (!(error instanceof TypeError))
+        throw error;
+      this.calls.memory.grow(pages);
+    }
+  }
+
+  // Calls a function, and gives back the memory that it took.
+  within(act) {
+    const { top } = this;
+    try {
+      return act();
     } finally {
-      this.leaveState(SLOT.reader);
+      this.top = top;
     }
   }
 
-  isFinished() {
-    this.enterState(SLOT.reader);
-    return this.library.calls.der_is_finished(this.library.at(SLOT.reader)) !== 0;
+  bytes(at, length) { return new Uint8Array(this.calls.memory.buffer, at, length); }
+
+  put(octets) {
+    const at = this.take(octets.length);
+    this.bytes(at, octets.length).set(octets);
+    return { at, length: octets.length };
   }
 
-  // A reader inside the next element, which must have this tag.
-  enter(tag) {
-    const inside = new Reader(this.library);
-    inside.origin = this.origin;
-    this.library.clear(SLOT.inside, 32);
-    this.call('der_enter', BigInt(tag), this.library.at(SLOT.inside));
-    inside.leaveState(SLOT.inside);
-    return inside;
-  }
+  words(...parts) { return parts.flatMap(it => [BigInt(it.at), BigInt(it.length)]); }
 
-  // The value that a call reads into `slot`, which has `size` octets.
-  value(name, size, ...words) {
-    this.library.clear(SLOT.value, size);
-    this.call(name, ...words, this.library.at(SLOT.value));
-  }
-
-  boolean(tag) { this.value('der_read_boolean', 8, BigInt(tag)); return this.library.byte(SLOT.value) !== 0; }
-  number(tag) { this.value('der_read_int64', 8, BigInt(tag)); return this.library.i64(SLOT.value); }
-  integer(tag) { this.value('der_read_integer', 16, BigInt(tag)); return this.library.span(SLOT.value); }
-  bitString(tag) { this.value('der_read_bit_string', 24, BigInt(tag)); return this.library.bits(SLOT.value); }
-  identifier(tag) { this.value('der_read_oid', 16, BigInt(tag)); return this.library.span(SLOT.value); }
-  none(tag) { this.call('der_read_null', BigInt(tag)); }
-
-  // The header of the next element: its contents start where the reader is then.
-  header() {
-    this.value('der_read_header', 16);
-    const { library } = this, from = SLOT.value;
-    const header = { tag: Number(library.u64(from)), isConstructed: library.byte(from + 12) !== 0 };
-    this.enterState(SLOT.reader);
-    return { ...header, body: this.origin + Number(library.calls.der_position(library.at(SLOT.reader))) };
-  }
-
-  // The next element, of any tag.
-  element() {
-    this.value('der_read_element', 40);
-    const { library } = this, from = SLOT.value;
-    return {
-      ...library.span(from), tag: Number(library.u64(from + 16)), at: this.origin + library.u32(from + 24),
-      isConstructed: library.byte(from + 32) !== 0,
-    };
-  }
-
-  // Characters of a string, at most `most` of them, and then three dots.
-  text(tag, type, most) {
-    this.value('der_read_text', 24, BigInt(tag), BigInt(type));
-    const { library } = this, characters = [];
-    while (library.calls.der_next_character(library.at(SLOT.value), library.at(SLOT.count))) {
-      if (characters.length === most)
-        return characters.join('') + '…';
-      characters.push(String.fromCodePoint(library.u32(SLOT.count)));
+  // What a call prints, which is told the memory for it.
+  printed(call, room = PAGE) {
+    for (let size = room; ; size *= 4) {
+      const text = this.within(() => {
+        const at = this.take(size), length = call(BigInt(at), BigInt(size));
+        return length === NO_ROOM ? null : new TextDecoder().decode(this.bytes(at, Number(length)));
+      });
+      if (text !== null)
+        return text;
     }
-    return characters.join('');
   }
 
-  // A time: year, month, day, hour, minute, second.
-  time(tag, type) {
-    this.value('der_read_time', 16, BigInt(tag), BigInt(type));
-    const { library } = this;
-    return [library.u16(SLOT.value + 8), ...[10, 11, 12, 13, 14].map(it => library.byte(SLOT.value + it))];
+  // Puts a value into the memory, where it stays until the next, and a table of types, if it has one of its own.
+  load(octets, schema = null) {
+    this.top = this.free;
+    this.table = schema ? this.put(schema) : this.own;
+    this.file = this.put(octets);
+    this.length = octets.length;
   }
 
-  // Another reader at the same place.
-  copy() {
-    const made = new Reader(this.library);
-    return Object.assign(made, { origin: this.origin, state: this.state.slice() });
+  octets(start, end) { return this.bytes(this.file.at + start, end - start); }
+
+  part(start, end) { return { at: this.file.at + start, length: end - start }; }
+
+  // Whether octets are a table of types, as `asn1_compile --schema` writes it.
+  isSchema(octets) {
+    return this.within(() => this.calls.page_types(...this.words(this.put(octets))) > 0);
+  }
+
+  // The index of a type in the table; null if it has none of this name.
+  typeNamed(name) {
+    const found = this.within(() => this.calls.page_type(...this.words(this.table, this.put(new TextEncoder().encode(name)))) >>> 0);
+    return found === NONE ? null : found;
+  }
+
+  // Calls a function with room for elements, and for what is needed on the way, until it has enough.
+  withRoom(length, call) {
+    for (let entries = Math.max(256, length >> 3), marks = 4096; ; entries *= 4) {
+      const { top } = this;
+      const found = call({ at: this.take(entries * ENTRY_SIZE), length: entries },
+        { at: this.take(4 * marks), length: marks }, { at: this.take(length + 1), length: length + 1 });
+      if (found !== null)
+        return found;
+      this.top = top;
+      if (entries > length) {
+        if (marks > 2 ** 24)
+          throw new Error('there is no memory for this value');
+        marks *= 16;
+      }
+    }
+  }
+
+  // The kind of the value: that of the label of its PEM block, or else the one that its octets have.
+  kind(label = '') {
+    const promised = this.within(() => this.calls.page_kind_of_label(...this.words(this.put(new TextEncoder().encode(label)))) >>> 0);
+    const found = this.within(() => this.withRoom(this.length, (...room) => {
+      const answer = this.calls.page_find(...this.words(this.table, this.file, ...room)) >>> 0;
+      return answer === FULL ? null : answer;
+    }));
+    const kind = found === NONE ? promised : found;
+    return { word: this.printed((at, size) => this.calls.page_kind_word(kind, at, size), 64), node: this.calls.page_node(kind) };
+  }
+
+  // The elements of a part of the value, which is read as a value of a type.
+  read(start, end, node) {
+    return this.withRoom(end - start, (entries, ...room) => {
+      for (let size = 2 ** 20; ; size *= 4) {
+        const { top } = this, list = { at: this.take(size), length: size }, at = this.take(FOUND_SIZE);
+        const part = this.part(start, end);
+        if (!this.calls.page_read(...this.words(this.table), node, ...this.words(part, entries, ...room, list), BigInt(at)))
+          return null;
+        const view = new DataView(this.calls.memory.buffer, at, FOUND_SIZE), number = slot => view.getBigInt64(8 * slot, true);
+        if (number(3) === NO_ROOM) {
+          this.top = top;
+          continue;
+        }
+        const departures = JSON.parse(new TextDecoder().decode(this.bytes(list.at, Number(number(3)))));
+        const found = { start, end, entries: { at: entries.at, length: Number(number(0)) }, lost: Number(number(2)),
+          verdict: ['DER', 'BER', 'neither'][view.getUint32(32, true)],
+          departures: departures.map(({ node, departure }) => ({ ...departure, node, offset: departure.offset + start })) };
+        this.top = Math.ceil((entries.at + found.entries.length * ENTRY_SIZE) / 16) * 16;
+        return found;
+      }
+    });
+  }
+
+  // What lines say of elements of a tree: names, types, tags and the texts of values.
+  rows({ start, end, entries }, first, count) {
+    const lines = this.printed((at, size) => this.calls.page_rows(...this.words(this.table, this.part(start, end), entries),
+      BigInt(first), BigInt(count), at, size));
+    return lines.split('\n').slice(0, -1).map(line => {
+      const [name, alternative, type, tag, text] = line.split('\t');
+      return { name: name || alternative, type, tag, text };
+    });
+  }
+
+  // A letter for each element of a tree: `x` if it stands for the value inside of it, `l` for a list.
+  shapes({ start, end, entries }) {
+    return this.within(() => {
+      const at = this.take(entries.length);
+      this.calls.page_shapes(...this.words(this.table, this.part(start, end), entries, { at, length: entries.length }));
+      return this.bytes(at, entries.length).slice();
+    });
+  }
+
+  // All elements of a tree, with what their lines say.
+  elements(found) {
+    const { at, length } = found.entries, rows = this.rows(found, 0, length);
+    const view = new DataView(this.calls.memory.buffer, at, length * ENTRY_SIZE);
+    return rows.map((row, it) => ({ ...row, offset: view.getUint32(it * ENTRY_SIZE, true), headerLength: view.getUint8(it * ENTRY_SIZE + 36),
+      contentsLength: view.getUint32(it * ENTRY_SIZE + 8, true), depth: view.getUint8(it * ENTRY_SIZE + 37) }));
+  }
+
+  // The blocks of a PEM text, each with its label, its line and its octets; null octets if it is encrypted.
+  blocks(text) {
+    return this.within(() => {
+      const all = this.put(text), found = [], out = { at: this.take(text.length), length: text.length };
+      const block = this.take(BLOCK_SIZE);
+      for (let from = 0, line = 0; ;) {
+        const rest = { at: all.at + from, length: text.length - from };
+        const answer = BLOCKS[this.calls.page_block(...this.words(rest, out), BigInt(block))];
+        if (answer === 'none')
+          return found;
+        const view = new DataView(this.calls.memory.buffer, block, BLOCK_SIZE), number = slot => Number(view.getBigUint64(8 * slot, true));
+        if (answer === 'error')
+          throw new Error(`there is an error in PEM at line ${line + number(2)}`);
+        const label = new TextDecoder().decode(this.bytes(rest.at + number(0), number(1)));
+        found.push({ label, line: line + number(2), octets: answer === 'encrypted' ? null : this.bytes(out.at, number(3)).slice() });
+        for (const octet of this.bytes(rest.at, number(4)))
+          line += octet === 10;
+        from += number(4);
+      }
+    });
+  }
+
+  // The octets that base64 encodes, or null.
+  base64(text) {
+    return this.within(() => {
+      const all = this.put(new TextEncoder().encode(text)), out = { at: this.take(all.length), length: all.length };
+      const length = this.calls.page_base64(...this.words(all, out));
+      return length === NO_ROOM ? null : this.bytes(out.at, Number(length)).slice();
+    });
   }
 }

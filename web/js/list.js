@@ -83,6 +83,15 @@ class RowList {
       this.moveTo(this.top);
   }
 
+  // Moves by the keys of a list; `more` has further ones.
+  key(event, more = {}) {
+    const rows = { ArrowDown: 1, ArrowUp: -1, PageDown: this.page, PageUp: -this.page, ...more }[event.key];
+    if (!rows)
+      return;
+    this.moveTo(this.top + rows * this.rowHeight);
+    event.preventDefault();
+  }
+
   redraw() {
     if (this.isDue)
       return;

@@ -2,17 +2,17 @@
 
 class OctetView {
   constructor(place, page) {
-    Object.assign(this, { place, page, octets: new Uint8Array(0), width: 16, marks: [], fault: null });
+    Object.assign(this, { place, page, octets: new Uint8Array(0), width: 16, marks: [], faults: [] });
     this.list = new RowList(place, ROW_HEIGHT, index => this.draw(index));
     place.addEventListener('click', event => this.at(event.target, it => page.selectOffset(it)));
     place.addEventListener('mouseover', event => this.at(event.target, it => page.hoverOffset(it)));
     place.addEventListener('mouseleave', () => page.hover(-1));
-    place.addEventListener('keydown', event => this.key(event));
+    place.addEventListener('keydown', event => this.list.key(event, { Home: -this.list.count, End: this.list.count }));
     new ResizeObserver(() => this.fit()).observe(place);
   }
 
   open(octets) {
-    Object.assign(this, { octets, marks: [], fault: null });
+    Object.assign(this, { octets, marks: [], faults: [] });
     this.list.top = 0;
     this.place.scrollTop = 0;
     this.fit(true);
@@ -26,15 +26,15 @@ class OctetView {
     this.resize();
   }
 
-  // An error may be at the end, one place behind the octets.
+  // A departure may be at the end, one place after the octets.
   resize() {
-    const places = Math.max(this.octets.length, this.fault ? this.fault.end : 0);
+    const places = Math.max(this.octets.length, ...this.faults.map(it => it.end));
     this.list.resize(Math.ceil(places / this.width));
   }
 
-  // Marks the octets of an error, if there is one.
-  setFault(place) {
-    this.fault = place;
+  // Marks the octets of departures, each a start and an end.
+  setFaults(places) {
+    this.faults = places;
     this.resize();
   }
 
@@ -42,15 +42,6 @@ class OctetView {
     const offset = target.closest?.('[data-at]')?.dataset.at;
     if (offset !== undefined && Number(offset) < this.octets.length)
       then(Number(offset));
-  }
-
-  key(event) {
-    const rows = { ArrowDown: 1, ArrowUp: -1, PageDown: this.list.page, PageUp: -this.list.page,
-      Home: -this.list.count, End: this.list.count }[event.key];
-    if (!rows)
-      return;
-    this.list.moveTo(this.list.top + rows * ROW_HEIGHT);
-    event.preventDefault();
   }
 
   // Marks parts: each has a class, a start and an end. The last that has an octet counts.
@@ -61,7 +52,7 @@ class OctetView {
 
   show(offset) { this.list.show(Math.floor(offset / this.width)); }
 
-  isFault(at) { return this.fault !== null && at >= this.fault.start && at < this.fault.end; }
+  isFault(at) { return this.faults.some(it => at >= it.start && at < it.end); }
 
   classOf(at) {
     let found = '';

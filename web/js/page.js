@@ -1,5 +1,8 @@
 // The page: it opens files, and keeps the tree, the octets, the fields and the details on one element.
 
+// The section on contents of which octets are missing.
+const CUT = 'X.690 8.1.4';
+
 const find = id => document.getElementById(id);
 
 class Page {
@@ -7,15 +10,15 @@ class Page {
     this.library = library;
     this.files = [];
     this.selected = -1;
-    this.link = linkOf(location.hash);
+    this.link = linkOf(library, location.hash);
     this.fields = new FieldView(find('fields'), this);
     this.treeView = new TreeView(find('tree'), this);
     this.octetView = new OctetView(find('octets'), this);
     new Opening(this);
-    find('rules').addEventListener('change', () => this.show());
+    this.list = new DepartureList(this);
+    this.schema = null;
     find('block').addEventListener('change', () => this.show());
-    find('place').addEventListener('click', () => this.goTo(this.place.start));
-    window.addEventListener('hashchange', () => this.follow(linkOf(location.hash)));
+    window.addEventListener('hashchange', () => this.follow(linkOf(library, location.hash)));
     for (const tab of document.querySelectorAll('[data-tab]'))
       tab.addEventListener('click', () => this.choose(tab.dataset.tab));
     find('version').textContent = library.version();
@@ -34,7 +37,10 @@ class Page {
   // Opens the octets of a file, or what a text in it has.
   open(name, octets) {
     try {
-      this.openFiles(name, fromOctets(octets));
+      if (octets[0] === 0x59 && this.library.isSchema(octets))
+        this.useSchema(name, octets);
+      else
+        this.openFiles(name, fromOctets(this.library, octets));
     } catch (error) {
       this.refuse(name, error);
     }
@@ -42,7 +48,7 @@ class Page {
 
   openText(text) {
     try {
-      this.openFiles('pasted', fromText(text));
+      this.openFiles('pasted', fromText(this.library, text));
     } catch (error) {
       this.refuse('The text', error);
     }
@@ -57,7 +63,13 @@ class Page {
     const block = find('block');
     block.replaceChildren(...files.map((it, at) => new Option(`${at + 1}: ${visible(it.label || 'block')}`, at)));
     block.hidden = files.length < 2;
-    find('rules').value = 'der';
+    this.show();
+  }
+
+  // Reads the files that are opened next, and this one again, by a table of types of the user.
+  useSchema(name, octets) {
+    this.schema = { name, octets };
+    this.say(`${visible(name)}: files are read as values of its first type from now on.`, false);
     this.show();
   }
 
@@ -66,46 +78,62 @@ class Page {
     const file = this.files[find('block').value || 0];
     if (!file)
       return;
-    const { library } = this, isBer = find('rules').value === 'ber';
-    library.load(file.octets);
-    const read = readWhole(library, file.octets.length, isBer);
-    this.tree = read.tree;
-    const { title, fields, isRead, error } = describe(library, this.tree);
+    const { library, schema } = this;
+    library.load(file.octets, schema?.octets);
+    const kind = schema ? { word: visible(schema.name), node: 0 } : library.kind(file.label);
+    const found = library.read(0, file.octets.length, kind.node);
+    this.lines = new Lines(library);
+    this.tree = Tree.of(library, found, 0, 0, this.lines.add(found));
+    this.found = found;
+    this.noted = Map.groupBy(found.departures, it => it.node);
+    for (const node of this.noted.keys())
+      if (node < this.tree.count)
+        this.tree.flags[node] |= FLAG.departs;
     document.body.classList.add('opened');
-    find('title').textContent = title;
+    find('title').textContent = kind.word;
     this.selected = -1;
     find('details').replaceChildren();
-    this.fields.open(fields);
-    this.treeView.open(library, this.tree, fields.labels);
+    this.fields.open(new Fields(library, found, this.lines));
+    this.readCut(found);
+    this.treeView.open(library, this.tree, this.lines);
     this.octetView.open(file.octets);
-    this.place = read.place ?? (error ? this.placeInTree(error) : null);
-    this.report(file, read.error ?? error, isRead, read.error !== null);
+    this.octetView.setFaults(found.departures.map(it => octetsOf(this.tree, it)));
+    this.list.open(found);
+    this.report(file);
     this.follow(this.link);
     this.link = {};
   }
 
-  // The octets of the element before the position of an error of its value.
-  placeInTree({ position }) {
-    const node = position === null ? -1 : this.tree.nodeAt(Math.max(0, position - 1));
-    return node < 0 ? null : { start: this.tree.start[node], end: Math.max(position, this.tree.start[node] + 1) };
+  // Reads what is there of an element whose contents are cut off, and of the last one inside of it.
+  readCut(found) {
+    const { library, tree } = this;
+    for (let level = 0, first = 0, cut = found; cut && level < 64; level += 1) {
+      const last = cut.departures.findLast(it => it.section === CUT && it.node < cut.entries.length);
+      const at = last === undefined ? -1 : first + last.node;
+      if (at < 0 || !tree.has(at, FLAG.constructed) || tree.hasChildren(at) || tree.body[at] >= library.length)
+        return;
+      tree.end[at] = library.length;
+      cut = library.read(tree.body[at], library.length, library.calls.page_node(NONE));
+      tree.insert(at, Tree.of(library, cut, tree.depth[at] + 1, 0, this.lines.add(cut)));
+      first = at + 1;
+    }
   }
 
-  // Says what was read, and marks the octets of an error.
-  report(file, error, isRead, isTree) {
+  // The departures of a node of the tree.
+  departuresAt(at) { return this.tree.has(at, FLAG.departs) ? this.noted.get(this.tree.line[at]) ?? [] : []; }
+
+  // Says what was read, and shows the first departure.
+  report(file) {
     const label = file.label ? `${visible(this.name)} (${visible(file.label)})` : visible(this.name);
+    const { departures, verdict } = this.found, [first] = departures;
     const said = `${label}: ${counted(file.octets.length, 'octet')}, ${counted(this.tree.count, 'element')}`;
-    const { place } = this, last = place && place.end - 1;
-    const where = place && (last > place.start ? `octets ${place.start} to ${last}` : `octet ${place.start}`);
-    find('place').hidden = !place;
-    find('place').textContent = `Show ${where}`;
-    this.octetView.setFault(place);
-    if (!error)
-      this.say(isRead ? `${said}. Read under DER, with all fields.` : `${said}. The elements are read; the format is not checked.`, false);
-    else
-      this.say(`${said}. ${isTree ? 'Refused' : 'The elements are read, but the format is refused'}: ${error.message}`
-        + `${place ? `, at ${where}` : ''}.${hintOf(error)}`, true);
-    if (place)
-      this.goTo(place.start);
+    if (!first) {
+      this.say(`${said}. These octets are DER.`, false);
+      return;
+    }
+    const is = verdict === 'BER' ? 'These octets are BER, but not DER' : 'These octets are not BER';
+    this.say(`${said}. ${is}: ${first.rule} (${first.section}), at offset ${first.offset}.`, true);
+    this.goTo(first.offset);
   }
 
   say(text, isWrong) {
@@ -164,7 +192,7 @@ class Page {
 
   hoverOffset(offset) { this.hover(this.tree.nodeAt(offset)); }
 
-  // Nodes were put behind this one.
+  // Nodes were put after this one.
   inserted(at, count) {
     if (this.selected > at)
       this.selected += count;
@@ -182,12 +210,8 @@ class Page {
 }
 
 // What a link has: the octets of a file in base64url, an offset, or both.
-function linkOf(hash) {
+function linkOf(library, hash) {
   const [, octets, offset] = hash.match(/^#(?:der=([\w-]+)&?)?(?:offset=(\d+))?$/) ?? [];
-  return { octets: octets && fromBase64(octets), offset: offset && Number(offset) };
-}
-
-// What a person may do after this error.
-function hintOf(error) {
-  return error.kind === KIND.indefinite ? ' Try the rules BER.' : '';
+  const text = octets && octets.replace(/-/g, '+').replace(/_/g, '/');
+  return { octets: text && library.base64(text.padEnd(4 * Math.ceil(text.length / 4), '=')), offset: offset && Number(offset) };
 }

@@ -1,30 +1,34 @@
-// The elements of a file, each before those inside of it, as the library reads them. The contents of a
-// string may be read too: then their elements follow it.
+// The elements of a value, each before those inside of it, as the module reads them. The contents of a string may be
+// read too: then their elements follow it.
 
-const FIELDS_OF_NODE = ['tag', 'start', 'body', 'end', 'depth', 'flags'];
-const FLAG = { constructed: 1, indefinite: 2, collapsed: 4, opened: 8, inner: 16, cut: 32 };
+const FIELDS_OF_NODE = ['start', 'body', 'end', 'depth', 'flags', 'line'];
+const FLAG = { constructed: 1, indefinite: 2, collapsed: 4, opened: 8, inner: 16, departs: 32 };
+const CHUNK = 64;
 
 class Tree {
   constructor(count) {
     this.count = count;
-    this.tag = new Float64Array(count);
     this.start = new Uint32Array(count);
     this.body = new Uint32Array(count);
     this.end = new Uint32Array(count);
     this.depth = new Uint16Array(count);
     this.flags = new Uint8Array(count);
+    this.line = new Int32Array(count);
   }
 
-  // The tree of what `readTree` of the library gives.
-  static of({ view, count }, origin, depth, flags) {
-    const tree = new Tree(count);
-    for (let at = 0, from = 0; at < count; at += 1, from += NODE_SIZE) {
-      tree.tag[at] = view.getUint32(from, true) + 2 ** 32 * view.getUint32(from + 4, true);
-      tree.start[at] = origin + view.getUint32(from + 8, true);
-      tree.body[at] = origin + view.getUint32(from + 12, true);
-      tree.end[at] = origin + view.getUint32(from + 16, true);
-      tree.depth[at] = depth + view.getUint8(from + 20);
-      tree.flags[at] = flags | view.getUint8(from + 21) | view.getUint8(from + 22) << 1;
+  // The tree of what `read` of the library gives. The lines of its elements are numbered from `line` on.
+  static of(library, found, depth, flags, line = 0) {
+    const { at, length } = found.entries, tree = new Tree(length), octets = library.octets(0, library.length);
+    const view = new DataView(library.calls.memory.buffer, at, length * ENTRY_SIZE);
+    for (let it = 0, from = 0; it < length; it += 1, from += ENTRY_SIZE) {
+      const start = found.start + view.getUint32(from, true), header = view.getUint8(from + 36);
+      tree.start[it] = start;
+      tree.body[it] = start + header;
+      tree.end[it] = start + header + view.getUint32(from + 8, true);
+      tree.depth[it] = depth + view.getUint8(from + 37);
+      tree.line[it] = line + it;
+      const parent = view.getUint32(from + 16, true), isInside = parent !== it && !(tree.flags[parent] & FLAG.constructed);
+      tree.flags[it] = flags | flagsOf(octets, start, header) | (isInside ? FLAG.inner : tree.flags[parent] & FLAG.inner);
     }
     return tree;
   }
@@ -54,22 +58,10 @@ class Tree {
 
   // The first node that is not inside of this one.
   after(at) {
-    let low = at + 1, high = this.count;
-    while (low < high) {
-      const middle = (low + high) >> 1;
-      if (this.start[middle] < this.end[at])
-        low = middle + 1;
-      else
-        high = middle;
-    }
-    return low;
-  }
-
-  children(at) {
-    const found = [];
-    for (let it = at + 1; it < this.count && this.depth[it] > this.depth[at]; it = this.after(it))
-      found.push(it);
-    return found;
+    let it = at + 1;
+    while (it < this.count && this.depth[it] > this.depth[at])
+      it += 1;
+    return it;
   }
 
   // The last node that starts before `offset`, or at it.
@@ -101,12 +93,6 @@ class Tree {
     return at >= 0 && this.start[at] === offset ? at : -1;
   }
 
-  // The node whose contents start at this offset, or -1.
-  withContents(offset) {
-    const at = this.lastFrom(offset - 1);
-    return at >= 0 && this.body[at] === offset ? at : -1;
-  }
-
   // The nodes that are not inside of a collapsed one.
   shown() {
     const found = new Uint32Array(this.count);
@@ -130,46 +116,37 @@ class Tree {
   }
 }
 
-// The tree of the whole file, as far as it can be read, and its error. If octets of an element are
-// missing, its header and what is there of its contents are read too.
-function readWhole(library, length, isBer) {
-  const read = library.readTree(0, length, isBer), tree = Tree.of(read, 0, 0, 0);
-  let { error, stop } = read;
-  for (let end = length; error?.kind === KIND.incomplete;) {
-    const around = tree.nodeAt(stop), depth = around < 0 ? 0 : tree.depth[around] + 1;
-    end = around < 0 ? end : Math.min(end, tree.end[around]);
-    const cut = cutElement(library, stop, end, isBer);
-    if (!cut)
-      break;
-    const node = new Tree(1);
-    Object.assign(cut, { start: stop, end, depth });
-    for (const name of FIELDS_OF_NODE)
-      node[name][0] = cut[name];
-    tree.insert(tree.count - 1, node);
-    if (!(cut.flags & FLAG.constructed))
-      break;
-    const inside = library.readTree(cut.body, end, isBer);
-    tree.insert(tree.count - 1, Tree.of(inside, cut.body, depth + 1, 0));
-    ({ error, stop } = inside);
+// Whether an element is constructed, and of indefinite length, as its header says.
+function flagsOf(octets, start, header) {
+  let length = start + 1;
+  if ((octets[start] & 31) === 31)
+    while (octets[length++] & 128);
+  const isIndefinite = octets[length] === 128 && header === length + 1 - start;
+  return (octets[start] & 32 ? FLAG.constructed : 0) | (isIndefinite ? FLAG.indefinite : 0);
+}
+
+// The lines that the module prints of elements, by their numbers. They are printed when they are asked for.
+class Lines {
+  constructor(library) {
+    Object.assign(this, { library, parts: [], count: 0, chunks: new Map() });
   }
-  return { tree, error: read.error, place: read.error && placeOf(read.error, read.stop) };
-}
 
-// The octets to show for an error of the element that starts at `stop`: the position of an error is
-// behind what was read, or where octets are missing.
-function placeOf({ kind, position }, stop) {
-  return kind === KIND.incomplete || position <= stop ? { start: position ?? stop, end: (position ?? stop) + 1 }
-    : { start: stop, end: position };
-}
+  // Adds the elements that `read` found, and returns the number of the first of their lines.
+  add(found) {
+    const first = this.count;
+    this.parts.push({ found, first });
+    this.count += found.entries.length;
+    return first;
+  }
 
-// The header of an element whose contents are cut, or null if it has none.
-function cutElement(library, start, end, isBer) {
-  try {
-    const { tag, isConstructed, body } = new Reader(library, start, end, isBer).header();
-    return { tag, body, flags: FLAG.cut | (isConstructed ? FLAG.constructed : 0) };
-  } catch (error) {
-    if (!(error instanceof DerError))
-      throw error;
-    return null;
+  of(number) {
+    const { found, first } = this.parts.findLast(it => it.first <= number);
+    const chunk = Math.floor((number - first) / CHUNK), key = `${first}:${chunk}`;
+    if (!this.chunks.has(key)) {
+      if (this.chunks.size > 256)
+        this.chunks.clear();
+      this.chunks.set(key, this.library.rows(found, chunk * CHUNK, Math.min(CHUNK, found.entries.length - chunk * CHUNK)));
+    }
+    return this.chunks.get(key)[(number - first) % CHUNK];
   }
 }

@@ -15,8 +15,8 @@ class TreeView {
     place.addEventListener('mouseleave', () => page.hover(-1));
   }
 
-  open(library, tree, labels) {
-    Object.assign(this, { library, tree, labels, selected: -1, hovered: -1 });
+  open(library, tree, lines) {
+    Object.assign(this, { library, tree, lines, selected: -1, hovered: -1 });
     this.list.top = 0;
     this.place.scrollTop = 0;
     this.refresh();
@@ -59,18 +59,23 @@ class TreeView {
   // Whether the contents of a node that has no nodes inside may be read as elements.
   canOpen(at) {
     const { tree } = this, length = tree.end[at] - tree.body[at];
-    if (tree.has(at, FLAG.opened) || tree.hasChildren(at) || length < 2)
+    if (tree.has(at, FLAG.opened | FLAG.constructed) || tree.hasChildren(at) || length < 2)
       return false;
-    if (tree.has(at, FLAG.constructed) || tree.tag[at] === 0x04)
-      return this.library.isTree(tree.body[at], tree.end[at]);
-    const isBits = tree.tag[at] === 0x03 && this.library.octets(tree.body[at], tree.body[at] + 1)[0] === 0;
-    return isBits && length > 2 && this.library.isTree(tree.body[at] + 1, tree.end[at]);
+    const first = this.library.octets(tree.start[at], tree.start[at] + 1)[0], from = this.contentsOf(at);
+    const isString = first === 0x04 || first === 0x03 && length > 2 && this.library.octets(tree.body[at], from)[0] === 0;
+    return isString && looksLikeElements(this.library.octets(from, tree.end[at]));
+  }
+
+  // Where the octets of a string begin: after the number of unused bits of a BIT STRING.
+  contentsOf(at) {
+    const { tree } = this, isBits = this.library.octets(tree.start[at], tree.start[at] + 1)[0] === 0x03;
+    return tree.body[at] + (isBits ? 1 : 0);
   }
 
   // Reads the contents of a string, and puts their elements below it.
   openContents(at) {
-    const { tree, library } = this, from = tree.body[at] + (tree.tag[at] === 0x03 ? 1 : 0);
-    const inside = Tree.of(library.readTree(from, tree.end[at], false), from, tree.depth[at] + 1, FLAG.inner);
+    const { tree, library } = this, found = library.read(this.contentsOf(at), tree.end[at], library.calls.page_node(NONE));
+    const inside = Tree.of(library, found, tree.depth[at] + 1, FLAG.inner, this.lines.add(found));
     tree.insert(at, inside);
     tree.flags[at] |= FLAG.opened;
     if (this.selected > at)
@@ -142,12 +147,14 @@ class TreeView {
     const expander = element('span', 'expander', sign);
     if (sign === '▹')
       expander.title = 'Show the elements in these octets';
-    part.append(expander, element('span', 'tag', tagText(tree.tag[at])));
-    const label = this.labels.get(tree.start[at]);
-    if (label)
-      part.append(element('span', 'label', label));
-    const { text, error } = valueOf(this.library, tree, at, 120);
-    part.append(element('span', error ? 'value wrong' : 'value', error ? `${error.message}${text && `: ${text}`}` : text));
+    const { tag, name, text } = this.lines.of(tree.line[at]);
+    part.append(expander, element('span', 'tag', tag.replace(/^CONTEXT-SPECIFIC |^UNIVERSAL (?=\[)| \((constructed|primitive)\)$/g, '')));
+    if (name)
+      part.append(element('span', 'label', name));
+    const departures = this.page.departuresAt(at);
+    if (departures.length)
+      part.append(element('span', 'value wrong', departures.map(it => `${it.rule} (${it.section})`).join('; ')));
+    part.append(element('span', 'value', text));
     row.append(element('span', 'offset', String(tree.start[at])), this.lengths(at), part);
     this.mark(row, at, sign);
     return row;
@@ -171,7 +178,23 @@ class TreeView {
     row.classList.toggle('selected', isSelected);
     row.classList.toggle('hovered', at === this.hovered);
     row.classList.toggle('inner', tree.has(at, FLAG.inner));
+    row.classList.toggle('departs', tree.has(at, FLAG.departs));
     if (isSelected)
       this.place.setAttribute('aria-activedescendant', row.id);
   }
+}
+
+// Whether octets may be elements, one after another: their lengths end where the octets do.
+function looksLikeElements(octets) {
+  let at = 0;
+  for (let count = 0; at < octets.length && count < 1000; count += 1) {
+    if ((octets[at] & 31) === 31 || octets[at] === 0 || octets.length - at < 2)
+      return false;
+    const first = octets[at + 1], size = first & 127;
+    if (first === 128 || (first > 128 && (size > 4 || octets.length - at < 2 + size)))
+      return false;
+    const length = first < 128 ? first : octets.subarray(at + 2, at + 2 + size).reduce((sum, it) => sum * 256 + it, 0);
+    at += 2 + (first < 128 ? 0 : size) + length;
+  }
+  return at === octets.length;
 }

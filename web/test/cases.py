@@ -11,11 +11,11 @@ from files import element, large_list, make_files, openssl, parsed
 
 ROWS = """[...document.querySelectorAll('#tree .row:not(.inner)')].map(row => [
   ...['.offset', '.length', '.tag'].map(it => row.querySelector(it).textContent), row.getAttribute('aria-level')])"""
-FIELDS = """Object.fromEntries([...document.querySelectorAll('#fields .row')].map(row =>
-  [row.querySelector('.name').textContent, row.querySelector('.text').textContent]))"""
+FIELDS = """[...document.querySelectorAll('#fields .row')].map(row =>
+  [row.querySelector('.name').textContent, row.querySelector('.text').textContent])"""
 
 # Opens copies of a file of which octets are changed, draws all parts, and opens what can be opened. It
-# returns the faults of the page's scripts, and how many copies were read with all fields.
+# returns the faults of the page's scripts, and how many copies have more than one element.
 CHANGED = """(() => {
   const octets = Uint8Array.from(atob('%s'), it => it.charCodeAt(0)), page = window.yotremul, faults = [];
   let seed = 12345, read = 0;
@@ -31,7 +31,7 @@ CHANGED = """(() => {
       page.select(random(page.tree.count) || -1);
       page.treeView.toggle(random(page.tree.count));
       page.treeView.list.drawRows();
-      read += document.getElementById('status').textContent.includes('with all fields');
+      read += page.tree.count > 1;
     } catch (error) {
       faults.push(String(error.stack));
     }
@@ -91,57 +91,52 @@ class Tests:
 
     def see_fields(self):
         """The fields of a certificate, a list and a request are those that openssl was given, and its dates."""
-        self.browser.size(1400, 3000)
+        self.browser.size(1400, 9000)
+        subject = "C=DE, O=Test & Söhne, CN=example.org"
         self.open(f"{self.folder}/rsa-certificate.der")
         serial = openssl(self.folder, "x509", "-in", "rsa.crt", "-noout", "-serial").strip().partition("=")[2]
-        wanted = {"Serial number": f"{serial} (hexadecimal)", "Version": "3", "Subject": "C=DE, O=Test & Söhne, CN=example.org",
-                  "Signature algorithm": "sha256WithRSAEncryption (1.2.840.113549.1.1.11)", "Modulus": "2,048 bits, exponent 65537",
-                  "subjectAltName (2.5.29.17)": "DNS:example.org, DNS:www.example.org, IP:127.0.0.1, email:a@example.org",
-                  "keyUsage (2.5.29.15), critical": "keyCertSign, cRLSign",
-                  "basicConstraints (2.5.29.19), critical": "certificate authority",
-                  "cRLDistributionPoints (2.5.29.31)": "URI:http://example.org/a.crl", "certificatePolicies (2.5.29.32)": "1.2.3.4",
-                  "authorityInfoAccess (1.3.6.1.5.5.7.1.1)": "ocsp (1.3.6.1.5.5.7.48.1): URI:http://example.org/b",
-                  "extKeyUsage (2.5.29.37)": "serverAuth (1.3.6.1.5.5.7.3.1), clientAuth (1.3.6.1.5.5.7.3.2)"}
+        wanted = [("serialNumber", serial), ("version", "v3 (2)"), ("subject", subject), ("issuer", subject),
+                  ("signatureAlgorithm", "sha256WithRSAEncryption (1.2.840.113549.1.1.11)"),
+                  ("dNSName", "example.org"), ("dNSName", "www.example.org"), ("rfc822Name", "a@example.org"),
+                  ("uniformResourceIdentifier", "http://example.org/a.crl"), ("accessLocation", "http://example.org/b"),
+                  ("extnValue", "keyCertSign, cRLSign"), ("cA", "TRUE"), ("policyIdentifier", "1.2.3.4")]
         dates = openssl(self.folder, "x509", "-in", "rsa.crt", "-noout", "-dates", "-dateopt", "iso_8601")
-        for name, label in (("notBefore", "Not before"), ("notAfter", "Not after")):
-            wanted[label] = re.search(rf"{name}=(.*)Z", dates)[1] + " UTC"
+        for name in ("notBefore", "notAfter"):
+            wanted.append((name, re.search(rf"{name}=(.*)Z", dates)[1].replace(" ", "T") + "Z"))
         self.hold_rows(wanted)
         self.open(f"{self.folder}/rsa-list.der")
-        entry = {"1234": "2026-01-02 03:04:05 UTC, keyCompromise", "Revoked certificates": "1", "Version": "2",
-                 "Issuer": wanted["Subject"]}
+        entry = [("userCertificate", str(0x1234)), ("revocationDate", "2026-01-02T03:04:05Z"), ("version", "v2 (1)"), ("issuer", subject)]
         self.hold_rows(entry)
         self.open(f"{self.folder}/ec-request.der")
-        request = {"Subject": wanted["Subject"], "subjectAltName (2.5.29.17)": wanted["subjectAltName (2.5.29.17)"],
-                   "Algorithm": "ecPublicKey (1.2.840.10045.2.1), prime256v1 (1.2.840.10045.3.1.7)"}
+        request = [("subject", subject), ("dNSName", "www.example.org"), ("algorithm", "id-ecPublicKey (1.2.840.10045.2.1)")]
         self.hold_rows(request)
         self.browser.size(1400, 900)
         return f"{len(wanted) + len(entry) + len(request)} fields are those that openssl was given"
 
     def hold_rows(self, wanted):
-        shown = self.browser.value(FIELDS)
-        for label, text in wanted.items():
-            see(shown.get(label) == text, f"{label}: {shown.get(label)}, and not {text}")
+        shown = [tuple(it) for it in self.browser.value(FIELDS)]
+        for label, text in wanted:
+            see((label, text) in shown, f"{label}: {[it for it in shown if it[0] == label]}, and not {text}")
 
     def see_formats(self):
         """Each file has the title of its format, and rows of fields."""
-        titles = {"certificate": "Certificate", "request": "Certificate request", "list": "Certificate revocation list",
-                  "public": "Public key", "private": "Private key", "message": "Message (CMS)",
-                  "both": "File of keys and certificates (PKCS #12)", "pkcs1": "RSA private key", "sec1": "Elliptic curve private key",
-                  "encrypted": "Encrypted private key", "time": "Timestamp request", "status": "OCSP request"}
+        titles = {"certificate": "certificate", "request": "request", "list": "crl", "public": "public-key", "private": "private-key",
+                  "message": "cms", "both": "pkcs12", "pkcs1": "rsa-private-key", "sec1": "ec-private-key",
+                  "encrypted": "encrypted-private-key", "time": "timestamp-request", "status": "ocsp-request"}
         self.browser.size(1400, 3000)
         for path in self.paths:
             self.open(path)
             kind = os.path.basename(path)[:-4].split("-")[-1]
             see(self.text("#title") == titles[kind], f"{path} is shown as {self.text('#title')}")
             see(self.browser.value("document.querySelectorAll('#fields .row').length") >= 2, f"{path} has no fields")
+        self.browser.size(1400, 9000)
         self.open(f"{self.folder}/message.der")
-        shown = self.browser.value(FIELDS)
-        see(shown.get("certificate") == "C=DE, O=Test & Söhne, CN=example.org", f"the signer's certificate: {shown}")
+        self.hold_rows([("contentType", "pkcs7-signedData (1.2.840.113549.1.7.2)"), ("subject", "C=DE, O=Test & Söhne, CN=example.org")])
         self.browser.size(1400, 900)
         return f"{len(titles)} formats have their titles and fields"
 
     def see_hostile(self):
-        """A name with elements of HTML is a text, and its mark of direction is shown by number."""
+        """A name with elements of HTML is a text, and its mark of direction is shown by its octets (RFC 4514, 2.4)."""
         self.open(f"{self.folder}/hostile.cer")
         browser = self.browser
         see(browser.value("window.hacked") is None, "a name is executed")
@@ -149,42 +144,57 @@ class Tests:
         see(browser.value("document.scripts.length") == 1, "a name makes a script")
         everything = self.text("body")
         see("<img src=x onerror=window.hacked=1>" in everything, "the name is not shown as it is")
-        see("\u202e" not in everything and "\\u{202E}gro.evil" in everything, "a mark of direction is in the page")
+        see("\u202e" not in everything and "\\E2\\80\\AEgro.evil" in everything, "a mark of direction is in the page")
         return "a hostile name executes nothing"
 
     def see_broken(self):
-        """The octet of an error is marked and visible."""
+        """The octets of the first departure are marked and visible, and its section is said."""
         whole = self.read("ec-certificate.der")
         inside = int(next(it[0] for it in parsed(f"{self.folder}/ec-certificate.der") if it[2] == "UTCTime"))
-        cut, more = len(whole) - 9, len(whole)
-        cases = {"tag": (whole[:inside] + b"\x1f\x80" + whole[inside + 2:], range(inside, inside + 1), "tag number"),
-                 "cut": (whole[:cut], range(cut, cut + 1), f"expected {more}, actual {cut}"),
-                 "more": (whole + b"\0", range(more, more + 1), "0x00"),
-                 "length": (whole[:inside + 1] + b"\x81\x0d" + whole[inside + 3:], range(inside, inside + 3),
-                            "incorrect length for UTCTime")}
-        for name, (octets, places, words) in cases.items():
+        cases = {"tag": (whole[:inside] + b"\x02" + whole[inside + 1:], inside, "X.680 31"),
+                 "cut": (whole[:-9], 0, "X.690 8.1.4"), "more": (whole + b"\0", len(whole), "X.690 8.1.1, 8.9.2"),
+                 "length": (whole[:inside + 1] + b"\x81\x0b" + whole[inside + 3:], inside, "X.690 10.1")}
+        for name, (octets, place, section) in cases.items():
             self.open(self.write(f"{name}.cer", octets))
-            shown = self.browser.value("[...document.querySelectorAll('#octets .digits .fault')].map(it => [Number(it.dataset.at), "
-                                       "it.getBoundingClientRect().top < innerHeight])")
-            see(shown == [[it, True] for it in places], f"{name}: {shown} are marked, and not {places}")
+            shown = self.browser.value("[...document.querySelectorAll('#octets .digits .fault')].filter(it => "
+                                       "it.getBoundingClientRect().top < innerHeight).map(it => Number(it.dataset.at))")
+            see(place in shown, f"{name}: {shown} are marked, and not {place}")
             said = self.text("#status")
-            see(words in said and f" {places[0]}" in said, f"{name}: {said}")
-        return f"{len(cases)} broken files show the place"
+            see(section in said and f"offset {place}." in said, f"{name}: {said}")
+            rows = self.browser.value("document.querySelectorAll('#tree .row').length")
+            see(rows > 8, f"{name}: {rows} elements are shown")
+        return f"{len(cases)} broken files show the place, and their elements"
+
+    def see_list(self):
+        """All departures are listed, with their sections, and each leads to its octets."""
+        whole = self.read("ec-certificate.der")
+        places = [int(it[0]) for it in parsed(f"{self.folder}/ec-certificate.der") if it[2] == "UTCTime"]
+        octets = bytearray(whole)
+        for it in places:
+            octets[it + 4:it + 6] = b"33"
+        self.open(self.write("months.cer", bytes(octets)))
+        self.browser.value("document.getElementById('departures').click()")
+        listed = self.browser.value("[...document.querySelectorAll('#items li')].map(it => [Number(it.dataset.offset), it.textContent])")
+        see([it[0] for it in listed] == places and all("X.680" in it[1] for it in listed), f"{listed} are listed, and not {places}")
+        self.browser.value("document.querySelectorAll('#items li')[1].click()")
+        self.browser.settle()
+        chosen = self.browser.value("document.querySelector('#tree .row.selected .offset').textContent")
+        see(chosen == str(places[1]), f"{chosen} is selected, and not {places[1]}")
+        return f"{len(places)} departures are listed"
 
     def see_value(self):
-        """A certificate with a wrong value is refused at that value, and all elements are shown."""
+        """A certificate with a wrong value is shown with all its elements, and the value is marked."""
         whole = self.read("ec-certificate.der")
-        place = next(it for it in parsed(f"{self.folder}/ec-certificate.der") if it[2] == "UTCTime")
-        at = int(place[0]) + 2
+        at = next(int(it[0]) for it in parsed(f"{self.folder}/ec-certificate.der") if it[2] == "UTCTime") + 2
         self.open(self.write("month.cer", whole[:at + 2] + b"33" + whole[at + 4:]))
         said = self.text("#status")
-        see(f"octets {at - 2} to {at + 12}" in said and "UTCTime" in said, said)
-        see(self.text("#title") == "Certificate, refused", self.text("#title"))
-        self.browser.size(1400, 3000)
+        see(f"offset {at - 2}." in said and "not BER" in said, said)
+        see(self.text("#title") == "certificate", self.text("#title"))
+        self.browser.size(1400, 9000)
         see(len(self.browser.value(ROWS)) == len(parsed(f"{self.folder}/month.cer")), "elements are missing")
         see(self.browser.value("document.querySelectorAll('#tree .wrong').length") == 1, "the value is not marked")
         self.browser.size(1400, 900)
-        return "a certificate with a wrong month is refused at that value"
+        return "a certificate with a wrong month is shown, and that value is marked"
 
     def see_ways(self):
         """PEM, base64 and hexadecimal are read; a text that is none of them is refused."""
@@ -210,21 +220,19 @@ class Tests:
         browser.wait("document.getElementById('status').textContent.startsWith('pasted: 2 octets, 1 element')", "a text is pasted")
         return "DER, PEM, base64 and hexadecimal are chosen, pasted and dropped"
 
-    def see_rules(self):
-        """A message under BER is refused under DER, and read under BER."""
+    def see_ber(self):
+        """A message under BER is shown, with its departures from DER."""
         openssl(self.folder, "cms", "-sign", "-in", "text", "-signer", "rsa.crt", "-inkey", "rsa.pem", "-nodetach",
                 "-binary", "-outform", "DER", "-stream", "-out", "message.ber")
-        self.open(f"{self.folder}/message.ber")
-        see("indefinite length" in self.text("#status") and "BER" in self.text("#status"), self.text("#status"))
         self.browser.size(1400, 9000)
-        self.browser.value("const rules = document.getElementById('rules'); rules.value = 'ber'; "
-                           "rules.dispatchEvent(new Event('change'))")
-        self.browser.settle()
+        self.open(f"{self.folder}/message.ber")
+        see("BER, but not DER: indefinite length (X.690 10.1), at offset 0." in self.text("#status"), self.text("#status"))
         text = openssl(self.folder, "asn1parse", "-inform", "DER", "-in", "message.ber")
         wanted = [it for it in re.findall(r"^ *(\d+):d=.*?(?:prim|cons): (\w+)", text, re.M) if it[1] != "EOC"]
         see([it[0] for it in self.browser.value(ROWS)] == [it[0] for it in wanted], "the elements under BER differ")
+        self.hold_rows([("subject", "C=DE, O=Test & Söhne, CN=example.org")])
         self.browser.size(1400, 900)
-        return "a message under BER is read when these rules are chosen"
+        return "a message under BER is shown with its fields"
 
     def see_keys(self):
         """Arrows move, close and open; the octets follow; a click on an octet selects its element."""
@@ -265,13 +273,12 @@ class Tests:
 
     def see_contents(self):
         """The elements in an OCTET STRING are shown below it when it is opened."""
-        self.open(f"{self.folder}/ec-private.der")
+        inside = element(0x30, bytes.fromhex("0201050c0141"))
+        self.open(self.write("contents.cer", element(0x30, element(0x04, inside))))
         before = self.browser.value(ROWS)
         self.browser.value("document.querySelector('#tree [aria-expanded=false] .expander').click()")
         self.browser.settle()
-        inner = self.browser.value("document.querySelectorAll('#tree .row.inner').length")
-        wanted = openssl(self.folder, "asn1parse", "-inform", "DER", "-in", "ec-private.der", "-strparse", before[-1][0])
-        see(inner == len(wanted.splitlines()), f"{inner} rows are inside, and not {len(wanted.splitlines())}")
+        see(self.browser.value("document.querySelectorAll('#tree .row.inner').length") == 3, "the elements inside are not shown")
         see(self.browser.value(ROWS) == before, "other rows have changed")
         return "the contents of an OCTET STRING are opened"
 
@@ -285,7 +292,7 @@ class Tests:
         self.start(f"#der={octets}&offset=2")
         self.browser.settle()
         chosen = self.browser.value("document.querySelector('#tree .row.selected .offset').textContent")
-        see(self.text("#title") == "Public key" and chosen == "2", f"a link with a file shows {self.text('#title')} at {chosen}")
+        see(self.text("#title") == "public-key" and chosen == "2", f"a link with a file shows {self.text('#title')} at {chosen}")
         self.browser.value("document.querySelector('#fields .row[data-offset=\"23\"] a').click()")
         self.browser.settle()
         chosen = self.browser.value("document.querySelector('#tree .row.selected .offset').textContent")
@@ -324,7 +331,7 @@ class Tests:
         rows = self.browser.value("document.querySelectorAll('.row').length")
         see(rows < 400, f"{rows} rows are made")
         count = int(re.search(r"([\d,]+) elements", self.text("#status"))[1].replace(",", ""))
-        see(self.text("#title") == "Certificate revocation list", self.text("#title"))
+        see(self.text("#title") == "crl", self.text("#title"))
         self.browser.value("document.getElementById('tree').focus()")
         started = time.monotonic()
         self.browser.press("End")
@@ -337,7 +344,7 @@ class Tests:
         self.browser.settle()
         self.browser.settle()
         last = self.browser.value("[...document.querySelectorAll('#fields .name')].pop().textContent")
-        see(last == f"{0x10000000 + 290_000 - 1:X}", f"the last entry is {last}")
+        see(last == "signature", f"the last field is {last}")
         see(seconds < 20 and each < 1, f"it took {seconds:.1f} s, and {each:.2f} s a key")
         return f"a list of {size:,} octets and {count:,} elements is shown in {seconds:.1f} s, and a key takes {each:.2f} s"
 
@@ -352,7 +359,7 @@ class Tests:
             total += read
         see(total > len(self.paths), f"only {total} of {40 * len(self.paths)} copies are read")
         self.browser.size(1400, 900)
-        return f"{40 * len(self.paths)} files with changed octets are shown, {total} of them with all fields"
+        return f"{40 * len(self.paths)} files with changed octets are shown, {total} of them with more than one element"
 
     def see_deep(self):
         """Elements are nested up to the limit, and no deeper ones break the page."""

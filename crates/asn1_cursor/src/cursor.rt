@@ -25,7 +25,14 @@ impl<'a> Cursor<'a> {
         ensures some { IfSome result (λ c. IsOf octets.now schema.now tree.now.entries.items c × (c.index ≡ 0)) }
         ensures none { IfNone result (length tree.now.entries.items ≡ 0) }
     {
-        let entries = tree.entries.as_slice();
+        Cursor::over(octets, schema, tree.entries.as_slice())
+    }
+
+    /// The same for the elements that `read_into` put into memory of the caller.
+    pub fn over(octets: &'a [u8], schema: &'a Schema<'a>, entries: &'a [Entry]) -> Option<Self>
+        ensures some { IfSome result (λ c. IsOf octets.now schema.now entries.now c × (c.index ≡ 0)) }
+        ensures none { IfNone result (length entries.now ≡ 0) }
+    {
         if entries.is_empty() {
             return None;
         }

@@ -1,5 +1,6 @@
 -- What lists of departures say of the octets.
-use Rattle.std.proofs.Common.{◌≡◌, ◌↔◌, ◌⊎◌, inl, inr, if◌then◌else◌, Bool, true, false, List, [], ◌∷◌, refl, sym, ◌∙◌, subst, ℕ, ◌≤◌, ◌&&◌, not, nat_lt, ◌++◌}
+use Rattle.std.proofs.Common.{◌≡◌, ◌↔◌, ◌⊎◌, inl, inr, if◌then◌else◌, Bool, true, false, List, [], ◌∷◌, refl, sym, ◌∙◌, subst, ℕ, zero, suc, ◌+◌, ◌<◌, ◌≤◌, ◌&&◌, not, nat_lt, ◌++◌, length, take, slice_set, arith}
+use Rattle.std.proofs.lemmas.List.{take_more_set}
 use Rattle.der_base.specs.declared.encoding_rules.EncodingRules.TheVariants as rules
 use Rattle.asn1_contents.specs.Rules.{is_of_der}
 use Rattle.std.proofs.lemmas.Bool.{le-ltb}
@@ -88,7 +89,12 @@ inside_more n (e ∷ es) d all here = both (not (nat_lt n e.offset)) all (λ res
     both true rest more = more rest
     both false rest more = absurd (cc)
 
--- a departure that was added, or for which there was no memory
-pub inside_pushed : (n : ℕ) (ds new : List Departure) (d : Departure) (b : Bool) → new ≡ (if◌then◌else◌ b (ds ++ d ∷ []) ds) → are_inside n ds ≡ true → d.offset ≤ n → are_inside n new ≡ true
-inside_pushed n ds new d true e all here = rw e (inside_more n ds d all here)
-inside_pushed n ds new d false e all here = rw e all
+-- a departure that was added at the end of those which are kept
+pub inside_added : (n : ℕ) (ds : List Departure) (k : ℕ) (d : Departure) → k < length ds → are_inside n (take k ds) ≡ true → d.offset ≤ n → are_inside n (take (k + 1) (slice_set ds k d)) ≡ true
+inside_added n ds k d room all here = rw (take_more_set ds k d room) (inside_more n (take k ds) d all here)
+
+-- none is kept exactly if none is counted
+pub none_counted : (ds : List Departure) (k : ℕ) → k ≤ length ds → (k ≡ 0) ↔ (take k ds ≡ [])
+none_counted ds zero fits = ((λ e. refl), (λ e. refl))
+none_counted [] (suc k) fits = absurd (omega (arith, fits))
+none_counted (d ∷ ds) (suc k) fits = ((λ e. cc), (λ e. cc))

@@ -1,5 +1,6 @@
 -- Elements that are inside the octets.
-use Rattle.std.proofs.Common.{◌≡◌, ℕ, zero, suc, ◌+◌, ◌≤◌, ◌&&◌, not, nat_lt, if◌then◌else◌, Bool, true, false, List, [], ◌∷◌, ◌++◌, slice_set, refl}
+use Rattle.std.proofs.Common.{◌≡◌, ℕ, zero, suc, ◌+◌, ◌<◌, ◌≤◌, ◌&&◌, not, nat_lt, Bool, true, false, List, [], ◌∷◌, ◌++◌, length, take, slice_set, refl}
+use Rattle.std.proofs.lemmas.List.{take_more_set}
 use Rattle.std.proofs.lemmas.Bool.{le-ltb}
 use Rattle.asn1_tree.specs.Entries.{are_placed}
 use Rattle.asn1_tree.specs.declared.entry.Entry.{Entry}
@@ -23,16 +24,16 @@ placed_more n (x ∷ xs) e all here =
     let b = not (nat_lt n (x.offset + x.header_len + x.contents_len)) in
     rw (and_first b (are_placed n xs) all) (placed_more n xs e (and_second b (are_placed n xs) all) here)
 
--- one that was added, or for which there was no memory
-pub placed_pushed : (n : ℕ) (es new : List Entry) (e : Entry) (b : Bool) → new ≡ (if◌then◌else◌ b (es ++ e ∷ []) es) → are_placed n es ≡ true → IsPlaced n e → are_placed n new ≡ true
-placed_pushed n es new e true same all here = rw same (placed_more n es e all here)
-placed_pushed n es new e false same all here = rw same all
+-- one that was added at the end of those which are kept
+pub placed_added : (n : ℕ) (es : List Entry) (k : ℕ) (e : Entry) → k < length es → are_placed n (take k es) ≡ true → IsPlaced n e → are_placed n (take (k + 1) (slice_set es k e)) ≡ true
+placed_added n es k e room all here = rw (take_more_set es k e room) (placed_more n (take k es) e all here)
 
--- one in the place of another
-pub placed_set : (n : ℕ) (es : List Entry) (i : ℕ) (e : Entry) → are_placed n es ≡ true → IsPlaced n e → are_placed n (slice_set es i e) ≡ true
-placed_set n [] i e all here = refl
-placed_set n (x ∷ xs) zero e all here =
-    rw (le-ltb n (e.offset + e.header_len + e.contents_len) here) (and_second (not (nat_lt n (x.offset + x.header_len + x.contents_len))) (are_placed n xs) all)
-placed_set n (x ∷ xs) (suc i) e all here =
+-- one in the place of another, among those which are kept
+pub placed_put : (n : ℕ) (es : List Entry) (k i : ℕ) (e : Entry) → are_placed n (take k es) ≡ true → IsPlaced n e → are_placed n (take k (slice_set es i e)) ≡ true
+placed_put n [] k i e all here = all
+placed_put n (x ∷ xs) zero i e all here = refl
+placed_put n (x ∷ xs) (suc k) zero e all here =
+    rw (le-ltb n (e.offset + e.header_len + e.contents_len) here) (and_second (not (nat_lt n (x.offset + x.header_len + x.contents_len))) (are_placed n (take k xs)) all)
+placed_put n (x ∷ xs) (suc k) (suc i) e all here =
     let b = not (nat_lt n (x.offset + x.header_len + x.contents_len)) in
-    rw (and_first b (are_placed n xs) all) (placed_set n xs i e (and_second b (are_placed n xs) all) here)
+    rw (and_first b (are_placed n (take k xs)) all) (placed_put n xs k i e (and_second b (are_placed n (take k xs)) all) here)

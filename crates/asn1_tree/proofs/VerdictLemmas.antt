@@ -2,6 +2,7 @@
 use Rattle.std.proofs.Common.{◌≡◌, ◌↔◌, ◌&&◌, true, false, List, [], ◌∷◌, ◌++◌, refl, sym, ap, ◌∙◌, subst, append_assoc, append-nil}
 use Rattle.der_base.specs.declared.encoding_rules.EncodingRules.{EncodingRules}
 use Rattle.der_base.specs.declared.encoding_rules.EncodingRules.TheVariants as rules
+use Rattle.asn1_tree.specs.Notes.{departures_of}
 use Rattle.asn1_tree.specs.Verdict.{holds, worst}
 use Rattle.asn1_tree.specs.Rule.{verdict_of_rule}
 use Rattle.asn1_tree.specs.Reading.{verdict_of, Adds, Logs}
@@ -65,10 +66,18 @@ pub adds_one : (d : Departure) (a : List Departure) → Adds (verdict_of_rule d.
 adds_one d a = record { added = d ∷ []; split = refl; verdict = sym (worst_der (verdict_of_rule d.rule)) }
 
 pub logs_then : {v w : Verdict} {a b c : Notes} → Logs v a b → Logs w b c → Logs (worst v w) a c
-logs_then s t = record { same = t.same ∙ s.same; adds = λ on. adds_then (s.adds on) (t.adds (s.same ∙ on)) }
+logs_then s t = record {
+  same = t.same ∙ s.same;
+  entries = t.entries ∙ s.entries;
+  departures = t.departures ∙ s.departures;
+  adds = λ on none.
+      let later = t.adds (s.same ∙ on) none in
+      let first = s.adds on later.0 in
+      (first.0, adds_then first.1 later.1);
+}
 
 pub logs_none : (a : Notes) → Logs Der a a
-logs_none a = record { same = refl; adds = λ on. adds_none a.departures.items }
+logs_none a = record { same = refl; entries = refl; departures = refl; adds = λ on none. (none, adds_none (departures_of a)) }
 
 pub worst_neither : (v : Verdict) → worst v Neither ≡ Neither
 worst_neither Der = refl

@@ -1,6 +1,11 @@
 -- Octets that are one value, and nothing more.
-use Rattle.std.proofs.Common.{◌≡◌, ◌↔◌, ℕ, Bool, true, false, List, [], ◌++◌, refl, sym, ap, ◌∙◌, subst}
+use Rattle.std.proofs.Common.{◌≡◌, ◌↔◌, ℕ, Bool, true, false, List, [], ◌++◌, refl, sym, ap, ◌∙◌, subst, ◌≤◌, take, length}
 use Rattle.der_base.specs.declared.encoding_rules.EncodingRules.{EncodingRules}
+use Rattle.asn1_tree.specs.Departures.{AreOfDer, are_inside}
+use Rattle.asn1_tree.specs.Entries.{are_placed}
+use Rattle.asn1_tree.specs.Notes.{departures_of, entries_of}
+use Rattle.asn1_tree.specs.declared.departure.Departure.{Departure}
+use Rattle.asn1_tree.specs.declared.entry.Entry.{Entry}
 use Rattle.asn1_tree.specs.Verdict.{holds, worst}
 use Rattle.asn1_tree.specs.Reading.{Front, IsWithin, Body, Finds, verdict_of, Logs}
 use Rattle.asn1_tree.specs.declared.notes.Notes.{Notes}
@@ -39,9 +44,9 @@ whole_found {Child} {v} {w} {rest} {last} octets value end rules = yes_or_no (ho
     is on = let there = (all.exact rules on last).1 refl in subst (Child rules) (sym there.1.0) there.2
 
 -- the verdict on what was walked is that of the departures which notes have, if they are kept
-pub kept_verdict : {v : Verdict} {old new : Notes} → old.departures.items ≡ [] → old.kept ≡ true → Logs v old new → v ≡ verdict_of new.departures.items
-kept_verdict none kept logs =
-    let adds = logs.adds kept in
+pub kept_verdict : {v : Verdict} {old new : Notes} → departures_of old ≡ [] → old.kept ≡ true → Logs v old new → new.lost ≡ 0 → v ≡ verdict_of (departures_of new)
+kept_verdict none kept logs all =
+    let adds = (logs.adds kept all).1 in
     adds.verdict ∙ ap verdict_of (sym (adds.split ∙ ap (λ l. l ++ adds.added) none))
 
 pub exact_of : {P : EncodingRules → Type 0} {v w : Verdict} → v ≡ w → ((rules : EncodingRules) → (holds rules v ≡ true) ↔ P rules) → (rules : EncodingRules) → (holds rules w ≡ true) ↔ P rules
@@ -91,3 +96,17 @@ finds_text t n u text {v} {a} {b} m c octets f only whole kept =
     (λ rules r h.
     let same = only h.0 r h.2.1.0 h.1 h.2.1.1 in
     ((subst (IsContents rules u) same h.2.1.2, subst (IsConstrained rules t n u) same h.2.1.3), (h.0, h.1, (h.2.0, (h.2.1.0, h.2.1.1))))) f)
+
+-- what holds of the departures that notes have, holds of the memory that they were put into
+pub ber_there : {P : Type 0} {new : List Departure} (n : Notes) → new ≡ n.departures.now → AreOfDer (departures_of n) ↔ P → AreOfDer (take n.departure_count new) ↔ P
+ber_there {P} n same f = subst (λ l. AreOfDer (take n.departure_count l) ↔ P) (sym same) f
+
+pub inside_there : {new : List Departure} {end : ℕ} (n : Notes) → new ≡ n.departures.now → n.end ≡ end → are_inside end (take n.departure_count new) ≡ true
+inside_there {new} n same e = rw same (subst (λ k. are_inside k (departures_of n) ≡ true) e n.inside)
+
+pub placed_there : {new : List Entry} {end : ℕ} (n : Notes) → new ≡ n.entries.now → n.end ≡ end → are_placed end (take n.entry_count new) ≡ true
+placed_there {new} n same e = rw same (subst (λ k. are_placed k (entries_of n) ≡ true) e n.placed)
+
+pub fits_there : {es : List Entry} {ds : List Departure} (n : Notes) → es ≡ n.entries.now → ds ≡ n.departures.now
+    → (n.entry_count ≤ length es) × (n.departure_count ≤ length ds)
+fits_there n e f = (subst (λ l. n.entry_count ≤ length l) (sym e) n.entries_fit, subst (λ l. n.departure_count ≤ length l) (sym f) n.departures_fit)

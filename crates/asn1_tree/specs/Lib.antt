@@ -10,6 +10,9 @@ pub mod Components
 pub mod Members
 pub mod Constraints
 pub mod Value
+pub mod Notes
+pub mod Seen
+pub mod Text
 pub mod Reading
 pub mod Strings
 pub mod StringReading

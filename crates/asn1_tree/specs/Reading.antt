@@ -2,6 +2,7 @@
 use Rattle.std.specs.Prelude.{◌≡◌, ◌↔◌, ℕ, Bool, true, false, List, [], ◌∷◌, ◌++◌}
 use Rattle.der_base.specs.FixedOctets.{end_of_contents}
 use Rattle.der_base.specs.declared.encoding_rules.EncodingRules.{EncodingRules}
+use Rattle.asn1_tree.specs.Notes.{departures_of}
 use Rattle.asn1_tree.specs.Verdict.{holds, worst}
 use Rattle.asn1_tree.specs.declared.departure.Departure.{Departure}
 use Rattle.asn1_tree.specs.declared.notes.Notes.{Notes}
@@ -43,7 +44,10 @@ pub record Adds (v : Verdict) (old new : List Departure) : Type 0 where
   pub split : new ≡ old ++ added
   pub verdict : v ≡ verdict_of added
 
--- a walk adds such departures to its notes, if it keeps them
+-- a walk adds such departures to its notes, if it keeps them and none is lost, in the same memory
 pub record Logs (v : Verdict) (old new : Notes) : Type 0 where
   pub same : new.kept ≡ old.kept
-  pub adds : old.kept ≡ true → Adds v old.departures.items new.departures.items
+  pub entries : new.entries.ghost_name ≡ old.entries.ghost_name
+  pub departures : new.departures.ghost_name ≡ old.departures.ghost_name
+  pub adds : old.kept ≡ true → new.lost ≡ 0
+      → (old.lost ≡ 0) × Adds v (departures_of old) (departures_of new)

@@ -9,6 +9,7 @@ ghost use Rattle.asn1_tree.specs.Types.{types_in};
 ghost use Rattle.asn1_tree.specs.Components.{IsInsertion, MayBeAbsent, AreComponents, AreFrom};
 ghost use Rattle.asn1_tree.specs.Value.{IsValue, IsAny};
 
+use crate::full::Full;
 use crate::notes::Notes;
 use crate::opened::Opened;
 use crate::outcome::Outcome;
@@ -19,19 +20,18 @@ use crate::types::field_of;
 use crate::untyped::any;
 use crate::verdict::Verdict;
 use asn1_schema::{Node, Schema};
-use std::alloc::AllocError;
 
 /// Reads the extension additions that a SEQUENCE does not have, before the field with an index: none,
 /// if its extension insertion point is elsewhere.
 pub(crate) fn additions<'a>(
-    notes: &mut Notes,
+    notes: &mut Notes<'_>,
     schema: &Schema<'_>,
     depth: usize,
     node: Node,
     index: u32,
     at: usize,
     opened: Opened<'a>,
-) -> Result<Outcome<'a>, AllocError>
+) -> Result<Outcome<'a>, Full>
     requires there { IsRange node.parts schema.now.counts.fields }
     requires part { (node.parts.start ≤ index) × (index ≤ node.parts.start + node.parts.count) }
     requires inside { opened.inside.end ≤ notes.old.end }

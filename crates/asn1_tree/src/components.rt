@@ -16,6 +16,7 @@ ghost use Rattle.asn1_tree.specs.Reading.{Front, Body, Finds, Status, Logs};
 
 use crate::additions::additions;
 use crate::constraints::{count_rule, end_of};
+use crate::full::Full;
 use crate::known::{Known, known_after};
 use crate::notes::Notes;
 use crate::opened::Opened;
@@ -32,19 +33,19 @@ use crate::untyped::{any, finish};
 use crate::verdict::Verdict;
 use asn1_schema::{Node, Schema};
 use ber::is_end_of_contents;
-use std::alloc::{AllocError, Global};
 
 // Reads the components of a SEQUENCE.
 #[cycle(typed)]
 pub(crate) fn components<'a>(
-    notes: &mut Notes,
-    alloc: Global,
+    notes: &mut Notes<'_>,
+    marks: &mut [u32],
+    room: &mut [u8],
     schema: &Schema<'_>,
     depth: usize,
     node: Node,
     at: usize,
     opened: Opened<'a>,
-) -> Result<Outcome<'a>, AllocError>
+) -> Result<Outcome<'a>, Full>
     requires kind { node.kind ≡ Universally Sequence }
     requires there { IsRange node.parts schema.now.counts.fields }
     requires distinct { AreDistinct (types_in schema.now.octets.now) }
@@ -67,7 +68,9 @@ pub(crate) fn components<'a>(
     let mut known = None;
     'fields: while index < end {
         let here = opened.at(rest);
-        let step = component(notes, alloc, schema, depth, known, node, index, at, here)?;
+        let step = component(
+            notes, marks, room, schema, depth, known, node, index, at, here,
+        )?;
         index += 1;
         let after = additions(notes, schema, depth, node, index, at, opened.at(step.rest))?;
         verdict = verdict.and(step.verdict).and(after.verdict);
@@ -95,8 +98,9 @@ fn begins_later(schema: &Schema<'_>, node: Node, index: u32, octets: &[u8]) -> b
 // Reads the component of a field, if it is there.
 #[cycle(typed)]
 fn component<'a>(
-    notes: &mut Notes,
-    alloc: Global,
+    notes: &mut Notes<'_>,
+    marks: &mut [u32],
+    room: &mut [u8],
     schema: &Schema<'_>,
     depth: usize,
     known: Option<Known<'a>>,
@@ -104,7 +108,7 @@ fn component<'a>(
     index: u32,
     at: usize,
     opened: Opened<'a>,
-) -> Result<Step<'a>, AllocError>
+) -> Result<Step<'a>, Full>
     requires kind { node.kind ≡ Universally Sequence }
     requires there { IsRange node.parts schema.now.counts.fields }
     requires part { (node.parts.start ≤ index) × (index < node.parts.start + node.parts.count) }
@@ -126,7 +130,7 @@ fn component<'a>(
     let field = field_of(schema, index);
     let place = opened.inside;
     if begins(schema, field.node, place.octets) {
-        let outcome = field_value(notes, alloc, schema, depth, known, index, at, place)?;
+        let outcome = field_value(notes, marks, room, schema, depth, known, index, at, place)?;
         let octets = &place.octets[..place.octets.len() - outcome.rest.len()];
         return Ok(Step {
             verdict: outcome.verdict,
@@ -161,15 +165,16 @@ fn component<'a>(
 // Reads the value of a field.
 #[cycle(typed)]
 pub(crate) fn field_value<'a>(
-    notes: &mut Notes,
-    alloc: Global,
+    notes: &mut Notes<'_>,
+    marks: &mut [u32],
+    room: &mut [u8],
     schema: &Schema<'_>,
     depth: usize,
     known: Option<Known<'_>>,
     index: u32,
     at: usize,
     place: Place<'a>,
-) -> Result<Outcome<'a>, AllocError>
+) -> Result<Outcome<'a>, Full>
     requires there { index < schema.now.counts.fields }
     requires distinct { AreDistinct (types_in schema.now.octets.now) }
     requires inside { place.end ≤ notes.old.end }
@@ -189,7 +194,9 @@ pub(crate) fn field_value<'a>(
         field: index,
         ..Role::inside(at)
     };
-    let outcome = value(notes, alloc, schema, depth, known, field.node, role, place)?;
+    let outcome = value(
+        notes, marks, room, schema, depth, known, field.node, role, place,
+    )?;
     let octets = &place.octets[..place.octets.len() - outcome.rest.len()];
     let encoded = notes.judge(default_rule(schema, field, octets), place.offset(), at)?;
     Ok(Outcome {
@@ -201,8 +208,9 @@ pub(crate) fn field_value<'a>(
 // Reads the values of a SEQUENCE OF or a SET OF.
 #[cycle(typed)]
 pub(crate) fn items<'a>(
-    notes: &mut Notes,
-    alloc: Global,
+    notes: &mut Notes<'_>,
+    marks: &mut [u32],
+    room: &mut [u8],
     schema: &Schema<'_>,
     depth: usize,
     known: Option<Known<'_>>,
@@ -210,7 +218,7 @@ pub(crate) fn items<'a>(
     sorted: bool,
     at: usize,
     opened: Opened<'a>,
-) -> Result<Outcome<'a>, AllocError>
+) -> Result<Outcome<'a>, Full>
     requires inner { IsSome node.inner }
     requires fits { IsRow schema.now.counts schema.now.pool.now node }
     requires distinct { AreDistinct (types_in schema.now.octets.now) }
@@ -232,7 +240,7 @@ pub(crate) fn items<'a>(
     let mut before: &[u8] = &[];
     'items: while !opened.at(rest).is_ended() {
         let place = opened.inside.at(rest);
-        let outcome = value(notes, alloc, schema, depth, known, item, role, place)?;
+        let outcome = value(notes, marks, room, schema, depth, known, item, role, place)?;
         let octets = &rest[..rest.len() - outcome.rest.len()];
         let order = notes.judge(order_rule(sorted, before, octets), place.offset(), at)?;
         verdict = verdict.and(outcome.verdict).and(order);
@@ -251,15 +259,16 @@ pub(crate) fn items<'a>(
 // Reads the value inside an EXPLICIT tag.
 #[cycle(typed)]
 pub(crate) fn explicit<'a>(
-    notes: &mut Notes,
-    alloc: Global,
+    notes: &mut Notes<'_>,
+    marks: &mut [u32],
+    room: &mut [u8],
     schema: &Schema<'_>,
     depth: usize,
     known: Option<Known<'_>>,
     inner: u32,
     at: usize,
     opened: Opened<'a>,
-) -> Result<Outcome<'a>, AllocError>
+) -> Result<Outcome<'a>, Full>
     requires there { inner < schema.now.counts.nodes }
     requires distinct { AreDistinct (types_in schema.now.octets.now) }
     requires inside { opened.inside.end ≤ notes.old.end }
@@ -274,7 +283,8 @@ pub(crate) fn explicit<'a>(
     let role = Role::inside(at);
     let outcome = value(
         notes,
-        alloc,
+        marks,
+        room,
         schema,
         depth,
         known,

@@ -12,3 +12,12 @@ pub struct Departure {
     /// The index of the node of the tree that it is in.
     pub node: usize,
 }
+
+impl Departure {
+    /// What memory holds before a departure is noted in it.
+    pub const NONE: Departure = Departure {
+        rule: Rule::Header,
+        offset: 0,
+        node: 0,
+    };
+}

@@ -4,10 +4,11 @@ ghost use Rattle.std.specs.Prelude.{◌≡◌, ◌-◌, length};
 ghost use Rattle.ber.specs.Header.{IsNext};
 
 use crate::place::Place;
-use crate::role::Role;
+use crate::role::{NO_INDEX, Role};
 use ber::Header;
 
 /// An element of the input. At most 40 octets of memory.
+#[repr(C)]
 #[derive(Debug, Clone, Copy, PartialEq, Eq)]
 pub struct Entry {
     /// Its offset, in octets from the start of the input.
@@ -29,6 +30,18 @@ pub struct Entry {
 }
 
 impl Entry {
+    /// What memory holds before an element is read into it.
+    pub const NONE: Entry = Entry {
+        offset: 0,
+        contents_len: 0,
+        parent: 0,
+        kind: NO_INDEX,
+        field: NO_INDEX,
+        alternative: NO_INDEX,
+        header_len: 0,
+        depth: 0,
+    };
+
     // The element of a header at a place. The length of its contents is known when they have been read, and
     // its depth when it is in a tree.
     pub(crate) fn new(header: Header, place: Place<'_>, role: Role, kind: u32) -> Self

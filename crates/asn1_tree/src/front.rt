@@ -7,6 +7,7 @@ ghost use Rattle.asn1_tree.specs.Reading.{Logs};
 ghost use Rattle.asn1_tree.specs.Rule.{verdict_of_rule};
 ghost use Rattle.asn1_tree.specs.declared.verdict.Verdict.TheVariants.{Neither};
 
+use crate::full::Full;
 use crate::notes::Notes;
 use crate::opening::skipped;
 use crate::outcome::Outcome;
@@ -14,7 +15,6 @@ use crate::place::Place;
 use crate::role::Role;
 use crate::rule::Rule;
 use ber::{Header, is_end_of_contents, read_header};
-use std::alloc::AllocError;
 
 /// The header of an element at the front, if so many levels are left for it; otherwise the rule that is
 /// broken.
@@ -45,11 +45,11 @@ pub(crate) fn front_header(octets: &[u8], depth: usize) -> Result<Header, Rule>
 
 /// Notes that there is no element at the front, by this rule, and passes what is there.
 pub(crate) fn pass<'a>(
-    notes: &mut Notes,
+    notes: &mut Notes<'_>,
     rule: Rule,
     role: Role,
     place: Place<'a>,
-) -> Result<Outcome<'a>, AllocError>
+) -> Result<Outcome<'a>, Full>
     requires neither { verdict_of_rule rule ≡ Neither }
     requires inside { place.end ≤ notes.old.end }
     ensures verdict { IfOk result (λ o. o.verdict ≡ Neither) }

@@ -14,6 +14,10 @@
 //! through `entries`: each has its type and its field, by index in the table, and the element
 //! around it. [`is_der`] and [`is_ber`] give the same answers without a tree.
 //!
+//! [`read_into`] and [`judge`] do the same and allocate nothing: they write into memory of the caller, as a
+//! WebAssembly module or a program in C wants it. `read` is `read_into` with more memory after each call that
+//! finds too little.
+//!
 //! # What it does not do
 //!
 //! It does not check CONTAINING in a BIT STRING or in a string in the constructed form. The contents
@@ -37,7 +41,9 @@ mod components;
 mod constraints;
 mod departure;
 mod entry;
+mod found;
 mod front;
+mod full;
 mod known;
 mod members;
 mod notes;
@@ -50,21 +56,28 @@ mod place;
 mod reading;
 mod role;
 mod rule;
+mod seen;
 mod select;
 mod shape;
+mod sizes;
 mod strings;
 mod tag_order;
 mod tests;
+mod text;
 mod texts;
 mod tree;
 mod typed;
 mod types;
 mod untyped;
 mod verdict;
+mod walk;
 
 pub use departure::Departure;
 pub use entry::Entry;
+pub use found::Found;
+pub use full::Full;
 pub use reading::{is_ber, is_der, read};
 pub use rule::Rule;
 pub use tree::Tree;
 pub use verdict::Verdict;
+pub use walk::{judge, read_into};

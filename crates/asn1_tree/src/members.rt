@@ -11,18 +11,21 @@ ghost use Rattle.asn1_tree.specs.Members.{is_seen, IsMember, ArePresent, SomeMem
 ghost use Rattle.asn1_tree.specs.Components.{MayBeAbsent};
 ghost use Rattle.asn1_tree.specs.Reading.{Front, Body, Finds, Logs};
 ghost use Rattle.asn1_tree.specs.Rule.{verdict_of_option};
+ghost use Rattle.asn1_tree.specs.Seen.{fields_of};
 ghost use Rattle.asn1_tree.specs.Types.{types_in};
 ghost use Rattle.asn1_tree.specs.Value.{IsValue, IsAny};
 ghost use Rattle.asn1_tree.specs.Verdict.{holds};
 
 use crate::components::field_value;
 use crate::constraints::end_of;
+use crate::full::Full;
 use crate::notes::Notes;
 use crate::opened::Opened;
 use crate::outcome::Outcome;
 use crate::place::Place;
 use crate::role::Role;
 use crate::rule::Rule;
+use crate::seen::Seen;
 use crate::select::find_field;
 use crate::tag_order::tag_order_rule;
 use crate::tests::may_be_absent;
@@ -30,19 +33,19 @@ use crate::types::field_of;
 use crate::untyped::{any, finish};
 use crate::verdict::Verdict;
 use asn1_schema::{Field, Node, Schema};
-use std::alloc::{AllocError, Global};
 
 // Reads the elements of a SET.
 #[cycle(typed)]
 pub(crate) fn members<'a>(
-    notes: &mut Notes,
-    alloc: Global,
+    notes: &mut Notes<'_>,
+    marks: &mut [u32],
+    room: &mut [u8],
     schema: &Schema<'_>,
     depth: usize,
     node: Node,
     at: usize,
     opened: Opened<'a>,
-) -> Result<Outcome<'a>, AllocError>
+) -> Result<Outcome<'a>, Full>
     requires kind { node.kind ≡ Universally Set }
     requires there { IsRange node.parts schema.now.counts.fields }
     requires distinct { AreDistinct (types_in schema.now.octets.now) }
@@ -56,13 +59,20 @@ pub(crate) fn members<'a>(
     ensures log { IfOk result (λ o. Logs o.verdict notes.old notes.new) }
     ensures end { OnOk result (notes.new.end ≡ notes.old.end) }
 {
-    let mut seen = Vec::new(alloc);
+    let needed = node.parts.count as usize;
+    if marks.len() < needed {
+        return Err(Full);
+    }
+    let (places, marks) = marks.split_at_mut(needed);
+    let mut seen = Seen::new(places);
     let mut verdict = Verdict::Der;
     let mut rest = opened.inside.octets;
     let mut before: &[u8] = &[];
     'members: while !opened.at(rest).is_ended() {
         let place = opened.inside.at(rest);
-        let outcome = member(notes, alloc, schema, depth, node, at, place, &mut seen)?;
+        let outcome = member(
+            notes, marks, room, schema, depth, node, at, place, &mut seen,
+        )?;
         let octets = &rest[..rest.len() - outcome.rest.len()];
         let order = notes.judge(tag_order_rule(before, octets), place.offset(), at)?;
         verdict = verdict.and(outcome.verdict).and(order);
@@ -87,15 +97,16 @@ pub(crate) fn members<'a>(
 // Reads an element of a SET, and notes the field that it is the component of.
 #[cycle(typed)]
 fn member<'a>(
-    notes: &mut Notes,
-    alloc: Global,
+    notes: &mut Notes<'_>,
+    marks: &mut [u32],
+    room: &mut [u8],
     schema: &Schema<'_>,
     depth: usize,
     node: Node,
     at: usize,
     place: Place<'a>,
-    seen: &mut Vec<u32>,
-) -> Result<Outcome<'a>, AllocError>
+    seen: &mut Seen<'_>,
+) -> Result<Outcome<'a>, Full>
     requires kind { node.kind ≡ Universally Set }
     requires there { IsRange node.parts schema.now.counts.fields }
     requires distinct { AreDistinct (types_in schema.now.octets.now) }
@@ -103,11 +114,11 @@ fn member<'a>(
     requires inside { place.end ≤ notes.old.end }
     ensures finds { IfOk result (λ o. Finds (λ rules. Front (λ x. (after : List ℕ)
         × IsMember (IsValue (types_in schema.now.octets.now) depth) (IsAny depth) rules
-        (types_in schema.now.octets.now) node seen.old.items x after) place.entry.octets.now)
+        (types_in schema.now.octets.now) node (fields_of seen.old) x after) place.entry.octets.now)
         o.verdict o.rest.now) }
     ensures only { OnOk result ((rules : EncodingRules) (x r after : List ℕ) → place.entry.octets.now ≡ x ++ r
         → IsMember (IsValue (types_in schema.now.octets.now) depth) (IsAny depth) rules
-        (types_in schema.now.octets.now) node seen.old.items x after → after ≡ seen.new.items) }
+        (types_in schema.now.octets.now) node (fields_of seen.old) x after → after ≡ fields_of seen.new) }
     ensures log { IfOk result (λ o. Logs o.verdict notes.old notes.new) }
     ensures shorter { IfOk result (λ o. length o.rest.now ≤ length place.entry.octets.now) }
     ensures moves { IfOk result
@@ -118,14 +129,16 @@ fn member<'a>(
         Some(index) => {
             if is_seen(seen.as_slice(), index) {
                 let again = notes.depart(Rule::Duplicate, place.offset(), at)?;
-                let outcome = field_value(notes, alloc, schema, depth, None, index, at, place)?;
+                let outcome = field_value(
+                    notes, marks, room, schema, depth, None, index, at, place,
+                )?;
                 return Ok(Outcome {
                     verdict: again.and(outcome.verdict),
                     rest: outcome.rest,
                 });
             }
             seen.push(index)?;
-            field_value(notes, alloc, schema, depth, None, index, at, place)
+            field_value(notes, marks, room, schema, depth, None, index, at, place)
         }
         None => {
             if node.extensible {
@@ -155,13 +168,13 @@ fn is_seen(seen: &[u32], index: u32) -> bool
 
 // Adds a departure for each field of a SET that was not there, and may not be absent.
 fn judge_present(
-    notes: &mut Notes,
+    notes: &mut Notes<'_>,
     schema: &Schema<'_>,
     node: Node,
     seen: &[u32],
     at: usize,
     offset: usize,
-) -> Result<Verdict, AllocError>
+) -> Result<Verdict, Full>
     requires there { IsRange node.parts schema.now.counts.fields }
     requires inside { offset ≤ notes.old.end }
     ensures exact { IfOk result (λ v. (rules : EncodingRules) → (holds rules v ≡ true)

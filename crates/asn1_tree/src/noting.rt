@@ -1,56 +1,95 @@
 //! What a walk notes.
-ghost use Rattle.std.specs.Prelude.{◌≡◌, ◌↔◌, ◌+◌, ◌≤◌, true, [], length, IfOk, OnOk};
+ghost use Rattle.std.specs.Prelude.{◌≡◌, ◌↔◌, ◌+◌, ◌++◌, ◌∷◌, ◌<◌, ◌≤◌, true, [], length, IfOk, OnOk};
 ghost use Rattle.der_base.specs.declared.encoding_rules.EncodingRules.{EncodingRules};
 ghost use Rattle.asn1_tree.specs.Verdict.{holds};
 ghost use Rattle.asn1_tree.specs.declared.verdict.Verdict.TheVariants.{Der};
 ghost use Rattle.asn1_tree.specs.Enclosed.{IsAllowed};
+ghost use Rattle.asn1_tree.specs.Notes.{departures_of};
 ghost use Rattle.asn1_tree.specs.Reading.{Logs};
 ghost use Rattle.asn1_tree.specs.Rule.{verdict_of_rule, verdict_of_option};
 
 use crate::departure::Departure;
 use crate::entry::Entry;
+use crate::full::Full;
 use crate::notes::Notes;
 use crate::opened::Opened;
 use crate::rule::Rule;
 use crate::verdict::Verdict;
 use ber::Header;
-use std::alloc::{AllocError, Global};
 
-impl Notes {
+impl<'n> Notes<'n> {
     /// No notes yet.
-    pub fn new(alloc: Global, kept: bool, end: usize) -> Self
-        ensures none { result.departures.items ≡ [] }
+    pub fn new(
+        entries: &'n mut [Entry],
+        departures: &'n mut [Departure],
+        kept: bool,
+        end: usize,
+    ) -> Self
+        ensures none { departures_of result ≡ [] }
+        ensures lost { result.lost ≡ 0 }
         ensures kept { result.kept ≡ kept }
         ensures end { result.end ≡ end }
+        ensures entries { result.entries.ghost_name ≡ entries.entry.ghost_name }
+        ensures departures { result.departures.ghost_name ≡ departures.entry.ghost_name }
     {
         Notes {
-            entries: Vec::new(alloc),
-            departures: Vec::new(alloc),
+            entries,
+            departures,
+            entry_count: 0,
+            departure_count: 0,
+            lost: 0,
             kept,
             end,
         }
     }
 
     /// Notes a departure.
-    pub fn depart(&mut self, rule: Rule, offset: usize, node: usize) -> Result<Verdict, AllocError>
+    pub fn depart(&mut self, rule: Rule, offset: usize, node: usize) -> Result<Verdict, Full>
         requires { offset ≤ self.old.end }
         ensures verdict { IfOk result (λ v. v ≡ verdict_of_rule rule) }
         ensures log { IfOk result (λ v. Logs v self.old self.new) }
         ensures end { OnOk result (self.new.end ≡ self.old.end) }
     {
         if self.kept {
-            self.departures.push(Departure { rule, offset, node })?;
+            self.add(Departure { rule, offset, node });
         }
         Ok(rule.verdict())
     }
 
+    // Adds a departure, or counts it if there is no room.
+    fn add(&mut self, departure: Departure)
+        requires { departure.offset ≤ self.old.end }
+        ensures added { self.new.lost ≡ 0 → (self.old.lost ≡ 0)
+            × (departures_of self.new ≡ departures_of self.old ++ departure ∷ []) }
+        ensures kept { self.new.kept ≡ self.old.kept }
+        ensures end { self.new.end ≡ self.old.end }
+        ensures entries { self.new.entries.ghost_name ≡ self.old.entries.ghost_name }
+        ensures departures { self.new.departures.ghost_name ≡ self.old.departures.ghost_name }
+    {
+        if self.departure_count < self.departures.len() {
+            self.keep(departure);
+        } else {
+            self.lost = self.lost.saturating_add(1);
+        }
+    }
+
+    // Adds a departure.
+    fn keep(&mut self, departure: Departure)
+        requires inside { departure.offset ≤ self.old.end }
+        requires room { self.old.departure_count < length self.old.departures.now }
+        ensures added { departures_of self.new ≡ departures_of self.old ++ departure ∷ [] }
+        ensures lost { self.new.lost ≡ self.old.lost }
+        ensures kept { self.new.kept ≡ self.old.kept }
+        ensures end { self.new.end ≡ self.old.end }
+        ensures entries { self.new.entries.ghost_name ≡ self.old.entries.ghost_name }
+        ensures departures { self.new.departures.ghost_name ≡ self.old.departures.ghost_name }
+    {
+        self.departures[self.departure_count] = departure;
+        self.departure_count += 1;
+    }
+
     /// Notes a departure, if there is one.
-    pub fn judge(
-        &mut self,
-        rule: Option<Rule>,
-        offset: usize,
-        node: usize,
-    ) -> Result<Verdict, AllocError>
+    pub fn judge(&mut self, rule: Option<Rule>, offset: usize, node: usize) -> Result<Verdict, Full>
         requires { offset ≤ self.old.end }
         ensures verdict { IfOk result (λ v. v ≡ verdict_of_option rule) }
         ensures log { IfOk result (λ v. Logs v self.old self.new) }
@@ -68,7 +107,7 @@ impl Notes {
         header: Header,
         offset: usize,
         node: usize,
-    ) -> Result<Verdict, AllocError>
+    ) -> Result<Verdict, Full>
         requires { offset ≤ self.old.end }
         ensures verdict { IfOk result (λ v. (rules : EncodingRules)
             → (holds rules v ≡ true) ↔ IsAllowed rules header) }
@@ -85,20 +124,44 @@ impl Notes {
     }
 
     /// Notes an element, and returns its index; 0 if none is kept.
-    pub fn enter(&mut self, entry: Entry) -> Result<usize, AllocError>
+    pub fn enter(&mut self, entry: Entry) -> Result<usize, Full>
         requires { entry.offset + entry.header_len + entry.contents_len ≤ self.old.end }
         ensures log { OnOk result (Logs Der self.old self.new) }
         ensures end { OnOk result (self.new.end ≡ self.old.end) }
     {
-        let index = self.entries.len();
+        let index = self.entry_count;
         if self.kept {
-            let depth = match self.entries.get(entry.parent) {
-                Some(parent) => parent.depth.saturating_add(1),
-                None => 0,
-            };
-            self.entries.push(Entry { depth, ..entry })?;
+            let depth = self.depth_inside(entry.parent);
+            self.place(Entry { depth, ..entry })?;
         }
         Ok(index)
+    }
+
+    // How many elements an element is inside, where this is the index of the one around it.
+    fn depth_inside(&self, parent: usize) -> u8 {
+        if parent < self.entry_count {
+            self.entries[parent].depth.saturating_add(1)
+        } else {
+            0
+        }
+    }
+
+    // Adds an element, if there is room.
+    fn place(&mut self, entry: Entry) -> Result<(), Full>
+        requires { entry.offset + entry.header_len + entry.contents_len ≤ self.old.end }
+        ensures same { departures_of self.new ≡ departures_of self.old }
+        ensures lost { self.new.lost ≡ self.old.lost }
+        ensures kept { self.new.kept ≡ self.old.kept }
+        ensures end { self.new.end ≡ self.old.end }
+        ensures entries { self.new.entries.ghost_name ≡ self.old.entries.ghost_name }
+        ensures departures { self.new.departures.ghost_name ≡ self.old.departures.ghost_name }
+    {
+        if self.entry_count >= self.entries.len() {
+            return Err(Full);
+        }
+        self.entries[self.entry_count] = entry;
+        self.entry_count += 1;
+        Ok(())
     }
 
     /// Notes how many contents octets an element has, after which this is the rest.
@@ -108,7 +171,7 @@ impl Notes {
         ensures end { self.new.end ≡ self.old.end }
     {
         let contents_len = contents_len(opened, rest);
-        if index < self.entries.len() {
+        if index < self.entry_count {
             self.entries[index] = Entry {
                 contents_len,
                 depth: self.entries[index].depth,

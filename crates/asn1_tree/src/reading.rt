@@ -1,25 +1,25 @@
-//! Reading of values.
-ghost use Rattle.std.specs.Prelude.{◌≡◌, ◌↔◌, ◌<◌, true, None, [], length, IfOk, ◌≤◌, OnOk};
+//! Reading of values into memory that is allocated.
+ghost use Rattle.std.specs.Prelude.{◌≡◌, ◌↔◌, ◌<◌, true, None, [], length, IfOk, IfSome};
 ghost use Rattle.der_base.specs.declared.encoding_rules.EncodingRules.{EncodingRules};
 ghost use Rattle.asn1_schema.specs.Table.{table_in};
 ghost use Rattle.asn1_tree.specs.Departures.{AreOfDer, are_inside};
 ghost use Rattle.asn1_tree.specs.Encoding.{IsDer, IsBer};
 ghost use Rattle.asn1_tree.specs.Entries.{are_placed};
-ghost use Rattle.asn1_tree.specs.Reading.{Logs};
 ghost use Rattle.asn1_tree.specs.Types.{types_in};
 ghost use Rattle.asn1_tree.specs.Value.{IsValue};
 ghost use Rattle.asn1_tree.specs.Verdict.{holds};
 
-use crate::notes::Notes;
-use crate::opened::Opened;
-use crate::place::Place;
-use crate::role::{LEVELS, Role};
+use crate::departure::Departure;
+use crate::entry::Entry;
+use crate::sizes::Sizes;
 use crate::tree::Tree;
-use crate::typed::value;
-use crate::untyped::finish;
 use crate::verdict::Verdict;
+use crate::walk::{judge, read_into};
 use asn1_schema::Schema;
 use std::alloc::{AllocError, Global};
+
+/// How often the room is made larger. No memory is left long before.
+const TRIES: u32 = 32;
 
 /// Reads octets as a value of a node of a table, and goes on after each departure. There is none exactly
 /// if the octets are the DER encoding of such a value, and none but of rules that DER alone has exactly
@@ -43,12 +43,56 @@ pub fn read(
     ensures inside { IfOk result (λ tree. are_inside (length octets.now) tree.departures.items ≡ true) }
     ensures placed { IfOk result (λ tree. are_placed (length octets.now) tree.entries.items ≡ true) }
 {
-    let mut notes = Notes::new(alloc, true, octets.len());
-    walk(&mut notes, alloc, schema, node, octets)?;
-    Ok(Tree {
-        entries: notes.entries,
-        departures: notes.departures,
-    })
+    let mut sizes = Sizes::first(octets.len());
+    for _ in 0..TRIES {
+        if let Some(tree) = read_in(alloc, schema, node, octets, sizes)? {
+            return Ok(tree);
+        }
+        sizes = sizes.larger();
+    }
+    Err(AllocError)
+}
+
+// Reads with room of these sizes. `None` if it is too small.
+fn read_in(
+    alloc: Global,
+    schema: &Schema<'_>,
+    node: u32,
+    octets: &[u8],
+    sizes: Sizes,
+) -> Result<Option<Tree>, AllocError>
+    requires { node < schema.now.counts.nodes }
+    ensures der { IfOk result (λ o. IfSome o (λ tree. (tree.departures.items ≡ [])
+        ↔ IsDer (table_in schema.now.octets.now) node octets.now)) }
+    ensures ber { IfOk result (λ o. IfSome o (λ tree. AreOfDer tree.departures.items
+        ↔ IsBer (table_in schema.now.octets.now) node octets.now)) }
+    ensures inside { IfOk result (λ o. IfSome o (λ tree.
+        are_inside (length octets.now) tree.departures.items ≡ true)) }
+    ensures placed { IfOk result (λ o. IfSome o (λ tree.
+        are_placed (length octets.now) tree.entries.items ≡ true)) }
+{
+    let mut entries = vec![in alloc; Entry::NONE; sizes.entries]?;
+    let mut departures = vec![in alloc; Departure::NONE; sizes.departures]?;
+    let mut marks = vec![in alloc; 0u32; sizes.marks]?;
+    let mut text = vec![in alloc; 0u8; sizes.text]?;
+    let found = match read_into(
+        schema,
+        node,
+        octets,
+        entries.as_mut_slice(),
+        departures.as_mut_slice(),
+        marks.as_mut_slice(),
+        text.as_mut_slice(),
+    ) {
+        Ok(found) if found.lost == 0 => found,
+        _ => return Ok(None),
+    };
+    entries.truncate(found.entries);
+    departures.truncate(found.departures);
+    Ok(Some(Tree {
+        entries,
+        departures,
+    }))
 }
 
 /// Whether octets are the DER encoding of a value of a node of a table. No tree is made: memory is
@@ -67,13 +111,7 @@ pub fn is_der(
     requires { node < schema.now.counts.nodes }
     ensures { IfOk result (λ is. (is ≡ true) ↔ IsDer (table_in schema.now.octets.now) node octets.now) }
 {
-    let verdict = walk(
-        &mut Notes::new(alloc, false, octets.len()),
-        alloc,
-        schema,
-        node,
-        octets,
-    )?;
+    let verdict = verdict_on(alloc, schema, node, octets)?;
     Ok(verdict.is_der())
 }
 
@@ -92,43 +130,35 @@ pub fn is_ber(
     requires { node < schema.now.counts.nodes }
     ensures { IfOk result (λ is. (is ≡ true) ↔ IsBer (table_in schema.now.octets.now) node octets.now) }
 {
-    let verdict = walk(
-        &mut Notes::new(alloc, false, octets.len()),
-        alloc,
-        schema,
-        node,
-        octets,
-    )?;
+    let verdict = verdict_on(alloc, schema, node, octets)?;
     Ok(verdict.is_ber())
 }
 
-// Reads octets as a value of a node.
-fn walk(
-    notes: &mut Notes,
+// The verdict on octets as a value of a node. Most need no memory.
+fn verdict_on(
     alloc: Global,
     schema: &Schema<'_>,
     node: u32,
     octets: &[u8],
 ) -> Result<Verdict, AllocError>
-    requires there { node < schema.now.counts.nodes }
-    requires inside { length octets.now ≤ notes.old.end }
+    requires { node < schema.now.counts.nodes }
     ensures exact { IfOk result (λ v. (rules : EncodingRules) → (holds rules v ≡ true)
         ↔ IsValue (types_in schema.now.octets.now) 64 rules None node octets.now) }
-    ensures log { IfOk result (λ v. Logs v notes.old notes.new) }
-    ensures end { OnOk result (notes.new.end ≡ notes.old.end) }
 {
-    let place = Place {
-        octets,
-        end: octets.len(),
-    };
-    let role = Role::inside(0);
-    let outcome = value(notes, alloc, schema, LEVELS, None, node, role, place)?;
-    let rest = Opened {
-        inside: place.at(outcome.rest),
-        start: 0,
-        marked: false,
-        beyond: &[],
-    };
-    let end = finish(notes, LEVELS, 0, rest)?;
-    Ok(outcome.verdict.and(end.verdict))
+    let mut marks = [0u32; 16];
+    let mut text = [0u8; 256];
+    if let Ok(verdict) = judge(schema, node, octets, &mut marks, &mut text) {
+        return Ok(verdict);
+    }
+    let mut sizes = Sizes::first(octets.len());
+    for _ in 0..TRIES {
+        let mut marks = vec![in alloc; 0u32; sizes.marks]?;
+        let mut text = vec![in alloc; 0u8; sizes.text]?;
+        let (marks, text) = (marks.as_mut_slice(), text.as_mut_slice());
+        if let Ok(verdict) = judge(schema, node, octets, marks, text) {
+            return Ok(verdict);
+        }
+        sizes = sizes.larger();
+    }
+    Err(AllocError)
 }

@@ -7,10 +7,12 @@ ghost use Rattle.asn1_tree.specs.Rule.{verdict_of_rule};
 ghost use Rattle.asn1_tree.specs.declared.verdict.Verdict.TheVariants.{Neither};
 ghost use Rattle.asn1_tree.specs.Reading.{IsWithin, Body, Finds, Logs};
 ghost use Rattle.asn1_tree.specs.Strings.{is_bits, segment_type, IsJoined, AreJoined, HasText, HasSegmentTag, IsSegment, AreSegments};
+ghost use Rattle.asn1_tree.specs.Text.{text_of};
 ghost use Rattle.asn1_tree.specs.StringReading.{IsText, IsWhole, BeginsAfter, BodyAfter, Reads};
 
 use crate::entry::Entry;
 use crate::front::{front_header, pass};
+use crate::full::Full;
 use crate::notes::Notes;
 use crate::opened::Opened;
 use crate::opening::after_header;
@@ -19,29 +21,29 @@ use crate::place::Place;
 use crate::role::{NO_INDEX, Role};
 use crate::rule::Rule;
 use crate::tests::primitive_rule;
+use crate::text::Text;
 use crate::untyped::{any, finish};
 use crate::verdict::Verdict;
 use ber::{Header, Universal};
 use der_base::Class;
-use std::alloc::{AllocError, Global};
 
 /// A verdict on the contents of a constructed string, the octets that follow, and the text.
 #[derive(Drop)]
-pub(crate) struct JoinedText<'a> {
+pub(crate) struct JoinedText<'a, 't> {
     pub verdict: Verdict,
     pub rest: &'a [u8],
-    pub text: Vec<u8>,
+    pub text: Text<'t>,
 }
 
 /// Reads the contents of a constructed string.
-pub(crate) fn joined<'a>(
-    notes: &mut Notes,
-    alloc: Global,
+pub(crate) fn joined<'a, 't>(
+    notes: &mut Notes<'_>,
+    room: &'t mut [u8],
     depth: usize,
     universal: Universal,
     at: usize,
     opened: Opened<'a>,
-) -> Result<JoinedText<'a>, AllocError>
+) -> Result<JoinedText<'a, 't>, Full>
     requires inside { opened.inside.end ≤ notes.old.end }
     ensures finds { IfOk result (λ j. Finds
         (λ rules. Body opened.entry.marked opened.entry.beyond.now
@@ -49,7 +51,7 @@ pub(crate) fn joined<'a>(
         opened.entry.inside.octets.now) j.verdict j.rest.now) }
     ensures only { IfOk result (λ j. (inner r text : List ℕ)
         → IsWithin opened.entry.marked opened.entry.beyond.now opened.entry.inside.octets.now
-        inner r → AreSegments depth universal inner text → text ≡ j.text.items) }
+        inner r → AreSegments depth universal inner text → text ≡ text_of j.text) }
     ensures shorter { IfOk result (λ j. length j.rest.now
         ≤ length opened.entry.inside.octets.now + length opened.entry.beyond.now) }
     ensures log { IfOk result
@@ -58,7 +60,7 @@ pub(crate) fn joined<'a>(
 {
     let whole = notes.depart(Rule::ConstructedString, opened.start, at)?;
     let bits = is_bit_string(universal);
-    let mut text = empty_text(alloc, bits)?;
+    let mut text = empty_text(room, bits)?;
     let outcome = segments(notes, depth, bits, at, opened, &mut text)?;
     Ok(JoinedText {
         verdict: whole.and(outcome.verdict),
@@ -84,12 +86,12 @@ fn type_of_segments(bits: bool) -> Universal
 }
 
 // The text of no segments.
-fn empty_text(alloc: Global, bits: bool) -> Result<Vec<u8>, AllocError>
-    ensures { IfOk result (λ text. IsJoined bits [] text.items) }
+fn empty_text<'t>(room: &'t mut [u8], bits: bool) -> Result<Text<'t>, Full>
+    ensures { IfOk result (λ text. IsJoined bits [] (text_of text)) }
 {
-    let mut text = Vec::new(alloc);
+    let mut text = Text::new(room);
     if bits {
-        text.push(0)?;
+        text.extend(&[0])?;
     }
     Ok(text)
 }
@@ -97,20 +99,20 @@ fn empty_text(alloc: Global, bits: bool) -> Result<Vec<u8>, AllocError>
 // Reads segments, and appends their text to the text before them.
 #[cycle(strings)]
 fn segments<'a>(
-    notes: &mut Notes,
+    notes: &mut Notes<'_>,
     depth: usize,
     bits: bool,
     at: usize,
     opened: Opened<'a>,
-    text: &mut Vec<u8>,
-) -> Result<Outcome<'a>, AllocError>
-    requires whole { IsWhole bits text.old.items }
+    text: &mut Text<'_>,
+) -> Result<Outcome<'a>, Full>
+    requires whole { IsWhole bits (text_of text.old) }
     requires inside { opened.inside.end ≤ notes.old.end }
     ensures reads { IfOk result (λ o. Reads
-        (BodyAfter opened.entry.marked opened.entry.beyond.now bits text.old.items
+        (BodyAfter opened.entry.marked opened.entry.beyond.now bits (text_of text.old)
         (AreJoined bits (IsSegment depth bits)) opened.entry.inside.octets.now)
-        o.verdict o.rest.now text.new.items) }
-    ensures text { OnOk result (IsText bits text.new.items) }
+        o.verdict o.rest.now (text_of text.new)) }
+    ensures text { OnOk result (IsText bits (text_of text.new)) }
     ensures shorter { IfOk result (λ o. length o.rest.now
         ≤ length opened.entry.inside.octets.now + length opened.entry.beyond.now) }
     ensures log { IfOk result
@@ -136,23 +138,23 @@ fn segments<'a>(
 
 // Adds a departure if no segment may follow this text, and makes it one that a segment may follow.
 fn make_whole(
-    notes: &mut Notes,
+    notes: &mut Notes<'_>,
     bits: bool,
     offset: usize,
     at: usize,
-    text: &mut Vec<u8>,
-) -> Result<Verdict, AllocError>
-    requires text { IsText bits text.old.items }
+    text: &mut Text<'_>,
+) -> Result<Verdict, Full>
+    requires text { IsText bits (text_of text.old) }
     requires inside { offset ≤ notes.old.end }
-    ensures verdict { IfOk result (λ v. (holds Ber v ≡ true) ↔ IsWhole bits text.old.items) }
-    ensures same { OnOk result (IsWhole bits text.old.items → text.new.items ≡ text.old.items) }
-    ensures whole { OnOk result (IsWhole bits text.new.items) }
+    ensures verdict { IfOk result (λ v. (holds Ber v ≡ true) ↔ IsWhole bits (text_of text.old)) }
+    ensures same { OnOk result (IsWhole bits (text_of text.old) → (text_of text.new) ≡ (text_of text.old)) }
+    ensures whole { OnOk result (IsWhole bits (text_of text.new)) }
     ensures log { IfOk result (λ v. Logs v notes.old notes.new) }
     ensures end { OnOk result (notes.new.end ≡ notes.old.end) }
 {
-    if bits && text[0] != 0 {
+    if bits && text.first() != 0 {
         let verdict = notes.depart(Rule::UnusedBits, offset, at)?;
-        text[0] = 0;
+        text.set_first(0);
         return Ok(verdict);
     }
     Ok(Verdict::Der)
@@ -161,18 +163,18 @@ fn make_whole(
 // Reads a segment at the front, and appends its text to the text before it.
 #[cycle(strings)]
 fn segment<'a>(
-    notes: &mut Notes,
+    notes: &mut Notes<'_>,
     depth: usize,
     bits: bool,
     role: Role,
     place: Place<'a>,
-    text: &mut Vec<u8>,
-) -> Result<Outcome<'a>, AllocError>
-    requires whole { IsWhole bits text.old.items }
+    text: &mut Text<'_>,
+) -> Result<Outcome<'a>, Full>
+    requires whole { IsWhole bits (text_of text.old) }
     requires inside { place.end ≤ notes.old.end }
-    ensures reads { IfOk result (λ o. Reads (BeginsAfter bits (IsSegment depth bits) text.old.items
-        place.entry.octets.now) o.verdict o.rest.now text.new.items) }
-    ensures text { OnOk result (IsText bits text.new.items) }
+    ensures reads { IfOk result (λ o. Reads (BeginsAfter bits (IsSegment depth bits) (text_of text.old)
+        place.entry.octets.now) o.verdict o.rest.now (text_of text.new)) }
+    ensures text { OnOk result (IsText bits (text_of text.new)) }
     ensures log { IfOk result
         (λ o. Logs o.verdict notes.old notes.new) }
     ensures shorter { IfOk result (λ o. length o.rest.now ≤ length place.entry.octets.now) }
@@ -239,12 +241,12 @@ fn has_segment_tag(header: Header, bits: bool) -> bool
 
 // Passes what is no segment.
 fn no_segment<'a>(
-    notes: &mut Notes,
+    notes: &mut Notes<'_>,
     depth: usize,
     rule: Rule,
     role: Role,
     place: Place<'a>,
-) -> Result<Outcome<'a>, AllocError>
+) -> Result<Outcome<'a>, Full>
     requires neither { verdict_of_rule rule ≡ Neither }
     requires inside { place.end ≤ notes.old.end }
     ensures verdict { IfOk result (λ o. o.verdict ≡ Neither) }
@@ -269,22 +271,22 @@ fn no_segment<'a>(
 // Reads the contents of a segment, and appends their text to the text before it.
 #[cycle(strings)]
 fn segment_contents<'a>(
-    notes: &mut Notes,
+    notes: &mut Notes<'_>,
     depth: usize,
     bits: bool,
     constructed: bool,
     at: usize,
     opened: Opened<'a>,
-    text: &mut Vec<u8>,
-) -> Result<Outcome<'a>, AllocError>
+    text: &mut Text<'_>,
+) -> Result<Outcome<'a>, Full>
     requires form { constructed ≡ false → opened.marked ≡ false }
-    requires whole { IsWhole bits text.old.items }
+    requires whole { IsWhole bits (text_of text.old) }
     requires inside { opened.inside.end ≤ notes.old.end }
     ensures reads { IfOk result (λ o. Reads
-        (BodyAfter opened.entry.marked opened.entry.beyond.now bits text.old.items
+        (BodyAfter opened.entry.marked opened.entry.beyond.now bits (text_of text.old)
         (HasText bits (IsSegment depth bits) constructed) opened.entry.inside.octets.now)
-        o.verdict o.rest.now text.new.items) }
-    ensures text { OnOk result (IsText bits text.new.items) }
+        o.verdict o.rest.now (text_of text.new)) }
+    ensures text { OnOk result (IsText bits (text_of text.new)) }
     ensures shorter { IfOk result (λ o. length o.rest.now
         ≤ length opened.entry.inside.octets.now + length opened.entry.beyond.now) }
     ensures log { IfOk result
@@ -305,18 +307,18 @@ fn segment_contents<'a>(
 }
 
 // Appends the text of a segment to the text before it.
-fn append(bits: bool, contents: &[u8], text: &mut Vec<u8>) -> Result<(), AllocError>
-    requires { IsWhole bits text.old.items }
+fn append(bits: bool, contents: &[u8], text: &mut Text<'_>) -> Result<(), Full>
+    requires { IsWhole bits (text_of text.old) }
     ensures joined { OnOk result (IsText bits contents.now
-        → IsJoined bits (text.old.items ∷ contents.now ∷ []) text.new.items) }
-    ensures text { OnOk result (IsText bits text.new.items) }
+        → IsJoined bits ((text_of text.old) ∷ contents.now ∷ []) (text_of text.new)) }
+    ensures text { OnOk result (IsText bits (text_of text.new)) }
 {
     if !bits {
-        return text.extend_from_slice(contents);
+        return text.extend(contents);
     }
     if contents.is_empty() {
         return Ok(());
     }
-    text[0] = contents[0];
-    text.extend_from_slice(&contents[1..])
+    text.set_first(contents[0]);
+    text.extend(&contents[1..])
 }

@@ -9,6 +9,7 @@ ghost use Rattle.asn1_tree.specs.Value.{IsJoinedText, is_joined, is_string};
 ghost use Rattle.asn1_tree.specs.Reading.{Body, Finds, Logs};
 
 use crate::constraints::constraint_rule;
+use crate::full::Full;
 use crate::notes::Notes;
 use crate::opened::Opened;
 use crate::outcome::Outcome;
@@ -17,7 +18,6 @@ use crate::strings::joined;
 use crate::tests::contents_rule;
 use asn1_schema::{Node, Schema};
 use ber::{Form, Universal};
-use std::alloc::{AllocError, Global};
 
 /// Whether an encoding is that of a string in the constructed form.
 pub(crate) fn is_joined(constructed: bool, universal: Universal) -> bool
@@ -38,14 +38,14 @@ fn is_string(form: Form) -> bool
 
 /// Reads the contents of a constructed string.
 pub(crate) fn joined_text<'a>(
-    notes: &mut Notes,
-    alloc: Global,
+    notes: &mut Notes<'_>,
+    room: &mut [u8],
     schema: &Schema<'_>,
     node: Node,
     universal: Universal,
     at: usize,
     opened: Opened<'a>,
-) -> Result<Outcome<'a>, AllocError>
+) -> Result<Outcome<'a>, Full>
     requires fits { IsRow schema.now.counts schema.now.pool.now node }
     requires names { bound_of universal ≡ Items → IsRange node.parts schema.now.counts.names }
     requires inside { opened.inside.end ≤ notes.old.end }
@@ -57,7 +57,7 @@ pub(crate) fn joined_text<'a>(
     ensures log { IfOk result (λ o. Logs o.verdict notes.old notes.new) }
     ensures end { OnOk result (notes.new.end ≡ notes.old.end) }
 {
-    let read = joined(notes, alloc, LEVELS, universal, at, opened)?;
+    let read = joined(notes, room, LEVELS, universal, at, opened)?;
     let text = read.text.as_slice();
     let whole = notes.judge(contents_rule(universal, text), opened.start, at)?;
     let rule = constraint_rule(schema, node, universal, text);

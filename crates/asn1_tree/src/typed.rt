@@ -22,6 +22,7 @@ use crate::components::{components, explicit, items};
 use crate::constraints::constraint_rule;
 use crate::entry::Entry;
 use crate::front::{front_header, pass};
+use crate::full::Full;
 use crate::known::Known;
 use crate::members::members;
 use crate::notes::Notes;
@@ -38,20 +39,20 @@ use crate::untyped::{any, finish, unknown_contents};
 use crate::verdict::Verdict;
 use asn1_schema::{Node, NodeKind, Schema};
 use ber::{Header, Universal};
-use std::alloc::{AllocError, Global};
 
 // Reads the value of a node at the front.
 #[cycle(typed)]
 pub(crate) fn value<'a>(
-    notes: &mut Notes,
-    alloc: Global,
+    notes: &mut Notes<'_>,
+    marks: &mut [u32],
+    room: &mut [u8],
     schema: &Schema<'_>,
     depth: usize,
     known: Option<Known<'_>>,
     node: u32,
     role: Role,
     place: Place<'a>,
-) -> Result<Outcome<'a>, AllocError>
+) -> Result<Outcome<'a>, Full>
     requires there { node < schema.now.counts.nodes }
     requires distinct { AreDistinct (types_in schema.now.octets.now) }
     requires inside { place.end ≤ notes.old.end }
@@ -72,7 +73,8 @@ pub(crate) fn value<'a>(
         Some(selected) => {
             selected_value(
                 notes,
-                alloc,
+                marks,
+                room,
                 schema,
                 depth - 1,
                 known,
@@ -96,8 +98,9 @@ pub(crate) fn value<'a>(
 // Reads the value of a node that is no CHOICE, and has the tag of the header at the front.
 #[cycle(typed)]
 fn selected_value<'a>(
-    notes: &mut Notes,
-    alloc: Global,
+    notes: &mut Notes<'_>,
+    marks: &mut [u32],
+    room: &mut [u8],
     schema: &Schema<'_>,
     depth: usize,
     known: Option<Known<'_>>,
@@ -105,7 +108,7 @@ fn selected_value<'a>(
     role: Role,
     header: Header,
     place: Place<'a>,
-) -> Result<Outcome<'a>, AllocError>
+) -> Result<Outcome<'a>, Full>
     requires there { index < schema.now.counts.nodes }
     requires distinct { AreDistinct (types_in schema.now.octets.now) }
     requires next { IsNext header place.octets.now }
@@ -124,7 +127,7 @@ fn selected_value<'a>(
 {
     let node = node_of(schema, index);
     match chosen(schema, &node, known) {
-        Some(inner) => value(notes, alloc, schema, depth, known, inner, role, place),
+        Some(inner) => value(notes, marks, room, schema, depth, known, inner, role, place),
         None => {
             let entry = Entry::new(header, place, role, index);
             let at = notes.enter(entry)?;
@@ -132,7 +135,7 @@ fn selected_value<'a>(
             match after_header(header, place) {
                 Some(opened) => {
                     let outcome = contents(
-                        notes, alloc, schema, depth, known, node, at, header, opened,
+                        notes, marks, room, schema, depth, known, node, at, header, opened,
                     )?;
                     notes.leave(at, entry, opened, outcome.rest);
                     Ok(Outcome {
@@ -155,8 +158,9 @@ fn selected_value<'a>(
 // Reads the contents of an element with the tag of a node.
 #[cycle(typed)]
 fn contents<'a>(
-    notes: &mut Notes,
-    alloc: Global,
+    notes: &mut Notes<'_>,
+    marks: &mut [u32],
+    room: &mut [u8],
     schema: &Schema<'_>,
     depth: usize,
     known: Option<Known<'_>>,
@@ -164,7 +168,7 @@ fn contents<'a>(
     at: usize,
     header: Header,
     opened: Opened<'a>,
-) -> Result<Outcome<'a>, AllocError>
+) -> Result<Outcome<'a>, Full>
     requires fits { IsRow schema.now.counts schema.now.pool.now node }
     requires distinct { AreDistinct (types_in schema.now.octets.now) }
     requires row { (i : ℕ) × (slice_get (types_in schema.now.octets.now).nodes i ≡ Some node) }
@@ -188,16 +192,21 @@ fn contents<'a>(
         });
     }
     match shape {
-        Shape::Components => components(notes, alloc, schema, depth, node, at, opened),
-        Shape::Members => members(notes, alloc, schema, depth, node, at, opened),
+        Shape::Components => components(notes, marks, room, schema, depth, node, at, opened),
+        Shape::Members => members(notes, marks, room, schema, depth, node, at, opened),
         Shape::Of(universal) => of_type(
-            notes, alloc, schema, depth, known, node, universal, at, header, opened,
+            notes, marks, room, schema, depth, known, node, universal, at, header, opened,
         ),
-        Shape::Items => items(notes, alloc, schema, depth, known, node, false, at, opened),
-        Shape::SortedItems => items(notes, alloc, schema, depth, known, node, true, at, opened),
+        Shape::Items => items(
+            notes, marks, room, schema, depth, known, node, false, at, opened,
+        ),
+        Shape::SortedItems => items(
+            notes, marks, room, schema, depth, known, node, true, at, opened,
+        ),
         Shape::Inner => explicit(
             notes,
-            alloc,
+            marks,
+            room,
             schema,
             depth,
             known,
@@ -228,8 +237,9 @@ fn contents<'a>(
 // Reads the contents of a universal type that has no components.
 #[cycle(typed)]
 fn of_type<'a>(
-    notes: &mut Notes,
-    alloc: Global,
+    notes: &mut Notes<'_>,
+    marks: &mut [u32],
+    room: &mut [u8],
     schema: &Schema<'_>,
     depth: usize,
     known: Option<Known<'_>>,
@@ -238,7 +248,7 @@ fn of_type<'a>(
     at: usize,
     header: Header,
     opened: Opened<'a>,
-) -> Result<Outcome<'a>, AllocError>
+) -> Result<Outcome<'a>, Full>
     requires fits { IsRow schema.now.counts schema.now.pool.now node }
     requires names { bound_of universal ≡ Items → IsRange node.parts schema.now.counts.names }
     requires distinct { AreDistinct (types_in schema.now.octets.now) }
@@ -255,7 +265,7 @@ fn of_type<'a>(
     ensures end { OnOk result (notes.new.end ≡ notes.old.end) }
 {
     if is_joined(header.constructed, universal) {
-        return joined_text(notes, alloc, schema, node, universal, at, opened);
+        return joined_text(notes, room, schema, node, universal, at, opened);
     }
     let outcome = unknown_contents(
         notes,
@@ -271,7 +281,17 @@ fn of_type<'a>(
     let rule = constraint_rule(schema, node, universal, opened.inside.octets);
     let kept = notes.judge(rule, opened.start, at)?;
     let inner = contained_in(universal, node);
-    let value = contained(notes, alloc, schema, depth, known, inner, at, opened.inside)?;
+    let value = contained(
+        notes,
+        marks,
+        room,
+        schema,
+        depth,
+        known,
+        inner,
+        at,
+        opened.inside,
+    )?;
     Ok(Outcome {
         verdict: outcome.verdict.and(kept.and(value)),
         rest: outcome.rest,
@@ -291,15 +311,16 @@ fn contained_in(universal: Universal, node: Node) -> Option<u32>
 // Reads the value in a string with a constraint CONTAINING, if it has one.
 #[cycle(typed)]
 fn contained<'a>(
-    notes: &mut Notes,
-    alloc: Global,
+    notes: &mut Notes<'_>,
+    marks: &mut [u32],
+    room: &mut [u8],
     schema: &Schema<'_>,
     depth: usize,
     known: Option<Known<'_>>,
     inner: Option<u32>,
     at: usize,
     place: Place<'a>,
-) -> Result<Verdict, AllocError>
+) -> Result<Verdict, Full>
     requires there { (i : ℕ) → inner ≡ Some i → i < schema.now.counts.nodes }
     requires distinct { AreDistinct (types_in schema.now.octets.now) }
     requires inside { place.end ≤ notes.old.end }
@@ -310,7 +331,7 @@ fn contained<'a>(
     ensures end { OnOk result (notes.new.end ≡ notes.old.end) }
 {
     match inner {
-        Some(index) => contained_value(notes, alloc, schema, depth, known, index, at, place),
+        Some(index) => contained_value(notes, marks, room, schema, depth, known, index, at, place),
         None => Ok(Verdict::Der),
     }
 }
@@ -318,15 +339,16 @@ fn contained<'a>(
 // Reads the value of a node in a string.
 #[cycle(typed)]
 fn contained_value<'a>(
-    notes: &mut Notes,
-    alloc: Global,
+    notes: &mut Notes<'_>,
+    marks: &mut [u32],
+    room: &mut [u8],
     schema: &Schema<'_>,
     depth: usize,
     known: Option<Known<'_>>,
     index: u32,
     at: usize,
     place: Place<'a>,
-) -> Result<Verdict, AllocError>
+) -> Result<Verdict, Full>
     requires there { index < schema.now.counts.nodes }
     requires distinct { AreDistinct (types_in schema.now.octets.now) }
     requires inside { place.end ≤ notes.old.end }
@@ -340,7 +362,7 @@ fn contained_value<'a>(
         return Ok(Verdict::Der);
     }
     let role = Role::inside(at);
-    let outcome = value(notes, alloc, schema, depth, known, index, role, place)?;
+    let outcome = value(notes, marks, room, schema, depth, known, index, role, place)?;
     let rest = Opened {
         inside: place.at(outcome.rest),
         start: place.offset(),

@@ -6,6 +6,7 @@ ghost use Rattle.asn1_tree.specs.Reading.{Front, Body, Finds, Logs};
 
 use crate::entry::Entry;
 use crate::front::{front_header, pass};
+use crate::full::Full;
 use crate::notes::Notes;
 use crate::opened::Opened;
 use crate::opening::after_header;
@@ -16,16 +17,15 @@ use crate::rule::Rule;
 use crate::tests::{form_rule, primitive_rule};
 use crate::verdict::Verdict;
 use ber::{Universal, is_end_of_contents};
-use std::alloc::AllocError;
 
 // Reads an element of any type at the front.
 #[cycle(untyped)]
 pub(crate) fn any<'a>(
-    notes: &mut Notes,
+    notes: &mut Notes<'_>,
     depth: usize,
     role: Role,
     place: Place<'a>,
-) -> Result<Outcome<'a>, AllocError>
+) -> Result<Outcome<'a>, Full>
     requires inside { place.end ≤ notes.old.end }
     ensures finds { IfOk result (λ o. Finds (λ rules. Front (IsAny depth rules) place.entry.octets.now)
         o.verdict o.rest.now) }
@@ -71,13 +71,13 @@ pub(crate) fn any<'a>(
 // Reads the contents of an element of a universal type, or of another.
 #[cycle(untyped)]
 pub(crate) fn unknown_contents<'a>(
-    notes: &mut Notes,
+    notes: &mut Notes<'_>,
     depth: usize,
     universal: Option<Universal>,
     constructed: bool,
     at: usize,
     opened: Opened<'a>,
-) -> Result<Outcome<'a>, AllocError>
+) -> Result<Outcome<'a>, Full>
     requires form { constructed ≡ false → opened.marked ≡ false }
     requires inside { opened.inside.end ≤ notes.old.end }
     ensures finds { IfOk result (λ o. Finds (λ rules. Body opened.entry.marked opened.entry.beyond.now
@@ -107,11 +107,11 @@ pub(crate) fn unknown_contents<'a>(
 // Reads elements of any type.
 #[cycle(untyped)]
 pub(crate) fn elements<'a>(
-    notes: &mut Notes,
+    notes: &mut Notes<'_>,
     depth: usize,
     at: usize,
     opened: Opened<'a>,
-) -> Result<Outcome<'a>, AllocError>
+) -> Result<Outcome<'a>, Full>
     requires inside { opened.inside.end ≤ notes.old.end }
     ensures finds { IfOk result (λ o. Finds (λ rules. Body opened.entry.marked opened.entry.beyond.now
         (SomeItems false rules (IsAny depth rules) IsAnyCount) opened.entry.inside.octets.now) o.verdict o.rest.now) }
@@ -136,7 +136,7 @@ pub(crate) fn elements<'a>(
 }
 
 // Passes the end of contents, which have no more elements.
-fn ended<'a>(notes: &mut Notes, at: usize, opened: Opened<'a>) -> Result<Outcome<'a>, AllocError>
+fn ended<'a>(notes: &mut Notes<'_>, at: usize, opened: Opened<'a>) -> Result<Outcome<'a>, Full>
     requires inside { opened.inside.end ≤ notes.old.end }
     ensures finds { IfOk result (λ o. Finds (λ rules. Body opened.entry.marked opened.entry.beyond.now
         (λ inner. inner ≡ []) opened.entry.inside.octets.now) o.verdict o.rest.now) }
@@ -171,11 +171,11 @@ fn ended<'a>(notes: &mut Notes, at: usize, opened: Opened<'a>) -> Result<Outcome
 
 // Passes the end of contents. Elements before it are unexpected.
 pub(crate) fn finish<'a>(
-    notes: &mut Notes,
+    notes: &mut Notes<'_>,
     depth: usize,
     at: usize,
     opened: Opened<'a>,
-) -> Result<Outcome<'a>, AllocError>
+) -> Result<Outcome<'a>, Full>
     requires inside { opened.inside.end ≤ notes.old.end }
     ensures finds { IfOk result (λ o. Finds (λ rules. Body opened.entry.marked opened.entry.beyond.now
         (λ inner. inner ≡ []) opened.entry.inside.octets.now) o.verdict o.rest.now) }

@@ -4,14 +4,10 @@ use crate::options::Shown;
 use crate::place::Place;
 use crate::show::{Show, put_place};
 use asn1_cursor::Cursor;
-use asn1_tree::{Departure, Rule};
-use ber::read_element;
-use der_show_text::{Characters, Output, Style, put_octets_with, put_text};
-use std::alloc::{AllocError, Global};
+use asn1_tree::Departure;
+use der_show_print::{FOUND, found_at, put_departure, put_path, put_rule};
+use der_show_text::{Output, Style, put_octets_with};
 use std::fmt::Write;
-
-/// How many octets at a departure are printed.
-const FOUND: usize = 16;
 
 /// How many departures of a value are printed. Others are counted.
 const PRINTED: usize = 100;
@@ -45,34 +41,33 @@ impl<'i, 'a> Departures<'i, 'a> {
         match show.options.shown {
             Shown::Text => {
                 show.page.out.put("Departures:\n");
-                self.put_lines(show.page.alloc, &mut show.page.out, "    ");
+                self.put_lines(&mut show.page.out, "    ");
             }
             Shown::Departures => {
-                let alloc = show.page.alloc;
-                self.put_places(alloc, &mut show.page.out, place);
+                self.put_places(&mut show.page.out, place);
             }
             Shown::Json | Shown::Short => {}
             Shown::Der | Shown::Pem => {
                 show.page.out.flush();
-                self.put_places(show.page.alloc, &mut show.errors, place);
+                self.put_places(&mut show.errors, place);
                 show.errors.flush();
             }
         }
     }
 
-    fn put_lines(self, alloc: Global, out: &mut Output, indent: &str) {
+    fn put_lines(self, out: &mut Output, indent: &str) {
         for departure in self.shown() {
             out.put(indent);
-            self.put_line(alloc, out, departure);
+            self.put_line(out, departure);
         }
         self.put_more(out, indent);
     }
 
     // The same, with the place before each line.
-    fn put_places(self, alloc: Global, out: &mut Output, place: &Place<'_>) {
+    fn put_places(self, out: &mut Output, place: &Place<'_>) {
         for departure in self.shown() {
             put_place(out, place);
-            self.put_line(alloc, out, departure);
+            self.put_line(out, departure);
         }
         self.put_more(out, "");
     }
@@ -92,16 +87,16 @@ impl<'i, 'a> Departures<'i, 'a> {
     }
 
     // The path, the offset, the rule with its section, and the octets there.
-    fn put_line(self, alloc: Global, out: &mut Output, departure: &Departure) {
-        if self.put_path(alloc, out, departure, Style::Line).is_err() {
-            out.has_failed = true;
+    fn put_line(self, out: &mut Output, departure: &Departure) {
+        if put_path(out, self.root, departure, Style::Line) {
+            out.put(" ");
         }
         out.put("at offset ");
         out.put_number(self.base.saturating_add(departure.offset) as u64);
         out.put(": ");
         let _ = write!(out, "{}: ", departure.rule.section());
         put_rule(out, departure.rule);
-        let found = self.found(departure);
+        let found = found_at(self.octets, departure);
         if found.is_empty() {
             out.put("; found the end");
         } else {
@@ -114,84 +109,24 @@ impl<'i, 'a> Departures<'i, 'a> {
         out.put("\n");
     }
 
-    // The octets of the element at a departure, or those up to the end if there is none.
-    fn found(self, departure: &Departure) -> &'a [u8] {
-        let rest = self.octets.get(departure.offset..).unwrap_or(&[]);
-        match read_element(rest) {
-            Ok(element) => {
-                let len = rest.len().saturating_sub(element.rest.len());
-                rest.get(..len).unwrap_or(rest)
-            }
-            Err(_) => rest,
-        }
-    }
-
-    // The path of the element, and a space.
-    fn put_path(
-        self,
-        alloc: Global,
-        out: &mut Output,
-        departure: &Departure,
-        style: Style,
-    ) -> Result<(), AllocError> {
-        let Some(root) = self.root else {
-            return Ok(());
-        };
-        let Some(element) = root.element(departure.node) else {
-            return Ok(());
-        };
-        let mut path = String::new(alloc);
-        let _ = write!(path, "{}", element.place());
-        put_text(out, path.as_bytes(), Characters::Utf8, style);
-        if style == Style::Line && !path.is_empty() {
-            out.put(" ");
-        }
-        Ok(())
-    }
-
     /// Prints the departures as a list of JSON.
     pub fn put_json(self, show: &mut Show<'_>) {
-        let alloc = show.page.alloc;
         show.page.put(",\n      \"departures\": [");
         let mut is_first = true;
         for departure in self.shown() {
             show.page.put(if is_first { "\n" } else { ",\n" });
             is_first = false;
-            self.put_object(alloc, &mut show.page.out, departure);
+            show.page.put("        ");
+            put_departure(
+                &mut show.page.out,
+                self.octets,
+                self.root,
+                self.base,
+                departure,
+            );
         }
         show.page.put(if is_first { "]" } else { "\n      ]" });
     }
-
-    fn put_object(self, alloc: Global, out: &mut Output, departure: &Departure) {
-        out.put("        {\"path\": \"");
-        if self.put_path(alloc, out, departure, Style::Json).is_err() {
-            out.has_failed = true;
-        }
-        out.put("\", \"offset\": ");
-        out.put_number(self.base.saturating_add(departure.offset) as u64);
-        out.put(", \"section\": \"");
-        out.put(departure.rule.section());
-        out.put("\", \"rule\": \"");
-        put_rule(out, departure.rule);
-        out.put("\", \"ber\": ");
-        out.put(if departure.rule.verdict().is_ber() {
-            "true"
-        } else {
-            "false"
-        });
-        out.put(", \"found\": \"");
-        let found = self.found(departure);
-        der_show_text::put_octets(out, found.get(..FOUND).unwrap_or(found));
-        out.put("\"}");
-    }
-}
-
-// What the rule says, or how octets break it.
-fn put_rule(out: &mut Output, rule: Rule) {
-    let _ = match rule {
-        Rule::Contents(rule) => write!(out, "{rule}"),
-        other => write!(out, "{other}"),
-    };
 }
 
 /// Prints how many departures a file has, and how many of these are not even BER.

@@ -8,7 +8,7 @@ use crate::show::Show;
 use crate::value::Target;
 use asn1_cursor::Cursor;
 use der::DecodeBytes;
-use der_show_print::{Form, Printer, print_fields};
+use der_show_print::{Form, Printer, print_json};
 use der_show_text::{Characters, Output, Style, put_text};
 use der_show_tree::Kind;
 use std::fmt::Write;
@@ -74,10 +74,9 @@ pub fn put_json_value(
         put_json_list_lint(show, value.octets());
     }
     show.page.put(",\n      \"value\": ");
-    let alloc = show.page.alloc;
     let mut printer = Printer::new(take_output(&mut show.page), Form::Json);
     printer.depth = 3;
-    let printer = print_fields(alloc, show.page.schema, printer, value, departures.base);
+    let printer = print_json(show.page.schema, printer, value);
     show.page.out = printer.out;
     departures.put_json(show);
     show.page.put("\n    }");

@@ -34,7 +34,7 @@ fn put_point_name(page: &mut Page<'_>, place: Option<Cursor<'_>>) {
             page.line(name, "Relative Name:");
             page.indent = page.indent.saturating_add(2);
             page.at(name);
-            put_level(page, name);
+            put_level(&mut page.out, name);
             page.end();
             page.indent = page.indent.saturating_sub(2);
         }

@@ -37,7 +37,7 @@ pub fn put_general_name(page: &mut Page<'_>, name: Cursor<'_>) {
         Some("x400Address") => put_unread(page, "X400Name:", name),
         Some("directoryName") => {
             page.put("DirName:");
-            put_name(page, name);
+            put_name(&mut page.out, name);
         }
         Some("ediPartyName") => put_unread(page, "EdiPartyName:", name),
         Some("uniformResourceIdentifier") => put_string(page, "URI:", name),
@@ -80,7 +80,7 @@ fn put_other_name(page: &mut Page<'_>, name: Cursor<'_>) {
     };
     put_form(page, contents(kind));
     page.put("::");
-    if !put_text_of(page, value, Style::List) {
+    if !put_text_of(&mut page.out, value, Style::List) {
         page.put("#");
         put_octets(&mut page.out, value.untagged().octets());
     }

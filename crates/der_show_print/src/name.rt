@@ -3,56 +3,56 @@
 use crate::page::Page;
 use crate::values::{contents, items, put_text_of};
 use asn1_cursor::Cursor;
-use der_show_text::{Style, put_arcs, put_octets, short_name};
+use der_show_text::{Output, Style, Target, put_arcs, put_octets, short_name};
 
 /// Prints a distinguished name, the most significant level first, as openssl does. Values are escaped as
 /// RFC 4514 says, and none is cut.
-pub fn put_name(page: &mut Page<'_>, name: Cursor<'_>) {
+pub fn put_name<T: Target>(out: &mut Output<T>, name: Cursor<'_>) {
     let mut is_first = true;
     for level in items(name) {
         if !is_first {
-            page.put(", ");
+            out.put(", ");
         }
         is_first = false;
-        put_level(page, level);
+        put_level(out, level);
     }
 }
 
 /// Prints one level of a name: its attributes, with `+` between them.
-pub fn put_level(page: &mut Page<'_>, level: Cursor<'_>) {
+pub fn put_level<T: Target>(out: &mut Output<T>, level: Cursor<'_>) {
     let mut is_first = true;
     for attribute in items(level) {
         if !is_first {
-            page.put(" + ");
+            out.put(" + ");
         }
         is_first = false;
-        put_attribute(page, attribute);
+        put_attribute(out, attribute);
     }
 }
 
 // The type, `=` and the value. A value of a type without a name, or one that is no text, is `#` and the
 // encoding of the value in hexadecimal (RFC 4514, 2.4).
-fn put_attribute(page: &mut Page<'_>, attribute: Cursor<'_>) {
+fn put_attribute<T: Target>(out: &mut Output<T>, attribute: Cursor<'_>) {
     let (Some(kind), Some(value)) = (attribute.at("type"), attribute.at("value")) else {
-        page.put("#");
-        put_octets(&mut page.out, attribute.octets());
+        out.put("#");
+        put_octets(out, attribute.octets());
         return;
     };
     let is_text = match short_name(contents(kind)) {
         Some(name) => {
-            page.put(name);
-            page.put("=");
-            put_text_of(page, value, Style::Name)
+            out.put(name);
+            out.put("=");
+            put_text_of(out, value, Style::Name)
         }
         None => {
-            put_arcs(&mut page.out, contents(kind));
-            page.put("=");
+            put_arcs(out, contents(kind));
+            out.put("=");
             false
         }
     };
     if !is_text {
-        page.put("#");
-        put_octets(&mut page.out, value.octets());
+        out.put("#");
+        put_octets(out, value.octets());
     }
 }
 
@@ -61,7 +61,7 @@ pub fn put_name_line(page: &mut Page<'_>, title: &str, name: Option<Cursor<'_>>)
     if let Some(name) = name {
         page.at(name);
         page.put(title);
-        put_name(page, name);
+        put_name(&mut page.out, name);
         page.end();
     }
 }

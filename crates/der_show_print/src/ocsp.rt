@@ -123,7 +123,7 @@ fn put_responder(page: &mut Page<'_>, responder: Cursor<'_>) {
     page.at(responder);
     page.put("Responder Id: ");
     match responder.alternative() {
-        Some("byName") => put_name(page, responder),
+        Some("byName") => put_name(&mut page.out, responder),
         _ => put_octets(&mut page.out, contents(responder)),
     }
     page.end();

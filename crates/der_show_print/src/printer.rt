@@ -1,14 +1,14 @@
 //! How values are laid out.
 
 use crate::form::Form;
-use der_show_text::Output;
+use der_show_text::{Output, Stream, Target};
 use std::fmt::Write;
 
 /// An output, and how deep in it the next line is.
 #[derive(Drop)]
-pub struct Printer {
+pub struct Printer<T: Target = Stream> {
     /// Where the text goes.
-    pub out: Output,
+    pub out: Output<T>,
     /// What is printed.
     pub form: Form,
     /// How many objects and lists are open.
@@ -19,9 +19,9 @@ pub struct Printer {
     pub has_offsets: bool,
 }
 
-impl Printer {
+impl<T: Target> Printer<T> {
     /// A printer at the start of a line.
-    pub fn new(out: Output, form: Form) -> Self {
+    pub fn new(out: Output<T>, form: Form) -> Self {
         Printer {
             out,
             form,

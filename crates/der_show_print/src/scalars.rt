@@ -8,15 +8,15 @@ use asn1_cursor::Cursor;
 use ber::read_header;
 use der::Tag;
 use der_show_text::{
-    Characters, Style, is_text, long_name, put_arcs, put_identifier, put_iso_time, put_octets,
-    put_some_octets, put_value_text, small_number,
+    Characters, Style, Target, is_text, long_name, put_arcs, put_identifier, put_iso_time,
+    put_octets, put_some_octets, put_value_text, small_number,
 };
 
 /// How many octets of a value a line shows.
 const SHOWN: usize = 32;
 
 /// Prints a value of a primitive type, after its name.
-pub fn put_value(printer: &mut Printer, value: Cursor<'_>) {
+pub fn put_value<T: Target>(printer: &mut Printer<T>, value: Cursor<'_>) {
     match printer.form {
         Form::Json => put_json(printer, value),
         Form::Lines => {
@@ -27,7 +27,7 @@ pub fn put_value(printer: &mut Printer, value: Cursor<'_>) {
     printer.end_value();
 }
 
-fn put_json(printer: &mut Printer, value: Cursor<'_>) {
+fn put_json<T: Target>(printer: &mut Printer<T>, value: Cursor<'_>) {
     let contents = value.contents();
     match tag_of(value) {
         Some(Tag::Boolean | Tag::Null | Tag::Integer | Tag::Enumerated) => {
@@ -43,7 +43,7 @@ fn put_json(printer: &mut Printer, value: Cursor<'_>) {
     }
 }
 
-fn put_json_number(printer: &mut Printer, value: Cursor<'_>) {
+fn put_json_number<T: Target>(printer: &mut Printer<T>, value: Cursor<'_>) {
     let contents = value.contents();
     match (tag_of(value), small_number(contents)) {
         (Some(Tag::Null), _) => printer.out.put("null"),
@@ -75,7 +75,7 @@ fn has_names(value: Cursor<'_>) -> bool {
     }
 }
 
-fn put_json_bits(printer: &mut Printer, value: Cursor<'_>) {
+fn put_json_bits<T: Target>(printer: &mut Printer<T>, value: Cursor<'_>) {
     if has_names(value) && value.bit_names().is_some() {
         printer.out.put("[");
         put_bit_names(printer, value, "\"");
@@ -94,7 +94,7 @@ fn put_json_bits(printer: &mut Printer, value: Cursor<'_>) {
 }
 
 // The names of the bits that are one, as `a, b`, between quotes.
-fn put_bit_names(printer: &mut Printer, value: Cursor<'_>, quote: &str) {
+fn put_bit_names<T: Target>(printer: &mut Printer<T>, value: Cursor<'_>, quote: &str) {
     let Some(names) = value.bit_names() else {
         return;
     };
@@ -110,7 +110,7 @@ fn put_bit_names(printer: &mut Printer, value: Cursor<'_>, quote: &str) {
     }
 }
 
-fn put_json_identifier(printer: &mut Printer, contents: &[u8]) {
+fn put_json_identifier<T: Target>(printer: &mut Printer<T>, contents: &[u8]) {
     printer.out.put("{\"arcs\": \"");
     put_arcs(&mut printer.out, contents);
     printer.out.put("\"");
@@ -123,7 +123,7 @@ fn put_json_identifier(printer: &mut Printer, contents: &[u8]) {
 }
 
 // The text between the quotes: that of a time or a string, or else hexadecimal digits.
-fn put_json_text(printer: &mut Printer, tag: Tag, contents: &[u8]) {
+fn put_json_text<T: Target>(printer: &mut Printer<T>, tag: Tag, contents: &[u8]) {
     if put_iso_time(&mut printer.out, tag, contents) {
         return;
     }
@@ -132,7 +132,8 @@ fn put_json_text(printer: &mut Printer, tag: Tag, contents: &[u8]) {
     }
 }
 
-fn put_plain(printer: &mut Printer, value: Cursor<'_>) {
+/// Prints the text of a primitive value on a line.
+pub fn put_plain<T: Target>(printer: &mut Printer<T>, value: Cursor<'_>) {
     let contents = value.contents();
     match (tag_of(value), contents) {
         (Some(Tag::Integer | Tag::Enumerated), _) => put_plain_number(printer, value),
@@ -144,7 +145,7 @@ fn put_plain(printer: &mut Printer, value: Cursor<'_>) {
     }
 }
 
-fn put_plain_number(printer: &mut Printer, value: Cursor<'_>) {
+fn put_plain_number<T: Target>(printer: &mut Printer<T>, value: Cursor<'_>) {
     match small_number(value.contents()) {
         Some(number) => {
             if let Some(name) = value.number_name() {
@@ -160,8 +161,14 @@ fn put_plain_number(printer: &mut Printer, value: Cursor<'_>) {
     }
 }
 
+/// Prints the text of a primitive element of no known type on a line.
+pub fn put_plain_element<T: Target>(printer: &mut Printer<T>, element: Cursor<'_>) {
+    let tag = own_tag(element).unwrap_or(Tag::OctetString);
+    put_plain_text(printer, tag, element.contents());
+}
+
 // Contents on a line: the names of an identifier, a time, a text, or the first octets.
-fn put_plain_text(printer: &mut Printer, tag: Tag, contents: &[u8]) {
+fn put_plain_text<T: Target>(printer: &mut Printer<T>, tag: Tag, contents: &[u8]) {
     match tag {
         Tag::Null => printer.out.put("NULL"),
         Tag::Boolean => {
@@ -179,24 +186,45 @@ fn put_plain_text(printer: &mut Printer, tag: Tag, contents: &[u8]) {
     }
 }
 
-/// Prints the octets of segments, joined.
-pub fn put_joined(printer: &mut Printer, octets: &[u8]) {
+/// Prints the octets of the segments of a constructed string, joined.
+pub fn put_joined<T: Target>(printer: &mut Printer<T>, string: Cursor<'_>) {
     match printer.form {
         Form::Json => {
             printer.out.put("\"");
-            put_octets(&mut printer.out, octets);
+            put_segments(printer, string, usize::MAX);
             printer.out.put("\"");
         }
         Form::Lines => {
             printer.out.put(" ");
-            put_some_octets(&mut printer.out, octets, SHOWN);
+            put_segments(printer, string, SHOWN);
         }
     }
     printer.end_value();
 }
 
+// Prints the first octets of the segments, and `..` if there are more.
+fn put_segments<T: Target>(printer: &mut Printer<T>, string: Cursor<'_>, most: usize) {
+    let mut left = most;
+    for index in string.index()..usize::MAX {
+        let Some(segment) = string.element(index) else {
+            return;
+        };
+        if index > string.index() && segment.entry().depth <= string.entry().depth {
+            return;
+        }
+        if !segment.is_constructed() {
+            let octets = segment.contents();
+            put_some_octets(&mut printer.out, octets, left);
+            if octets.len() > left {
+                return;
+            }
+            left = left.saturating_sub(octets.len());
+        }
+    }
+}
+
 /// Prints the tag of an element, as its header has it.
-pub fn put_tag(printer: &mut Printer, element: Cursor<'_>) {
+pub fn put_tag<T: Target>(printer: &mut Printer<T>, element: Cursor<'_>) {
     match read_header(element.octets()) {
         Ok(header) => put_header_tag(&mut printer.out, header),
         Err(_) => printer.out.put("unknown"),
@@ -212,7 +240,7 @@ fn own_tag(element: Cursor<'_>) -> Option<Tag> {
 }
 
 /// Prints a primitive element of no known type, after its name.
-pub fn put_element(printer: &mut Printer, element: Cursor<'_>) {
+pub fn put_element<T: Target>(printer: &mut Printer<T>, element: Cursor<'_>) {
     let tag = own_tag(element).unwrap_or(Tag::OctetString);
     match printer.form {
         Form::Json => put_json_element(printer, tag, element),
@@ -227,7 +255,7 @@ pub fn put_element(printer: &mut Printer, element: Cursor<'_>) {
 }
 
 // An object with the tag, and with the text of a string or else the octets.
-fn put_json_element(printer: &mut Printer, tag: Tag, element: Cursor<'_>) {
+fn put_json_element<T: Target>(printer: &mut Printer<T>, tag: Tag, element: Cursor<'_>) {
     let contents = element.contents();
     printer.out.put("{\"tag\": \"");
     put_tag(printer, element);

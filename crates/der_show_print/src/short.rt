@@ -42,7 +42,7 @@ pub fn put_short_line(page: &mut Page<'_>, kind: &str, value: Cursor<'_>, now: O
     for path in SUBJECTS {
         if let Some(name) = value.at(path) {
             page.put("; ");
-            put_name(page, name);
+            put_name(&mut page.out, name);
         }
     }
     let is_key = value.type_name() == Some("SubjectPublicKeyInfo");

@@ -3,10 +3,10 @@
 use ber::{Header, Universal};
 use der::Tag;
 use der_base::Class;
-use der_show_text::Output;
+use der_show_text::{Output, Target};
 
 /// Prints the tag of a header.
-pub fn put_header_tag(out: &mut Output, header: Header) {
+pub fn put_header_tag<T: Target>(out: &mut Output<T>, header: Header) {
     if let Some(universal) = header.universal() {
         out.put(universal.name());
         return;

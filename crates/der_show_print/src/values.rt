@@ -6,8 +6,8 @@ use asn1_cursor::{Children, Cursor};
 use ber::Universal;
 use der::Tag;
 use der_show_text::{
-    Style, long_name, put_arcs, put_identifier, put_integer, put_octets, put_octets_with, put_time,
-    put_value_text, short_name, small_number,
+    Output, Style, Target, long_name, put_arcs, put_identifier, put_integer, put_octets,
+    put_octets_with, put_time, put_value_text, short_name, small_number,
 };
 use std::fmt::Write;
 
@@ -52,10 +52,10 @@ pub fn digits_of(octets: &[u8]) -> &[u8] {
 
 /// Prints the text of a string, and returns true. Prints nothing and returns false if the element is no
 /// string, or if its contents are no text.
-pub fn put_text_of(page: &mut Page<'_>, element: Cursor<'_>, style: Style) -> bool {
+pub fn put_text_of<T: Target>(out: &mut Output<T>, element: Cursor<'_>, style: Style) -> bool {
     match tag_of(element) {
         Some(tag) if !element.untagged().is_constructed() => {
-            put_value_text(&mut page.out, tag, contents(element), style)
+            put_value_text(out, tag, contents(element), style)
         }
         _ => false,
     }
@@ -67,7 +67,7 @@ pub fn put_text_or_octets(page: &mut Page<'_>, element: Cursor<'_>) {
         put_arcs(&mut page.out, contents(element));
         return;
     }
-    if !put_text_of(page, element, Style::Line) {
+    if !put_text_of(&mut page.out, element, Style::Line) {
         put_octets(&mut page.out, contents(element));
     }
 }
@@ -78,7 +78,7 @@ pub fn put_time_of(page: &mut Page<'_>, element: Cursor<'_>) {
         Some(tag) => put_time(&mut page.out, tag, contents(element)),
         None => false,
     };
-    if !is_time && !put_text_of(page, element, Style::Line) {
+    if !is_time && !put_text_of(&mut page.out, element, Style::Line) {
         put_octets(&mut page.out, contents(element));
     }
 }

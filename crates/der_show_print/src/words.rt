@@ -12,7 +12,7 @@ pub fn put_words(page: &mut Page<'_>, value: Cursor<'_>) -> bool {
     match value.type_name() {
         Some("Name") => {
             page.put(" ");
-            put_name(page, value);
+            put_name(&mut page.out, value);
             page.end();
         }
         Some("GeneralNames") => {

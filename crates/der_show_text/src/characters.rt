@@ -2,6 +2,7 @@
 
 use crate::output::Output;
 use crate::style::Style;
+use crate::target::Target;
 use unicode::properties::{GeneralCategory, is_default_ignorable_code_point};
 
 /// Whether a character must not be printed as it is: a control character, a character that cannot be
@@ -22,7 +23,7 @@ pub fn is_hidden(c: char) -> bool {
 }
 
 /// Prints a character, escaped as the style says.
-pub fn put_escaped(out: &mut Output, c: char, style: Style) {
+pub fn put_escaped<T: Target>(out: &mut Output<T>, c: char, style: Style) {
     if is_hidden(c) {
         match style {
             Style::Json => put_json_code(out, c as u32),
@@ -43,7 +44,7 @@ pub fn put_escaped(out: &mut Output, c: char, style: Style) {
 }
 
 // A backslash and two hexadecimal digits for each octet of the character in UTF-8 (RFC 4514, 2.4).
-fn put_code_octets(out: &mut Output, c: char) {
+fn put_code_octets<T: Target>(out: &mut Output<T>, c: char) {
     let mut octets = [0u8; 4];
     let text = c.encode_utf8(&mut octets);
     for octet in text.as_bytes() {
@@ -53,7 +54,7 @@ fn put_code_octets(out: &mut Output, c: char) {
 }
 
 // The escape `\u` with four hexadecimal digits, twice for a character above U+FFFF (RFC 8259, 7).
-fn put_json_code(out: &mut Output, code: u32) {
+fn put_json_code<T: Target>(out: &mut Output<T>, code: u32) {
     if code > 0xFFFF {
         let rest = code.wrapping_sub(0x10000);
         put_json_unit(out, 0xD800 | (rest >> 10) & 0x3FF);
@@ -63,7 +64,7 @@ fn put_json_code(out: &mut Output, code: u32) {
     }
 }
 
-fn put_json_unit(out: &mut Output, unit: u32) {
+fn put_json_unit<T: Target>(out: &mut Output<T>, unit: u32) {
     out.put("\\u");
     let [_, _, high, low] = unit.to_be_bytes();
     out.put_hex(high, false);

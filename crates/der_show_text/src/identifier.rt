@@ -2,6 +2,7 @@
 
 use crate::output::Output;
 use crate::rows::{NAMES_ISO, NAMES_OTHER, NAMES_PKIX, NAMES_RSA, NAMES_X500};
+use crate::target::Target;
 use der_asn1::ObjectIdentifierRef;
 use std::cmp::Ordering;
 use std::fmt::Write;
@@ -115,7 +116,7 @@ pub fn long_name(octets: &[u8]) -> Option<&'static str> {
 
 /// Prints the arcs of the object identifier with these contents, separated by dots, or the octets in
 /// hexadecimal after `#` if they are none.
-pub fn put_arcs(out: &mut Output, octets: &[u8]) {
+pub fn put_arcs<T: Target>(out: &mut Output<T>, octets: &[u8]) {
     match ObjectIdentifierRef::new(octets) {
         Some(oid) => {
             let _ = write!(out, "{oid}");
@@ -129,7 +130,7 @@ pub fn put_arcs(out: &mut Output, octets: &[u8]) {
 
 /// Prints the long name of the object identifier with these contents, and its arcs in parentheses,
 /// or its arcs alone if it has no name.
-pub fn put_identifier(out: &mut Output, octets: &[u8]) {
+pub fn put_identifier<T: Target>(out: &mut Output<T>, octets: &[u8]) {
     match long_name(octets) {
         Some(name) => {
             out.put(name);

@@ -1,4 +1,4 @@
-//! What the program `der_show` prints with: an output with a buffer of fixed size, text whose control
+//! What the program `der_show` prints with: an output to a stream or to memory, text whose control
 //! and invisible characters are escaped, the names of object identifiers, numbers, times, and
 //! elements with their offsets.
 #![tactic(auto)]
@@ -10,8 +10,11 @@ mod identifier;
 mod numbers;
 mod output;
 mod rows;
+mod space;
+mod stream;
 mod strings;
 mod style;
+mod target;
 mod times;
 
 pub use characters::is_hidden;
@@ -21,7 +24,10 @@ pub use identifier::{is_hexadecimal_of, long_name, put_arcs, put_identifier, sho
 pub use numbers::{
     bit_count, put_integer, put_octets, put_octets_with, put_some_octets, small_number,
 };
-pub use output::{Output, Sink};
+pub use output::Output;
+pub use space::Space;
+pub use stream::{Sink, Stream};
 pub use strings::{Characters, is_text, put_text, put_value_text};
 pub use style::Style;
+pub use target::Target;
 pub use times::{put_iso_time, put_time, put_unix_time};

@@ -1,16 +1,17 @@
 //! Octets and numbers.
 
 use crate::output::{Output, hex_digit};
+use crate::target::Target;
 
 /// Prints octets in upper-case hexadecimal.
-pub fn put_octets(out: &mut Output, octets: &[u8]) {
+pub fn put_octets<T: Target>(out: &mut Output<T>, octets: &[u8]) {
     for chunk in octets.chunks(32) {
         put_chunk(out, chunk);
     }
 }
 
 // Prints at most 32 octets.
-fn put_chunk(out: &mut Output, chunk: &[u8]) {
+fn put_chunk<T: Target>(out: &mut Output<T>, chunk: &[u8]) {
     let mut digits = [b'0'; 64];
     for (at, octet) in chunk.iter().enumerate() {
         let place = at.saturating_mul(2);
@@ -26,7 +27,7 @@ fn put_chunk(out: &mut Output, chunk: &[u8]) {
 }
 
 /// Prints octets in hexadecimal, with `:` between two of them.
-pub fn put_octets_with(out: &mut Output, octets: &[u8], is_upper: bool) {
+pub fn put_octets_with<T: Target>(out: &mut Output<T>, octets: &[u8], is_upper: bool) {
     let mut is_first = true;
     for octet in octets {
         if !is_first {
@@ -38,7 +39,7 @@ pub fn put_octets_with(out: &mut Output, octets: &[u8], is_upper: bool) {
 }
 
 /// Prints the first `most` octets in upper-case hexadecimal, and `..` if there are more.
-pub fn put_some_octets(out: &mut Output, octets: &[u8], most: usize) {
+pub fn put_some_octets<T: Target>(out: &mut Output<T>, octets: &[u8], most: usize) {
     match octets.get(..most) {
         Some(first) if octets.len() > most => {
             put_octets(out, first);
@@ -71,7 +72,7 @@ fn below_limit(octets: &[u8]) -> Option<u64> {
 
 /// Prints the value of an INTEGER with these contents in hexadecimal, with `-` before the magnitude
 /// of a negative number. At least two digits are printed, and no zero octets before others.
-pub fn put_integer(out: &mut Output, octets: &[u8]) {
+pub fn put_integer<T: Target>(out: &mut Output<T>, octets: &[u8]) {
     match octets {
         [0, rest @ ..] if !rest.is_empty() => put_octets(out, rest),
         [0x80..=0xFF, ..] => {
@@ -84,7 +85,7 @@ pub fn put_integer(out: &mut Output, octets: &[u8]) {
 
 // The magnitude of a negative number in two's complement: the octets after the last one that is not
 // zero stay zero, that one is negated, and the ones before it are inverted.
-fn put_magnitude(out: &mut Output, octets: &[u8]) {
+fn put_magnitude<T: Target>(out: &mut Output<T>, octets: &[u8]) {
     let last = octets.iter().rposition(|octet| *octet != 0).unwrap_or(0);
     let mut is_first = true;
     for (at, octet) in octets.iter().enumerate() {

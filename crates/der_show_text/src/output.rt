@@ -1,11 +1,9 @@
-//! Where a program prints to.
+//! What text is printed with.
 
+use crate::stream::{Sink, Stream};
+use crate::target::Target;
 use std::alloc::Global;
 use std::fmt;
-use std::io::{Stderr, Stdout, Write};
-
-/// How many octets are kept before they are written.
-const BUFFERED: usize = 32768;
 
 /// From so many columns before the end of a line on, it is folded at a space, which is not printed.
 const NEAR: usize = 16;
@@ -16,26 +14,13 @@ const NEARER: usize = 4;
 /// By how many spaces the rest of a folded line is indented more than the line.
 const FOLDED: usize = 4;
 
-/// Where the text goes.
-#[derive(Clone, Copy)]
-pub enum Sink {
-    /// Nowhere: the text stays in memory, as tests want it.
-    Memory,
-    /// Standard output.
-    Output(Stdout),
-    /// Standard error.
-    Errors(Stderr),
-}
-
-/// Text that is printed: a buffer of fixed size in front of a sink.
+/// Text that is printed to a target.
 ///
 /// A failure does not stop the caller. The output remembers it, and drops all text after it.
 #[derive(Drop)]
-pub struct Output {
-    /// The text that is not written yet.
-    pub buffer: Vec<u8>,
+pub struct Output<T: Target = Stream> {
     /// Where the text goes.
-    pub sink: Sink,
+    pub target: T,
     /// Whether the text was not written whole.
     pub has_failed: bool,
     /// After how many columns a line is folded; 0 for never.
@@ -46,12 +31,25 @@ pub struct Output {
     indent: usize,
 }
 
-impl Output {
+impl Output<Stream> {
     /// An output with an empty buffer.
     pub fn new(alloc: Global, sink: Sink) -> Self {
+        Output::to(Stream::new(alloc, sink))
+    }
+
+    /// Writes what the buffer holds to the sink. Does nothing for a sink in memory.
+    pub fn flush(&mut self) {
+        if !self.target.flush() {
+            self.has_failed = true;
+        }
+    }
+}
+
+impl<T: Target> Output<T> {
+    /// An output without text.
+    pub fn to(target: T) -> Self {
         Output {
-            buffer: Vec::new(alloc),
-            sink,
+            target,
             has_failed: false,
             width: 0,
             column: 0,
@@ -113,7 +111,7 @@ impl Output {
 
     // Whether the line has no column left, or few, and ends as a part of it does.
     fn is_full(&self) -> bool {
-        let margin = match self.buffer.last() {
+        let margin = match self.target.last() {
             Some(b':') => NEARER,
             _ => 0,
         };
@@ -132,14 +130,8 @@ impl Output {
     }
 
     fn push(&mut self, octets: &[u8]) {
-        if self.has_failed {
-            return;
-        }
-        if self.buffer.extend_from_slice(octets).is_err() {
+        if !self.has_failed && !self.target.push(octets) {
             self.has_failed = true;
-        }
-        if self.buffer.len() >= BUFFERED {
-            self.flush();
         }
     }
 
@@ -186,22 +178,9 @@ impl Output {
         let spaces = "                                                                ";
         self.put(spaces.get(..count).unwrap_or(spaces));
     }
-
-    /// Writes what the buffer holds to the sink. Does nothing for a sink in memory.
-    pub fn flush(&mut self) {
-        let written = match &mut self.sink {
-            Sink::Memory => return,
-            Sink::Output(to) => to.write_all(self.buffer.as_slice()),
-            Sink::Errors(to) => to.write_all(self.buffer.as_slice()),
-        };
-        if written.is_err() {
-            self.has_failed = true;
-        }
-        self.buffer.clear();
-    }
 }
 
-impl fmt::Write for Output {
+impl<T: Target> fmt::Write for Output<T> {
     fn write_str(&mut self, text: &str) -> fmt::Result {
         self.put(text);
         Ok(())

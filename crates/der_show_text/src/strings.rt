@@ -3,6 +3,7 @@
 use crate::characters::put_escaped;
 use crate::output::Output;
 use crate::style::Style;
+use crate::target::Target;
 use der::Tag;
 use std::str;
 
@@ -59,7 +60,12 @@ fn is_wide(octets: &[u8]) -> bool {
 
 /// Prints the text of a value with this tag, and returns true. Prints nothing and returns false if
 /// the tag is that of no string or time, or if the contents are no text.
-pub fn put_value_text(out: &mut Output, tag: Tag, contents: &[u8], style: Style) -> bool {
+pub fn put_value_text<T: Target>(
+    out: &mut Output<T>,
+    tag: Tag,
+    contents: &[u8],
+    style: Style,
+) -> bool {
     match characters_of(tag) {
         Some(characters) if is_text(contents, characters) => {
             put_text(out, contents, characters, style);
@@ -70,7 +76,12 @@ pub fn put_value_text(out: &mut Output, tag: Tag, contents: &[u8], style: Style)
 }
 
 /// Prints a text. Prints nothing if the octets are no text in this encoding.
-pub fn put_text(out: &mut Output, octets: &[u8], characters: Characters, style: Style) {
+pub fn put_text<T: Target>(
+    out: &mut Output<T>,
+    octets: &[u8],
+    characters: Characters,
+    style: Style,
+) {
     match characters {
         Characters::Utf8 => match str::from_utf8(octets) {
             Ok(text) => put_utf8(out, text, style),
@@ -89,7 +100,7 @@ struct Ends {
 }
 
 // Prints the next character. A space waits until it is known whether it is the last character.
-fn put_next(out: &mut Output, c: char, style: Style, ends: &mut Ends) {
+fn put_next<T: Target>(out: &mut Output<T>, c: char, style: Style, ends: &mut Ends) {
     if style == Style::Name {
         if ends.has_space {
             out.put(" ");
@@ -110,7 +121,7 @@ fn put_next(out: &mut Output, c: char, style: Style, ends: &mut Ends) {
     put_escaped(out, c, style);
 }
 
-fn put_end(out: &mut Output, ends: &Ends) {
+fn put_end<T: Target>(out: &mut Output<T>, ends: &Ends) {
     if ends.has_space {
         out.put("\\ ");
     }
@@ -123,7 +134,7 @@ fn start() -> Ends {
     }
 }
 
-fn put_utf8(out: &mut Output, text: &str, style: Style) {
+fn put_utf8<T: Target>(out: &mut Output<T>, text: &str, style: Style) {
     let mut ends = start();
     for c in text.chars() {
         put_next(out, c, style, &mut ends);
@@ -131,7 +142,7 @@ fn put_utf8(out: &mut Output, text: &str, style: Style) {
     put_end(out, &ends);
 }
 
-fn put_latin(out: &mut Output, octets: &[u8], style: Style) {
+fn put_latin<T: Target>(out: &mut Output<T>, octets: &[u8], style: Style) {
     let mut ends = start();
     for octet in octets {
         put_next(out, char::from(*octet), style, &mut ends);
@@ -139,7 +150,7 @@ fn put_latin(out: &mut Output, octets: &[u8], style: Style) {
     put_end(out, &ends);
 }
 
-fn put_wide(out: &mut Output, octets: &[u8], style: Style) {
+fn put_wide<T: Target>(out: &mut Output<T>, octets: &[u8], style: Style) {
     let mut ends = start();
     let mut rest = octets;
     for _ in 0..octets.len() {

@@ -1,6 +1,7 @@
 //! Times.
 
 use crate::output::Output;
+use crate::target::Target;
 use der::Tag;
 use der_asn1::{DateTime, GeneralizedTimeFormat, TimeFormat, UtcTimeFormat};
 use std::fmt::Write;
@@ -16,7 +17,7 @@ fn time_of(tag: Tag, contents: &[u8]) -> Option<DateTime> {
 
 /// Prints a time in the form of `Jan  2 03:04:05 2006 GMT`, or returns false and prints nothing if the
 /// element is no time in the form of DER.
-pub fn put_time(out: &mut Output, tag: Tag, contents: &[u8]) -> bool {
+pub fn put_time<T: Target>(out: &mut Output<T>, tag: Tag, contents: &[u8]) -> bool {
     let Some(at) = time_of(tag, contents) else {
         return false;
     };
@@ -31,7 +32,7 @@ pub fn put_time(out: &mut Output, tag: Tag, contents: &[u8]) -> bool {
 
 /// Prints a time in milliseconds since 1970 in the form of `Jan  2 03:04:05.678 2006 GMT`, or the number if it is
 /// after the year 9999.
-pub fn put_unix_time(out: &mut Output, milliseconds: u64) {
+pub fn put_unix_time<T: Target>(out: &mut Output<T>, milliseconds: u64) {
     let Some(at) = DateTime::from_unix_seconds((milliseconds / 1000) as i64) else {
         out.put_number(milliseconds);
         return;
@@ -51,7 +52,7 @@ pub fn put_unix_time(out: &mut Output, milliseconds: u64) {
 
 /// Prints a time in the form of `2006-01-02T03:04:05Z`, or returns false and prints nothing if the
 /// element is no time in the form of DER.
-pub fn put_iso_time(out: &mut Output, tag: Tag, contents: &[u8]) -> bool {
+pub fn put_iso_time<T: Target>(out: &mut Output<T>, tag: Tag, contents: &[u8]) -> bool {
     let Some(at) = time_of(tag, contents) else {
         return false;
     };

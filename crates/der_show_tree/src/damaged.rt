@@ -1,14 +1,14 @@
 //! How much of a value could be read as a value of a type.
 
 use asn1_schema::Schema;
-use asn1_tree::{Entry, Tree};
+use asn1_tree::Entry;
 
-/// How many octets of the input are elements of a type that the table has: their headers, and contents
-/// without elements.
-pub fn typed_len(schema: &Schema<'_>, tree: &Tree) -> usize {
-    let mut rest = tree.entries.as_slice();
+/// How many octets of the input are elements of a type that the table has, among the first so many: their headers, and
+/// contents without elements.
+pub fn typed_len(schema: &Schema<'_>, entries: &[Entry], elements: usize) -> usize {
+    let mut rest = entries.get(..elements).unwrap_or(entries);
     let mut count = 0usize;
-    for _ in 0..tree.entries.len() {
+    for _ in 0..elements {
         let [entry, after @ ..] = rest else {
             break;
         };

@@ -4,12 +4,12 @@ ghost use Rattle.asn1_schema.specs.Table.{table_in};
 ghost use Rattle.asn1_tree.specs.Departures.{AreOfDer};
 ghost use Rattle.asn1_tree.specs.Encoding.{IsDer, IsBer};
 
-use crate::damaged::typed_len;
 use crate::kind::{KINDS, Kind};
+use crate::memory::{Heap, Memory, Room};
 use crate::outline::{has_deep_outline, has_outline};
 use crate::plausible::{is_certain, is_plausible};
 use asn1_schema::Schema;
-use asn1_tree::{Tree, is_ber, read};
+use asn1_tree::{Full, Tree, is_ber, read};
 use std::alloc::{AllocError, Global};
 
 /// The kind of which the octets are one value: the first one of which they are an encoding by BER, or else the one
@@ -20,15 +20,32 @@ pub fn find_kind(
     schema: &Schema<'_>,
     octets: &[u8],
 ) -> Result<Option<Kind>, AllocError> {
+    find_by(&mut Heap { alloc }, schema, octets)
+}
+
+/// The same with memory of the caller. Fails if it has no more room.
+pub fn find_kind_in(
+    room: &mut Room<'_, '_, '_, '_>,
+    schema: &Schema<'_>,
+    octets: &[u8],
+) -> Result<Option<Kind>, Full> {
+    find_by(room, schema, octets)
+}
+
+fn find_by<M: Memory>(
+    memory: &mut M,
+    schema: &Schema<'_>,
+    octets: &[u8],
+) -> Result<Option<Kind>, M::Error> {
     for kind in KINDS {
         if has_deep_outline(schema, kind.node(), octets)
             && is_plausible(kind, octets)
-            && is_encoding(alloc, schema, kind.node(), octets)?
+            && memory.is_ber(schema, kind.node(), octets)?
         {
             return Ok(Some(kind));
         }
     }
-    damaged_kind(alloc, schema, octets)
+    damaged_kind(memory, schema, octets)
 }
 
 /// Whether the octets are an encoding by BER of a value of a type. Fails if an allocation fails.
@@ -71,19 +88,18 @@ pub fn read_as(
 }
 
 // The kind of which the octets are a value with faults inside its outer elements.
-fn damaged_kind(
-    alloc: Global,
+fn damaged_kind<M: Memory>(
+    memory: &mut M,
     schema: &Schema<'_>,
     octets: &[u8],
-) -> Result<Option<Kind>, AllocError> {
+) -> Result<Option<Kind>, M::Error> {
     let (mut best, mut most) = (None, 0usize);
     for kind in KINDS {
         if has_outline(schema, kind.node(), octets) && is_plausible(kind, octets) {
             if is_certain(kind, octets) {
                 return Ok(Some(kind));
             }
-            let tree = read_as(alloc, schema, kind.node(), octets)?;
-            let typed = typed_len(schema, &tree);
+            let typed = memory.typed_len(schema, kind.node(), octets)?;
             if typed > most {
                 best = Some(kind);
                 most = typed;

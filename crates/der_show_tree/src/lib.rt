@@ -6,13 +6,15 @@ mod damaged;
 mod digits;
 mod find;
 mod kind;
+mod memory;
 mod outline;
 mod plausible;
 mod table;
 
-pub use digits::table_octets;
-pub use find::{find_kind, is_encoding, read_as};
-pub use kind::Kind;
+pub use digits::{TABLE_ROOM, put_table, table_octets};
+pub use find::{find_kind, find_kind_in, is_encoding, read_as};
+pub use kind::{KINDS, Kind};
+pub use memory::Room;
 pub use table::{
     ANY, CERTIFICATE, DSA_PRIVATE_KEY, EC_PRIVATE_KEY, RSA_PRIVATE_KEY, RSA_PUBLIC_KEY, TRUST,
 };

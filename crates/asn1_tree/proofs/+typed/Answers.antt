@@ -1,6 +1,7 @@
 use Rattle.std.proofs.Common.{rules, ◌≡◌, ◌↔◌, ◌+◌, ◌-◌, ◌∙◌, false, true, [], length, take, refl, sym, ap, subst, ℕ, suc, List, None, Some, slice_get, arith}
 use Rattle.ber.specs.Element.{IsElement}
 use Rattle.asn1_schema.specs.declared.field.Field.{Field}
+use Rattle.asn1_tree.specs.Seen.{fields_of}
 use Rattle.asn1_tree.specs.Constraints.{IsAllowedSize}
 use Rattle.asn1_tree.specs.Types.{types_in}
 use Rattle.asn1_tree.specs.Known.{known_in, Follows}
@@ -317,7 +318,7 @@ typed::contents-returns-in-Members-clause-finds t c =
 
 pub members::members-members-init : goal.members::members-members-init
 members::members-members-init t c = record {
-  status = none_seen c.new-seen.result.items search;
+  status = none_seen (fields_of c.new-seen.result) search;
   log = logs_none c.args.notes.now;
   end = refl;
   shorter = omega arith;
@@ -336,11 +337,11 @@ members::members-members-preserved t c =
     let after = c.in_ok-outcome.outcome.rest.now in
     let here = take (length now - length after) now in
     let on = goes_on c.is_ended.result c.is_ended.ensures c.at.ensures.marked c.at.ensures.octets (search rules) in
-    let finds = finds_at (λ rules. IsSomeMember (IsValue (types_in c.args.schema.now.octets.now) c.args.depth) (IsAny c.args.depth) (types_in c.args.schema.now.octets.now) c.args.node c.members.seen.items rules) c.at-place.ensures.octets c.in_ok-outcome.ensures.finds in
+    let finds = finds_at (λ rules. IsSomeMember (IsValue (types_in c.args.schema.now.octets.now) c.args.depth) (IsAny c.args.depth) (types_in c.args.schema.now.octets.now) c.args.node (fields_of c.members.seen) rules) c.at-place.ensures.octets c.in_ok-outcome.ensures.finds in
     record {
       status = status_is (c.and-verdict.ensures ∙ ap (λ v. worst v c.in_ok-order.order) c.and.ensures ∙ worst_assoc c.members.verdict c.in_ok-outcome.outcome.verdict c.in_ok-order.order)
           (status_then c.members.invariant.status
-          (member_found c.members.seen.items c.member.new.seen.items c.members.before.now now after here c.in_ok-order.order c.args.opened.marked c.args.opened.beyond.now on finds
+          (member_found (fields_of c.members.seen) (fields_of c.member.new.seen) c.members.before.now now after here c.in_ok-order.order c.args.opened.marked c.args.opened.beyond.now on finds
           (λ rules x r s e is. c.in_ok-outcome.ensures.only rules x r s (c.at-place.ensures.octets ∙ e) is)
           (λ x e. taken now x after e) (test_is c.in_ok-order.ensures.verdict c.tag_order_rule.ensures)));
       log = logs_is (c.and-verdict.ensures ∙ ap (λ v. worst v c.in_ok-order.order) c.and.ensures) (logs_then (logs_then c.members.invariant.log c.in_ok-outcome.ensures.log) c.in_ok-order.ensures.log);
@@ -355,7 +356,7 @@ members::members-returns-clause-finds t c =
     let end = body_at (λ rules inner. inner ≡ []) c.at-3.ensures.marked c.at-3.ensures.beyond c.at-3.ensures.octets c.in_ok-end.ensures.finds in
     let present = subst (λ s. (rules : EncodingRules) → (holds rules c.in_ok-present.present ≡ true) ↔ ArePresent (types_in c.args.schema.now.octets.now) c.args.node s) c.as_slice.ensures.value c.in_ok-present.ensures.exact in
     finds_is (c.and-3.ensures ∙ ap (λ v. worst c.members.verdict v) c.and-2.ensures) (status_ends c.members.invariant.status
-    (members_end (value_begins (types_in c.args.schema.now.octets.now) c.args.depth) (any_elements c.args.depth) c.args.node c.members.seen.items c.members.before.now now c.args.opened.marked c.args.opened.beyond.now at present end))
+    (members_end (value_begins (types_in c.args.schema.now.octets.now) c.args.depth) (any_elements c.args.depth) c.args.node (fields_of c.members.seen) c.members.before.now now c.args.opened.marked c.args.opened.beyond.now at present end))
 
 pub members::members-returns-clause-log : goal.members::members-returns-clause-log
 members::members-returns-clause-log t c =
@@ -366,15 +367,15 @@ members::member-returns-then-is_seen-clause-finds t c =
     finds_never (c.and.ensures ∙ ap (λ v. worst v c.in_ok-outcome-in-Some.outcome.verdict) c.in_ok-again-in-Some.ensures.verdict)
     (λ rules r f.
     let found = c.in-Some.ensures.found in
-    let new = (member_of_field (value_begins (types_in c.args.schema.now.octets.now) c.args.depth) (any_elements c.args.depth) c.args.node c.requires.kind (c.requires.distinct c.requires.row.0 c.args.node c.requires.row.1) found.3.0 c.args.place.octets.now found.3.1 c.in-Some.index found.0 found.2 found.3.3 c.args.seen.now.items rules f.0 r f.2.0 f.1 f.2.1).0 in
-    let seen : is_seen c.args.seen.now.items c.in-Some.index ≡ true = subst (λ q. is_seen q c.in-Some.index ≡ true) c.as_slice.ensures.value (sym c.is_seen.ensures ∙ c.if-is_seen.true) in
+    let new = (member_of_field (value_begins (types_in c.args.schema.now.octets.now) c.args.depth) (any_elements c.args.depth) c.args.node c.requires.kind (c.requires.distinct c.requires.row.0 c.args.node c.requires.row.1) found.3.0 c.args.place.octets.now found.3.1 c.in-Some.index found.0 found.2 found.3.3 (fields_of c.args.seen.now) rules f.0 r f.2.0 f.1 f.2.1).0 in
+    let seen : is_seen (fields_of c.args.seen.now) c.in-Some.index ≡ true = subst (λ q. is_seen q c.in-Some.index ≡ true) c.as_slice.ensures.value (sym c.is_seen.ensures ∙ c.if-is_seen.true) in
     absurd (cc))
 
 pub members::member-returns-then-is_seen-clause-only : goal.members::member-returns-then-is_seen-clause-only
 members::member-returns-then-is_seen-clause-only t c rules x r after e is =
     let found = c.in-Some.ensures.found in
-    let new = (member_of_field (value_begins (types_in c.args.schema.now.octets.now) c.args.depth) (any_elements c.args.depth) c.args.node c.requires.kind (c.requires.distinct c.requires.row.0 c.args.node c.requires.row.1) found.3.0 c.args.place.octets.now found.3.1 c.in-Some.index found.0 found.2 found.3.3 c.args.seen.now.items rules x r after e is).0 in
-    let seen : is_seen c.args.seen.now.items c.in-Some.index ≡ true = subst (λ q. is_seen q c.in-Some.index ≡ true) c.as_slice.ensures.value (sym c.is_seen.ensures ∙ c.if-is_seen.true) in
+    let new = (member_of_field (value_begins (types_in c.args.schema.now.octets.now) c.args.depth) (any_elements c.args.depth) c.args.node c.requires.kind (c.requires.distinct c.requires.row.0 c.args.node c.requires.row.1) found.3.0 c.args.place.octets.now found.3.1 c.in-Some.index found.0 found.2 found.3.3 (fields_of c.args.seen.now) rules x r after e is).0 in
+    let seen : is_seen (fields_of c.args.seen.now) c.in-Some.index ≡ true = subst (λ q. is_seen q c.in-Some.index ≡ true) c.as_slice.ensures.value (sym c.is_seen.ensures ∙ c.if-is_seen.true) in
     absurd (cc)
 
 pub members::member-returns-then-is_seen-clause-log : goal.members::member-returns-then-is_seen-clause-log
@@ -384,33 +385,33 @@ members::member-returns-then-is_seen-clause-log t c =
 pub members::member-returns-in_ok-push-in-Some-clause-finds : goal.members::member-returns-in_ok-push-in-Some-clause-finds
 members::member-returns-in_ok-push-in-Some-clause-finds t c =
     let found = c.in-Some.ensures.found in
-    let new : is_seen c.args.seen.now.items c.in-Some.index ≡ false = subst (λ q. is_seen q c.in-Some.index ≡ false) c.as_slice.ensures.value (sym c.is_seen.ensures ∙ c.if-is_seen.false) in
-    if_ok c.field_value-in-Some.result (λ o f. finds_component (value_begins (types_in c.args.schema.now.octets.now) c.args.depth) (any_elements c.args.depth) c.args.node c.requires.kind (c.requires.distinct c.requires.row.0 c.args.node c.requires.row.1) found.3.0 c.args.place.octets.now found.3.1 c.in-Some.index found.0 found.2 found.3.3 c.args.seen.now.items new (f found.0 found.2.row)) c.field_value-in-Some.ensures.finds
+    let new : is_seen (fields_of c.args.seen.now) c.in-Some.index ≡ false = subst (λ q. is_seen q c.in-Some.index ≡ false) c.as_slice.ensures.value (sym c.is_seen.ensures ∙ c.if-is_seen.false) in
+    if_ok c.field_value-in-Some.result (λ o f. finds_component (value_begins (types_in c.args.schema.now.octets.now) c.args.depth) (any_elements c.args.depth) c.args.node c.requires.kind (c.requires.distinct c.requires.row.0 c.args.node c.requires.row.1) found.3.0 c.args.place.octets.now found.3.1 c.in-Some.index found.0 found.2 found.3.3 (fields_of c.args.seen.now) new (f found.0 found.2.row)) c.field_value-in-Some.ensures.finds
 
 pub members::member-returns-in_ok-push-in-Some-clause-only : goal.members::member-returns-in_ok-push-in-Some-clause-only
 members::member-returns-in_ok-push-in-Some-clause-only t c =
     let found = c.in-Some.ensures.found in
-    if_ok c.field_value-in-Some.result (λ o log rules x r after e is. (member_of_field (value_begins (types_in c.args.schema.now.octets.now) c.args.depth) (any_elements c.args.depth) c.args.node c.requires.kind (c.requires.distinct c.requires.row.0 c.args.node c.requires.row.1) found.3.0 c.args.place.octets.now found.3.1 c.in-Some.index found.0 found.2 found.3.3 c.args.seen.now.items rules x r after e is).1 ∙ sym c.in_ok-push-in-Some.ensures.items) c.field_value-in-Some.ensures.log
+    if_ok c.field_value-in-Some.result (λ o log rules x r after e is. (member_of_field (value_begins (types_in c.args.schema.now.octets.now) c.args.depth) (any_elements c.args.depth) c.args.node c.requires.kind (c.requires.distinct c.requires.row.0 c.args.node c.requires.row.1) found.3.0 c.args.place.octets.now found.3.1 c.in-Some.index found.0 found.2 found.3.3 (fields_of c.args.seen.now) rules x r after e is).1 ∙ sym c.in_ok-push-in-Some.ensures.items) c.field_value-in-Some.ensures.log
 
 pub members::member-returns-then-node-clause-finds : goal.members::member-returns-then-node-clause-finds
 members::member-returns-then-node-clause-finds t c =
-    if_ok c.any.result (λ o f. finds_addition (value_begins (types_in c.args.schema.now.octets.now) c.args.depth) (any_elements c.args.depth) c.args.node c.if-node.true c.args.place.octets.now (λ k f is. c.in-None.ensures.none k f is.part.0 is) c.args.seen.now.items f) c.any.ensures.finds
+    if_ok c.any.result (λ o f. finds_addition (value_begins (types_in c.args.schema.now.octets.now) c.args.depth) (any_elements c.args.depth) c.args.node c.if-node.true c.args.place.octets.now (λ k f is. c.in-None.ensures.none k f is.part.0 is) (fields_of c.args.seen.now) f) c.any.ensures.finds
 
 pub members::member-returns-then-node-clause-only : goal.members::member-returns-then-node-clause-only
 members::member-returns-then-node-clause-only t c =
-    if_ok c.any.result (λ o log rules x r after e is. (member_of_none (value_begins (types_in c.args.schema.now.octets.now) c.args.depth) c.args.node c.args.place.octets.now (λ k f is. c.in-None.ensures.none k f is.part.0 is) c.args.seen.now.items rules x r after e is).1) c.any.ensures.log
+    if_ok c.any.result (λ o log rules x r after e is. (member_of_none (value_begins (types_in c.args.schema.now.octets.now) c.args.depth) c.args.node c.args.place.octets.now (λ k f is. c.in-None.ensures.none k f is.part.0 is) (fields_of c.args.seen.now) rules x r after e is).1) c.any.ensures.log
 
 pub members::member-returns-in_ok-outcome-in-None-clause-finds : goal.members::member-returns-in_ok-outcome-in-None-clause-finds
 members::member-returns-in_ok-outcome-in-None-clause-finds t c =
     finds_never (c.and-in-None.ensures ∙ ap (λ v. worst v c.in_ok-outcome-in-None.outcome.verdict) c.in_ok-other-in-None.ensures.verdict)
     (λ rules r f.
-    let on = (member_of_none (value_begins (types_in c.args.schema.now.octets.now) c.args.depth) c.args.node c.args.place.octets.now (λ k f is. c.in-None.ensures.none k f is.part.0 is) c.args.seen.now.items rules f.0 r f.2.0 f.1 f.2.1).0 in
+    let on = (member_of_none (value_begins (types_in c.args.schema.now.octets.now) c.args.depth) c.args.node c.args.place.octets.now (λ k f is. c.in-None.ensures.none k f is.part.0 is) (fields_of c.args.seen.now) rules f.0 r f.2.0 f.1 f.2.1).0 in
     let off = c.if-node.false in
     absurd (cc))
 
 pub members::member-returns-in_ok-outcome-in-None-clause-only : goal.members::member-returns-in_ok-outcome-in-None-clause-only
 members::member-returns-in_ok-outcome-in-None-clause-only t c rules x r after e is =
-    (member_of_none (value_begins (types_in c.args.schema.now.octets.now) c.args.depth) c.args.node c.args.place.octets.now (λ k f is. c.in-None.ensures.none k f is.part.0 is) c.args.seen.now.items rules x r after e is).1
+    (member_of_none (value_begins (types_in c.args.schema.now.octets.now) c.args.depth) c.args.node c.args.place.octets.now (λ k f is. c.in-None.ensures.none k f is.part.0 is) (fields_of c.args.seen.now) rules x r after e is).1
 
 pub members::member-returns-in_ok-outcome-in-None-clause-log : goal.members::member-returns-in_ok-outcome-in-None-clause-log
 members::member-returns-in_ok-outcome-in-None-clause-log t c =

@@ -1,4 +1,5 @@
 use Rattle.std.proofs.Common.{◌≡◌, ◌*◌, ◌+◌, ◌-◌, ◌≤◌, ℕ, [], None, length}
+use Rattle.asn1_tree.specs.Seen.{fields_of}
 use Rattle.asn1_tree.specs.Types.{types_in}
 use Rattle.asn1_tree.specs.Constraints.{IsAllowedSize}
 use Rattle.asn1_tree.specs.Known.{known_in}
@@ -80,7 +81,7 @@ decreases-components::items-items l = length l.rest
 abbrev pub invariant-members::members-members : goal.invariant-members::members-members
 invariant-members::members-members l = record {
   status : Status l.verdict
-      (λ rules. Body l.opened.marked l.opened.beyond.now (SomeMembers (IsValue (types_in l.schema.octets.now) l.depth) (IsAny l.depth) rules (types_in l.schema.octets.now) l.node l.seen.items l.before) l.rest)
+      (λ rules. Body l.opened.marked l.opened.beyond.now (SomeMembers (IsValue (types_in l.schema.octets.now) l.depth) (IsAny l.depth) rules (types_in l.schema.octets.now) l.node (fields_of l.seen) l.before) l.rest)
       (λ rules. Body l.opened.marked l.opened.beyond.now (SomeMembers (IsValue (types_in l.schema.octets.now) l.depth) (IsAny l.depth) rules (types_in l.schema.octets.now) l.node [] []) l.opened.inside.octets.now);
   log : Logs l.verdict l.fn.notes l.notes;
   end : l.notes.end ≡ l.fn.notes.end;

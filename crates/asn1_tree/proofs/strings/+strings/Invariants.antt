@@ -1,4 +1,5 @@
 use Rattle.std.proofs.Common.{◌≡◌, ◌*◌, ◌+◌, ◌≤◌, length}
+use Rattle.asn1_tree.specs.Text.{text_of}
 use Rattle.asn1_tree.specs.Reading.{Logs}
 use Rattle.asn1_tree.specs.Strings.{IsSegment}
 use Rattle.asn1_tree.specs.StringReading.{IsText, MoreAfter, Stage}
@@ -16,9 +17,9 @@ decreases-segment_contents l = 3 * l.depth + 2
 abbrev pub invariant-segments-segments : goal.invariant-segments-segments
 invariant-segments-segments l = record {
   stage : Stage l.verdict
-      (MoreAfter l.opened.marked l.opened.beyond.now l.bits (IsSegment l.depth l.bits) l.text.items l.rest)
-      (MoreAfter l.opened.marked l.opened.beyond.now l.bits (IsSegment l.depth l.bits) l.fn.text.items l.opened.inside.octets.now);
-  text : IsText l.bits l.text.items;
+      (MoreAfter l.opened.marked l.opened.beyond.now l.bits (IsSegment l.depth l.bits) (text_of l.text) l.rest)
+      (MoreAfter l.opened.marked l.opened.beyond.now l.bits (IsSegment l.depth l.bits) (text_of l.fn.text) l.opened.inside.octets.now);
+  text : IsText l.bits (text_of l.text);
   log : Logs l.verdict l.fn.notes l.notes;
   end : l.notes.end ≡ l.fn.notes.end;
   shorter : length l.rest ≤ length l.opened.inside.octets.now;

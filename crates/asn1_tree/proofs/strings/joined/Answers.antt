@@ -1,5 +1,6 @@
 use Rattle.std.proofs.Common.{◌≡◌, ◌∙◌, ap, subst, ℕ, List}
 use Rattle.der_base.specs.declared.encoding_rules.EncodingRules.TheVariants.{Ber}
+use Rattle.asn1_tree.specs.Text.{text_of}
 use Rattle.asn1_tree.specs.declared.verdict.Verdict.TheVariants as verdict
 use Rattle.asn1_tree.specs.Verdict.{worst}
 use Rattle.asn1_tree.specs.Reading.{IsWithin, Body, Finds}
@@ -17,7 +18,7 @@ returns-clause-finds c =
     let bits = c.is_bit_string-bits.result in
     finds_is (c.and.ensures ∙ ap (λ v. worst v c.in_ok-outcome.outcome.verdict) c.in_ok-whole.ensures.verdict)
     (subst (λ k. Finds (λ rules. Body m b (λ inner. (rules ≡ Ber) × ((text : List ℕ) × AreJoined k (IsSegment c.args.depth k) inner text)) octets) (worst verdict.Ber c.in_ok-outcome.outcome.verdict) c.in_ok-outcome.outcome.rest.now) c.is_bit_string-bits.ensures
-    (string_finds bits m (IsSegment c.args.depth bits) b c.in_ok-text.text.items octets c.in_ok-text.ensures c.in_ok-outcome.ensures.reads))
+    (string_finds bits m (IsSegment c.args.depth bits) b (text_of c.in_ok-text.text) octets c.in_ok-text.ensures c.in_ok-outcome.ensures.reads))
 
 pub returns-clause-only : goal.returns-clause-only
 returns-clause-only c =
@@ -25,8 +26,8 @@ returns-clause-only c =
     let b = c.args.opened.beyond.now in
     let octets = c.args.opened.inside.octets.now in
     let bits = c.is_bit_string-bits.result in
-    subst (λ k. (inner r text : List ℕ) → IsWithin m b octets inner r → AreJoined k (IsSegment c.args.depth k) inner text → text ≡ c.segments.new.text.items) c.is_bit_string-bits.ensures
-    (string_only bits m (IsSegment c.args.depth bits) b c.in_ok-text.text.items octets c.in_ok-text.ensures c.in_ok-outcome.ensures.reads)
+    subst (λ k. (inner r text : List ℕ) → IsWithin m b octets inner r → AreJoined k (IsSegment c.args.depth k) inner text → text ≡ (text_of c.segments.new.text)) c.is_bit_string-bits.ensures
+    (string_only bits m (IsSegment c.args.depth bits) b (text_of c.in_ok-text.text) octets c.in_ok-text.ensures c.in_ok-outcome.ensures.reads)
 
 pub returns-clause-log : goal.returns-clause-log
 returns-clause-log c =

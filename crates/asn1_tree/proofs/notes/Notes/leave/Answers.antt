@@ -1,9 +1,14 @@
-use Rattle.std.proofs.Common.{arith}
-use Rattle.asn1_tree.proofs.EntryLemmas.{placed_set}
+use Rattle.std.proofs.Common.{◌≤◌, sym, subst, arith}
+use Rattle.std.proofs.lemmas.List.{length-set}
+use Rattle.asn1_tree.proofs.EntryLemmas.{placed_put}
 use Rattle.asn1_tree.proofs.notes.Notes.leave.Goals as goal
 
 pub invariant_of-self : goal.invariant_of-self
-invariant_of-self c = record {
-  inside = c.args.self.now.inside;
-  placed = placed_set c.args.self.now.end c.args.self.now.entries.items c.args.index (record c.args.entry { contents_len = c.contents_len-contents_len.result; depth = c.index.result.now.depth }) c.args.self.now.placed (omega (arith, c.requires, c.contents_len-contents_len.ensures));
-}
+invariant_of-self c =
+    let self = c.args.self.now in
+    record {
+      entries_fit = subst (λ n. self.entry_count ≤ n) (sym (length-set self.entries.now c.args.index _)) self.entries_fit;
+      departures_fit = self.departures_fit;
+      inside = self.inside;
+      placed = placed_put self.end self.entries.now self.entry_count c.args.index _ self.placed (omega (arith, c.requires, c.contents_len-contents_len.ensures));
+    }

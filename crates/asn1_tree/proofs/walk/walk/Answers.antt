@@ -3,7 +3,7 @@ use Rattle.asn1_tree.specs.Types.{types_in}
 use Rattle.asn1_tree.proofs.FindsLemmas.{body_at}
 use Rattle.asn1_tree.proofs.VerdictLemmas.{logs_is, logs_then}
 use Rattle.asn1_tree.proofs.WholeLemmas.{whole_found, exact_of}
-use Rattle.asn1_tree.proofs.reading.walk.Goals as goal
+use Rattle.asn1_tree.proofs.walk.walk.Goals as goal
 
 pub value-requires-clause-distinct : goal.value-requires-clause-distinct
 unfolding types_in

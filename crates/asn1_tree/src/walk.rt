@@ -1,0 +1,123 @@
+//! Reading of values into memory of the caller.
+ghost use Rattle.std.specs.Prelude.{◌≡◌, ◌↔◌, ◌<◌, ◌≤◌, true, None, length, take, IfOk, OnOk};
+ghost use Rattle.der_base.specs.declared.encoding_rules.EncodingRules.{EncodingRules};
+ghost use Rattle.asn1_schema.specs.Table.{table_in};
+ghost use Rattle.asn1_tree.specs.Departures.{AreOfDer, are_inside};
+ghost use Rattle.asn1_tree.specs.Encoding.{IsDer, IsBer};
+ghost use Rattle.asn1_tree.specs.Entries.{are_placed};
+ghost use Rattle.asn1_tree.specs.Reading.{Logs};
+ghost use Rattle.asn1_tree.specs.Types.{types_in};
+ghost use Rattle.asn1_tree.specs.Value.{IsValue};
+ghost use Rattle.asn1_tree.specs.Verdict.{holds};
+
+use crate::departure::Departure;
+use crate::entry::Entry;
+use crate::found::Found;
+use crate::full::Full;
+use crate::notes::Notes;
+use crate::opened::Opened;
+use crate::place::Place;
+use crate::role::{LEVELS, Role};
+use crate::typed::value;
+use crate::untyped::finish;
+use crate::verdict::Verdict;
+use asn1_schema::Schema;
+
+/// Reads octets as a value of a node of a table, as [`read`](crate::read) does, into memory of the caller: the
+/// elements and the departures. `marks` and `text` are room for what is needed on the way: a mark for each field
+/// of each SET around an element, and the text of a string in the constructed form. Nothing is allocated.
+/// Departures for which there is no room are counted, and the verdict is exact all the same.
+/// The caller must ensure that there is such a node.
+///
+/// # Errors
+///
+/// There is no room for an element, or none on the way. Then try again with more: there are at most as many marks as the table
+/// has fields, for each of 64 levels, and the text has at most one octet more than the input.
+pub fn read_into(
+    schema: &Schema<'_>,
+    node: u32,
+    octets: &[u8],
+    entries: &mut [Entry],
+    departures: &mut [Departure],
+    marks: &mut [u32],
+    text: &mut [u8],
+) -> Result<Found, Full>
+    requires { node < schema.now.counts.nodes }
+    ensures exact { IfOk result (λ found. (rules : EncodingRules) → (holds rules found.verdict ≡ true)
+        ↔ IsValue (types_in schema.now.octets.now) 64 rules None node octets.now) }
+    ensures der { IfOk result (λ found. found.lost ≡ 0 → (found.departures ≡ 0)
+        ↔ IsDer (table_in schema.now.octets.now) node octets.now) }
+    ensures ber { IfOk result (λ found. found.lost ≡ 0
+        → AreOfDer (take found.departures departures.new)
+        ↔ IsBer (table_in schema.now.octets.now) node octets.now) }
+    ensures inside { IfOk result (λ found.
+        are_inside (length octets.now) (take found.departures departures.new) ≡ true) }
+    ensures placed { IfOk result (λ found.
+        are_placed (length octets.now) (take found.entries entries.new) ≡ true) }
+    ensures fits { IfOk result (λ found.
+        (found.entries ≤ length entries.new) × (found.departures ≤ length departures.new)) }
+{
+    let mut notes = Notes::new(entries, departures, true, octets.len());
+    let verdict = walk(&mut notes, marks, text, schema, node, octets)?;
+    Ok(Found {
+        entries: notes.entry_count,
+        departures: notes.departure_count,
+        lost: notes.lost,
+        verdict,
+    })
+}
+
+/// The verdict on octets as a value of a node of a table, with room as for [`read_into`]. The caller must ensure
+/// that there is such a node.
+///
+/// # Errors
+///
+/// One of the two has no more room.
+pub fn judge(
+    schema: &Schema<'_>,
+    node: u32,
+    octets: &[u8],
+    marks: &mut [u32],
+    text: &mut [u8],
+) -> Result<Verdict, Full>
+    requires { node < schema.now.counts.nodes }
+    ensures exact { IfOk result (λ v. (rules : EncodingRules) → (holds rules v ≡ true)
+        ↔ IsValue (types_in schema.now.octets.now) 64 rules None node octets.now) }
+{
+    let mut entries: [Entry; 0] = [];
+    let mut departures: [Departure; 0] = [];
+    let mut notes = Notes::new(&mut entries, &mut departures, false, octets.len());
+    walk(&mut notes, marks, text, schema, node, octets)
+}
+
+// Reads octets as a value of a node.
+fn walk(
+    notes: &mut Notes<'_>,
+    marks: &mut [u32],
+    room: &mut [u8],
+    schema: &Schema<'_>,
+    node: u32,
+    octets: &[u8],
+) -> Result<Verdict, Full>
+    requires there { node < schema.now.counts.nodes }
+    requires inside { length octets.now ≤ notes.old.end }
+    ensures exact { IfOk result (λ v. (rules : EncodingRules) → (holds rules v ≡ true)
+        ↔ IsValue (types_in schema.now.octets.now) 64 rules None node octets.now) }
+    ensures log { IfOk result (λ v. Logs v notes.old notes.new) }
+    ensures end { OnOk result (notes.new.end ≡ notes.old.end) }
+{
+    let place = Place {
+        octets,
+        end: octets.len(),
+    };
+    let role = Role::inside(0);
+    let outcome = value(notes, marks, room, schema, LEVELS, None, node, role, place)?;
+    let rest = Opened {
+        inside: place.at(outcome.rest),
+        start: 0,
+        marked: false,
+        beyond: &[],
+    };
+    let end = finish(notes, LEVELS, 0, rest)?;
+    Ok(outcome.verdict.and(end.verdict))
+}

@@ -1,0 +1,19 @@
+use Rattle.std.proofs.Common.{◌≡◌, ◌↔◌, ◌≤◌, subst}
+use Rattle.der_base.specs.declared.encoding_rules.EncodingRules.TheVariants.{Der, Ber}
+use Rattle.asn1_schema.specs.Table.{table_in}
+use Rattle.asn1_tree.specs.Encoding.{IsDer, IsBer}
+use Rattle.asn1_tree.specs.Types.{types_in}
+use Rattle.der_page.proofs.FoundLemmas.{both_ways}
+use Rattle.der_page.proofs.elements.page_read.Goals as goal
+
+pub returns-in-Ok-read_into-clause-der : goal.returns-in-Ok-read_into-clause-der
+unfolding types_in
+returns-in-Ok-read_into-clause-der c on =
+    subst (λ octets. (c.number_of.result ≡ 0) ↔ IsDer (table_in octets) c.args.node c.args.octets.now) c.in-Ok.ensures.same
+    (both_ways c.number_of.ensures.der (c.in-Ok-read_into.ensures.exact Der))
+
+pub returns-in-Ok-read_into-clause-ber : goal.returns-in-Ok-read_into-clause-ber
+unfolding types_in
+returns-in-Ok-read_into-clause-ber c on =
+    subst (λ octets. (c.number_of.result ≤ 1) ↔ IsBer (table_in octets) c.args.node c.args.octets.now) c.in-Ok.ensures.same
+    (both_ways c.number_of.ensures.ber (c.in-Ok-read_into.ensures.exact Ber))

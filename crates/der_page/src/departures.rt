@@ -1,0 +1,36 @@
+//! Departures.
+
+use crate::printed::printed;
+use asn1_cursor::Cursor;
+use asn1_schema::Schema;
+use asn1_tree::{Departure, Entry};
+use der_show_print::put_departure;
+use der_show_text::{Output, Space};
+
+/// Prints a list of departures as JSON, as `der_show --json` does, and the index of the element of each.
+pub(crate) fn list_departures<'a>(
+    schema: &'a Schema<'a>,
+    octets: &'a [u8],
+    entries: &'a [Entry],
+    departures: &[Departure],
+    list: &mut [u8],
+) -> usize {
+    let root = Cursor::over(octets, schema, entries);
+    let mut out = Output::to(Space::new(list));
+    out.put("[");
+    let mut is_first = true;
+    for departure in departures {
+        out.put(if is_first {
+            "\n{\"node\": "
+        } else {
+            ",\n{\"node\": "
+        });
+        is_first = false;
+        out.put_number(departure.node as u64);
+        out.put(", \"departure\": ");
+        put_departure(&mut out, octets, root, 0, departure);
+        out.put("}");
+    }
+    out.put("]");
+    printed(&out)
+}

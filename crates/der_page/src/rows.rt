@@ -1,0 +1,102 @@
+//! Lines for elements.
+
+use crate::answer::NO_ROOM;
+use crate::printed::printed;
+use asn1_cursor::Cursor;
+use asn1_schema::{NodeKind, Schema};
+use asn1_tree::Entry;
+use ber::Universal;
+use der_show_print::{Form, Printer, put_name, put_plain, put_plain_element, put_tag};
+use der_show_text::{Characters, Output, Space, Style, put_identifier, put_text};
+
+/// Prints a line for each of `count` elements from the one with the index `first` on. A line has, between tabs, the
+/// name of the field, that of the alternative of a CHOICE, that of the type, the tag, and the text of the value; each may
+/// be empty. Control characters and invisible ones are escaped in all of them.
+#[unsafe(no_mangle)]
+pub extern "C" fn page_rows<'a>(
+    table: &'a [u8],
+    octets: &'a [u8],
+    entries: &'a [Entry],
+    first: usize,
+    count: usize,
+    text: &mut [u8],
+) -> usize {
+    let Ok(schema) = Schema::new(table) else {
+        return NO_ROOM;
+    };
+    let mut printer = Printer::new(Output::to(Space::new(text)), Form::Lines);
+    if let Some(root) = Cursor::over(octets, &schema, entries) {
+        for index in first..first.saturating_add(count) {
+            if let Some(element) = root.element(index) {
+                put_row(&mut printer, element);
+            }
+        }
+    }
+    printed(&printer.out)
+}
+
+fn put_row(printer: &mut Printer<Space<'_>>, element: Cursor<'_>) {
+    for name in [element.name(), element.alternative(), element.type_name()] {
+        put_word(&mut printer.out, name.unwrap_or(""));
+    }
+    put_tag(printer, element);
+    printer.out.put("\t");
+    put_value(printer, element);
+    printer.out.put("\n");
+}
+
+fn put_word(out: &mut Output<Space<'_>>, word: &str) {
+    put_text(out, word.as_bytes(), Characters::Utf8, Style::Line);
+    out.put("\t");
+}
+
+/// Puts a letter for what is inside of each element into `shapes`: `x` if it stands for the value inside it, as an EXPLICIT
+/// tag does, `l` for a list, and `o` for another element.
+#[unsafe(no_mangle)]
+pub extern "C" fn page_shapes<'a>(
+    table: &'a [u8],
+    octets: &'a [u8],
+    entries: &'a [Entry],
+    shapes: &mut [u8],
+) {
+    let Ok(schema) = Schema::new(table) else {
+        return;
+    };
+    if let Some(root) = Cursor::over(octets, &schema, entries) {
+        for index in 0..shapes.len() {
+            if let Some(element) = root.element(index) {
+                shapes[index] = letter_of(element);
+            }
+        }
+    }
+}
+
+fn letter_of(element: Cursor<'_>) -> u8 {
+    match element.kind() {
+        Some(NodeKind::Explicit) => b'x',
+        Some(NodeKind::SequenceOf | NodeKind::SetOf) => b'l',
+        Some(_) if element.inner().is_some() => b'x',
+        _ => b'o',
+    }
+}
+
+// The text of a primitive value, of a name, or of the OBJECT IDENTIFIER that an element begins with.
+fn put_value(printer: &mut Printer<Space<'_>>, element: Cursor<'_>) {
+    if !element.is_constructed() {
+        match element.kind() {
+            Some(NodeKind::Universal(_)) => put_plain(printer, element),
+            _ => put_plain_element(printer, element),
+        }
+        return;
+    }
+    if element.type_name() == Some("Name") {
+        put_name(&mut printer.out, element);
+        return;
+    }
+    if let Some(first) = element.children().next()
+        && first.universal() == Some(Universal::ObjectIdentifier)
+        && !first.is_constructed()
+    {
+        put_identifier(&mut printer.out, first.contents());
+    }
+}
