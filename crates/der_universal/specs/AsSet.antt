@@ -1,5 +1,5 @@
 -- A SET with components (X.690 8.11): the contents of a SEQUENCE behind the tag of a SET.
-use Rattle.std.specs.Prelude.{ℕ, ◌^◌, ◌<◌, List}
+use Rattle.std.specs.Prelude.{ℕ, List}
 use Rattle.std.proofs.Common.{arith}
 use Rattle.der.specs.Prelude.{Tag, Set, EncodingRules, Head, IsLawful}
 use Rattle.der_asn1.specs.ContextSpecific.{retagged, TakesImplicit, implicit_lawful}
