@@ -46,7 +46,8 @@ fn a_request_is_read_and_written(rt: HostRuntime) {
         assert!(rt; false);
         return;
     };
-    assert_eq!(rt; request.0.0.ap_options.0.octets(), [0x20, 0, 0, 0].as_slice());
+    // no unused bits, and bit 2, mutual-required
+    assert_eq!(rt; request.0.0.ap_options.0.octets(), [0, 0x20, 0, 0, 0].as_slice());
     let mut buffer = [0; 200];
     match request.encode_to_slice(&mut buffer) {
         Ok(written) => assert_eq!(rt; written, REQUEST.as_slice()),
