@@ -12,7 +12,9 @@ import checker
 from checker import TOP, crates, text_of
 
 VECTORS = f"{TOP}/tests/vectors"
-USES = ["der_asn1", "der", "der_core"]
+# Types of a module of tests/trees that are compiled too. What asn1ct reads and would write otherwise is not compared.
+SETS = ["Plain", "Classes", "Nested", "Wide"]
+USES = ["der_universal", "der_asn1", "der", "der_core"]
 # Types whose words are no words of small letters.
 NAMES = {"AA": "Aa", "AB": "Ab", "ABC": "Abc"}
 
@@ -53,13 +55,19 @@ fn answers_{at}(rt: &HostRuntime) -> io::Result<()> {{
 """
 
 
+def path_of(name):
+    """The path of a module and of its vectors, without the end of its name."""
+    return f"{TOP}/tests/trees/sets" if name == "sets" else f"{VECTORS}/{name}"
+
+
 def rows_of(name):
     """The rows of a file: a type, octets, and the answer of the other compiler."""
-    return [it.split("\t") for it in text_of(f"{VECTORS}/{name}.tsv").splitlines() if not it.startswith("#")]
+    rows = [it.split("\t") for it in text_of(f"{path_of(name)}.tsv").splitlines() if not it.startswith("#")]
+    return [it for it in rows if name != "sets" or it[0] in SETS and it[2] != "read"]
 
 
 def names():
-    return sorted(it[:-4] for it in os.listdir(VECTORS) if it.endswith(".tsv"))
+    return sorted([*(it[:-4] for it in os.listdir(VECTORS) if it.endswith(".tsv")), "sets"])
 
 
 def rust_names(module, said):
@@ -100,12 +108,12 @@ def program_text(types, rows):
 def answers(compiler, name, rows):
     """What the types of one module answer for each row."""
     with tempfile.TemporaryDirectory() as folder:
-        words = [compiler, "--out", f"{folder}/vectors", f"{VECTORS}/{name}.asn1"]
+        words = [compiler, "--out", f"{folder}/vectors", f"{path_of(name)}.asn1"]
         ran = subprocess.run(words, stdin=subprocess.DEVNULL, check=False, text=True, capture_output=True)
         if ran.returncode:
             return (ran.stdout + ran.stderr).splitlines()
         os.remove(f"{folder}/vectors/src/lib.rt")
-        types = rust_types(f"{folder}/vectors", text_of(f"{VECTORS}/{name}.asn1"), ran.stderr)
+        types = rust_types(f"{folder}/vectors", text_of(f"{path_of(name)}.asn1"), ran.stderr)
         with open(f"{folder}/vectors/src/main.rt", "w", encoding="utf-8") as file:
             file.write(program_text(types, rows))
         ran = checker.try_unproved(f"{folder}/vectors", "vectors", USES + crates()["der_asn1"], [])
@@ -150,10 +158,10 @@ def calls(folder):
         (["--out", f"{module}/made", f"{VECTORS}/explicit.asn1"], 1, [f"error: {module}/made: {why[errno.ENOTDIR]}"]),
         (["--out", f"{folder}/all", partly], 0, [
             f"warning: {partly}:4:24: Missing: Away is left out: expected a module that --with or --modules gives\n",
-            f"warning: {partly}:10:39: REAL: Lost is left out: expected a type that the library knows\n",
+            f"warning: {partly}:10:39: EXTERNAL: Lost is left out: expected a type that the library knows\n",
             f"warning: {partly}:14:1: Loop: Loop is left out: expected a type that does not contain itself\n"]),
         (["--out", f"{folder}/one", "--only", "Kept", partly], 0, []),
-        (["--out", f"{folder}/no", "--only", "Kept", "--only=Lost", partly], 1, [f"{partly}:10:39: found REAL, expected a type"]),
+        (["--out", f"{folder}/no", "--only", "Kept", "--only=Lost", partly], 1, [f"{partly}:10:39: found EXTERNAL, expected a type"]),
         (["--out", f"{folder}/no", "--only", "Away", partly], 1, [f"{partly}:4:24: found Missing, expected a module"]),
         (["--out", f"{folder}/joined", "--modules", f"{VECTORS}/joined", joined], 0, [
             f"warning: {joined}:6:25: Far: Lost is left out: expected a name that is not left out\n",

@@ -37,6 +37,8 @@ mod pem;
 #[cfg(test)]
 mod pkcs12;
 #[cfg(test)]
+mod protocols;
+#[cfg(test)]
 mod readers;
 #[cfg(test)]
 mod scans;

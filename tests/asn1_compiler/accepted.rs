@@ -54,7 +54,7 @@ fn automatic_tags_are_distinct(rt: HostRuntime) -> Result<(), Fail> {
 #[test]
 fn alternatives_that_the_library_lacks_are_left_out(rt: HostRuntime) -> Result<(), Fail> {
     let alloc = rt.alloc();
-    let body = "A ::= CHOICE { a UTF8String, b UniversalString, c REAL, d BMPString }";
+    let body = "A ::= CHOICE { a UTF8String, b UniversalString, c EXTERNAL, d BMPString }";
     let text = module(alloc, "EXPLICIT", body)?;
     match compile(alloc, &Vec::new(alloc), text.as_str(), "own", &[]) {
         Ok(compiled) => {
@@ -137,6 +137,45 @@ fn values_are_written_from_the_end_of_a_buffer(rt: HostRuntime) -> Result<(), Fa
             has_text(&rt, &files, proof, "returns-in-B c = rw c.in-B.is c.encode_before-in-B.ensures");
         }
         Err(place) => same(&rt, Some(place), None),
+    }
+    Ok(())
+}
+
+#[test]
+fn components_of_a_set_have_the_order_of_their_tags(rt: HostRuntime) -> Result<(), Fail> {
+    let alloc = rt.alloc();
+    let body = "A ::= SET { b [1] NULL, a INTEGER, c [APPLICATION 0] NULL, d BOOLEAN }\nB ::= CHOICE { a A }";
+    let text = module(alloc, "EXPLICIT", body)?;
+    match compiled(alloc, &Vec::new(alloc), text.as_str()) {
+        Ok(files) => {
+            has_text(&rt, &files, "src/asn1/a.rt", "pub type A<'a> = AsSet<AContents<'a>>;");
+            let order = "(BooleanRef<'a>, IntRef<'a>, Application<Explicit<Null<'a>, 0>>, Explicit<Null<'a>, 1>);";
+            has_text(&rt, &files, "src/asn1/a_contents.rt", order);
+        }
+        Err(_) => same_at(&rt, "compiled", false, true),
+    }
+    Ok(())
+}
+
+#[test]
+fn what_is_wrong_is_left_out_of_the_rest(rt: HostRuntime) -> Result<(), Fail> {
+    let alloc = rt.alloc();
+    for wrong in [
+        "B ::= Undefined",
+        "B ::= ENUMERATED { a(1), b(1) }",
+        "B ::= SEQUENCE { a NULL OPTIONAL, b NULL }",
+        "B ::= INTEGER (SIZE (1))",
+        "b OBJECT IDENTIFIER ::= { undefined 1 }",
+        "B ::= SET { a CHOICE { b NULL, d BOOLEAN }, c INTEGER }",
+    ] {
+        let text = module(alloc, "EXPLICIT", format!(in alloc; "A ::= BOOLEAN\n{wrong}")?.as_str())?;
+        let count = match compile(alloc, &Vec::new(alloc), text.as_str(), "own", &[]) {
+            Ok(compiled) => compiled.warnings.iter().filter(|it| it.text.as_str().contains("is left out")).count(),
+            Err(_) => 0,
+        };
+        same_at(&rt, wrong, count, 1);
+        same_at(&rt, wrong, compile(alloc, &Vec::new(alloc), text.as_str(), "own", &["A"]).is_ok(), true);
+        same_at(&rt, wrong, compile(alloc, &Vec::new(alloc), text.as_str(), "own", &["A", "B"]).is_ok(), false);
     }
     Ok(())
 }

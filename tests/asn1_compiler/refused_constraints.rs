@@ -1,6 +1,7 @@
 //! Constraints and defaults that are no values of their types, which X.680 forbids.
-use super::refusals::{accepts, compiled, module, refuses};
+use super::refusals::{accepts, module, place_of, refuses};
 use crate::checks::same_at;
+use asn1_output::compile;
 use std::test::Fail;
 
 #[test]
@@ -50,9 +51,9 @@ fn defaults_are_values_of_their_types(rt: HostRuntime) -> Result<(), Fail> {
         ("A ::= SEQUENCE { a NULL, b NULL, c NULL, d NULL, e NULL, f NULL, g NULL, h NULL, i NULL, j NULL, k NULL }", (2, 7, "SEQUENCE")),
     ] {
         let text = module(alloc, "EXPLICIT", body)?;
-        let answer = match compiled(alloc, &Vec::new(alloc), &text) {
+        let answer = match compile(alloc, &Vec::new(alloc), text.as_str(), "own", &["A"]) {
             Ok(_) => None,
-            Err(place) => Some(place),
+            Err(failure) => Some(place_of(text.as_str(), failure)),
         };
         same_at(&rt, body, answer, Some(place));
     }

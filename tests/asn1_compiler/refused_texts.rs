@@ -68,10 +68,10 @@ fn forms_that_are_not_supported(rt: HostRuntime) -> Result<(), Fail> {
         ("A ::= SEQUENCE { a NULL, ..., [[ b NULL }", (2, 41, "}")),
         ("A ::= SEQUENCE { a NULL, ..., [[ b NULL, [[ c NULL ]] ]] }", (2, 42, "[[")),
         ("A ::= SEQUENCE { a NULL, ..., b NULL ]] }", (2, 38, "]]")),
-        ("A ::= SEQUENCE { a REAL DEFAULT 1.5 }", (2, 20, "REAL")),
+        ("A ::= SEQUENCE { a EXTERNAL DEFAULT 1.5 }", (2, 20, "EXTERNAL")),
         ("A B ::= { b }", (2, 3, "B")),
         ("A ::= UniversalString", (2, 7, "UniversalString")),
-        ("A ::= SEQUENCE { a REAL }", (2, 20, "REAL")),
+        ("A ::= SEQUENCE { a EXTERNAL }", (2, 20, "EXTERNAL")),
     ] {
         refuses(&rt, alloc, body, place)?;
     }

@@ -25,7 +25,7 @@ Set ::= SET { a NULL, b BOOLEAN }
 Part ::= Kind (WITH COMPONENTS { a PRESENT })
 Long ::= Kind (three | four)
 four INTEGER ::= 4
-Real ::= REAL
+Real ::= EXTERNAL
 Uses ::= SEQUENCE { kind Kind, real Real }
 dial OPERATION ARGUMENT Kind ::= 5
 Ring ::= [APPLICATION 1] SEQUENCE { next Ring OPTIONAL }
@@ -52,7 +52,6 @@ fn what_is_supported_is_compiled(rt: HostRuntime) -> Result<(), Fail> {
     };
     let found = left_out(alloc, &compiled, text.as_str())?;
     let expected = [
-        ("Set", 15),
         ("Real", 19),
         ("Uses", 20),
         ("dial", 21),
@@ -75,7 +74,7 @@ fn types_are_asked_for(rt: HostRuntime) -> Result<(), Fail> {
         (["Pair"].as_slice(), 4, None),
         (["Kind", "Items"].as_slice(), 5, None),
         (["Kind", "Uses"].as_slice(), 0, Some((20, 37, "Real"))),
-        (["Real"].as_slice(), 0, Some((19, 10, "REAL"))),
+        (["Real"].as_slice(), 0, Some((19, 10, "EXTERNAL"))),
         (["Held"].as_slice(), 0, Some((1, 1, "M"))),
         (["Other"].as_slice(), 0, Some((1, 1, "M"))),
     ] {

@@ -8,6 +8,7 @@ mod order;
 mod parts;
 mod recursion;
 mod seen_numbers;
+mod sets;
 mod tags;
 mod unknown;
 
@@ -15,6 +16,7 @@ use crate::checks::constraints::check_constraints;
 use crate::checks::exports::check_exports;
 use crate::checks::names::check_names;
 use crate::checks::order::{add_loops, order_of};
+use crate::checks::sets::sort_sets;
 use crate::checks::tags::tags_in_order;
 use crate::checks::unknown::{add_unknown, check_unknown};
 use crate::module::Module;
@@ -43,6 +45,16 @@ pub fn unsupported_types<'a>(
 ) -> Result<(), AllocError> {
     add_unknown(alloc, module, found)?;
     add_loops(alloc, module, found)
+}
+
+/// Checks a module as [`check_module`] does, and puts a SEQUENCE behind the tag of a SET in the place of
+/// each SET with components.
+pub fn check_sorted<'a>(alloc: Global, module: &mut Module<'a>) -> Result<Checks, Failure<'a>> {
+    let checks = check_module(alloc, module)?;
+    if sort_sets(alloc, module, &checks.tags)? {
+        return check_module(alloc, module);
+    }
+    Ok(checks)
 }
 
 /// Checks that names are defined once, that no type contains itself, that constraints are those of

@@ -20,8 +20,8 @@ pub use base::{base_form, base_of};
 pub use bounds::{contained, range_at};
 pub use checked::{Selected, checked_module, selected_module};
 pub use checks::{
-    Checks, are_numbered, automatic_number, check_module, component_tags, copy_at, find_type,
-    has_no_tag, has_value, recursive_name,
+    Checks, are_numbered, automatic_number, check_module, check_sorted, component_tags, copy_at,
+    find_type, has_no_tag, has_value, recursive_name,
 };
 pub use constant::{Constant, NamedConstant};
 pub use constants::Constants;
@@ -31,5 +31,5 @@ pub use external_types::ExternalTypes;
 pub use link::link_module;
 pub use module::Module;
 pub use rust_type::{RustKind, RustType};
-pub use selection::{Selection, select, select_first};
+pub use selection::{Selection, not_there, select, select_first};
 pub use tag_set::TagSet;

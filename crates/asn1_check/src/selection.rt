@@ -11,6 +11,7 @@ use kept::keep;
 use left::left_out_of;
 use std::alloc::Global;
 use used::used_by;
+pub use wanted::not_there;
 use wanted::wanted_of;
 
 /// A module without the assignments that are not compiled.

@@ -56,7 +56,7 @@ use crate::output::summary::external_of;
 use crate::output::types::types_in_order;
 use crate::output::values::{values_file, values_name};
 use crate::output::warnings::warnings_of;
-use asn1_check::{Checks, External, Module, Selected, check_module, selected_module};
+use asn1_check::{Checks, External, Module, Selected, check_sorted, selected_module};
 use asn1_syntax::{Failure, Refusal};
 pub use file::OutputFile;
 pub use rust_names::{pascal_name, snake_name};
@@ -72,21 +72,19 @@ pub fn read_external<'a>(
 ) -> Result<External<'a>, Failure<'a>> {
     let mut known = Vec::new(alloc);
     for _ in 0..=text.len() {
-        let selected = compilable(alloc, externals, text, &[], &mut known)?;
-        let module = &selected.module;
-        let checks = match check_module(alloc, module) {
-            Err(Failure::Unsupported(refusal)) => {
-                add_known(&mut known, refusal)?;
-                continue;
-            }
-            checks => checks?,
+        let checked = checked_of(alloc, externals, text, &[], &mut known)?;
+        let Some((selected, checks)) = checked else {
+            continue;
         };
-        if is_given(externals, module.name.text) {
+        let name = selected.module.name;
+        if is_given(externals, name.text) {
             let expected = "a module that no --with option in front gives";
-            return Err(Failure::Refused(Refusal::of(module.name, expected)));
+            return Err(Failure::Refused(Refusal::of(name, expected)));
         }
         match summary_of(alloc, &selected, &checks, krate) {
-            Err(Failure::Unsupported(refusal)) => add_known(&mut known, refusal)?,
+            Err(Failure::Unsupported(refusal) | Failure::Refused(refusal)) => {
+                add_known(&mut known, refusal)?;
+            }
             summary => return summary,
         }
     }
@@ -134,24 +132,48 @@ pub fn compile<'a>(
 ) -> Result<Compiled<'a>, Failure<'a>> {
     let mut known = Vec::new(alloc);
     for _ in 0..=text.len() {
-        let selected = compilable(alloc, externals, text, only, &mut known)?;
-        let checks = match check_module(alloc, &selected.module) {
-            Err(Failure::Unsupported(refusal)) => {
-                add_known(&mut known, refusal)?;
-                continue;
-            }
-            checks => checks?,
+        let checked = checked_of(alloc, externals, text, only, &mut known)?;
+        let Some((selected, checks)) = checked else {
+            continue;
         };
         match compiled_of(alloc, &selected, &checks, krate) {
-            Err(Failure::Unsupported(refusal)) => add_known(&mut known, refusal)?,
+            Err(Failure::Unsupported(refusal) | Failure::Refused(refusal)) => {
+                add_known(&mut known, refusal)?;
+            }
             compiled => return compiled,
         }
     }
     Err(last_of(&known))
 }
 
-// Adds a type that is right, and for which no text is written. One that is there was not left out, so
-// it stands outside of all assignments.
+// What is compiled of a module, with its checks; `None` if something is wrong or not supported, which is
+// added to `known`.
+fn checked_of<'a>(
+    alloc: Global,
+    externals: &Vec<External<'a>>,
+    text: &'a str,
+    only: &[&str],
+    known: &mut Vec<Refusal<'a>>,
+) -> Result<Option<(Selected<'a>, Checks)>, Failure<'a>> {
+    let mut selected = match compilable(alloc, externals, text, only, known) {
+        Err(Failure::Refused(refusal)) => {
+            add_known(known, refusal)?;
+            return Ok(None);
+        }
+        selected => selected?,
+    };
+    match check_sorted(alloc, &mut selected.module) {
+        Ok(checks) => Ok(Some((selected, checks))),
+        Err(Failure::Unsupported(refusal) | Failure::Refused(refusal)) => {
+            add_known(known, refusal)?;
+            Ok(None)
+        }
+        Err(failure) => Err(failure),
+    }
+}
+
+// Adds what is wrong or not supported. One that is there was not left out, so it stands outside of all
+// assignments, or where a parser finds it.
 fn add_known<'a>(known: &mut Vec<Refusal<'a>>, refusal: Refusal<'a>) -> Result<(), Failure<'a>> {
     for before in known.iter() {
         if before.offset == refusal.offset {

@@ -4,6 +4,7 @@ use crate::information_object::InformationObject;
 use crate::item::Item;
 use crate::left_out::LeftOut;
 use crate::module_index::ModuleIndex;
+use crate::name_index::NameIndex;
 use crate::object_set::{ObjectSet, TableUse};
 use crate::tagging::TagDefault;
 use crate::type_node::TypeNode;
@@ -40,6 +41,9 @@ pub struct ParsedModule<'a> {
     pub index: ModuleIndex<'a>,
     /// The assignments that have a form which is not supported.
     pub left_out: Vec<LeftOut<'a>>,
+    /// The names of the classes, the macros, and the objects and other assignments with parameters, which
+    /// are read where they are used, and of objects and their sets.
+    pub passed: NameIndex<'a>,
     /// What the parser warns of.
     pub warnings: Vec<Warning<'a>>,
 }

@@ -327,6 +327,7 @@ impl<'a> Parser<'a> {
         }
         if self.peek().is("{") || self.peek().is("MACRO") || is_type && self.is_class() {
             self.to_next_assignment(self.at.saturating_sub(1));
+            module.passed.add(name.text, number)?;
             return Ok(());
         }
         let name = self.name_in(number, name)?;
@@ -407,6 +408,7 @@ impl<'a> Parser<'a> {
         if let Some(class) = self.class_named(self.peek()) {
             self.at = self.at.saturating_add(1);
             self.expect("::=")?;
+            module.passed.add(name.text, 0)?;
             return self.object(name, class);
         }
         let first = self.nodes.len();
@@ -437,6 +439,7 @@ impl<'a> Parser<'a> {
             self.expect("::=")?;
             let set = self.object_set(name, class)?;
             module.sets.push(set)?;
+            module.passed.add(name.text, 0)?;
             return Ok(None);
         }
         let of = self.whole_type()?;

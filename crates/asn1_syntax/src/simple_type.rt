@@ -73,6 +73,14 @@ impl SimpleType {
         }
     }
 
+    /// Whether compiled crates have a type for it.
+    pub fn is_compiled(self) -> bool {
+        match self {
+            SimpleType::Unknown(number) => matches!(number, 9 | 13 | 21 | 27),
+            _ => true,
+        }
+    }
+
     /// Whether values are written as characters in quotation marks.
     pub fn is_text(self) -> bool {
         match self {

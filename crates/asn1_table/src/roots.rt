@@ -6,10 +6,8 @@ use crate::nodes::node_at;
 use crate::opener::Opener;
 use crate::rows::Rows;
 use crate::wrong::Wrong;
-use asn1_syntax::Refusal;
+use asn1_check::not_there;
 use std::alloc::Global;
-
-const NO_TYPE: &str = "a module that has each type of the options --only";
 
 /// The indices of the types with these names, each with the name of its module in front or without, or of
 /// all types if there are no names. Refuses modules of which all types are left out.
@@ -51,7 +49,7 @@ fn type_of<'a>(library: &Library<'a>, name: &str) -> Result<usize, Wrong<'a>> {
             return Err(Wrong::Refused(left_out.refusal));
         }
     }
-    Err(Wrong::Refused(Refusal::of(library.module.name, NO_TYPE)))
+    Err(Wrong::Refused(not_there(library.module.name)))
 }
 
 /// The root with this index, whose node is added.

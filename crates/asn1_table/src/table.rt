@@ -32,7 +32,13 @@ pub fn table_of<'a>(
 ) -> Result<CompiledTable<'a>, Wrong<'a>> {
     let mut known = Vec::new(alloc);
     for _ in 0..=text.len() {
-        let library = Library::of(alloc, text, &known)?;
+        let library = match Library::of(alloc, text, &known) {
+            Err(Wrong::Refused(refusal)) => {
+                add_known(&mut known, refusal)?;
+                continue;
+            }
+            library => library?,
+        };
         let found = match try_table(alloc, library, only)? {
             Attempt::Table(table) => return Ok(table),
             Attempt::Failures(found) => found,
@@ -44,7 +50,8 @@ pub fn table_of<'a>(
     Err(Wrong::TooLarge)
 }
 
-// Adds what is not supported. One that is there was not left out, so it stands outside of all assignments.
+// Adds what is wrong or not supported. One that is there was not left out, so it stands outside of all
+// assignments, or where a parser finds it.
 fn add_known<'a>(known: &mut Vec<Refusal<'a>>, refusal: Refusal<'a>) -> Result<(), Wrong<'a>> {
     for before in known.iter() {
         if before.offset == refusal.offset {

@@ -2,7 +2,7 @@
 
 use super::order::{is_marked, mark};
 use crate::module::Module;
-use asn1_syntax::{Component, Failure, Refusal, SimpleType, TypeForm};
+use asn1_syntax::{Component, Failure, Refusal, TypeForm};
 use std::alloc::{AllocError, Global};
 
 /// Checks that a type which the library does not know is an alternative of a CHOICE, where it is
@@ -30,9 +30,10 @@ pub fn add_unknown<'a>(
     }
     for (index, node) in module.nodes.iter().enumerate() {
         match node.form {
-            TypeForm::Simple(SimpleType::Unknown(_)) if !is_marked(&alternatives, index) => {
-                found.push(Refusal::of(node.item, "a type that the library knows"))?;
-            }
+            TypeForm::Simple(simple) if !simple.is_compiled() && !is_marked(&alternatives, index) =>
+                {
+                    found.push(Refusal::of(node.item, "a type that the library knows"))?;
+                }
             _ => {}
         }
     }

@@ -73,6 +73,7 @@ fn keep_exports<'a>(
         &index.types.names,
         &index.values.names,
         &index.imports.names,
+        &parsed.passed.names,
     ] {
         for name in names.iter() {
             former.add(*name, 0)?;

@@ -4,8 +4,6 @@ use super::used::Used;
 use asn1_syntax::{Failure, Item, LeftOut, NameIndex, ParsedModule, Refusal};
 use std::alloc::{AllocError, Global};
 
-const NO_TYPE: &str = "a module that has each type of the options --only";
-
 /// The names that are compiled: those that are not left out, of which with `is_first` those of the
 /// first module and of what they name, and with `only` those of its types and of what they name.
 /// Refuses a name of `only` that is left out, or not there.
@@ -63,7 +61,7 @@ fn asked_for<'a>(
     let mut found = NameIndex::new(alloc);
     for name in only {
         let Some(number) = all.find(name) else {
-            return Err(Failure::Refused(Refusal::of(parsed.name, NO_TYPE)));
+            return Err(Failure::Refused(not_there(parsed.name)));
         };
         if let Some(assigned) = used.get(number) {
             found.add(assigned.name.text, number)?;
@@ -78,6 +76,11 @@ fn asked_for<'a>(
         }
     }
     Ok(found)
+}
+
+/// The refusal of the module with this name, which lacks a type that is asked for.
+pub fn not_there<'a>(module: Item<'a>) -> Refusal<'a> {
+    Refusal::of(module, "a module that has each type that is asked for")
 }
 
 // Adds the names that are reached from these.

@@ -7,7 +7,7 @@ use super::taken::{ALONE, Taken};
 use super::template::Places;
 use super::types::component_types;
 use asn1_check::{Module, RustKind, RustType};
-use asn1_syntax::{Component, Failure, Item, SimpleType, TypeForm};
+use asn1_syntax::{Component, Failure, Item, TypeForm};
 use std::alloc::{AllocError, Global};
 
 const UNKNOWN: &str = "    /// An alternative of a later version, as it was.\n";
@@ -91,7 +91,10 @@ fn push_unknown<'a>(
 
 fn is_unknown(module: &Module<'_>, index: usize) -> bool {
     match module.nodes.get(index) {
-        Some(node) => matches!(&node.form, TypeForm::Simple(SimpleType::Unknown(_))),
+        Some(node) => match &node.form {
+            TypeForm::Simple(simple) => !simple.is_compiled(),
+            _ => false,
+        },
         None => false,
     }
 }

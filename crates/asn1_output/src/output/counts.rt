@@ -26,15 +26,14 @@ pub fn add_counts<'a>(module: &Module<'a>, found: &mut Vec<Refusal<'a>>) -> Resu
 
 fn check_node<'a>(node: &TypeNode<'a>) -> Result<(), Refusal<'a>> {
     match &node.form {
-        TypeForm::Sequence(components) => {
-            let expected = "a SEQUENCE of 1 to 10 components: the checker proves no more";
+        TypeForm::Sequence(components) | TypeForm::Set(components) => {
+            let expected = "1 to 10 components: the checker proves no more";
             check_count(node, components, MOST_FIELDS, expected)
         }
         TypeForm::Choice(components) => {
             let expected = "a CHOICE of 1 to 25 alternatives";
             check_count(node, components, MOST_ALTERNATIVES, expected)
         }
-        TypeForm::Set(_) => Err(Refusal::of(node.item, "no SET with components")),
         TypeForm::Tagged(prefix, _) if prefix.tag.class == TagClass::Universal => {
             Err(Refusal::of(node.item, "no tag of the class UNIVERSAL"))
         }

@@ -3,7 +3,7 @@
 use super::imports::{push_ghost_use, push_use, words_of};
 use super::piece::{Piece, PieceKind};
 use super::sources::Sources;
-use super::words::{DER, DER_ASN1};
+use super::words::{DER, DER_ASN1, DER_UNIVERSAL};
 use super::wrap::push_wrapped;
 use asn1_check::Module;
 use asn1_syntax::NameIndex;
@@ -95,6 +95,7 @@ fn push_file(
     sources.push_own(alloc, out, piece, &words)?;
     push_use(alloc, out, &words, "der", DER)?;
     push_use(alloc, out, &words, "der_asn1", DER_ASN1)?;
+    push_use(alloc, out, &words, "der_universal", DER_UNIVERSAL)?;
     sources.push_imported(alloc, out, &words)?;
     push_use(alloc, out, &words, "std::alloc", "Global")?;
     out.push('\n')?;

@@ -19,14 +19,37 @@ pub fn names_of(alloc: Global, module: &Module<'_>) -> Result<Vec<String>, Alloc
     add_assigned(alloc, module, &mut names, &mut taken)?;
     for count in 0..module.nodes.len() {
         let index = module.nodes.len() - 1 - count;
-        if !is_assigned(module, index) && is_written(module, index) {
-            let name = String::from_str(alloc, text_at(&names, index))?;
-            let free = free_name(alloc, module, &mut taken, index, name.as_str())?;
-            set_name(&mut names, index, free);
+        name_type(alloc, module, &mut names, &mut taken, index)?;
+        if let Some(of) = components_behind(module, index) {
+            name_type(alloc, module, &mut names, &mut taken, of)?;
         }
-        name_parts(alloc, module, &mut names, index)?;
     }
     Ok(names)
+}
+
+// Gives the type with this index a name that is free, if text is written for it and it has none in the
+// module, and names its parts.
+fn name_type(
+    alloc: Global,
+    module: &Module<'_>,
+    names: &mut Vec<String>,
+    taken: &mut Taken,
+    index: usize,
+) -> Result<(), AllocError> {
+    if !is_assigned(module, index) && is_written(module, index) {
+        let name = String::from_str(alloc, text_at(names, index))?;
+        let free = free_name(alloc, module, taken, index, name.as_str())?;
+        set_name(names, index, free);
+    }
+    name_parts(alloc, module, names, index)
+}
+
+// The SEQUENCE behind the tag of a SET, which has a greater index than that.
+fn components_behind(module: &Module<'_>, index: usize) -> Option<usize> {
+    match &module.nodes.get(index)?.form {
+        TypeForm::Tagged(_, of) if *of > index => Some(*of),
+        _ => None,
+    }
 }
 
 // The names of types of other crates, which are taken.
@@ -43,7 +66,11 @@ pub fn plain_names_of(alloc: Global, module: &Module<'_>) -> Result<Vec<String>,
     let mut names = empty_names(alloc, module.nodes.len())?;
     add_plain(alloc, module, &mut names)?;
     for count in 0..module.nodes.len() {
-        name_parts(alloc, module, &mut names, module.nodes.len() - 1 - count)?;
+        let index = module.nodes.len() - 1 - count;
+        name_parts(alloc, module, &mut names, index)?;
+        if let Some(of) = components_behind(module, index) {
+            name_parts(alloc, module, &mut names, of)?;
+        }
     }
     Ok(names)
 }

@@ -64,6 +64,7 @@ fn wrapped_text(alloc: Global, word: &str, inside: &str, tag: Tag) -> Result<Str
     match tag.class {
         TagClass::Application => format!(in alloc; "Application<{word}<{inside}, {number}>>"),
         TagClass::Private => format!(in alloc; "Private<{word}<{inside}, {number}>>"),
+        TagClass::Universal => format!(in alloc; "AsSet<{inside}>"),
         _ => format!(in alloc; "{word}<{inside}, {number}>"),
     }
 }

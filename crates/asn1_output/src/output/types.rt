@@ -169,6 +169,10 @@ fn simple_text(simple: SimpleType) -> &'static str {
         SimpleType::BmpString => "BmpStringRef<'a>",
         SimpleType::UtcTime => "UtcTime",
         SimpleType::GeneralizedTime => "GeneralizedTime",
+        SimpleType::Unknown(9) => "RealRef<'a>",
+        SimpleType::Unknown(13) => "RelativeOidRef<'a>",
+        SimpleType::Unknown(21) => "VideotexStringRef<'a>",
+        SimpleType::Unknown(27) => "GeneralStringRef<'a>",
         SimpleType::Unread => "SequenceRef<'a>",
         _ => "AnyRef<'a>",
     }

@@ -90,6 +90,13 @@ WrittenItem
 decode_choice
 is_among";
 
+/// The names of `der_universal` that files import.
+pub const DER_UNIVERSAL: &str = "AsSet
+GeneralStringRef
+RealRef
+RelativeOidRef
+VideotexStringRef";
+
 // Names that need no import, or that clauses import.
 const OTHERS: &str = "Bool
 Clone
@@ -116,5 +123,8 @@ Vec";
 
 /// Whether files need this name for something else than a type of the module.
 pub fn is_used(name: &str) -> bool {
-    is_line_of(DER, name) || is_line_of(DER_ASN1, name) || is_line_of(OTHERS, name)
+    is_line_of(DER, name)
+        || is_line_of(DER_ASN1, name)
+        || is_line_of(DER_UNIVERSAL, name)
+        || is_line_of(OTHERS, name)
 }

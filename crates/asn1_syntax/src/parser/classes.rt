@@ -11,8 +11,7 @@ impl<'a> Parser<'a> {
     /// Whether a class stands here behind `::=`.
     pub(super) fn is_class(&self) -> bool {
         let of = self.peek_second();
-        let is_builtin = of.is("CLASS") || of.is("TYPE-IDENTIFIER") || of.is("ABSTRACT-SYNTAX");
-        self.peek().is("::=") && (is_builtin || self.class_named(of).is_some())
+        self.peek().is("::=") && self.is_class_name(of)
     }
 
     /// The brace that opens the fields of the class with this name.
@@ -34,6 +33,25 @@ impl<'a> Parser<'a> {
             found = self.find_at(place.frame, self.item_at(at).text);
         }
         None
+    }
+
+    /// Whether this name stands for a class, which may be built in.
+    pub(super) fn is_class_name(&self, name: Item<'a>) -> bool {
+        let (mut item, mut frame) = (name, self.frame);
+        for _ in 0..16u32 {
+            if item.is("CLASS") || is_builtin_class(item) {
+                return true;
+            }
+            let Some(place) = self.find_at(frame, item.text) else {
+                return false;
+            };
+            let Some(at) = self.behind_assign(place) else {
+                return false;
+            };
+            item = self.item_at(at);
+            frame = place.frame;
+        }
+        false
     }
 
     /// The number of the item that a name stands for: the argument, or what stands behind `::=`.
@@ -62,7 +80,7 @@ impl<'a> Parser<'a> {
         self.field = Some(field);
         let behind = match self.class_named(name) {
             Some(class) => self.behind_field(class, field),
-            None if name.is("TYPE-IDENTIFIER") || name.is("ABSTRACT-SYNTAX") => {
+            None if self.is_class_name(name) => {
                 self.field_type = Some(type_of_builtin(field));
                 return Ok(None);
             }
@@ -101,6 +119,11 @@ impl<'a> Parser<'a> {
         let before = self.item_at(at.saturating_sub(1));
         before.is("{") || before.is(",")
     }
+}
+
+// Whether this is the name of a class that is built in (X.681, annexes A and B).
+fn is_builtin_class(name: Item<'_>) -> bool {
+    name.is("TYPE-IDENTIFIER") || name.is("ABSTRACT-SYNTAX")
 }
 
 // The type of a field of a class that is built in.

@@ -1,5 +1,6 @@
 //! Constraints.
 
+use super::next_assignment::opens;
 use super::places::Place;
 use super::{Parser, refused};
 use crate::constraint::Constraint;
@@ -26,6 +27,25 @@ impl<'a> Parser<'a> {
             return self.unread(item);
         }
         Ok(constraint)
+    }
+
+    /// Moves past what a constraint says of values that it does not allow, if it does (X.680, 53).
+    pub(super) fn pass_exception(&mut self) {
+        if !self.takes("!") {
+            return;
+        }
+        for _ in self.at..self.items.len() {
+            let item = self.peek();
+            if item.is(")") || item.kind == ItemKind::End {
+                break;
+            }
+            let at = self.at;
+            self.at = if opens(item) {
+                self.end_of_group(at)
+            } else {
+                at.saturating_add(1)
+            };
+        }
     }
 
     /// Parses a constraint which says that a field of a class stands in the objects of a set, if this is

@@ -131,6 +131,7 @@ impl<'a> Parser<'a> {
             tables: Vec::new(self.alloc),
             nodes: Vec::new(self.alloc),
             left_out: Vec::new(self.alloc),
+            passed: NameIndex::new(self.alloc),
             index: ModuleIndex::new(self.alloc),
             warnings: Vec::new(self.alloc),
         };

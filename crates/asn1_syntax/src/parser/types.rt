@@ -343,6 +343,7 @@ impl<'a> Parser<'a> {
             } else {
                 constraints.push(self.constraint()?)?;
             }
+            self.pass_exception();
             self.expect(")")?;
         }
         Ok(())
@@ -449,13 +450,12 @@ impl<'a> Parser<'a> {
 
     fn reference(&mut self, item: Item<'a>) -> Result<TypeForm<'a>, Failure<'a>> {
         match item.text {
-            "CLASS" => Err(unsupported(item, "no class, which stands for no type")),
+            _ if self.is_class_name(item) => {
+                Err(unsupported(item, "no class, which stands for no type"))
+            }
             word if is_reserved(word) => Err(refused(item, "a type")),
             _ if self.peek().is("{") => {
                 Err(unsupported(item, "a type with parameters of a module that is given"))
-            }
-            _ if self.class_named(item).is_some() => {
-                Err(unsupported(item, "no class, which stands for no type"))
             }
             _ => Ok(TypeForm::Reference),
         }

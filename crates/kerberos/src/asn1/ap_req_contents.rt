@@ -1,0 +1,145 @@
+//! Written by asn1_compile from the module KerberosV5Spec2: change the module instead.
+//!
+//! ApReqContents.
+ghost use Rattle.std.specs.Prelude.{◌≡◌};
+ghost use Rattle.std.proofs.Common.{arith, refl};
+ghost use Rattle.der.specs.Prelude.{map_ok};
+ghost use Rattle.der_asn1.specs.Item.{decodes_same};
+ghost use Rattle.der_asn1.specs.Meaning.{alternative, field, sequence, sequence_is_item, sequence_item};
+ghost use Rattle.der_asn1.specs.TupleFields.{five_fields};
+
+use crate::asn1::ap_options::ApOptions;
+use crate::asn1::encrypted_data::EncryptedData;
+use crate::asn1::ticket::Ticket;
+use der::{
+    Decode, DecodeValue, Encode, Error, FieldsCall, FromFields, HasFields, Header, IsValue, Lends,
+    Reader, Sequence, SliceReader, decode_sequence, field_refs,
+};
+use der_asn1::{
+    BorrowedItem, DecodeItem, Described, Explicit, IntegerIn, Item, Nestable, WrittenItem,
+};
+use std::alloc::Global;
+
+/// ApReqContents
+#[derive(Clone, Copy, Debug, Drop, PartialEq, Eq)]
+pub struct ApReqContents<'a> {
+    /// 5.
+    pub pvno: Explicit<IntegerIn<5, 5>, 0>,
+    /// 14.
+    pub msg_type: Explicit<IntegerIn<14, 14>, 1>,
+    /// What the client asks for.
+    pub ap_options: Explicit<ApOptions<'a>, 2>,
+    /// The ticket.
+    pub ticket: Explicit<Ticket<'a>, 3>,
+    /// That the client has the key: an encrypted Authenticator.
+    pub authenticator: Explicit<EncryptedData<'a>, 4>,
+}
+
+/// The fields of a [`ApReqContents`], in the order in which they are encoded.
+pub type ApReqContentsFields<'a> = (
+    Explicit<IntegerIn<5, 5>, 0>,
+    Explicit<IntegerIn<14, 14>, 1>,
+    Explicit<ApOptions<'a>, 2>,
+    Explicit<Ticket<'a>, 3>,
+    Explicit<EncryptedData<'a>, 4>,
+);
+
+impl<'a> FromFields<ApReqContentsFields<'a>> for ApReqContents<'a> {
+    ghost fields = { λ v. (v.pvno, v.msg_type, v.ap_options, v.ticket, v.authenticator) };
+
+    fn from_fields(fields: ApReqContentsFields<'a>) -> Self {
+        let (pvno, msg_type, ap_options, ticket, authenticator) = fields;
+        ApReqContents {
+            pvno,
+            msg_type,
+            ap_options,
+            ticket,
+            authenticator,
+        }
+    }
+}
+
+impl<'a> Sequence for ApReqContents<'a> {
+    ghost meaning = { sequence (five_fields (field (alternative
+        ⟦<Explicit<IntegerIn<5, 5>, 0> as Described>⟧.element)) (field (alternative
+        ⟦<Explicit<IntegerIn<14, 14>, 1> as Described>⟧.element)) (field (alternative
+        ⟦<Explicit<ApOptions<'a>, 2> as Described>⟧.element)) (field (alternative
+        ⟦<Explicit<Ticket<'a>, 3> as Described>⟧.element)) (field (alternative
+        ⟦<Explicit<EncryptedData<'a>, 4> as Described>⟧.element)))
+        ⟦<ApReqContents<'a> as FromFields<ApReqContentsFields<'a>>>⟧.fields };
+
+    ghost fits = { (refl, refl) };
+}
+
+/// Decodes the fields one after the other, with the errors of every [`Sequence`].
+impl<'a, R: Lends<Borrowed = &'a [u8]>> DecodeValue<R> for ApReqContents<'a> {
+    type Error = Error;
+
+    ghost decode_value_answers = { λ h s result t.
+        ⟦<ApReqContentsFields<'a> as Decode<SliceReader<'a>>>⟧.decode_answers s (map_ok
+        ⟦<ApReqContents<'a> as FromFields<ApReqContentsFields<'a>>>⟧.fields result) t };
+
+    fn decode_value(alloc: Global, reader: &mut R, header: Header) -> Result<Self, Error>
+    where
+        R: Reader,
+    {
+        decode_sequence::<R, ApReqContentsFields<'a>, Self>(alloc, reader, header)
+    }
+}
+
+impl<'a> IsValue for ApReqContents<'a> {
+    fn is_value(&self) {
+        self.pvno.is_value();
+        self.msg_type.is_value();
+        self.ap_options.is_value();
+        self.ticket.is_value();
+        self.authenticator.is_value();
+    }
+}
+
+/// Writes the fields one after the other, with the errors of every [`Sequence`].
+impl<'a> HasFields for ApReqContents<'a> {
+    ghost fields_size = { λ v. ⟦<ApReqContentsFields<'a> as Encode>⟧.size
+        (⟦<ApReqContents<'a> as FromFields<ApReqContentsFields<'a>>>⟧.fields v) };
+
+    ghost fields_answers = { λ v. ⟦<ApReqContentsFields<'a> as Encode>⟧.encode_answers
+        (⟦<ApReqContents<'a> as FromFields<ApReqContentsFields<'a>>>⟧.fields v) };
+
+    fn call_fields<S, C: FieldsCall<S>>(
+        &self,
+        call: &C,
+        state: &mut S,
+        buf: &mut [u8],
+    ) -> C::Output {
+        call.call(
+            &field_refs!(self, (pvno, msg_type, ap_options, ticket, authenticator)),
+            state,
+            buf,
+        )
+    }
+}
+
+impl<'a> Item for ApReqContents<'a> {
+    ghost item = { sequence_item ⟦<ApReqContents<'a> as Described>⟧.element };
+}
+
+impl<'a, R: Lends<Borrowed = &'a [u8]>> DecodeItem<R> for ApReqContents<'a> {
+    ghost is_item = { sequence_is_item ⟦<ApReqContents<'a> as Described>⟧.element refl };
+
+    ghost decodes_items = { decodes_same (sequence_item
+        ⟦<ApReqContents<'a> as Described>⟧.element) };
+}
+
+impl<'a> BorrowedItem for ApReqContents<'a> {
+    ghost borrowed = { refl };
+}
+
+impl<'a> WrittenItem for ApReqContents<'a> {
+    ghost written = { λ v. refl };
+
+    ghost writes_valid = { λ v is. is };
+}
+
+impl<'a> Nestable for ApReqContents<'a> {
+    ghost nestable = { Prim.omega arith };
+}

@@ -1,0 +1,8 @@
+//! Written by asn1_compile from the module KerberosV5Spec2: change the module instead.
+//!
+//! KerberosString.
+
+use der_universal::GeneralStringRef;
+
+/// A text (RFC 4120, 5.2.1).
+pub type KerberosString<'a> = GeneralStringRef<'a>;

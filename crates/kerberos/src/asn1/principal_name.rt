@@ -1,0 +1,121 @@
+//! Written by asn1_compile from the module KerberosV5Spec2: change the module instead.
+//!
+//! PrincipalName.
+ghost use Rattle.std.specs.Prelude.{◌≡◌};
+ghost use Rattle.std.proofs.Common.{arith, refl};
+ghost use Rattle.der.specs.Prelude.{map_ok};
+ghost use Rattle.der_asn1.specs.Item.{decodes_same};
+ghost use Rattle.der_asn1.specs.Meaning.{alternative, field, sequence, sequence_is_item, sequence_item, two_fields};
+
+use crate::asn1::int32::Int32;
+use crate::asn1::kerberos_string::KerberosString;
+use der::{
+    Decode, DecodeValue, Encode, Error, FieldsCall, FromFields, HasFields, Header, IsValue, Lends,
+    Reader, Sequence, SliceReader, decode_sequence, field_refs,
+};
+use der_asn1::{
+    BorrowedItem, DecodeItem, Described, Explicit, Item, Nestable, SequenceOf, WrittenItem,
+};
+use std::alloc::Global;
+
+/// The name of a client or of a server (RFC 4120, 5.2.2).
+#[derive(Clone, Copy, Debug, Drop, PartialEq, Eq)]
+pub struct PrincipalName<'a> {
+    /// The kind of name.
+    pub name_type: Explicit<Int32<'a>, 0>,
+    /// Its parts.
+    pub name_string: Explicit<SequenceOf<'a, KerberosString<'a>>, 1>,
+}
+
+/// The fields of a [`PrincipalName`], in the order in which they are encoded.
+pub type PrincipalNameFields<'a> = (
+    Explicit<Int32<'a>, 0>,
+    Explicit<SequenceOf<'a, KerberosString<'a>>, 1>,
+);
+
+impl<'a> FromFields<PrincipalNameFields<'a>> for PrincipalName<'a> {
+    ghost fields = { λ v. (v.name_type, v.name_string) };
+
+    fn from_fields(fields: PrincipalNameFields<'a>) -> Self {
+        let (name_type, name_string) = fields;
+        PrincipalName {
+            name_type,
+            name_string,
+        }
+    }
+}
+
+impl<'a> Sequence for PrincipalName<'a> {
+    ghost meaning = { sequence (two_fields (field (alternative
+        ⟦<Explicit<Int32<'a>, 0> as Described>⟧.element)) (field (alternative
+        ⟦<Explicit<SequenceOf<'a, KerberosString<'a>>, 1> as Described>⟧.element)))
+        ⟦<PrincipalName<'a> as FromFields<PrincipalNameFields<'a>>>⟧.fields };
+
+    ghost fits = { (refl, refl) };
+}
+
+/// Decodes the fields one after the other, with the errors of every [`Sequence`].
+impl<'a, R: Lends<Borrowed = &'a [u8]>> DecodeValue<R> for PrincipalName<'a> {
+    type Error = Error;
+
+    ghost decode_value_answers = { λ h s result t.
+        ⟦<PrincipalNameFields<'a> as Decode<SliceReader<'a>>>⟧.decode_answers s (map_ok
+        ⟦<PrincipalName<'a> as FromFields<PrincipalNameFields<'a>>>⟧.fields result) t };
+
+    fn decode_value(alloc: Global, reader: &mut R, header: Header) -> Result<Self, Error>
+    where
+        R: Reader,
+    {
+        decode_sequence::<R, PrincipalNameFields<'a>, Self>(alloc, reader, header)
+    }
+}
+
+impl<'a> IsValue for PrincipalName<'a> {
+    fn is_value(&self) {
+        self.name_type.is_value();
+        self.name_string.is_value();
+    }
+}
+
+/// Writes the fields one after the other, with the errors of every [`Sequence`].
+impl<'a> HasFields for PrincipalName<'a> {
+    ghost fields_size = { λ v. ⟦<PrincipalNameFields<'a> as Encode>⟧.size
+        (⟦<PrincipalName<'a> as FromFields<PrincipalNameFields<'a>>>⟧.fields v) };
+
+    ghost fields_answers = { λ v. ⟦<PrincipalNameFields<'a> as Encode>⟧.encode_answers
+        (⟦<PrincipalName<'a> as FromFields<PrincipalNameFields<'a>>>⟧.fields v) };
+
+    fn call_fields<S, C: FieldsCall<S>>(
+        &self,
+        call: &C,
+        state: &mut S,
+        buf: &mut [u8],
+    ) -> C::Output {
+        call.call(&field_refs!(self, (name_type, name_string)), state, buf)
+    }
+}
+
+impl<'a> Item for PrincipalName<'a> {
+    ghost item = { sequence_item ⟦<PrincipalName<'a> as Described>⟧.element };
+}
+
+impl<'a, R: Lends<Borrowed = &'a [u8]>> DecodeItem<R> for PrincipalName<'a> {
+    ghost is_item = { sequence_is_item ⟦<PrincipalName<'a> as Described>⟧.element refl };
+
+    ghost decodes_items = { decodes_same (sequence_item
+        ⟦<PrincipalName<'a> as Described>⟧.element) };
+}
+
+impl<'a> BorrowedItem for PrincipalName<'a> {
+    ghost borrowed = { refl };
+}
+
+impl<'a> WrittenItem for PrincipalName<'a> {
+    ghost written = { λ v. refl };
+
+    ghost writes_valid = { λ v is. is };
+}
+
+impl<'a> Nestable for PrincipalName<'a> {
+    ghost nestable = { Prim.omega arith };
+}

@@ -1,0 +1,8 @@
+//! Written by asn1_compile from the module KerberosV5Spec2: change the module instead.
+//!
+//! UInt32.
+
+use der_asn1::IntegerIn;
+
+/// A number of 32 bits without a sign.
+pub type UInt32 = IntegerIn<0, 4294967295>;

@@ -1,0 +1,8 @@
+//! Written by asn1_compile from the module Lightweight-Directory-Access-Protocol-V3: change the module instead.
+//!
+//! Uri.
+
+use crate::asn1::ldap_string::LdapString;
+
+/// A URI.
+pub type Uri<'a> = LdapString<'a>;

@@ -1,0 +1,8 @@
+//! Written by asn1_compile from the module SNMPv2-PDU: change the module instead.
+//!
+//! IpAddress.
+
+use der_asn1::{Application, Implicit, OctetStringRef};
+
+/// An address of four octets.
+pub type IpAddress<'a> = Application<Implicit<OctetStringRef<'a>, 0>>;

@@ -1,0 +1,8 @@
+//! Written by asn1_compile from the module SNMPv2-PDU: change the module instead.
+//!
+//! ObjectName.
+
+use der_asn1::ObjectIdentifierRef;
+
+/// The name of a variable.
+pub type ObjectName<'a> = ObjectIdentifierRef<'a>;
