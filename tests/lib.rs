@@ -3,11 +3,7 @@
 #![tactic(auto)]
 
 #[cfg(test)]
-mod answers;
-#[cfg(test)]
-mod asn1;
-#[cfg(test)]
-mod asn1_compiler;
+mod asn1_compile;
 #[cfg(test)]
 mod asn1_contents;
 #[cfg(test)]
@@ -23,11 +19,21 @@ mod checks;
 #[cfg(test)]
 mod cms;
 #[cfg(test)]
-mod decoding;
+mod der;
+#[cfg(test)]
+mod der_asn1;
+#[cfg(test)]
+mod der_base;
+#[cfg(test)]
+mod der_segments;
+#[cfg(test)]
+mod der_show;
+#[cfg(test)]
+mod der_tool;
+#[cfg(test)]
+mod der_uses;
 #[cfg(test)]
 mod fixtures;
-#[cfg(test)]
-mod keys;
 #[cfg(test)]
 mod ocsp;
 #[cfg(test)]
@@ -35,26 +41,22 @@ mod parcels;
 #[cfg(test)]
 mod pem;
 #[cfg(test)]
+mod pkcs1;
+#[cfg(test)]
 mod pkcs12;
+#[cfg(test)]
+mod pkcs8;
 #[cfg(test)]
 mod protocols;
 #[cfg(test)]
-mod readers;
+mod sec1;
 #[cfg(test)]
-mod scans;
-#[cfg(test)]
-mod segments;
-#[cfg(test)]
-mod show;
-#[cfg(test)]
-mod strings;
-#[cfg(test)]
-mod uses;
-#[cfg(test)]
-mod values;
+mod spki;
 #[cfg(test)]
 mod visits;
 #[cfg(test)]
-mod writers;
+mod x509;
+#[cfg(test)]
+mod x509_lint;
 #[cfg(test)]
 mod x509_names;

@@ -1,10 +1,10 @@
-//! How types are made behind their names and tags.
+//! How types are made after their names and tags.
 
 use crate::checks::find_type;
 use crate::module::Module;
 use asn1_syntax::TypeForm;
 
-/// How the type with this index is made behind its names and tags; `None` if a name is not defined,
+/// How the type with this index is made after its names and tags; `None` if a name is not defined,
 /// or if the type contains itself.
 pub fn base_form<'m, 'a>(module: &'m Module<'a>, index: usize) -> Option<&'m TypeForm<'a>> {
     let mut index = index;
@@ -24,7 +24,7 @@ pub fn base_form<'m, 'a>(module: &'m Module<'a>, index: usize) -> Option<&'m Typ
     None
 }
 
-/// The index of the type behind the names of the type with this index; of the last name, if another
+/// The index of the type after the names of the type with this index; of the last name, if another
 /// crate holds what it stands for.
 pub fn base_of(module: &Module<'_>, index: usize) -> usize {
     let mut index = index;

@@ -4,9 +4,9 @@ use crate::checks::find_type;
 use crate::module::Module;
 use asn1_syntax::{Constraint, Range, TypeForm, TypeNode};
 
-/// The numbers that the type with this index allows: those that are in all ranges behind it, and
-/// behind the types that it names. An extension mark behind the last one allows the numbers of the
-/// type in front of it; those behind others are lost (X.680, 50.8).
+/// The numbers that the type with this index allows: those that are in all ranges after it, and
+/// after the types that it names. An extension mark after the last one allows the numbers of the
+/// type in front of it; those after others are lost (X.680, 50.8).
 pub fn range_at<'a>(module: &Module<'a>, index: usize) -> Range<'a> {
     let mut index = index;
     let mut found = None;
@@ -27,7 +27,7 @@ pub fn range_at<'a>(module: &Module<'a>, index: usize) -> Range<'a> {
     found.unwrap_or(Range::ALL)
 }
 
-// The numbers of the ranges that come behind, if there are any, that are in those of a type.
+// The numbers of the ranges that come after, if there are any, that are in those of a type.
 fn narrowed<'a>(found: Option<Range<'a>>, node: &TypeNode<'a>) -> Option<Range<'a>> {
     let mut found = found;
     for constraint in node.constraints.iter().rev() {
@@ -40,7 +40,7 @@ fn narrowed<'a>(found: Option<Range<'a>>, node: &TypeNode<'a>) -> Option<Range<'
 
 fn narrowed_by<'a>(found: Option<Range<'a>>, range: Range<'a>) -> Range<'a> {
     match found {
-        Some(behind) => behind.and(range),
+        Some(after) => after.and(range),
         None if range.is_extensible => Range::ALL,
         None => range,
     }
@@ -48,9 +48,9 @@ fn narrowed_by<'a>(found: Option<Range<'a>>, range: Range<'a>) -> Range<'a> {
 
 fn with_imported<'a>(module: &Module<'a>, name: &str, found: Option<Range<'a>>) -> Range<'a> {
     match (module.imported.find(name), found) {
-        (Some(external), Some(behind)) => behind.and(external.range),
+        (Some(external), Some(after)) => after.and(external.range),
         (Some(external), None) => external.range,
-        (None, behind) => behind.unwrap_or(Range::ALL),
+        (None, after) => after.unwrap_or(Range::ALL),
     }
 }
 

@@ -31,7 +31,7 @@ pub use tags::{copy_at, has_no_tag};
 /// What the checks of a module find.
 #[derive(Drop)]
 pub struct Checks {
-    /// The indices of its types, each behind those that it is made of.
+    /// The indices of its types, each after those that it is made of.
     pub order: Vec<usize>,
     /// The tags that values of each type begin with, by index.
     pub tags: Vec<TagSet>,
@@ -47,7 +47,7 @@ pub fn unsupported_types<'a>(
     add_loops(alloc, module, found)
 }
 
-/// Checks a module as [`check_module`] does, and puts a SEQUENCE behind the tag of a SET in the place of
+/// Checks a module as [`check_module`] does, and puts a SEQUENCE after the tag of a SET in the place of
 /// each SET with components.
 pub fn check_sorted<'a>(alloc: Global, module: &mut Module<'a>) -> Result<Checks, Failure<'a>> {
     let checks = check_module(alloc, module)?;

@@ -14,7 +14,7 @@ pub enum Constant {
     Boolean(bool),
     /// An OBJECT IDENTIFIER, by its arcs.
     ObjectIdentifier(Vec<u64>),
-    /// A value of another type, which is not computed.
+    /// A value of any other type; it is not evaluated.
     Other,
 }
 

@@ -21,7 +21,7 @@ impl<'a> Constants<'a> {
         }
     }
 
-    /// Adds a value behind the others.
+    /// Adds a value after the others.
     pub fn push(&mut self, named: NamedConstant<'a>) -> Result<(), AllocError> {
         self.places.add(named.name, self.list.len())?;
         self.list.push(named)?;

@@ -24,7 +24,7 @@ pub struct ExternalType<'a> {
     pub is_item: bool,
     /// The numbers that it allows, if it is an INTEGER.
     pub range: Range<'a>,
-    /// How it is made, behind its names and tags; without the types that it is made of.
+    /// How it is made, after its names and tags; without the types that it is made of.
     pub form: TypeForm<'a>,
 }
 

@@ -21,7 +21,7 @@ impl<'a> ExternalTypes<'a> {
         }
     }
 
-    /// Adds a type behind the others.
+    /// Adds a type after the others.
     pub fn push(&mut self, of: ExternalType<'a>) -> Result<(), AllocError> {
         self.places.add(of.name, self.list.len())?;
         self.list.push(of)?;

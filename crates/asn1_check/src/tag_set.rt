@@ -10,7 +10,7 @@ use std::alloc::{AllocError, Global};
 pub struct TagSet {
     /// The tags.
     pub tags: Vec<Tag>,
-    /// Whether any other tag may stand there too.
+    /// Whether any other tag may be there too.
     pub is_any: bool,
 }
 

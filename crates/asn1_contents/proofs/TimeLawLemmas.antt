@@ -6,7 +6,7 @@ use Rattle.std.specs.Cmp.Derive.{both_true}
 use Rattle.std.specs.Str.{bytes_eq}
 use Rattle.asn1_contents.proofs.TimeFormLemmas.{digit_at, digit_bounds, two_below, chunk, count_chunk, z_is, same_octets}
 use Rattle.der_asn1.proofs.TimeLemmas.{bounded}
-use Rattle.der_asn1.specs.declared.date_time.DateTime.{DateTime}
+use Rattle.der_asn1.specs.declared.times.date_time.DateTime.{DateTime}
 use Rattle.asn1_contents.specs.Digits.{digit_count}
 use Rattle.der_asn1.specs.Times.{two_at, two_digits, utc_year, is_date_time, days_of, time_octets, time_from, utc_form, utc_octets, utc_reading, generalized_form, generalized_octets, generalized_reading}
 use Rattle.asn1_contents.specs.Zone.{is_z, exists_date, exists_time}

@@ -4,7 +4,7 @@ ghost use Rattle.std.specs.Prelude.{◌≡◌};
 use std::fmt;
 
 /// A rule of the contents octets of a primitive encoding (X.690 8.2 to 8.26, 11). Each is what the
-/// standard demands, in the section that [`ContentsRule::section`] returns; the rules of a type stand
+/// standard demands, in the section that [`ContentsRule::section`] returns; the rules of a type are
 /// in the order in which they are checked.
 #[derive(Debug, Clone, Copy, PartialEq, Eq)]
 pub enum ContentsRule {

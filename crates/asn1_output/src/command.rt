@@ -84,7 +84,7 @@ impl<'a> CompileCommand<'a> {
         self.out.is_empty() && self.with.is_empty()
     }
 
-    /// The name of the crate: what is behind the last slash of the folder's path.
+    /// The name of the crate: what is after the last slash of the folder's path.
     pub fn crate_name(&self) -> &'a str {
         let path = self.out.strip_suffix("/").unwrap_or(self.out);
         match path.rsplit_once('/') {
@@ -142,7 +142,7 @@ fn command<'a>(alloc: Global, version: &'a str) -> Result<Command<'a>, AllocErro
 }
 
 impl<'a> With<'a> {
-    // Parses the name of a crate with a file behind `=`.
+    // Parses the name of a crate with a file after `=`.
     fn parse(word: &'a str) -> Option<Self> {
         match word.split_once('=') {
             Some((krate, file)) if !krate.is_empty() && !file.is_empty() => {

@@ -55,7 +55,7 @@ fn is_module(name: &str) -> bool {
 /// The texts of files, as one.
 #[derive(Drop)]
 pub struct Joined {
-    /// The texts behind each other.
+    /// The texts one after the other.
     pub text: String,
     parts: Vec<Part>,
 }
@@ -79,7 +79,7 @@ impl Joined {
     }
 
     /// Adds the text of another file, without the mark of UTF-8 that it may begin with.
-    pub fn push_behind(&mut self, alloc: Global, path: &str, text: &str) -> Result<(), AllocError> {
+    pub fn push_after(&mut self, alloc: Global, path: &str, text: &str) -> Result<(), AllocError> {
         self.push(alloc, path, text.strip_prefix(MARK).unwrap_or(text))
     }
 
@@ -106,7 +106,7 @@ impl Joined {
     ) -> Result<(), AllocError> {
         for number in needed(alloc, main, given, texts)?.iter() {
             if let (Some(path), Some(text)) = (paths.get(*number), texts.get(*number)) {
-                self.push_behind(alloc, path.as_str(), text.as_str())?;
+                self.push_after(alloc, path.as_str(), text.as_str())?;
             }
         }
         let names = own_names_of(alloc, self.text.as_str())?;
@@ -116,12 +116,12 @@ impl Joined {
 
     /// The number of the file that has this index.
     pub fn part_at(&self, offset: usize) -> usize {
-        let behind = self
+        let after = self
             .parts
             .iter()
             .filter(|part| part.start <= offset)
             .count();
-        behind.saturating_sub(1)
+        after.saturating_sub(1)
     }
 
     /// The path of the file with this number.

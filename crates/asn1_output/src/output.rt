@@ -8,6 +8,8 @@ mod choice_part;
 mod counts;
 mod default_place;
 mod defaults;
+mod definition;
+mod definitions;
 mod directive;
 mod docs;
 mod enumeration;
@@ -22,14 +24,11 @@ mod naming;
 mod nest;
 mod number_default;
 mod numbers;
-mod part;
-mod piece;
-mod piece_list;
-mod pieces;
 mod renamed;
 mod root;
 mod rust_names;
 mod sequence;
+mod sequence_part;
 mod sources;
 mod summary;
 mod tagged;
@@ -40,22 +39,23 @@ mod values;
 mod warnings;
 mod words;
 mod wrap;
+mod written;
 
 use crate::compiled::Compiled;
 use crate::output::abilities::add_imported;
 use crate::output::alternatives::left_out;
 use crate::output::counts::add_counts;
+use crate::output::definition::Definition;
 use crate::output::file::file_of;
 use crate::output::kept::kept_of;
 use crate::output::naming::names_of;
-use crate::output::piece::Piece;
-use crate::output::pieces::Written;
 use crate::output::root::{library_of, proof_file, root_of};
 use crate::output::sources::Sources;
 use crate::output::summary::external_of;
 use crate::output::types::types_in_order;
 use crate::output::values::{values_file, values_name};
 use crate::output::warnings::warnings_of;
+use crate::output::written::Written;
 use asn1_check::{Checks, External, Module, Selected, check_sorted, selected_module};
 use asn1_syntax::{Failure, Refusal};
 pub use file::OutputFile;
@@ -172,7 +172,7 @@ fn checked_of<'a>(
     }
 }
 
-// Adds what is wrong or not supported. One that is there was not left out, so it stands outside of all
+// Adds what is wrong or not supported. One that is there was not left out, so it is outside of all
 // assignments, or where a parser finds it.
 fn add_known<'a>(known: &mut Vec<Refusal<'a>>, refusal: Refusal<'a>) -> Result<(), Failure<'a>> {
     for before in known.iter() {
@@ -246,40 +246,43 @@ fn files_of<'a>(
     krate: &str,
 ) -> Result<Vec<OutputFile>, Failure<'a>> {
     let module = written.module;
-    let pieces = written.pieces(alloc)?;
-    check_pieces(module, &pieces)?;
-    let sources = Sources::of(alloc, module, &pieces)?;
-    let mut files = vec![in alloc; library_of(alloc, &pieces)?]?;
-    add_root(alloc, &mut files, module, &pieces)?;
-    for piece in pieces.iter() {
-        files.push(file_of(alloc, module, krate, piece, &sources)?)?;
-        add_proofs(alloc, &mut files, krate, piece)?;
+    let definitions = written.definitions(alloc)?;
+    check_definitions(module, &definitions)?;
+    let sources = Sources::of(alloc, module, &definitions)?;
+    let mut files = vec![in alloc; library_of(alloc, &definitions)?]?;
+    add_root(alloc, &mut files, module, &definitions)?;
+    for definition in definitions.iter() {
+        files.push(file_of(alloc, module, krate, definition, &sources)?)?;
+        add_proofs(alloc, &mut files, krate, definition)?;
     }
     Ok(files)
 }
 
-// Checks that no two pieces have the same file, or names that are the same.
-fn check_pieces<'a>(module: &Module<'a>, pieces: &Vec<Piece>) -> Result<(), Refusal<'a>> {
+// Checks that no two definitions have the same file, or names that are the same.
+fn check_definitions<'a>(
+    module: &Module<'a>,
+    definitions: &Vec<Definition>,
+) -> Result<(), Refusal<'a>> {
     let mut before = None;
-    for piece in pieces.iter() {
-        if before == Some(piece.file.as_str()) {
+    for definition in definitions.iter() {
+        if before == Some(definition.file.as_str()) {
             let expected = "types whose names in Rust differ: choose one by a comment `Rust name:`";
             return Err(Refusal::of(module.name, expected));
         }
-        before = Some(piece.file.as_str());
+        before = Some(definition.file.as_str());
     }
     Ok(())
 }
 
-// Adds the files of the proofs of a piece.
+// Adds the files of the proofs of a definition.
 fn add_proofs(
     alloc: Global,
     files: &mut Vec<OutputFile>,
     krate: &str,
-    piece: &Piece,
+    definition: &Definition,
 ) -> Result<(), AllocError> {
-    for proof in piece.proofs.iter() {
-        files.push(proof_file(alloc, krate, piece, proof)?)?;
+    for proof in definition.proofs.iter() {
+        files.push(proof_file(alloc, krate, definition, proof)?)?;
     }
     Ok(())
 }
@@ -289,14 +292,14 @@ fn add_root(
     alloc: Global,
     files: &mut Vec<OutputFile>,
     module: &Module<'_>,
-    pieces: &Vec<Piece>,
+    definitions: &Vec<Definition>,
 ) -> Result<(), AllocError> {
     let name = module.name.text;
-    match values_file(alloc, module, pieces)? {
+    match values_file(alloc, module, definitions)? {
         Some(values) => {
-            files.push(root_of(alloc, name, pieces, Some(values_name(pieces)))?)?;
+            files.push(root_of(alloc, name, definitions, Some(values_name(definitions)))?)?;
             Ok(files.push(values)?)
         }
-        None => Ok(files.push(root_of(alloc, name, pieces, None)?)?),
+        None => Ok(files.push(root_of(alloc, name, definitions, None)?)?),
     }
 }

@@ -223,7 +223,7 @@ pub fn push_warnings(
             position = Position::of(&[], 0);
         }
         let text = joined.text.as_bytes();
-        position = position.behind(text.get(offset..warning.offset).unwrap_or(&[]));
+        position = position.after(text.get(offset..warning.offset).unwrap_or(&[]));
         offset = warning.offset;
         let line = warning.line(alloc, joined.path(number), position)?;
         lines.push_str(line.as_str())?;

@@ -29,7 +29,7 @@ pub fn run_schema<R: Files + AllocGlobal + Clone + Drop, W: Write, E: Write>(
     };
     for file in command.files.iter().skip(1) {
         match read_text(rt, file) {
-            Ok(text) => joined.push_behind(rt.alloc(), file, text.as_str())?,
+            Ok(text) => joined.push_after(rt.alloc(), file, text.as_str())?,
             Err(error) => return say_file(file, &error, errors),
         }
     }

@@ -9,11 +9,11 @@ line_after before = count_by (λ x. x == 10) before + 1
 abbrev pub last_line_end : List ℕ → Option ℕ
 last_line_end before = position (λ x. x == 10) (reverse before)
 
--- the number of octets behind that, of so many
-abbrev pub octets_behind : Option ℕ → ℕ → ℕ
-octets_behind None count = count
-octets_behind (Some index) count = index
+-- the number of octets after that, of so many
+abbrev pub octets_after : Option ℕ → ℕ → ℕ
+octets_after None count = count
+octets_after (Some index) count = index
 
--- one more than the number of octets behind the last line end
+-- one more than the number of octets after the last line end
 abbrev pub column_after : List ℕ → ℕ
-column_after before = octets_behind (last_line_end before) (length before) + 1
+column_after before = octets_after (last_line_end before) (length before) + 1

@@ -12,7 +12,7 @@ pub struct Component<'a> {
     pub of: usize,
     /// Whether the component may be absent.
     pub presence: Presence<'a>,
-    /// Whether it is an addition: whether it stands behind a first extension mark, and in front of
+    /// Whether it is an addition: whether it is after a first extension mark, and in front of
     /// a second one.
     pub is_addition: bool,
     /// The number of the tag that it gets from AUTOMATIC TAGS (X.680, 25.2); `None` if it gets none.

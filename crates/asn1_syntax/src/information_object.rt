@@ -3,16 +3,16 @@
 use crate::item::Item;
 use crate::value::Value;
 
-/// An object: what stands in the fields of its class.
+/// An object: what is in the fields of its class.
 #[derive(Drop)]
 pub struct InformationObject<'a> {
     /// The name. An object without one has its whole text as its name.
     pub name: Item<'a>,
-    /// The index of the first one of the types that stand in it.
+    /// The index of the first one of the types that are in it.
     pub first: usize,
-    /// The index behind the last one.
+    /// The index after the last one.
     pub end: usize,
-    /// What stands in its fields.
+    /// What is in its fields.
     pub fields: Vec<ObjectField<'a>>,
 }
 
@@ -21,11 +21,11 @@ pub struct InformationObject<'a> {
 pub struct ObjectField<'a> {
     /// The name, without `&`.
     pub name: Item<'a>,
-    /// What stands in it.
+    /// What is in it.
     pub setting: Setting<'a>,
 }
 
-/// What stands in a field of an object.
+/// What is in a field of an object.
 #[derive(Drop)]
 pub enum Setting<'a> {
     /// The type with this index.

@@ -19,7 +19,7 @@ const NO_CHARACTER: &str = "a character of the notation";
 const SYMBOLS: &[u8] = b"{}[]()<>,;:.|-@!^*&";
 
 /// The items of a text in their order, and `End` as the last one. Comments are kept with the item
-/// behind them.
+/// after them.
 pub fn items_of<'a>(alloc: Global, text: &'a str) -> Result<Vec<Item<'a>>, Failure<'a>> {
     let octets = text.as_bytes();
     let mut items = Vec::new(alloc);
@@ -53,7 +53,7 @@ pub fn items_of<'a>(alloc: Global, text: &'a str) -> Result<Vec<Item<'a>>, Failu
     Ok(items)
 }
 
-// The index behind the mark of UTF-8 that a text may begin with.
+// The index after the mark of UTF-8 that a text may begin with.
 fn start_of(octets: &[u8]) -> usize
     ensures { result ≤ length octets.now }
 {
@@ -77,7 +77,7 @@ fn bad_item<'a>(text: &'a str, offset: usize) -> Refusal<'a> {
     }
 }
 
-// The kind of the item at `at`, and the index behind it; `Err` if none begins there.
+// The kind of the item at `at`, and the index after it; `Err` if none begins there.
 fn item_at(text: &[u8], at: usize) -> Result<(ItemKind, usize), ()>
     requires { at < length text.now }
     ensures { IfOk result (λ r. (at < r.1) × (r.1 ≤ length text.now)) }

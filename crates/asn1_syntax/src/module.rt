@@ -19,9 +19,9 @@ pub struct ParsedModule<'a> {
     pub name: Item<'a>,
     /// What it says of its tags.
     pub tags: TagDefault,
-    /// The index of the first octet behind it. What stands there is of modules from which it imports.
+    /// The index of the first octet after it. What is there is of modules from which it imports.
     pub end: usize,
-    /// The names that it imports, and those that the modules behind it import, from others than these.
+    /// The names that it imports, and those that the modules after it import, from others than these.
     pub imports: Vec<Import<'a>>,
     /// The names that it exports.
     pub exports: Vec<Item<'a>>,

@@ -10,6 +10,6 @@ pub struct NamedNumber<'a> {
     pub name: Item<'a>,
     /// The number; `None` if none is written, as an ENUMERATED allows.
     pub number: Option<Endpoint<'a>>,
-    /// Whether it stands behind an extension mark.
+    /// Whether it is after an extension mark.
     pub is_addition: bool,
 }

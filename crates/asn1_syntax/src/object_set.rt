@@ -11,7 +11,7 @@ pub struct ObjectSet<'a> {
     pub members: Vec<Item<'a>>,
 }
 
-/// What a constraint says of the field of a class: it stands in an object of a set (X.682, 10).
+/// What a constraint says of the field of a class: it is in an object of a set (X.682, 10).
 #[derive(Drop)]
 pub struct TableUse<'a> {
     /// The name of the field, without `&`.

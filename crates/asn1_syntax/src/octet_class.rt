@@ -24,14 +24,14 @@ pub fn is_digit(octet: u8) -> bool
     b'0' <= octet && octet <= b'9'
 }
 
-/// Whether the octet may stand in a name.
+/// Whether the octet may be in a name.
 pub fn is_name_octet(octet: u8) -> bool
     ensures { result ≡ is_name_octet octet }
 {
     is_upper(octet) || is_lower(octet) || is_digit(octet) || octet == b'-'
 }
 
-/// Whether the octet may stand in a word of Rust.
+/// Whether the octet may be in a word of Rust.
 pub fn is_word_octet(octet: u8) -> bool
     ensures { result ≡ is_word_octet octet }
 {

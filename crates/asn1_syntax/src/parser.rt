@@ -49,7 +49,7 @@ struct Parser<'a> {
     items: Vec<Item<'a>>,
     at: usize,
     nodes: Vec<TypeNode<'a>>,
-    // The names behind `DEFINED BY` in components that are not parsed to their end.
+    // The names after `DEFINED BY` in components that are not parsed to their end.
     defined_by: Vec<Item<'a>>,
     // How many brackets `[[` of the components that are being parsed are open.
     versions: u32,
@@ -73,9 +73,9 @@ struct Parser<'a> {
     tables: Vec<TableUse<'a>>,
 }
 
-/// Parses the first module of a text, with the modules behind it, from which it may import. What
+/// Parses the first module of a text, with the modules after it, from which it may import. What
 /// these have gets other names where the first module, or one in front, has the same: those that
-/// [`own_names`] returns, which stand behind the last module. Names are not looked up. What is wrong
+/// [`own_names`] returns, which are after the last module. Names are not looked up. What is wrong
 /// in an assignment of another module than the first one is left out.
 pub fn parse_module<'a>(alloc: Global, text: &'a str) -> Result<ParsedModule<'a>, Failure<'a>> {
     let mut parser = parser_of(alloc, text)?;
@@ -112,7 +112,7 @@ pub fn outline_of<'a>(alloc: Global, text: &'a str) -> Result<Vec<ModuleOutline<
 }
 
 /// The names that assignments of a text get since a module in front has the same: comments, each on
-/// a line. They have to stand behind the last module.
+/// a line. They have to be after the last module.
 pub fn own_names<'a>(alloc: Global, text: &'a str) -> Result<String, Failure<'a>> {
     let mut parser = parser_of(alloc, text)?;
     parser.outline()?;
@@ -167,7 +167,7 @@ fn parser_of<'a>(alloc: Global, text: &'a str) -> Result<Parser<'a>, Failure<'a>
     })
 }
 
-/// The failure of an item that stands where something else is expected.
+/// The failure of an item that is where something else is expected.
 fn refused<'a>(item: Item<'a>, expected: &'static str) -> Failure<'a> {
     Failure::Refused(Refusal::of(item, expected))
 }
@@ -183,7 +183,7 @@ impl<'a> Parser<'a> {
         self.item_at(self.at)
     }
 
-    /// The item behind that at this place.
+    /// The item after that at this place.
     fn peek_second(&self) -> Item<'a> {
         self.item_at(self.at.saturating_add(1))
     }
@@ -214,7 +214,7 @@ impl<'a> Parser<'a> {
         item
     }
 
-    /// Whether this word or symbol stands here; if so, moves past it.
+    /// Whether this word or symbol is here; if so, moves past it.
     fn takes(&mut self, text: &str) -> bool {
         let is_here = self.peek().is(text);
         if is_here {
@@ -253,7 +253,7 @@ impl<'a> Parser<'a> {
         Ok(())
     }
 
-    /// Parses the assignments of a module, up to what stands behind its `END`.
+    /// Parses the assignments of a module, up to what is after its `END`.
     fn assignments_of(
         &mut self,
         number: usize,
@@ -352,7 +352,7 @@ impl<'a> Parser<'a> {
         Ok(())
     }
 
-    // Checks that no notation of a macro stands behind a type (X.208, Annex A): no assignment begins
+    // Checks that no notation of a macro is after a type (X.208, Annex A): no assignment begins
     // there.
     fn check_macro(&self, number: usize, of: usize) -> Result<(), Failure<'a>> {
         let item = self.peek();

@@ -1,6 +1,6 @@
 //! Positions in a file.
 ghost use Rattle.std.specs.Prelude.{◌≡◌, ◌<◌, ◌≤◌, length, take, IfSome};
-ghost use Rattle.asn1_syntax.specs.Position.{line_after, column_after, last_line_end, octets_behind};
+ghost use Rattle.asn1_syntax.specs.Position.{line_after, column_after, last_line_end, octets_after};
 
 use std::fmt;
 
@@ -25,23 +25,23 @@ impl Position {
         } else {
             text
         };
-        Position::after(before)
+        Position::at_end_of(before)
     }
 
-    fn after(before: &[u8]) -> Self
+    fn at_end_of(before: &[u8]) -> Self
         ensures line { result.line ≡ line_after before.now }
         ensures column { result.column ≡ column_after before.now }
     {
         let line_ends = before.iter().filter(|octet| **octet == b'\n').count();
         Position {
             line: line_ends + 1,
-            column: octets_behind(before) + 1,
+            column: octets_after(before) + 1,
         }
     }
 
-    /// The position behind these octets, of which this one is at the front.
-    pub fn behind(self, octets: &[u8]) -> Self {
-        let after = Position::after(octets);
+    /// The position after these octets, of which this one is at the front.
+    pub fn after(self, octets: &[u8]) -> Self {
+        let after = Position::at_end_of(octets);
         let column = if after.line == 1 {
             self.column.saturating_add(after.column - 1)
         } else {
@@ -54,9 +54,9 @@ impl Position {
     }
 }
 
-// The number of octets behind the last line end.
-fn octets_behind(before: &[u8]) -> usize
-    ensures same { result ≡ octets_behind (last_line_end before.now) (length before.now) }
+// The number of octets after the last line end.
+fn octets_after(before: &[u8]) -> usize
+    ensures same { result ≡ octets_after (last_line_end before.now) (length before.now) }
     ensures short { result ≤ length before.now }
 {
     match last_line_end(before) {

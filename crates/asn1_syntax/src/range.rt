@@ -12,7 +12,7 @@ pub struct Range<'a> {
     pub low: Endpoint<'a>,
     /// The greatest number.
     pub high: Endpoint<'a>,
-    /// Whether an extension mark stands behind it.
+    /// Whether an extension mark is after it.
     pub is_extensible: bool,
 }
 

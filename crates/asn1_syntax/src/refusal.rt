@@ -10,9 +10,9 @@ use std::alloc::{AllocError, Global};
 pub struct Refusal<'a> {
     /// The index of the first octet that is wrong.
     pub offset: usize,
-    /// The text that stands there.
+    /// The text found at this place.
     pub found: &'a str,
-    /// What may stand there.
+    /// What may be at this place.
     pub expected: &'static str,
 }
 

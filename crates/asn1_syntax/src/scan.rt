@@ -46,7 +46,7 @@ pub fn end_of_name(text: &[u8], from: usize) -> usize
     text.len()
 }
 
-// Whether a letter or a digit stands behind the hyphen at this index.
+// Whether a letter or a digit is after the hyphen at this index.
 fn is_name_after(text: &[u8], at: usize) -> bool
     requires { at < length text.now }
 {
@@ -56,8 +56,8 @@ fn is_name_after(text: &[u8], at: usize) -> bool
     }
 }
 
-/// The end of a comment that begins with two hyphens: at the end of the line, or behind the next
-/// two hyphens (X.680, 12.6.3). `from` is behind the first two.
+/// The end of a comment that begins with two hyphens: at the end of the line, or after the next
+/// two hyphens (X.680, 12.6.3). `from` is after the first two.
 pub fn end_of_line_comment(text: &[u8], from: usize) -> usize
     requires { from ≤ length text.now }
     ensures low { from ≤ result }
@@ -74,7 +74,7 @@ pub fn end_of_line_comment(text: &[u8], from: usize) -> usize
     text.len()
 }
 
-/// The end of a comment that begins with `/*` at `from`, in which other such comments may stand
+/// The end of a comment that begins with `/*` at `from`, in which other such comments may be
 /// (X.680, 12.6.4); `None` if it has no end.
 pub fn end_of_block_comment(text: &[u8], from: usize) -> Option<usize>
     requires { from ≤ length text.now }
@@ -99,7 +99,7 @@ pub fn end_of_block_comment(text: &[u8], from: usize) -> Option<usize>
     None
 }
 
-/// The index behind the next octet `mark` from `from` on; `None` if there is none.
+/// The index after the next octet `mark` from `from` on; `None` if there is none.
 pub fn end_of_quoted(text: &[u8], from: usize, mark: u8) -> Option<usize>
     requires { from ≤ length text.now }
     ensures { IfSome result (λ end. (from < end) × (end ≤ length text.now)) }

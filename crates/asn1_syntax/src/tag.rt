@@ -12,12 +12,12 @@ pub struct Tag {
     pub number: u64,
 }
 
-/// A tag in front of a type, with what it says of the tags behind it.
+/// A tag in front of a type, with what it says of the tags after it.
 #[derive(Clone, Copy, Debug)]
 pub struct TagPrefix {
     /// The tag.
     pub tag: Tag,
-    /// Whether the tag of the type behind it is kept. `None` says that it is not, unless the type has
+    /// Whether the tag of the type after it is kept. `None` says that it is not, unless the type has
     /// none: neither word is written, and the module does not say that tags are explicit.
     pub tagging: Option<Tagging>,
 }

@@ -3,9 +3,9 @@
 /// How a tag is put in front of a type (X.680, 31.2).
 #[derive(Clone, Copy, Debug, PartialEq, Eq)]
 pub enum Tagging {
-    /// In front of the tag of the type.
+    /// The tag is put in front of that of the type.
     Explicit,
-    /// In place of the tag of the type.
+    /// The tag replaces that of the type.
     Implicit,
 }
 

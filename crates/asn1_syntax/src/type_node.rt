@@ -7,14 +7,14 @@ use crate::named_number::NamedNumber;
 use crate::simple_type::SimpleType;
 use crate::tag::TagPrefix;
 
-/// A type, with the item that it begins with. Types that it is made of have indices below its own.
+/// A type and its first item. Its components have smaller indices.
 #[derive(Drop)]
 pub struct TypeNode<'a> {
     /// The first item.
     pub item: Item<'a>,
     /// How the type is made.
     pub form: TypeForm<'a>,
-    /// The constraints behind it, and the size in front of the items of a list.
+    /// The constraints after it, and the size in front of the items of a list.
     pub constraints: Vec<Constraint<'a>>,
     /// The extension mark of an ENUMERATED, a SEQUENCE, a SET or a CHOICE, if it has one.
     pub mark: Option<Mark<'a>>,
@@ -53,6 +53,6 @@ pub enum TypeForm<'a> {
     SequenceOf(usize),
     /// A SET OF the type with this index.
     SetOf(usize),
-    /// The type with this index behind a tag.
+    /// The type with this index after a tag.
     Tagged(TagPrefix, usize),
 }

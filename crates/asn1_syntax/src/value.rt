@@ -19,7 +19,7 @@ pub struct Value<'a> {
 pub enum ValueForm<'a> {
     /// As one item: a number, a name, a string, `TRUE`, `FALSE` or `NULL`.
     Item,
-    /// As a number behind a minus sign.
+    /// As a number after a minus sign.
     Negative(u64),
     /// As items in braces.
     Braces(Vec<Item<'a>>),

@@ -9,7 +9,7 @@ use std::alloc::{AllocError, Global};
 pub struct Warning<'a> {
     /// The index of the first octet.
     pub offset: usize,
-    /// The text that stands there.
+    /// The text found at this place.
     pub found: &'a str,
     /// What becomes of it.
     pub text: String,

@@ -8,7 +8,7 @@ use asn1_check::Constant;
 use asn1_syntax::{Item, Refusal, ValueAssignment};
 use std::alloc::Global;
 
-const NO_IDENTIFIER: &str = "an OBJECT IDENTIFIER behind a comment `Schema type:`";
+const NO_IDENTIFIER: &str = "an OBJECT IDENTIFIER after a comment `Schema type:`";
 
 const TWICE: &str = "an OBJECT IDENTIFIER that has no other type in this open type";
 

@@ -210,7 +210,7 @@ fn digit_of(octet: u8) -> Option<u8> {
     }
 }
 
-// Adds a digit of so many bits behind so many bits.
+// Adds a digit of so many bits after so many bits.
 fn push_digit(octets: &mut Vec<u8>, bits: u64, width: u64, digit: u8) -> Result<(), AllocError> {
     if bits % 8 == 0 {
         octets.push(0)?;

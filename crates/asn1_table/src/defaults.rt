@@ -121,7 +121,7 @@ fn open_value<'a>(
     }
 }
 
-// The index of the colon that stands behind a type of one word or two.
+// The index of the colon that is after a type of one word or two.
 fn colon_in(items: &[Item<'_>]) -> Option<usize> {
     for (index, item) in items.iter().enumerate().take(3) {
         if item.is(":") {

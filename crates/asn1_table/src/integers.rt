@@ -14,7 +14,7 @@ pub fn integer_octets(alloc: Global, number: Endpoint<'_>) -> Result<Vec<u8>, Al
     }
 }
 
-// The octets of a number, each inverted if `sign` is 255, behind an octet `sign` if the first bit
+// The octets of a number, each inverted if `sign` is 255, after an octet `sign` if the first bit
 // says otherwise.
 fn octets_of(alloc: Global, number: u64, sign: u8) -> Result<Vec<u8>, AllocError> {
     let mut octets = Vec::new(alloc);

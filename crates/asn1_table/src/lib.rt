@@ -13,7 +13,7 @@
 //! | a value that is an OBJECT IDENTIFIER | `Schema type: TYPE` | it chooses this type in each `ANY` |
 //! | | `Schema type: TYPE in NAME` | it does so in the open type of this name, and nowhere else |
 //! | a component | `Schema opens: NAME` | its `ANY`, or the contents of its string, is the open type of this name |
-//! | a component | `Schema type: TYPE` | it has this type behind its tags, in place of that which is written |
+//! | a component | `Schema type: TYPE` | it has this type after its tags, in place of that which is written |
 //!
 //! A TYPE is a name of the module, of one that it imports, or `MODULE.NAME`. A line is passed over if that module is
 //! not given. An open type is chosen by the first component in front of it that is an OBJECT IDENTIFIER.

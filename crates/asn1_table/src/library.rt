@@ -127,7 +127,7 @@ impl<'a> Library<'a> {
         }
     }
 
-    /// The index of the type with this name where it stands in the comment at an offset, with the name of a
+    /// The index of the type with this name where it is in the comment at an offset, with the name of a
     /// module in front or without.
     pub fn commented(&self, offset: usize, name: &str) -> Option<usize> {
         match name.split_once('.') {
@@ -166,14 +166,14 @@ fn objects_of<'a>(alloc: Global, parsed: &mut ParsedModule<'a>) -> Vec<Informati
 
 // The number of the module with the item at this offset.
 fn number_at(outlines: &Vec<ModuleOutline<'_>>, offset: usize) -> usize {
-    let behind = outlines
+    let after = outlines
         .iter()
         .filter(|outline| outline.name.offset <= offset)
         .count();
-    behind.saturating_sub(1)
+    after.saturating_sub(1)
 }
 
-/// The name of an assignment as it is written: without the name of its module, which it has behind it if a
+/// The name of an assignment as it is written: without the name of its module, which it has after it if a
 /// module in front has the same name.
 pub fn written_name<'a>(outlines: &Vec<ModuleOutline<'a>>, name: Item<'a>) -> &'a str {
     match outlines.get(number_at(outlines, name.offset)) {

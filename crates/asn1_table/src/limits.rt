@@ -18,8 +18,8 @@ impl<'a> Limits<'a> {
         size: None,
     };
 
-    /// These limits, which stand behind those of this type, and both hold (X.680, 50.8).
-    pub fn behind(self, node: &TypeNode<'a>) -> Self {
+    /// These limits, which are after those of this type, and both hold (X.680, 50.8).
+    pub fn after(self, node: &TypeNode<'a>) -> Self {
         let mut found = self;
         for constraint in node.constraints.iter().rev() {
             match constraint {
@@ -32,11 +32,11 @@ impl<'a> Limits<'a> {
     }
 }
 
-// The numbers of a range that are in those behind it. An extension mark behind the last one allows all
+// The numbers of a range that are in those after it. An extension mark after the last one allows all
 // numbers.
-fn both<'a>(behind: Option<Range<'a>>, range: Range<'a>) -> Range<'a> {
-    match behind {
-        Some(behind) => behind.and(range),
+fn both<'a>(after: Option<Range<'a>>, range: Range<'a>) -> Range<'a> {
+    match after {
+        Some(after) => after.and(range),
         None if range.is_extensible => Range::ALL,
         None => range,
     }

@@ -11,7 +11,7 @@ pub struct Opener<'a> {
     pub objects: Option<usize>,
     /// Whether the contents of a string are this open type.
     pub is_string: bool,
-    /// The index of the type that a component has behind its tags, if a comment says so.
+    /// The index of the type that a component has after its tags, if a comment says so.
     pub own: Option<usize>,
 }
 

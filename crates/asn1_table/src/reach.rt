@@ -1,4 +1,4 @@
-//! Types behind their names and tags.
+//! Types after their names and tags.
 
 use crate::library::Library;
 use crate::limits::Limits;
@@ -9,7 +9,7 @@ use asn1_syntax::{Refusal, SimpleType, Tag, TagPrefix, Tagging, TypeForm, TypeNo
 
 const LOOP: &str = "a type that is not made of its own name";
 
-/// The node of the type with this index, under a tag in place of its own or without: what is behind the
+/// The node of the type with this index, under a tag in place of its own or without: what is after the
 /// names and the implicit tags of the type.
 pub fn reach<'a>(
     library: &Library<'a>,
@@ -36,7 +36,7 @@ pub fn reach<'a>(
             wanted = wanted.named(of, library.name_at(of), opener.with_own(None));
             continue;
         }
-        wanted = wanted.behind(node);
+        wanted = wanted.after(node);
         match &node.form {
             TypeForm::Reference => {
                 let of = library.named(node.item)?;
@@ -63,9 +63,9 @@ fn refused_at<'a>(library: &Library<'a>, index: usize) -> Wrong<'a> {
     }
 }
 
-// Whether a tag takes the place of that of the type with this index behind it (X.680, 31.2.7).
-fn is_implicit(library: &Library<'_>, behind: usize, prefix: TagPrefix) -> bool {
-    prefix.tagging != Some(Tagging::Explicit) && !has_no_tag(library, behind)
+// Whether a tag takes the place of that of the type with this index after it (X.680, 31.2.7).
+fn is_implicit(library: &Library<'_>, after: usize, prefix: TagPrefix) -> bool {
+    prefix.tagging != Some(Tagging::Explicit) && !has_no_tag(library, after)
 }
 
 /// Whether the type with this index is a CHOICE or `ANY` without a tag, under any names.

@@ -90,7 +90,7 @@ impl<'a> Rows<'a> {
         Ok(index)
     }
 
-    /// Adds so many fields behind the others, which are filled later.
+    /// Adds so many fields after the others, which are filled later.
     pub fn add_fields(&mut self, count: usize) -> Result<Span, AllocError> {
         let start = self.fields.len();
         for _ in 0..count {

@@ -20,7 +20,7 @@ const TAG: &str = "a component whose tag no other one has where both may be";
 
 /// Compiles the modules of a text to a table of the types `only`, or of all that are supported if `only` is
 /// empty. A name of `only` may have the name of its module and a point in front. The names that
-/// [`asn1_syntax::own_names`] returns have to stand behind the last module.
+/// [`asn1_syntax::own_names`] returns have to be after the last module.
 ///
 /// # Errors
 ///
@@ -50,7 +50,7 @@ pub fn table_of<'a>(
     Err(Wrong::TooLarge)
 }
 
-// Adds what is wrong or not supported. One that is there was not left out, so it stands outside of all
+// Adds what is wrong or not supported. One that is there was not left out, so it is outside of all
 // assignments, or where a parser finds it.
 fn add_known<'a>(known: &mut Vec<Refusal<'a>>, refusal: Refusal<'a>) -> Result<(), Wrong<'a>> {
     for before in known.iter() {

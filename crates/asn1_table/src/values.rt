@@ -18,7 +18,7 @@ pub struct Words<'a> {
 pub enum WordsForm {
     /// As one item.
     Item,
-    /// As a number behind a minus sign.
+    /// As a number after a minus sign.
     Negative(u64),
     /// In braces.
     Braces,
@@ -104,7 +104,7 @@ impl<'a> Words<'a> {
     }
 
     // Whether a component that begins at an index ends in front of another: whether a comma outside of
-    // braces, or no item, stands there.
+    // braces, or no item, is there.
     fn is_end(&self, start: usize, at: usize) -> bool {
         let Some(item) = self.items.get(at) else {
             return true;

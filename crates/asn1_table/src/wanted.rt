@@ -5,16 +5,16 @@ use crate::opener::Opener;
 use asn1_check::contained;
 use asn1_syntax::{Tag, TagClass, TypeNode};
 
-/// A node that a table needs: a type behind its names and the tags that take the place of others.
+/// A node that a table needs: a type after its names and the tags that take the place of others.
 #[derive(Clone, Copy, Debug)]
 pub struct Wanted<'a> {
-    /// The index of the type; that behind the last one for any type.
+    /// The index of the type; that after the last one for any type.
     pub index: usize,
     /// Its last name, or none.
     pub name: &'a str,
     /// The tag in place of its own, if it has another one.
     pub tag: Option<Tag>,
-    /// Whether that tag stands around it.
+    /// Whether that tag is around it.
     pub is_around: bool,
     /// The limits of the constraints in front of it.
     pub limits: Limits<'a>,
@@ -48,7 +48,7 @@ impl<'a> Wanted<'a> {
         }
     }
 
-    /// The type with this index, behind a tag that it has unless there is another one.
+    /// The type with this index, after a tag that it has unless there is another one.
     pub fn under(self, tag: Tag, index: usize) -> Self {
         Wanted {
             index,
@@ -58,9 +58,9 @@ impl<'a> Wanted<'a> {
     }
 
     /// The same, with the constraints of its type.
-    pub fn behind(self, node: &TypeNode<'a>) -> Self {
+    pub fn after(self, node: &TypeNode<'a>) -> Self {
         Wanted {
-            limits: self.limits.behind(node),
+            limits: self.limits.after(node),
             contained: self.contained.or(contained(node)),
             ..self
         }

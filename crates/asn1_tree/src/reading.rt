@@ -45,21 +45,21 @@ pub fn read(
 {
     let mut sizes = Sizes::first(octets.len());
     for _ in 0..TRIES {
-        if let Some(tree) = read_in(alloc, schema, node, octets, sizes)? {
+        if let Some(tree) = read_in(alloc, schema, node, octets, &mut sizes)? {
             return Ok(tree);
         }
-        sizes = sizes.larger();
     }
     Err(AllocError)
 }
 
-// Reads with room of these sizes. `None` if it is too small.
+// Reads with room of these sizes. `None` if it is too small: then there are greater sizes, and exactly as many
+// departures as were found, if these alone had too little room.
 fn read_in(
     alloc: Global,
     schema: &Schema<'_>,
     node: u32,
     octets: &[u8],
-    sizes: Sizes,
+    sizes: &mut Sizes,
 ) -> Result<Option<Tree>, AllocError>
     requires { node < schema.now.counts.nodes }
     ensures der { IfOk result (λ o. IfSome o (λ tree. (tree.departures.items ≡ [])
@@ -85,7 +85,14 @@ fn read_in(
         text.as_mut_slice(),
     ) {
         Ok(found) if found.lost == 0 => found,
-        _ => return Ok(None),
+        Ok(found) => {
+            sizes.departures = found.departures.saturating_add(found.lost);
+            return Ok(None);
+        }
+        Err(_) => {
+            *sizes = sizes.larger();
+            return Ok(None);
+        }
     };
     entries.truncate(found.entries);
     departures.truncate(found.departures);

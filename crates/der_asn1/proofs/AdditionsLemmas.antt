@@ -18,7 +18,7 @@ use Rattle.der_asn1.specs.Item.{IsElement}
 use Rattle.der_asn1.specs.ListAnswers.{IsPart, part_state}
 use Rattle.der_asn1.specs.SequenceOf.{AllValid, joined_encodings}
 use Rattle.der_asn1.specs.UnknownWalk.{AdditionsCounted, IsLeft, IsUnknownFront, UnknownCounted}
-use Rattle.der_asn1.specs.declared.any.AnyRef.{AnyRef}
+use Rattle.der_asn1.specs.declared.elements.any.AnyRef.{AnyRef}
 use Rattle.der_asn1.proofs.ListAnswerLemmas.{IsSliceRead, slice_read}
 use Rattle.der_asn1.proofs.SequenceOfLemmas.{same_front}
 use Rattle.der_asn1.proofs.UnknownWalkLemmas.{not_ended}

@@ -13,7 +13,7 @@ use Rattle.der.proofs.NestedLemmas.{enter_ok}
 use Rattle.der.proofs.WholeLemmas.{finishes}
 use Rattle.der_asn1.specs.AnyRef.{any_contents}
 use Rattle.der_asn1.specs.DecodesAs.{any_head, inside_state}
-use Rattle.der_asn1.specs.declared.any.AnyRef.{AnyRef}
+use Rattle.der_asn1.specs.declared.elements.any.AnyRef.{AnyRef}
 
 -- the header that is made has the constructed bit of its tag
 pub made_head : (t : Tag) (n : ℕ) {l : Length} {h : Head} → l ≡ definite_length n → h ≡ head t l ((label t).constructed || is_indefinite l) → h ≡ definite_head t n

@@ -9,8 +9,8 @@ use Rattle.der.proofs.DecodeLemmas.{not_refused, lacks_only, read_on}
 use Rattle.der_asn1.specs.Follow.{TagIn, other, either_tags}
 use Rattle.der_asn1.specs.Either.{EitherNext}
 use Rattle.der_asn1.specs.EitherLaws.{either_begins}
-use Rattle.der_asn1.specs.declared.either.Either.{Either}
-use Rattle.der_asn1.specs.declared.either.Either.TheVariants.{First, Second}
+use Rattle.der_asn1.specs.declared.fields.either.Either.{Either}
+use Rattle.der_asn1.specs.declared.fields.either.Either.TheVariants.{First, Second}
 use Rattle.der_asn1.proofs.OptionalReadLemmas.{peeked}
 use Rattle.der_asn1.proofs.DefaultReadLemmas.{tag_not_absent}
 

@@ -2,7 +2,7 @@
 use Rattle.std.proofs.Common.{◌≡◌, ℕ, Bool, true, ◌+◌, ◌*◌, ◌/◌, ◌%◌, ◌<◌, ◌≤◌, ◌==◌, ◌&&◌, List, [], ◌∷◌, refl, ap, ◌∙◌, nat_le, if◌then◌else◌, ◌||◌, ⊎_elim, arith}
 use Rattle.std.proofs.lemmas.Bool.{and_parts, ltb-true, leb-true, eq-eqb, cond_both, cases_lt, lt-ltb, le-ltb}
 use Rattle.std.specs.Str.{bytes_eq}
-use Rattle.der_asn1.specs.declared.date_time.DateTime.{DateTime}
+use Rattle.der_asn1.specs.declared.times.date_time.DateTime.{DateTime}
 use Rattle.der_asn1.specs.Times.{is_date_time, is_utc_time, is_leap_year, days_of, generalized_octets, utc_octets, generalized_reading, utc_reading, generalized_form, utc_form, utc_year}
 
 same_number : (n : ℕ) → (n == n) ≡ true

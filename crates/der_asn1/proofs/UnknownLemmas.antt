@@ -9,7 +9,7 @@ use Rattle.der_asn1.specs.Additions.{AreUnknown, IsUnknown}
 use Rattle.der_asn1.specs.SequenceOf.{AllValid, IsListOf}
 use Rattle.der_asn1.specs.TagSets.{is_among}
 use Rattle.der_asn1.specs.UnknownElement.{any_tag_next}
-use Rattle.der_asn1.specs.declared.any.AnyRef.{AnyRef}
+use Rattle.der_asn1.specs.declared.elements.any.AnyRef.{AnyRef}
 
 -- whether an error reports a failed allocation
 abbrev pub lacks : Error → Bool

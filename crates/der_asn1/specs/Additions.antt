@@ -12,7 +12,7 @@ use Rattle.der.specs.Tag.{label}
 use Rattle.der_base.proofs.EqualityLemmas.{tag_equality}
 use Rattle.der_base.proofs.HeaderLemmas.{one_tag}
 use Rattle.der_asn1.specs.AnyRef.{IsAny, any_contents}
-use Rattle.der_asn1.specs.declared.any.AnyRef.{AnyRef}
+use Rattle.der_asn1.specs.declared.elements.any.AnyRef.{AnyRef}
 use Rattle.der_asn1.specs.Follow.{NoTagIn, StartsIn, this_tag}
 use Rattle.der_asn1.specs.FollowLemmas.{fewer_tags, starts_append, starts_wider, tag_octets_begin_with_tag}
 use Rattle.der_asn1.specs.Meaning.{FieldSpec}

@@ -9,7 +9,7 @@ use Rattle.der_asn1.specs.FieldLaws.{contents_hold, contents_laws}
 use Rattle.der_asn1.specs.Follow.{any_tag}
 use Rattle.der_asn1.specs.TagSets.{all_but}
 use Rattle.der_asn1.specs.SetLaws.{DecidedByTagLaws, decided_by_tag_set, laws_of}
-use Rattle.der_asn1.specs.declared.any.AnyRef.{AnyRef}
+use Rattle.der_asn1.specs.declared.elements.any.AnyRef.{AnyRef}
 
 pub any_element_decided_by_tag : DecidedByTagLaws any_tag (all_but [] ∷ []) (AnyElementNext TakesAny)
     IsAny

@@ -6,7 +6,7 @@ use Rattle.der.specs.Prelude.{WriterAnswer, Gives, map_ok, read_slice_outcome, R
 use Rattle.der.specs.Prelude.{write_outcome}
 use Rattle.der.specs.Tag.{label}
 use Rattle.der_asn1.specs.AnyElement.{IsLawfulChoice}
-use Rattle.der_asn1.specs.declared.any.AnyRef.{AnyRef}
+use Rattle.der_asn1.specs.declared.elements.any.AnyRef.{AnyRef}
 
 abbrev pub any_contents : AnyRef → List ℕ
 any_contents v = v.contents.now

@@ -5,9 +5,9 @@ use Rattle.std.specs.Prelude.{Option, Some, None, if◌then◌else◌, drop, map
 use Rattle.std.specs.List.{flat_map}
 use Rattle.der.specs.Length.{digits}
 use Rattle.der.specs.Tag.{continuation_octets}
-use Rattle.der_asn1.specs.declared.arcs.Arcs.{Arcs}
-use Rattle.der_asn1.specs.declared.arcs.Stage.{Stage}
-use Rattle.der_asn1.specs.declared.arcs.Stage.TheVariants as stage
+use Rattle.der_asn1.specs.declared.identifiers.arcs.Arcs.{Arcs}
+use Rattle.der_asn1.specs.declared.identifiers.arcs.Stage.{Stage}
+use Rattle.der_asn1.specs.declared.identifiers.arcs.Stage.TheVariants as stage
 
 -- a subidentifier: a number in base 128, bit 8 set on all octets but the last (8.19.2)
 abbrev pub subidentifier_octets : ℕ → List ℕ

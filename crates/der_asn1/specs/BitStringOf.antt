@@ -11,8 +11,8 @@ use Rattle.der_asn1.specs.FollowLemmas.{encodings_are_fields, fields_follow, fie
 use Rattle.der_asn1.specs.Meaning.{ElementSpec, is_shallow, shallow}
 use Rattle.der_asn1.specs.TagSetLemmas.{both_true}
 use Rattle.der_asn1.specs.ZeroOctet.{ZeroNext}
-use Rattle.der_asn1.specs.declared.no_unused_bits.NoUnusedBits.{NoUnusedBits}
-use Rattle.der_asn1.specs.declared.no_unused_bits.NoUnusedBits.TheVariants.{Zero}
+use Rattle.der_asn1.specs.declared.strings.no_unused_bits.NoUnusedBits.{NoUnusedBits}
+use Rattle.der_asn1.specs.declared.strings.no_unused_bits.NoUnusedBits.TheVariants.{Zero}
 
 -- the contents are a zero and then an element
 abbrev pub TakesBitsOf : {A B : Type 0} → Tag → (A → EncodingRules → Head → List ℕ → Type 0)

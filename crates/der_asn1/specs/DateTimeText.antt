@@ -1,7 +1,7 @@
 -- A date with a time of day as text (RFC 3339, 5.6): `2026-11-29T03:26:17Z`.
 use Rattle.std.specs.Prelude.{ℕ, ◌/◌, ◌%◌, List, ◌++◌, codes}
 use Rattle.std.specs.Fmt.{decimal}
-use Rattle.der_asn1.specs.declared.date_time.DateTime.{DateTime}
+use Rattle.der_asn1.specs.declared.times.date_time.DateTime.{DateTime}
 
 -- a number below 100, with two digits
 abbrev pub two_decimals : ℕ → List ℕ

@@ -8,7 +8,7 @@ use Rattle.der.specs.Lawful.{definite_head}
 use Rattle.der.specs.Prelude.{EncodingRules, Error, Head, ReaderState, Tag, error_of_kind}
 use Rattle.der.specs.ReaderState.{initial_state, nested_state}
 use Rattle.der_asn1.specs.AnyRef.{any_contents}
-use Rattle.der_asn1.specs.declared.any.AnyRef.{AnyRef}
+use Rattle.der_asn1.specs.declared.elements.any.AnyRef.{AnyRef}
 
 -- the header of the element, with the constructed bit of its tag
 abbrev pub any_head : AnyRef → Head

@@ -9,8 +9,8 @@ use Rattle.der.specs.Tag.{IdentifierFault}
 use Rattle.der.specs.Decode.{Peeks}
 use Rattle.der.specs.ReaderState.{stopped_state}
 use Rattle.der_asn1.specs.Follow.{NoTagIn}
-use Rattle.der_asn1.specs.declared.either.Either.{Either}
-use Rattle.der_asn1.specs.declared.either.Either.TheVariants.{First, Second}
+use Rattle.der_asn1.specs.declared.fields.either.Either.{Either}
+use Rattle.der_asn1.specs.declared.fields.either.Either.TheVariants.{First, Second}
 
 -- a value of the first type, or of the second if no tag of the first type is next
 abbrev pub EitherNext : {A B : Type 0} → (Tag → Type 0)

@@ -9,8 +9,8 @@ use Rattle.der_asn1.specs.Item.{IsElement}
 use Rattle.der_asn1.specs.SetLaws.{DecidedByTagLaws}
 use Rattle.der_asn1.specs.TagSets.{TagGroup, IsIn, are_apart}
 use Rattle.der_asn1.specs.TagSetLemmas.{both_true, sets_apart, in_either}
-use Rattle.der_asn1.specs.declared.either.Either.{Either}
-use Rattle.der_asn1.specs.declared.either.Either.TheVariants.{First, Second}
+use Rattle.der_asn1.specs.declared.fields.either.Either.{Either}
+use Rattle.der_asn1.specs.declared.fields.either.Either.TheVariants.{First, Second}
 
 module _ {A B : Type 0} {one_tags two_tags : Tag → Type 0} {first second : List TagGroup}
     {One : A → EncodingRules → List ℕ → ℕ → Type 0} {Two : B → EncodingRules → List ℕ → ℕ → Type 0}

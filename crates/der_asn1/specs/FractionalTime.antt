@@ -2,7 +2,7 @@
 -- full stop, digits of which the last is not 0, and Z.
 use Rattle.std.specs.Prelude.{ℕ, ◌+◌, ◌-◌, ◌*◌, ◌==◌, ◌&&◌, not, Bool, true, false, nat_lt}
 use Rattle.std.specs.Prelude.{List, [], ◌∷◌, ◌++◌, drop, take, if◌then◌else◌, slice_index_or}
-use Rattle.der_asn1.specs.declared.date_time.DateTime.{DateTime}
+use Rattle.der_asn1.specs.declared.times.date_time.DateTime.{DateTime}
 use Rattle.der_asn1.specs.Times.{generalized_form, generalized_reading}
 
 -- the contents without the fraction: fourteen digits and Z

@@ -27,10 +27,10 @@ use Rattle.der_asn1.specs.SetLaws.{SetLaws, DecidedByTagLaws, laws_of, element_d
 use Rattle.der_asn1.specs.SetLaws.{optional_set, default_set, seen_decided_by_tag, seen_set}
 use Rattle.der_asn1.specs.TagSets.{TagGroup, one_tag, all_but, are_apart}
 use Rattle.der_asn1.specs.TagSetLemmas.{both_true}
-use Rattle.der_asn1.specs.declared.any.AnyRef.{AnyRef}
-use Rattle.der_asn1.specs.declared.defaulted.Defaulted.{Defaulted}
-use Rattle.der_asn1.specs.declared.either.Either.{Either}
-use Rattle.der_asn1.specs.declared.optional.Optional.{Optional}
+use Rattle.der_asn1.specs.declared.elements.any.AnyRef.{AnyRef}
+use Rattle.der_asn1.specs.declared.defaults.defaulted.Defaulted.{Defaulted}
+use Rattle.der_asn1.specs.declared.fields.either.Either.{Either}
+use Rattle.der_asn1.specs.declared.fields.optional.Optional.{Optional}
 
 -- a field: which values octets begin with and how many octets each has (`is_next`), the valid
 -- values and their encodings, the levels of nesting, and whether the field is never empty

@@ -5,8 +5,8 @@ use Rattle.std.specs.Fmt.{debug_variant, digit_glyph}
 use Rattle.std.specs.List.{flat_map}
 use Rattle.der.specs.Prelude.{Tag}
 use Rattle.der.specs.Text.{tag_text}
-use Rattle.der_asn1.specs.declared.either.Either.{Either}
-use Rattle.der_asn1.specs.declared.either.Either.TheVariants.{First, Second}
+use Rattle.der_asn1.specs.declared.fields.either.Either.{Either}
+use Rattle.der_asn1.specs.declared.fields.either.Either.TheVariants.{First, Second}
 
 -- an octet as two digits, the letters in upper case
 abbrev pub octet_text : ℕ → List ℕ

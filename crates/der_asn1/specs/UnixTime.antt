@@ -1,7 +1,7 @@
 -- Seconds since 1970-01-01T00:00:00Z (`unix_seconds`), without leap seconds (POSIX, "Seconds Since
 -- the Epoch"), and the day number on which they rest (`day_number`).
 use Rattle.std.specs.Prelude.{ℕ, zero, suc, ◌+◌, ◌-◌, ◌*◌, ℤ, pos, ◌-ℤ◌, if◌then◌else◌}
-use Rattle.der_asn1.specs.declared.date_time.DateTime.{DateTime}
+use Rattle.der_asn1.specs.declared.times.date_time.DateTime.{DateTime}
 use Rattle.der_asn1.specs.Times.{is_leap_year, days_of}
 
 -- the number of days of a year

@@ -13,7 +13,7 @@ use Rattle.der_asn1.specs.FollowLemmas.{element_starts, starts_wider}
 use Rattle.der_asn1.specs.Meaning.{AlternativeSpec}
 use Rattle.der_asn1.specs.SetLaws.{DecidedByTagLaws, seen_decided_by_tag}
 use Rattle.der_asn1.specs.TagSets.{all_but, IsOf, is_among}
-use Rattle.der_asn1.specs.declared.any.AnyRef.{AnyRef}
+use Rattle.der_asn1.specs.declared.elements.any.AnyRef.{AnyRef}
 
 -- an element begins with its tag
 pub any_tag_next : {v : AnyRef} {rules : EncodingRules} {octets : List ℕ} {m : ℕ}

@@ -6,7 +6,8 @@ use Rattle.der_base.specs.declared.length.Length.{Length}
 use Rattle.der_core.specs.ReaderState.{ReaderState, rest_of, advanced_state, nested_state, Reads}
 use Rattle.der_base.specs.HeaderGrammar.{LengthNext, definite}
 use Rattle.der_base.proofs.LengthLemmas.{shortest, length_small}
-use Rattle.der_core.specs.AfterFirstOctet.{RawHeadNext, identifier_tag}
+use Rattle.der_core.specs.AfterFirstOctet.{RawHeadNext}
+use Rattle.der_core.specs.Identifier.{identifier_tag}
 use Rattle.der_core.proofs.StateLemmas.{reads_front, rest_after}
 use Rattle.der_core.proofs.TagReadLemmas.{found_alone, tag_found}
 use Rattle.der_core.specs.Outcome.{Outcome, Gives, outcome_of}
@@ -109,7 +110,7 @@ module _ (s : ReaderState) (l : List ℕ) (is_rest : Ok l ≡ remaining_answer s
 
 -- the header is read, and the reader is after it
 pub short_header_passes : {h : ShortHeader} {s : ReaderState} → IsShortHeader h s
-    → Passes (RawHeadNext (h.first, h.first % 32, definite_length h.count)) s (record s { position = s.position + h.size })
+    → Passes (RawHeadNext (record { first = h.first; number = h.first % 32 }, definite_length h.count)) s (record s { position = s.position + h.size })
 short_header_passes {h} {s} p =
     let o = h.first in
     let ls = length_octets h.count in
@@ -126,7 +127,7 @@ short_header_passes {h} {s} p =
       leaves = refl;
     } in
     let sum : s.position + 1 + length ls ≡ s.position + h.size = omega (arith, p.size) in
-    subst (λ k. Passes (RawHeadNext (o, o % 32, definite_length h.count)) s (record s { position = k })) sum
+    subst (λ k. Passes (RawHeadNext (record { first = o; number = o % 32 }, definite_length h.count)) s (record s { position = k })) sum
     (passed_header tag length_read (λ flagged. absurd (let no : false ≡ true = flagged in cc)))
 
 -- a short header, with the contents that its length counts

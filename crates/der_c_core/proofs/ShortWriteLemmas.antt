@@ -10,7 +10,8 @@ use Rattle.der_base.specs.declared.encoding_rules.EncodingRules.TheVariants.{Der
 use Rattle.der_base.proofs.IdentifierLemmas.{tagged, segmented, identifier_view}
 use Rattle.der_base.proofs.LengthLemmas.{length_small}
 use Rattle.der_core.specs.ReaderState.{ReaderState, initial_state}
-use Rattle.der_core.specs.AfterFirstOctet.{IsAlone, identifier_tag}
+use Rattle.der_core.specs.AfterFirstOctet.{IsAlone}
+use Rattle.der_core.specs.Identifier.{identifier_tag}
 use Rattle.der_core.specs.Writer.{WriterState, Writes, write_outcome, HasSpace}
 use Rattle.der_core.proofs.EncodeLemmas.{header_at_once, has_space}
 use Rattle.der_core.proofs.StateLemmas.{position_on}

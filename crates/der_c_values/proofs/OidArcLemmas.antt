@@ -2,9 +2,9 @@
 use Rattle.std.proofs.Common.{◌≡◌, ℕ, ◌+◌, ◌-◌, ◌*◌, ◌^◌, ◌≤◌, ⊎_elim, Bool, true, false, nat_lt, ◌&&◌, Option, Some, None, List, [], ◌∷◌, ◌++◌, length, take, drop, map, min, unwrap_or, is_some, refl, sym, ap, ◌∙◌, arith}
 use Rattle.std.proofs.lemmas.Bool.{cases_lt, lt-ltb, le-ltb}
 use Rattle.der_asn1.specs.Arcs.{arcs_of, arcs_at, arcs_left, arc_items, items_at, items_of, first_arc, second_item, subidentifier_value, subidentifiers}
-use Rattle.der_asn1.specs.declared.arcs.Arcs.{Arcs}
-use Rattle.der_asn1.specs.declared.arcs.Stage.{Stage}
-use Rattle.der_asn1.specs.declared.arcs.Stage.TheVariants as stage
+use Rattle.der_asn1.specs.declared.identifiers.arcs.Arcs.{Arcs}
+use Rattle.der_asn1.specs.declared.identifiers.arcs.Stage.{Stage}
+use Rattle.der_asn1.specs.declared.identifiers.arcs.Stage.TheVariants as stage
 use Rattle.der_c_values.specs.Dotted.{all_fit}
 use Rattle.der_c_values.specs.OidArcs.{are_narrow_arcs, narrow_item, item_numbers}
 use Rattle.der_c_values.proofs.OidTextLemmas.{first_small}

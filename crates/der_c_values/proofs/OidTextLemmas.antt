@@ -6,9 +6,9 @@ use Rattle.std.proofs.lemmas.Bool.{cases_lt, lt-ltb, le-ltb}
 use Rattle.std.specs.List.{flat_map, list_all}
 use Rattle.der_asn1.specs.Arcs.{arcs_of, arcs_at, arcs_left, arc_items, items_at, items_of, first_arc, oid_arcs, oid_octets, second_item, subidentifier_value, subidentifiers}
 use Rattle.der_asn1.specs.Forms.{oid_form}
-use Rattle.der_asn1.specs.declared.arcs.Arcs.{Arcs}
-use Rattle.der_asn1.specs.declared.arcs.Stage.{Stage}
-use Rattle.der_asn1.specs.declared.arcs.Stage.TheVariants as stage
+use Rattle.der_asn1.specs.declared.identifiers.arcs.Arcs.{Arcs}
+use Rattle.der_asn1.specs.declared.identifiers.arcs.Stage.{Stage}
+use Rattle.der_asn1.specs.declared.identifiers.arcs.Stage.TheVariants as stage
 use Rattle.der_c_values.specs.Dotted.{decimal_text, dotted_text, oid_text, items_text, all_fit, are_small_arcs}
 
 -- arcs in decimal with a dot after each

@@ -1,7 +1,7 @@
 -- A time of a type is one that exists.
 use Rattle.std.proofs.Common.{◌≡◌, ℕ, ◌==◌, ◌&&◌, Bool, true, false, if◌then◌else◌}
 use Rattle.der_asn1.specs.Times.{is_date_time, is_utc_time}
-use Rattle.der_asn1.specs.declared.date_time.DateTime.{DateTime}
+use Rattle.der_asn1.specs.declared.times.date_time.DateTime.{DateTime}
 use Rattle.der_c_values.specs.TimeValues.{is_time_of}
 
 and_right : (a b : Bool) → (a && b) ≡ true → b ≡ true

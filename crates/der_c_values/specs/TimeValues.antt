@@ -5,7 +5,7 @@ use Rattle.std.specs.Prelude.{◌≡◌, ◌⊎◌, ℕ, ◌==◌, ◌||◌, Boo
 use Rattle.der_core.specs.Writer.{WriterState}
 use Rattle.der_asn1.specs.Times.{is_date_time, is_utc_time, generalized_octets, generalized_form, utc_octets, utc_form}
 use Rattle.der_asn1.specs.UnixTime.{unix_seconds}
-use Rattle.der_asn1.specs.declared.date_time.DateTime.{DateTime}
+use Rattle.der_asn1.specs.declared.times.date_time.DateTime.{DateTime}
 use Rattle.der_c_core.specs.WriterCalls.{WritesElement}
 use Rattle.der_c_core.specs.declared.error.DerError.{DerError}
 use Rattle.der_c_values.specs.ValueCalls.{value_code}

@@ -1,7 +1,7 @@
 -- Values as structs of C: elements (`IsAnyOf`), bits (`IsBitsOf`), algorithms (`IsAlgorithmOf`) and
 -- public keys (`IsPublicKeyOf`).
 use Rattle.std.specs.Prelude.{◌≡◌, ℕ, List, [], ◌∷◌, Option, MatchOption}
-use Rattle.der_asn1.specs.declared.any.AnyRef.{AnyRef}
+use Rattle.der_asn1.specs.declared.elements.any.AnyRef.{AnyRef}
 use Rattle.der_c_core.specs.TagWord.{tag_word}
 use Rattle.der_c_core.specs.declared.bits.DerBits.{DerBits}
 use Rattle.der_c_x509.specs.declared.algorithm.DerAlgorithm.{DerAlgorithm}

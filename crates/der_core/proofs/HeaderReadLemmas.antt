@@ -2,7 +2,7 @@
 use Rattle.std.proofs.Common.{◌≡◌, ℕ, ◌+◌, ◌%◌, ◌≤◌, Bool, true, false, Option, Some, Ok, Err, List, [], ◌∷◌, ◌++◌, length, take, refl, sym, ap, ◌∙◌, subst, length-append, arith}
 use Rattle.der_base.specs.Error.{error_at, refusal}
 use Rattle.der_base.specs.Length.{definite_length, is_indefinite}
-use Rattle.der_base.specs.Tag.{IsIdentifier, IdentifierFault, is_constructed}
+use Rattle.der_base.specs.Tag.{IsIdentifier, IdentifierFault}
 use Rattle.der_base.specs.ScanGrammar.{BodyFault}
 use Rattle.der_base.specs.HeaderGrammar.{Head, head, IdentifierNext, LengthNext, HeadNext, header, LengthFault, HeaderFault, no_identifier, no_length, primitive}
 use Rattle.der_base.specs.Laws.{IsGrammar}
@@ -14,7 +14,9 @@ use Rattle.der_base.specs.declared.error.ErrorKind.TheVariants.{IndefiniteLength
 use Rattle.der_base.proofs.HeaderLemmas.{IdentifierView, identifier_view_of, identifier_view, header_grammar}
 use Rattle.der_base.proofs.ScanLemmas.{body_fault_laws}
 use Rattle.der_core.specs.ReaderState.{ReaderState, rest_of, reader_position, advanced_state, stopped_state, IsSound, Reads}
-use Rattle.der_core.specs.AfterFirstOctet.{Stops, AreNext, RawHeadNext, identifier_tag}
+use Rattle.der_core.specs.AfterFirstOctet.{Stops, AreNext, RawHeadNext}
+use Rattle.der_core.specs.Identifier.{tag_of, is_constructed_identifier}
+use Rattle.der_core.specs.declared.identifier.Identifier.{Identifier}
 use Rattle.der_core.specs.Outcome.{Outcome, Gives, outcome_of}
 use Rattle.der_core.specs.Reader.{read_slice_outcome}
 use Rattle.der_core.specs.Decode.{Passes, IsRefusedBy, at_fault, has_failed}
@@ -83,7 +85,7 @@ fits_two : {s : ReaderState} {o p : ℕ} {more : List ℕ} → IsSound s → res
 fits_two {s} sound split = omega (arith, length-rest s sound, ap length split, sound.ordered)
 
 pub short_passed : {s t : ReaderState} {x : Option (ℕ × ℕ)} {o p n : ℕ} {l : List ℕ} {count : Length} → IsSound s → AreNext s x → x ≡ Some (o, p) → n ≡ 2 → count ≡ definite_length p
-    → Gives (read_slice_outcome n) s (Ok l) t → Passes (RawHeadNext (o, o % 32, count)) s t
+    → Gives (read_slice_outcome n) s (Ok l) t → Passes (RawHeadNext (record { first = o; number = o % 32 }, count)) s t
 short_passed {s} {t} {x} {o} {p} {count = count} sound there is two counted h =
     let a : AreNext s (Some (o, p)) = subst (AreNext s) is there in
     let more = a.3.0 in
@@ -96,8 +98,8 @@ short_passed {s} {t} {x} {o} {p} {count = count} sound there is two counted h =
     let length_read = passed_short {l = definite_length p} a.0 second a.2 refl in
     let sum : s.position + 1 + 1 ≡ s.position + 2 = omega arith in
     let after : t ≡ advanced_state b 1 = h.leaves ∙ ap (λ n. (read_slice_outcome n s).after) two ∙ ap (λ (q : Outcome (List ℕ)). q.after) (slice_fits s 2 a.0 (fits_two sound split)) ∙ ap (λ n. record s { position = n }) (sym sum) in
-    subst (λ c. Passes (RawHeadNext (o, o % 32, c)) s t) (sym counted)
-    (subst (Passes (RawHeadNext (o, o % 32, definite_length p)) s) (sym after) (passed_header tag length_read (λ flagged. absurd (let no : false ≡ true = flagged in cc))))
+    subst (λ c. Passes (RawHeadNext (record { first = o; number = o % 32 }, c)) s t) (sym counted)
+    (subst (Passes (RawHeadNext (record { first = o; number = o % 32 }, definite_length p)) s) (sym after) (passed_header tag length_read (λ flagged. absurd (let no : false ≡ true = flagged in cc))))
 
 pub short_granted : {s t : ReaderState} {x : Option (ℕ × ℕ)} {o p n : ℕ} {e : Error} → IsSound s → AreNext s x → x ≡ Some (o, p) → n ≡ 2 → Gives (read_slice_outcome n) s (Err e) t → ⊥
 short_granted {s} {x = x} {o} {p} {e = e} sound there is two h =
@@ -106,10 +108,10 @@ short_granted {s} {x = x} {o} {p} {e = e} sound there is two h =
     let no : Err e ≡ Ok (take 2 (rest_of s)) = h.answered ∙ ap (λ n. (read_slice_outcome n s).answer) two ∙ ap (λ (q : Outcome (List ℕ)). q.answer) (slice_fits s 2 a.0 fits) in
     cc
 
--- a header whose identifier was returned as its first octet and number
-pub raw_header_consumed : {s t : ReaderState} {l : Length} {h : Header} (o n : ℕ) → head_of h ≡ head (identifier_tag o n) l (is_constructed o)
-    → Passes (RawHeadNext (o, n, l)) s t → Passes (HeaderNext h) s t
-raw_header_consumed {s} {t} o n reported h = subst (λ x. Passes (HeadNext x) s t) (sym reported) h
+-- a header whose identifier was returned
+pub raw_header_consumed : {s t : ReaderState} {l : Length} {h : Header} (i : Identifier) → head_of h ≡ head (tag_of i) l (is_constructed_identifier i)
+    → Passes (RawHeadNext (i, l)) s t → Passes (HeaderNext h) s t
+raw_header_consumed {s} {t} i reported h = subst (λ x. Passes (HeadNext x) s t) (sym reported) h
 
 -- an indefinite length after a primitive identifier
 pub header_primitive : {a b c t : ReaderState} {x : Tag} {bit : Bool} {l : Length} {e : Error} → Passes (IdentifierNext (x, bit)) a b → bit ≡ false

@@ -17,7 +17,8 @@ use Rattle.der_base.proofs.IdentifierLemmas.{identifier_at, segments_identifier,
 use Rattle.der_base.proofs.TagLemmas.{universal_constructed, universal_class, universal_octets, universal_found}
 use Rattle.der_core.specs.ReaderState.{ReaderState, rest_of, reader_position, stopped_state, Reads}
 use Rattle.der_core.specs.Decode.{Passes, IsRefusedBy, at_fault, has_failed}
-use Rattle.der_core.specs.AfterFirstOctet.{IdentifierAfter, IsAlone, RefusesIdentifier, RefusesNumber, Stops, tag_or_segments, identifier_tag}
+use Rattle.der_core.specs.AfterFirstOctet.{IdentifierAfter, IsAlone, RefusesIdentifier, RefusesNumber, Stops}
+use Rattle.der_core.specs.Identifier.{tag_or_segments, identifier_tag}
 use Rattle.der_core.proofs.StateLemmas.{reads_none, reads_on, position_on, failed_on, rules_on, stops_on, error_stops, ByteRefused, byte_failed, byte_cut}
 
 pub bit_six : (o : ℕ) → bit_and o 32 ≡ o / 32 % 2 * 32

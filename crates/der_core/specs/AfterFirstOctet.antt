@@ -2,10 +2,10 @@
 -- `DefiniteAfter` and `IsIndefiniteForm` for success; `RefusesNumber`, `RefusesIdentifier`,
 -- `RefusesLongLength` and `RefusesIndefinite` for errors. `IsGuess`, `IsAlone`, `AreNext` and
 -- `RawHeadNext` are about headers that are read at once.
-use Rattle.std.specs.Prelude.{◌≡◌, ◌≢◌, ◌⊎◌, ℕ, ◌+◌, ◌%◌, ◌^◌, ◌<◌, ◌≤◌, Bool, false, Option, Some, None, List, ◌∷◌, nat_lt, if◌then◌else◌}
+use Rattle.std.specs.Prelude.{◌≡◌, ◌≢◌, ◌⊎◌, ℕ, ◌+◌, ◌%◌, ◌^◌, ◌<◌, ◌≤◌, Bool, false, Option, Some, None, List, ◌∷◌}
 use Rattle.der_base.specs.FixedOctets.{high_number, indefinite_octet}
 use Rattle.der_base.specs.Error.{Refusal}
-use Rattle.der_base.specs.Tag.{IsIdentifier, IdentifierFault, universal_tag, other_tag, is_constructed}
+use Rattle.der_base.specs.Tag.{IsIdentifier, IdentifierFault, universal_tag}
 use Rattle.der_base.specs.Length.{length_octets}
 use Rattle.der_base.specs.ScanGrammar.{NoBodyFault, BodyNext, BodyFault}
 use Rattle.der_base.specs.HeaderGrammar.{LengthFault, HeadNext, head}
@@ -16,7 +16,8 @@ use Rattle.der_base.specs.declared.encoding_rules.EncodingRules.{EncodingRules}
 use Rattle.der_base.specs.declared.encoding_rules.EncodingRules.TheVariants.{Ber}
 use Rattle.der_base.specs.declared.length.Length.{Length}
 use Rattle.der_base.specs.declared.tag.Tag.{Tag}
-use Rattle.der_base.specs.declared.tag.Tag.TheVariants.{OctetString}
+use Rattle.der_core.specs.Identifier.{tag_of, is_constructed_identifier}
+use Rattle.der_core.specs.declared.identifier.Identifier.{Identifier}
 use Rattle.der_core.specs.ReaderState.{ReaderState, rest_of, state_after, Reads, Same}
 
 -- the call returns the error of this failure and leaves the reader in the state that it specifies
@@ -27,16 +28,6 @@ pub record Stops (s : ReaderState) (r : Refusal) (e : Error) (t : ReaderState) :
 -- the error is one that `refuses` allows for some state of the same reader
 abbrev pub IsErrorOf : (ReaderState → Error → ReaderState → Type 0) → ReaderState → Error → Type 0
 IsErrorOf refuses s e = (t : ReaderState) × Same s t × refuses s e t
-
--- the tag, or OCTET STRING (octet `0x24`) if there is none
-abbrev pub tag_or_segments : Option Tag → Tag
-tag_or_segments (Some t) = t
-tag_or_segments None = OctetString
-
--- the tag with this first identifier octet under BER, and with this number if that octet is `0x40`
--- or more
-abbrev pub identifier_tag : ℕ → ℕ → Tag
-identifier_tag o n = if nat_lt o 64 then tag_or_segments (universal_tag o) else other_tag o n
 
 -- an octet and the universal tag with this identifier octet, or nothing
 abbrev pub IsGuess : Option (ℕ × Tag) → Type 0
@@ -54,10 +45,9 @@ AreNext s (Some x) =
     (s.failed ≡ false) × IsAlone x.0 × (x.1 < 128)
     × ((more : List ℕ) × (rest_of s ≡ x.0 ∷ x.1 ∷ more))
 
--- a header whose identifier is given by its first octet and number
-abbrev pub RawHeadNext : ℕ × ℕ × Length → EncodingRules → List ℕ → ℕ → Type 0
-RawHeadNext x =
-    HeadNext (head (identifier_tag x.0 x.1) x.2 (is_constructed x.0))
+-- a header of this identifier and length
+abbrev pub RawHeadNext : Identifier × Length → EncodingRules → List ℕ → ℕ → Type 0
+RawHeadNext x = HeadNext (head (tag_of x.0) x.1 (is_constructed_identifier x.0))
 
 -- an error in a long tag number, after any first octet that announces one
 abbrev pub RefusesNumber : ReaderState → Error → ReaderState → Type 0
@@ -76,11 +66,6 @@ abbrev pub RefusesIdentifier : ℕ → ReaderState → Error → ReaderState →
 RefusesIdentifier first s e t =
     (at : ℕ) → s.position ≡ at + 1 → s.failed ≡ false
     → (r : Refusal) × IdentifierFault s.rules at (first ∷ rest_of s) r × Stops s r e t
-
--- the tag of the identifier with this first octet and number, if these are given
-abbrev pub identifier_tag_if_known : Option (ℕ × ℕ) → Option Tag
-identifier_tag_if_known None = None
-identifier_tag_if_known (Some x) = Some (identifier_tag x.0 x.1)
 
 -- the kind of error for a length that is not encoded as required: with the tag before it, if there
 -- is one

@@ -5,6 +5,7 @@ pub mod SliceReader
 pub mod Header
 pub mod Decode
 pub mod AfterFirstOctet
+pub mod Identifier
 pub mod Resumption
 pub mod Nested
 pub mod Position

@@ -3,23 +3,23 @@ ghost use Rattle.std.specs.Prelude.{◌≡◌, ◌||◌, false, true, length, Ok
 ghost use Rattle.der_base.specs.ScanGrammar.{BodyFault};
 ghost use Rattle.der_base.specs.HeaderGrammar.{HeaderFault, head, header_octets};
 ghost use Rattle.der_base.specs.Length.{number, is_indefinite, definite_length};
-ghost use Rattle.der_base.specs.Tag.{label, is_constructed};
-ghost use Rattle.der_core.specs.AfterFirstOctet.{IsGuess, AreNext, RawHeadNext, identifier_tag};
+ghost use Rattle.der_base.specs.Tag.{label};
+ghost use Rattle.der_core.specs.AfterFirstOctet.{IsGuess, AreNext, RawHeadNext};
 ghost use Rattle.der_core.specs.Decode.{Decodes, Peeks, grammar_levels};
 ghost use Rattle.der_core.specs.Encode.{FitsCounted, header_outcome};
 ghost use Rattle.der_core.specs.Header.{head_of, HeaderNext};
+ghost use Rattle.der_core.specs.Identifier.{tag_of, is_constructed_identifier};
 ghost use Rattle.der_core.specs.Writer.{Keeps, Appends, Writes};
 ghost use Rattle.der_base.specs.Order.{byte_order};
 ghost use Rattle.der_base.proofs.DelimitedLemmas.{headers_delimited};
 
 use crate::decode::Decode;
 use crate::encode::Encode;
+use crate::identifier::{Identifier, is_identifier};
 use crate::length::{INDEFINITE, decode_length_after};
 use crate::ord::DerOrd;
 use crate::reader::{Lends, Octets, Reader, ReaderExt};
-use crate::tag::{
-    decode_identifier, first_octet_of, guessed_tag, has_constructed_bit, is_identifier,
-};
+use crate::tag::first_octet_of;
 use crate::writer::Writer;
 use der_base::{Error, ErrorKind, Length, Tag};
 use std::alloc::Global;
@@ -109,8 +109,8 @@ pub fn decode_header<R: Reader>(reader: &mut R) -> Result<Header, Error>
     ensures { Decodes HeaderNext (HeaderFault BodyFault) R.reliable (R.state reader.old) result
         (R.state reader.new) }
 {
-    let (first, number, length) = decode_parts(reader)?;
-    Ok(header_from_identifier(first, number, length, None))
+    let (identifier, length) = decode_parts(reader)?;
+    Ok(header_from_identifier(identifier, length, None))
 }
 
 // Decodes a header with a guess at its tag, always octet by octet: this keeps a value decoder that
@@ -124,56 +124,55 @@ pub(crate) fn decode_guessed_header<R: Reader>(
     ensures { Decodes HeaderNext (HeaderFault BodyFault) R.reliable (R.state reader.old) result
         (R.state reader.new) }
 {
-    let (first, number, length) = decode_in_pieces(reader)?;
-    Ok(header_from_identifier(first, number, length, guess))
+    let (identifier, length) = decode_in_pieces(reader)?;
+    Ok(header_from_identifier(identifier, length, guess))
 }
 
-// The header with an identifier of this first octet and number, and with a guess at its tag.
+// The header with this identifier, and with a guess at its tag.
 #[inline(always)]
 fn header_from_identifier(
-    first: u8,
-    number: u32,
+    identifier: Identifier,
     length: Length,
     guess: Option<(u8, Tag)>,
 ) -> Header
     requires { IsGuess guess }
-    ensures { head_of result ≡ head (identifier_tag first number) length (is_constructed first) }
+    ensures { head_of result ≡ head (tag_of identifier) length (is_constructed_identifier identifier) }
 {
-    let constructed = has_constructed_bit(first);
+    let constructed = identifier.is_constructed();
     Header {
-        tag: guessed_tag(first, number, guess),
+        tag: identifier.guessed_tag(guess),
         length,
         constructed,
     }
 }
 
-// Decodes a header and returns the first octet of its identifier, its number (if that octet is
-// `0x40` or more), and its length. If the reader returns slices, an identifier and a length of one
-// octet each are read at once.
+// Decodes a header and returns its identifier and its length. If the reader returns slices, an
+// identifier and a length of one octet each are read at once.
 #[inline(always)]
-fn decode_parts<R: Reader>(reader: &mut R) -> Result<(u8, u32, Length), Error>
+fn decode_parts<R: Reader>(reader: &mut R) -> Result<(Identifier, Length), Error>
     ensures { Decodes RawHeadNext (HeaderFault BodyFault) R.reliable (R.state reader.old)
         result (R.state reader.new) }
 {
     if let Some((first, count)) = short_header(reader) {
         let _ = reader.read_slice(Length::new(2))?;
-        return Ok((first, (first % 32) as u32, Length::new(count as u32)));
+        let number = (first % 32) as u32;
+        return Ok((Identifier { first, number }, Length::new(count as u32)));
     }
     decode_in_pieces(reader)
 }
 
 // Decodes a header octet by octet, with the same results.
 #[inline(always)]
-fn decode_in_pieces<R: Reader>(reader: &mut R) -> Result<(u8, u32, Length), Error>
+fn decode_in_pieces<R: Reader>(reader: &mut R) -> Result<(Identifier, Length), Error>
     ensures { Decodes RawHeadNext (HeaderFault BodyFault) R.reliable (R.state reader.old)
         result (R.state reader.new) }
 {
-    let (first, number) = decode_identifier(reader)?;
-    let length = decode_length_after(reader, Some((first, number)))?;
-    if length.is_indefinite() && !has_constructed_bit(first) {
+    let identifier = Identifier::decode(reader)?;
+    let length = decode_length_after(reader, Some(identifier))?;
+    if length.is_indefinite() && !identifier.is_constructed() {
         return Err(reader.error(ErrorKind::IndefiniteLength));
     }
-    Ok((first, number, length))
+    Ok((identifier, length))
 }
 
 // The next identifier and length, if each has one octet and the reader returns slices.

@@ -4,9 +4,10 @@ ghost use Rattle.der_base.specs.ScanGrammar.{BodyFault};
 ghost use Rattle.der_base.specs.Length.{number, definite_length, length_octets};
 ghost use Rattle.der_base.specs.HeaderGrammar.{LengthNext, LengthFault};
 ghost use Rattle.der_base.specs.declared.error.ErrorKind.TheVariants.{Overlength};
-ghost use Rattle.der_core.specs.AfterFirstOctet.{DefiniteAfter, IsIndefiniteForm, RefusesIndefinite, RefusesLongLength, identifier_tag_if_known, wrong_length_kind};
+ghost use Rattle.der_core.specs.AfterFirstOctet.{DefiniteAfter, IsIndefiniteForm, RefusesIndefinite, RefusesLongLength, wrong_length_kind};
 ghost use Rattle.der_core.specs.Decode.{Decodes, grammar_levels};
 ghost use Rattle.der_core.specs.Encode.{length_outcome};
+ghost use Rattle.der_core.specs.Identifier.{tag_if_known};
 ghost use Rattle.der_core.specs.ReaderState.{Same};
 ghost use Rattle.der_core.specs.Writer.{Writes};
 ghost use Rattle.std.specs.Ordering.{nat_cmp};
@@ -17,10 +18,10 @@ pub mod turns;
 
 use crate::decode::Decode;
 use crate::encode::Encode;
+use crate::identifier::Identifier;
 use crate::length::indefinite::scan_uncounted;
 use crate::ord::DerOrd;
 use crate::reader::{Lends, Reader, ReaderExt};
-use crate::tag::tag_of_identifier;
 use crate::writer::Writer;
 use der_base::{Error, ErrorKind, Length};
 use std::alloc::Global;
@@ -44,15 +45,15 @@ pub fn decode_length<R: Reader>(reader: &mut R) -> Result<Length, Error>
     decode_length_after(reader, None)
 }
 
-// Decodes a length. If it follows an identifier, given by its first octet and number, then the
-// error for a length that is not encoded as required has the tag of that identifier.
+// Decodes a length. If it follows an identifier, then the error for a length that is not encoded as
+// required has the tag of that identifier.
 #[inline(always)]
 pub(crate) fn decode_length_after<R: Reader>(
     reader: &mut R,
-    identifier: Option<(u8, u32)>,
+    identifier: Option<Identifier>,
 ) -> Result<Length, Error>
     ensures { Decodes LengthNext
-        (LengthFault BodyFault (wrong_length_kind (identifier_tag_if_known identifier)))
+        (LengthFault BodyFault (wrong_length_kind (tag_if_known identifier)))
         R.reliable (R.state reader.old) result (R.state reader.new) }
 {
     let first = reader.read_byte()?;
@@ -91,7 +92,7 @@ fn decode_indefinite_form<R: Reader>(reader: &mut R) -> Result<Length, Error>
 pub(crate) fn decode_long_length<R: Reader>(
     reader: &mut R,
     first: u8,
-    identifier: Option<(u8, u32)>,
+    identifier: Option<Identifier>,
 ) -> Result<u32, Error>
     requires { 128 < first }
     ensures same { Same (R.state reader.old) (R.state reader.new) }
@@ -99,7 +100,7 @@ pub(crate) fn decode_long_length<R: Reader>(
         (R.state reader.new)) }
     ensures exact { R.reliable ≡ true
         → IfErr result
-        (λ e. RefusesLongLength (wrong_length_kind (identifier_tag_if_known identifier)) first
+        (λ e. RefusesLongLength (wrong_length_kind (tag_if_known identifier)) first
         (R.state reader.old) e (R.state reader.new)) }
 {
     if first > 0x84 {
@@ -119,11 +120,11 @@ pub(crate) fn decode_long_length<R: Reader>(
 
 // The error kind for a length that is not encoded as required.
 #[cold]
-fn wrong_length(identifier: Option<(u8, u32)>) -> ErrorKind
-    ensures { result ≡ wrong_length_kind (identifier_tag_if_known identifier) }
+fn wrong_length(identifier: Option<Identifier>) -> ErrorKind
+    ensures { result ≡ wrong_length_kind (tag_if_known identifier) }
 {
     match identifier {
-        Some((first, number)) => tag_of_identifier(first, number).length_error(),
+        Some(identifier) => identifier.refused_tag().length_error(),
         None => ErrorKind::Overlength,
     }
 }

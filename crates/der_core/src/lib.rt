@@ -13,6 +13,7 @@ pub mod encode;
 pub mod encode_ref;
 mod from_fields;
 pub mod header;
+mod identifier;
 mod laws;
 mod length;
 mod ord;

@@ -6,9 +6,9 @@ use Rattle.der_asn1.specs.Begins.{element_begins}
 use Rattle.der_asn1.specs.ContextSpecific.{context_tag, TakesImplicit}
 use Rattle.der_asn1.specs.Either.{EitherNext}
 use Rattle.der_asn1.specs.Follow.{NoTagIn, other, this_tag}
-use Rattle.der_asn1.specs.declared.either.Either.{Either}
-use Rattle.der_asn1.specs.declared.either.Either.TheVariants.{First, Second}
-use Rattle.der_asn1.specs.declared.implicit.Implicit.{Implicit}
+use Rattle.der_asn1.specs.declared.fields.either.Either.{Either}
+use Rattle.der_asn1.specs.declared.fields.either.Either.TheVariants.{First, Second}
+use Rattle.der_asn1.specs.declared.fields.implicit.Implicit.{Implicit}
 use Rattle.der_segments.specs.ImplicitSegmented.{ImplicitSegmentedNext, in_one_piece, in_segments}
 use Rattle.der_segments.specs.Segmented.{TakesSegmented, segmented_levels}
 use Rattle.der_segments.specs.declared.constructed_segmented.ConstructedSegmented.{ConstructedSegmented}

@@ -18,9 +18,9 @@ use Rattle.der_asn1.specs.FollowLemmas.{lawful_starts, starts_wider}
 use Rattle.der_asn1.specs.Meaning.{AlternativeSpec, is_small, small}
 use Rattle.der_asn1.specs.SetLaws.{DecidedByTagLaws}
 use Rattle.der_asn1.specs.TagSets.{IsIn, one_tag}
-use Rattle.der_asn1.specs.declared.either.Either.{Either}
-use Rattle.der_asn1.specs.declared.either.Either.TheVariants.{First, Second}
-use Rattle.der_asn1.specs.declared.implicit.Implicit.{Implicit}
+use Rattle.der_asn1.specs.declared.fields.either.Either.{Either}
+use Rattle.der_asn1.specs.declared.fields.either.Either.TheVariants.{First, Second}
+use Rattle.der_asn1.specs.declared.fields.implicit.Implicit.{Implicit}
 use Rattle.der_segments.specs.Segmented.{TakesSegmented, segmented_lawful, segmented_levels, segmented_octets}
 use Rattle.der_segments.specs.declared.constructed_segmented.ConstructedSegmented.{ConstructedSegmented}
 use Rattle.der_segments.specs.declared.segmented.Segmented.{Segmented}

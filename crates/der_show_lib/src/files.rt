@@ -71,8 +71,8 @@ fn is_other_text(show: &Show<'_>, octets: &[u8]) -> bool {
         )
 }
 
-/// Whether the octets are PEM: there is a block, and what is before it is text without control
-/// characters but those of white space.
+/// Whether the octets are PEM: there is a block, and the text before it has no control characters
+/// except white space.
 fn is_pem(octets: &[u8]) -> bool {
     match Blocks::new(octets).next_block() {
         Some(Ok(block)) => is_plain(octets.get(..block.begin().offset).unwrap_or(&[])),
@@ -81,7 +81,7 @@ fn is_pem(octets: &[u8]) -> bool {
     }
 }
 
-// Whether the octets are text without control characters but those of white space.
+// Whether the octets are text, without control characters except white space.
 fn is_plain(octets: &[u8]) -> bool {
     match str::from_utf8(octets) {
         Ok(text) => text.chars().all(|c| !c.is_control()

@@ -1,4 +1,4 @@
--- A SET with components (X.690 8.11): the contents of a SEQUENCE behind the tag of a SET.
+-- A SET with components (X.690 8.11): the contents of a SEQUENCE after the tag of a SET.
 use Rattle.std.specs.Prelude.{ℕ, List}
 use Rattle.std.proofs.Common.{arith}
 use Rattle.der.specs.Prelude.{Tag, Set, EncodingRules, Head, IsLawful}

@@ -1,4 +1,4 @@
--- Where a field of a SEQUENCE stands: its octets, and those behind it, end those of the SEQUENCE.
+-- Where a field of a SEQUENCE stands: its octets, and those after it, end those of the SEQUENCE.
 use Rattle.std.proofs.Common.{◌≡◌, ℕ, List, ◌++◌, append_assoc, refl, ◌∙◌}
 
 -- `f` is in front of the field

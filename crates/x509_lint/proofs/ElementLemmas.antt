@@ -5,7 +5,7 @@ use Rattle.der.specs.Tag.{label}
 use Rattle.der.proofs.DelimitedLemmas.{element_front, elements_delimited}
 use Rattle.der_asn1.specs.AnyRef.{IsAny, any_contents}
 use Rattle.der_asn1.specs.Items.{GivesItem}
-use Rattle.der_asn1.specs.declared.any.AnyRef.{AnyRef}
+use Rattle.der_asn1.specs.declared.elements.any.AnyRef.{AnyRef}
 use Rattle.x509.proofs.ItemLemmas.{AreApartItems}
 use Rattle.x509_lint.specs.Elements.{AreElements, IsElement, any_encoding}
 

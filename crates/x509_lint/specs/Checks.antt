@@ -2,7 +2,7 @@
 use Rattle.std.specs.Prelude.{◌≡◌, ◌≤◌, ℕ, List, [], ◌∷◌, Option, Some, None, IsSome}
 use Rattle.der.specs.Prelude.{Tag}
 use Rattle.der_asn1.specs.AnyRef.{any_contents}
-use Rattle.der_asn1.specs.declared.any.AnyRef.{AnyRef}
+use Rattle.der_asn1.specs.declared.elements.any.AnyRef.{AnyRef}
 use Rattle.spki.specs.declared.asn1.algorithm_identifier_ref.AlgorithmIdentifierRef.{AlgorithmIdentifierRef}
 use Rattle.x509.specs.declared.asn1.certificate.Certificate.{Certificate}
 use Rattle.x509.specs.declared.asn1.tbs_certificate.TbsCertificate.{TbsCertificate}

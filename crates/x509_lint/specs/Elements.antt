@@ -5,7 +5,7 @@ use Rattle.der.specs.Prelude.{Sequence, Tag, element_octets}
 use Rattle.der.specs.Tag.{label}
 use Rattle.der_asn1.specs.AnyRef.{IsAny, any_contents}
 use Rattle.der_asn1.specs.SequenceOf.{IsListOf}
-use Rattle.der_asn1.specs.declared.any.AnyRef.{AnyRef}
+use Rattle.der_asn1.specs.declared.elements.any.AnyRef.{AnyRef}
 
 -- the encoding of an element
 abbrev pub any_encoding : AnyRef → List ℕ

@@ -30,7 +30,7 @@ pub fn check_alternatives<'a>(
     Ok(before)
 }
 
-/// Checks the tags of components: those of optional ones, and of the one behind these, are distinct
+/// Checks the tags of components: those of optional ones, and of the one after these, are distinct
 /// (X.680, 25.6).
 pub fn check_sequence<'a>(
     alloc: Global,

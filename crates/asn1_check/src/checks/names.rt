@@ -102,7 +102,7 @@ fn check_numbers<'a>(
             return Err(Failure::Refused(refusal));
         }
         if are_written && named.number.is_none() {
-            let expected = "a number in parentheses behind this name";
+            let expected = "a number in parentheses after this name";
             return Err(Failure::Refused(Refusal::of(named.name, expected)));
         }
         check_endpoint(module, named.number)?;

@@ -9,7 +9,7 @@ use std::alloc::{AllocError, Global};
 
 const LOOP: &str = "a type that does not contain itself";
 
-/// The indices of all types, each behind those that it is made of. Refuses types that contain
+/// The indices of all types, each after those that it is made of. Refuses types that contain
 /// themselves.
 pub fn order_of<'a>(alloc: Global, module: &Module<'a>) -> Result<Vec<usize>, Failure<'a>> {
     let order = parts_in_order(alloc, module)?;
@@ -34,7 +34,7 @@ pub fn add_loops<'a>(
     Ok(())
 }
 
-/// The indices of types that do not contain themselves, each behind those that it is made of.
+/// The indices of types that do not contain themselves, each after those that it is made of.
 pub fn parts_in_order(alloc: Global, module: &Module<'_>) -> Result<Vec<usize>, AllocError> {
     let mut parts = Parts::of(alloc, module)?;
     let mut order = parts.without_parts(alloc)?;

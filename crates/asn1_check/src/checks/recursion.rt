@@ -33,7 +33,7 @@ pub fn cut_recursion(alloc: Global, module: &mut Module<'_>) -> Result<(), Alloc
     Ok(())
 }
 
-// What stands in the place of the name of the type with this index.
+// What is in the place of the name of the type with this index.
 fn instead_of(module: &Module<'_>, index: usize) -> Option<SimpleType> {
     match &module.nodes.get(base_of(module, index))?.form {
         TypeForm::Sequence(_) | TypeForm::SequenceOf(_) => Some(SimpleType::Unread),

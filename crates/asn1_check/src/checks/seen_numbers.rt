@@ -10,7 +10,7 @@ pub struct SeenNumbers<'a> {
     names: NameIndex<'a>,
     // Those that are 0 or more.
     numbers: HashSet<u64>,
-    // Those behind a minus sign.
+    // Those after a minus sign.
     negatives: HashSet<u64>,
     // Those that are names of values.
     values: NameIndex<'a>,

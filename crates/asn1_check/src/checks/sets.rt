@@ -13,7 +13,7 @@ const NO_TAG: &str = "no CHOICE and no ANY without a tag in a SET";
 
 const CLOSED: &str = "elements that no component names are refused";
 
-/// Puts a SEQUENCE of the same components in the order of their tags, behind the tag of a SET, in the
+/// Puts a SEQUENCE of the same components in the order of their tags, after the tag of a SET, in the
 /// place of each SET with components (X.690, 10.3). The table has the tags of each type. Returns
 /// whether there is one.
 pub fn sort_sets<'a>(

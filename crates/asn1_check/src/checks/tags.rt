@@ -101,7 +101,7 @@ fn external_tags(alloc: Global, module: &Module<'_>, name: &str) -> Result<TagSe
     Ok(copy)
 }
 
-// The tags of the type with this index.
+// A copy of the tag set of the type with this index.
 pub fn copy_at(alloc: Global, table: &Vec<TagSet>, index: usize) -> Result<TagSet, AllocError> {
     let mut copy = TagSet::empty(alloc);
     if let Some(tags) = table.get(index) {

@@ -42,7 +42,7 @@ fn item_at<'a>(items: &Vec<Item<'a>>, at: usize) -> Item<'a> {
     }
 }
 
-// Adds the arcs of the component at this index, and returns the index behind it; `None` if it has a
+// Adds the arcs of the component at this index, and returns the index after it; `None` if it has a
 // name that is not known yet.
 fn add_component<'a>(
     scope: &Scope<'_, 'a>,
@@ -52,7 +52,7 @@ fn add_component<'a>(
 ) -> Result<Option<usize>, Failure<'a>> {
     let item = item_at(items, at);
     if item.kind == ItemKind::LowerName && item_at(items, at.saturating_add(1)).is("(") {
-        let number = number_behind(items, at, item)?;
+        let number = number_after(items, at, item)?;
         let Some(arc) = number_of(scope, number)? else {
             return Ok(None);
         };
@@ -74,7 +74,7 @@ fn add_component<'a>(
     Ok(Some(at.saturating_add(1)))
 }
 
-// Checks that a name which stands for a number has no other number behind it.
+// Checks that a name which stands for a number has no other number after it.
 fn check_standard<'a>(
     name: Item<'a>,
     number: Item<'a>,
@@ -89,15 +89,15 @@ fn check_standard<'a>(
     }
 }
 
-// The item in parentheses behind the name at this index.
-fn number_behind<'a>(
+// The item in parentheses after the name at this index.
+fn number_after<'a>(
     items: &Vec<Item<'a>>,
     at: usize,
     name: Item<'a>,
 ) -> Result<Item<'a>, Refusal<'a>> {
     let number = item_at(items, at.saturating_add(2));
     if !item_at(items, at.saturating_add(3)).is(")") {
-        return Err(Refusal::of(name, "a name with one number in parentheses behind it"));
+        return Err(Refusal::of(name, "a name with one number in parentheses after it"));
     }
     Ok(number)
 }
@@ -145,7 +145,7 @@ fn written_arc<'a>(item: Item<'a>) -> Result<u64, Refusal<'a>> {
     }
 }
 
-// Adds an arc. The first one is 0, 1 or 2, and the one behind 0 or 1 is below 40 (X.690, 8.19.4).
+// Adds an arc. The first one is 0, 1 or 2, and the one after 0 or 1 is below 40 (X.690, 8.19.4).
 fn add_arc<'a>(arcs: &mut Vec<u64>, item: Item<'a>, arc: u64) -> Result<(), Failure<'a>> {
     if arcs.is_empty() && arc > 2 {
         return Err(Failure::Refused(Refusal::of(item, "0, 1 or 2 as the first arc")));
@@ -158,7 +158,7 @@ fn add_arc<'a>(arcs: &mut Vec<u64>, item: Item<'a>, arc: u64) -> Result<(), Fail
     Ok(())
 }
 
-// The number of a name that stands without one, behind these arcs (X.660, A.2 to A.4).
+// The number of a name that is without one, after these arcs (X.660, A.2 to A.4).
 fn standard_arc(name: &str, arcs: &Vec<u64>) -> Option<u64> {
     match (arcs.as_slice(), name) {
         ([], "itu-t" | "ccitt") => Some(0),

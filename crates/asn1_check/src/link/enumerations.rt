@@ -52,7 +52,7 @@ fn root_numbers(alloc: Global, items: &Vec<NamedNumber<'_>>) -> Result<HashSet<u
     Ok(numbers)
 }
 
-// The number of an addition behind these items, of which those in front of the mark have these
+// The number of an addition after these items, of which those in front of the mark have these
 // numbers.
 fn addition_number<'a>(
     before: &Vec<NamedNumber<'a>>,
@@ -61,7 +61,7 @@ fn addition_number<'a>(
 ) -> Result<Endpoint<'a>, Refusal<'a>> {
     let last = last_addition(before);
     let Some(number) = item.number else {
-        return Ok(Endpoint::Number(free_number(roots, number_behind(last))));
+        return Ok(Endpoint::Number(free_number(roots, number_after(last))));
     };
     match last {
         Some(last) if number.is_at_most(last) => {
@@ -79,7 +79,7 @@ fn last_addition<'a>(items: &Vec<NamedNumber<'a>>) -> Option<Endpoint<'a>> {
 }
 
 // The least number from 0 up that is above this one.
-fn number_behind(number: Option<Endpoint<'_>>) -> u64 {
+fn number_after(number: Option<Endpoint<'_>>) -> u64 {
     match number {
         Some(Endpoint::Number(number)) => number.saturating_add(1),
         _ => 0,

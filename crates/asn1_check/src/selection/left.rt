@@ -77,7 +77,7 @@ impl<'a> Left<'a> {
         Ok(())
     }
 
-    // Leaves out the assignment in which something stands that is not supported.
+    // Leaves out the assignment that holds something that is not supported.
     fn add_known(&mut self, used: &Vec<Used<'a>>, refusal: Refusal<'a>) -> Result<(), Failure<'a>> {
         let mut owner = None;
         for assigned in used.iter() {

@@ -1,4 +1,4 @@
-//! What types of other crates have to have, to stand in lists.
+//! What types of other crates have to have, to be in lists.
 
 use super::lists::list_field;
 use asn1_check::{ExternalType, Module, base_of, find_type};
@@ -22,7 +22,7 @@ fn is_list(module: &Module<'_>, index: usize) -> bool {
     }
 }
 
-/// Adds the refusal of each imported type that stands in a list, and whose crate has not what that
+/// Adds the refusal of each imported type that is in a list, and whose crate has not what that
 /// needs.
 pub fn add_imported<'a>(
     module: &Module<'a>,

@@ -4,8 +4,8 @@ ghost use Rattle.std.specs.Prelude.{◌<◌};
 use super::alternatives::Alternative;
 use super::choice_line::Line;
 use super::choice_part::ChoicePart;
+use super::definition::Proof;
 use super::nest::{MEANING, Nest, TYPES, lifetime_of, push_meaning, push_types};
-use super::piece::Proof;
 use super::template::{Places, fill};
 use std::alloc::{AllocError, Global};
 

@@ -6,7 +6,7 @@ use super::enumeration::{number_of_item, variant_names};
 use super::lists::list_field;
 use super::number_default::{check_range, integer, named, number_of};
 use super::numbers::OPEN;
-use super::tagged::{behind_tag, behind_tags, end_of, leaf_of};
+use super::tagged::{after_tag, after_tags, end_of, leaf_of};
 use super::template::{Places, filled};
 use asn1_check::{Module, RustKind, RustType, base_form, base_of};
 use asn1_syntax::{Failure, NamedNumber, Refusal, SimpleType, TypeForm, Value, ValueForm};
@@ -82,11 +82,11 @@ pub fn default_type<'a>(
         return Ok(DefaultType::plain(alloc, place.of)?);
     }
     let DefaultType { of, own } = inside_type(alloc, module, types, place, value)?;
-    let Some(text) = behind_tags(alloc, module, place.index, of.text)? else {
+    let Some(text) = after_tags(alloc, module, place.index, of.text)? else {
         return Err(not_written(value));
     };
     let text = match place.numbered {
-        Some(prefix) => behind_tag(alloc, prefix, text.as_str())?,
+        Some(prefix) => after_tag(alloc, prefix, text.as_str())?,
         None => text,
     };
     Ok(DefaultType {
@@ -95,7 +95,7 @@ pub fn default_type<'a>(
     })
 }
 
-// The type of the field behind all tags.
+// The type of the field after all tags.
 fn inside_type<'a>(
     alloc: Global,
     module: &Module<'a>,
@@ -242,7 +242,7 @@ fn is_item<'a>(
     }
 }
 
-// What stands between `<` and `>`.
+// What is between `<` and `>`.
 fn inside_of(text: &str) -> Option<&str> {
     let (_, inside) = text.split_once('<')?;
     inside.strip_suffix(">")

@@ -39,7 +39,7 @@ pub fn is_directive(line: &str) -> bool {
         || is_schema_line(line)
 }
 
-/// The name that a comment gives behind `key`, if it is a name of Rust.
+/// The name that a comment gives after `key`, if it is a name of Rust.
 pub fn directive<'a>(comments: &'a str, key: &str) -> Option<&'a str> {
     for line in comments.lines() {
         if let Some(rest) = comment_text(line).strip_prefix(key) {
@@ -122,7 +122,7 @@ pub fn chosen_name<'a>(name: Item<'a>) -> Option<&'a str> {
 }
 
 /// The name of the type or the variant with this name in the module. One that files need for
-/// something else gets a `_` behind it.
+/// something else gets a `_` after it.
 pub fn type_name(alloc: Global, name: Item<'_>) -> Result<String, AllocError> {
     if let Some(chosen) = chosen_name(name) {
         return String::from_str(alloc, chosen);

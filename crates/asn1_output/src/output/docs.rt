@@ -6,7 +6,7 @@ use asn1_syntax::{Component, comment_text};
 use std::alloc::{AllocError, Global};
 
 /// The comment in front of a name, without its marks, on lines that begin with `indent`; or
-/// `instead` if there is none. What stands on the line of the item before belongs to that item.
+/// `instead` if there is none. What is on the line of the item before belongs to that item.
 pub fn doc_of(
     alloc: Global,
     comments: &str,

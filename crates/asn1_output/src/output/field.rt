@@ -28,7 +28,7 @@ pub struct Field {
     pub name: String,
     /// What the comments of the module say of it, or its name in the module.
     pub doc: String,
-    /// The type behind OPTIONAL or DEFAULT.
+    /// The type after OPTIONAL or DEFAULT.
     pub of: RustType,
     /// Whether it may be absent.
     pub presence: FieldPresence,
@@ -99,7 +99,7 @@ impl Field {
         }
     }
 
-    // Where the value stands in the field.
+    // Where the value is in the field.
     fn inside(&self) -> &'static str {
         match self.presence {
             FieldPresence::Defaulted | FieldPresence::DefaultedTo(_) => ".0",
@@ -164,7 +164,7 @@ impl Row {
         }
     }
 
-    /// What stands between members.
+    /// What is between members.
     pub fn between(self) -> &'static str {
         match self {
             Row::Meaning => " ",

@@ -7,10 +7,10 @@ use super::docs::component_doc;
 use super::field::{Field, FieldPresence};
 use super::known::additions_type;
 use super::naming::text_at;
-use super::pieces::Written;
 use super::sequence::SequenceText;
 use super::taken::{ALONE, Taken};
 use super::types::{automatic_tag, component_types};
+use super::written::Written;
 use asn1_check::{Module, RustType};
 use asn1_syntax::{Component, Failure, Presence};
 use std::alloc::{AllocError, Global};
@@ -19,7 +19,7 @@ const ADDITIONS: &str = "    /// The elements of later versions, as they were.\n
 
 impl<'m, 'a> Written<'m, 'a> {
     /// The fields for these components of the type with the name `owner`, and for others if it keeps
-    /// them: those stand at `additions`.
+    /// them: those are at `additions`.
     pub fn fields(
         &self,
         alloc: Global,
@@ -152,7 +152,7 @@ pub fn tagged_text(alloc: Global, name: String, of: &RustType) -> Result<Sequenc
 fn tagged_field(alloc: Global, of: &RustType) -> Result<Field, AllocError> {
     Ok(Field {
         name: String::from_str(alloc, "value")?,
-        doc: String::from_str(alloc, "    /// The value behind the tag.\n")?,
+        doc: String::from_str(alloc, "    /// The value after the tag.\n")?,
         of: of.copy(alloc)?,
         presence: FieldPresence::Required,
         own: None,

@@ -1,7 +1,7 @@
 //! Files of Rust.
 
+use super::definition::{Definition, DefinitionKind};
 use super::imports::{push_ghost_use, push_use, words_of};
-use super::piece::{Piece, PieceKind};
 use super::sources::Sources;
 use super::words::{DER, DER_ASN1, DER_UNIVERSAL};
 use super::wrap::push_wrapped;
@@ -58,20 +58,20 @@ ten_fields
 three_fields
 twelve_fields";
 
-/// The file of a piece, with its imports.
+/// The file of a definition, with its imports.
 pub fn file_of(
     alloc: Global,
     module: &Module<'_>,
     krate: &str,
-    piece: &Piece,
+    definition: &Definition,
     sources: &Sources<'_>,
 ) -> Result<OutputFile, AllocError> {
-    let file = piece.file.as_str();
+    let file = definition.file.as_str();
     let mut file = OutputFile {
         path: format!(in alloc; "src/asn1/{file}.rt")?,
         text: String::new(alloc),
     };
-    push_file(alloc, &mut file.text, module, krate, piece, sources)?;
+    push_file(alloc, &mut file.text, module, krate, definition, sources)?;
     Ok(file)
 }
 
@@ -80,26 +80,26 @@ fn push_file(
     out: &mut String,
     module: &Module<'_>,
     krate: &str,
-    piece: &Piece,
+    definition: &Definition,
     sources: &Sources<'_>,
 ) -> Result<(), AllocError> {
-    let (of, name) = (module.name.text, piece.name.as_str());
+    let (of, name) = (module.name.text, definition.name.as_str());
     write!(
         out,
         "//! Written by asn1_compile from the module {of}: change the module instead.\n//!\n//! {name}.\n"
     )?;
-    let code = code_of(alloc, piece.body.as_str())?;
+    let code = code_of(alloc, definition.body.as_str())?;
     let words = words_of(alloc, code.as_str())?;
-    push_ghost_lines(alloc, out, krate, piece, code.as_str(), &words)?;
+    push_ghost_lines(alloc, out, krate, definition, code.as_str(), &words)?;
     out.push('\n')?;
-    sources.push_own(alloc, out, piece, &words)?;
+    sources.push_own(alloc, out, definition, &words)?;
     push_use(alloc, out, &words, "der", DER)?;
     push_use(alloc, out, &words, "der_asn1", DER_ASN1)?;
     push_use(alloc, out, &words, "der_universal", DER_UNIVERSAL)?;
     sources.push_imported(alloc, out, &words)?;
     push_use(alloc, out, &words, "std::alloc", "Global")?;
     out.push('\n')?;
-    push_wrapped(alloc, out, piece.body.as_str())
+    push_wrapped(alloc, out, definition.body.as_str())
 }
 
 // The lines of a text that are no comments.
@@ -118,31 +118,31 @@ fn push_ghost_lines(
     alloc: Global,
     text: &mut String,
     krate: &str,
-    piece: &Piece,
+    definition: &Definition,
     code: &str,
     words: &NameIndex<'_>,
 ) -> Result<(), AllocError> {
-    match piece.kind {
-        PieceKind::Sequence => text.push_str(sequence_words(code, words))?,
-        PieceKind::List => text.push_str(GHOST_FALSE)?,
-        PieceKind::Known if code.contains("∷") => {
+    match definition.kind {
+        DefinitionKind::Sequence => text.push_str(sequence_words(code, words))?,
+        DefinitionKind::List => text.push_str(GHOST_FALSE)?,
+        DefinitionKind::Known if code.contains("∷") => {
             text.push_str("ghost use Rattle.std.specs.Prelude.{◌∷◌, []};\n")?;
         }
-        PieceKind::Known => text.push_str("ghost use Rattle.std.specs.Prelude.{[]};\n")?,
-        PieceKind::Enumeration => text.push_str(
+        DefinitionKind::Known => text.push_str("ghost use Rattle.std.specs.Prelude.{[]};\n")?,
+        DefinitionKind::Enumeration => text.push_str(
             "ghost use Rattle.std.specs.Prelude.{◌==◌, Option, Some, None, if◌then◌else◌};\n",
         )?,
         _ if code.contains("↔") => text.push_str(GHOST_CHOICE)?,
         _ => push_ghost_use(alloc, text, words, "Rattle.std.specs.Prelude", "false")?,
     }
     push_ghost_uses(alloc, text, words)?;
-    match piece.kind {
-        PieceKind::Choice => {
-            let either = "Rattle.der_asn1.specs.declared.either.Either.TheVariants";
+    match definition.kind {
+        DefinitionKind::Choice => {
+            let either = "Rattle.der_asn1.specs.declared.fields.either.Either.TheVariants";
             push_ghost_use(alloc, text, words, either, "First\nSecond")?;
-            push_variants(text, krate, piece)
+            push_variants(text, krate, definition)
         }
-        PieceKind::Enumeration => push_variants(text, krate, piece),
+        DefinitionKind::Enumeration => push_variants(text, krate, definition),
         _ => Ok(()),
     }
 }
@@ -157,7 +157,7 @@ fn sequence_words(code: &str, words: &NameIndex<'_>) -> &'static str {
     }
 }
 
-// Adds the imports for clauses of any piece.
+// Adds the imports for clauses of any definition.
 fn push_ghost_uses(
     alloc: Global,
     text: &mut String,
@@ -193,9 +193,13 @@ fn push_ghost_uses(
     push_ghost_use(alloc, text, words, tuples, TUPLE_FIELDS)
 }
 
-// Adds the import of the variants that the piece defines.
-fn push_variants(text: &mut String, krate: &str, piece: &Piece) -> Result<(), AllocError> {
-    let (file, name) = (piece.file.as_str(), piece.name.as_str());
+// Adds the import of the variants that the definition defines.
+fn push_variants(
+    text: &mut String,
+    krate: &str,
+    definition: &Definition,
+) -> Result<(), AllocError> {
+    let (file, name) = (definition.file.as_str(), definition.name.as_str());
     write!(
         text,
         "ghost use Rattle.{krate}.specs.declared.asn1.{file}.{name}.TheVariants as variant;\n"

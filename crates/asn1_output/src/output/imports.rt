@@ -79,7 +79,7 @@ fn push_lines(alloc: Global, out: &mut String, names: &str) -> Result<(), AllocE
     out.push_str(line.as_str())
 }
 
-/// The words of a text. A word behind `::` needs no import, and is left out.
+/// The words of a text. A word after `::` needs no import, and is left out.
 pub fn words_of<'t>(alloc: Global, text: &'t str) -> Result<NameIndex<'t>, AllocError> {
     let octets = text.as_bytes();
     let mut words = NameIndex::new(alloc);
@@ -102,8 +102,8 @@ fn add_word<'t>(
     end: usize,
 ) -> Result<(), AllocError> {
     let word = text.get(start..end).unwrap_or("");
-    let is_behind_path = text.as_bytes().get(start.saturating_sub(1)) == Some(&b':');
-    if !word.is_empty() && !is_behind_path {
+    let is_after_path = text.as_bytes().get(start.saturating_sub(1)) == Some(&b':');
+    if !word.is_empty() && !is_after_path {
         words.add(word, start)?;
     }
     Ok(())

@@ -40,7 +40,7 @@ pub fn is_kept(kept: &Vec<Option<TagSet>>, index: usize) -> bool {
     matches!(kept.get(index), Some(Some(_)))
 }
 
-// The tags that a type knows at its mark, unless any tag may stand there, or it has too many parts.
+// The tags that a type knows at its mark, unless any tag may be there, or it has too many parts.
 fn known_tags(
     alloc: Global,
     module: &Module<'_>,
@@ -64,7 +64,7 @@ fn known_tags(
     Ok(Some(known))
 }
 
-// The tags of the components behind the insertion point of a SEQUENCE, and of those that may be
+// The tags of the components after the insertion point of a SEQUENCE, and of those that may be
 // absent right in front of it (X.680, 25.6).
 fn tags_around(
     alloc: Global,
@@ -91,7 +91,7 @@ fn is_required(component: &Component<'_>) -> bool {
     matches!(&component.presence, Presence::Required)
 }
 
-// Whether each type, by its index, is a CHOICE that stands without a tag where its tags decide what is
+// Whether each type, by its index, is a CHOICE that is without a tag where its tags decide what is
 // absent, or which alternative is there: a tag that it does not know may be that of something else.
 fn closed_choices(alloc: Global, module: &Module<'_>) -> Result<Vec<bool>, AllocError> {
     let mut closed = vec![in alloc; false; module.nodes.len()]?;
@@ -111,27 +111,27 @@ fn closed_choices(alloc: Global, module: &Module<'_>) -> Result<Vec<bool>, Alloc
     Ok(closed)
 }
 
-// Closes the components of a SEQUENCE that are optional, or right behind something that may be absent.
+// Closes the components of a SEQUENCE that are optional, or right after something that may be absent.
 fn close_parts(
     module: &Module<'_>,
     closed: &mut Vec<bool>,
     node: &TypeNode<'_>,
     parts: &Vec<Component<'_>>,
 ) {
-    let mut is_behind = false;
+    let mut is_after = false;
     for (count, part) in parts.iter().enumerate() {
         let is_inserted = match &node.mark {
             Some(mark) => mark.insertion == count,
             None => false,
         };
-        if is_behind || is_inserted || !is_required(part) {
+        if is_after || is_inserted || !is_required(part) {
             close(module, closed, part.of);
         }
-        is_behind = !is_required(part);
+        is_after = !is_required(part);
     }
 }
 
-// Closes the type behind the names of the type with this index.
+// Closes the type after the names of the type with this index.
 fn close(module: &Module<'_>, closed: &mut Vec<bool>, index: usize) {
     if let Some(place) = closed.get_mut(base_of(module, index)) {
         *place = true;

@@ -34,7 +34,7 @@ impl<'t> KnownText<'t> {
         fill(out, KNOWN, self)
     }
 
-    // Adds classes and numbers, with something behind each but the last, and behind the last.
+    // Adds classes and numbers, with something after each but the last, and after the last.
     fn push_tags(&self, out: &mut String, between: &str, end: &str) -> Result<(), AllocError> {
         for (count, tag) in self.tags.tags.iter().enumerate() {
             if count > 0 {

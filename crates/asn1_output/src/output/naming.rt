@@ -20,7 +20,7 @@ pub fn names_of(alloc: Global, module: &Module<'_>) -> Result<Vec<String>, Alloc
     for count in 0..module.nodes.len() {
         let index = module.nodes.len() - 1 - count;
         name_type(alloc, module, &mut names, &mut taken, index)?;
-        if let Some(of) = components_behind(module, index) {
+        if let Some(of) = components_after(module, index) {
             name_type(alloc, module, &mut names, &mut taken, of)?;
         }
     }
@@ -44,8 +44,8 @@ fn name_type(
     name_parts(alloc, module, names, index)
 }
 
-// The SEQUENCE behind the tag of a SET, which has a greater index than that.
-fn components_behind(module: &Module<'_>, index: usize) -> Option<usize> {
+// The SEQUENCE after the tag of a SET, which has a greater index than that.
+fn components_after(module: &Module<'_>, index: usize) -> Option<usize> {
     match &module.nodes.get(index)?.form {
         TypeForm::Tagged(_, of) if *of > index => Some(*of),
         _ => None,
@@ -68,7 +68,7 @@ pub fn plain_names_of(alloc: Global, module: &Module<'_>) -> Result<Vec<String>,
     for count in 0..module.nodes.len() {
         let index = module.nodes.len() - 1 - count;
         name_parts(alloc, module, &mut names, index)?;
-        if let Some(of) = components_behind(module, index) {
+        if let Some(of) = components_after(module, index) {
             name_parts(alloc, module, &mut names, of)?;
         }
     }
@@ -152,7 +152,7 @@ pub fn is_written(module: &Module<'_>, index: usize) -> bool {
     }
 }
 
-// What stands behind the name of the type with this index in names that belong to it.
+// What is after the name of the type with this index in names that belong to it.
 fn ends_at(module: &Module<'_>, index: usize) -> &'static str {
     match module.nodes.get(index) {
         Some(node) => match &node.form {

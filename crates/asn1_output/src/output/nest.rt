@@ -9,7 +9,7 @@ use std::alloc::AllocError;
 pub struct Nest {
     /// What begins a pair.
     pub open: &'static str,
-    /// What stands between its parts.
+    /// What is between its parts.
     pub between: &'static str,
     /// What ends it.
     pub close: char,
@@ -30,7 +30,7 @@ pub const MEANING: Nest = Nest {
 };
 
 impl Nest {
-    /// Adds what stands in front of the item with this index of so many.
+    /// Adds what is in front of the item with this index of so many.
     pub fn push_before(
         &self,
         out: &mut String,
@@ -46,7 +46,7 @@ impl Nest {
         Ok(())
     }
 
-    /// Adds what stands behind so many items.
+    /// Adds what is after so many items.
     pub fn push_end(&self, out: &mut String, count: usize) -> Result<(), AllocError> {
         for _ in 1..count {
             out.push(self.close)?;

@@ -4,14 +4,14 @@ use super::directive::{field_name, variant_name};
 use super::enumeration::variant_names;
 use super::fields::field_names;
 use super::naming::{is_assigned, is_written, plain_names_of, text_at};
-use super::pieces::Written;
 use super::rust_names::snake_name;
 use super::values::value_names;
 use super::warnings::add_item;
+use super::written::Written;
 use asn1_syntax::{Component, Item, NamedNumber, TypeForm, Warning};
 use std::alloc::{AllocError, Global};
 
-/// Adds a warning for each name that has a number or a `_` behind it in Rust.
+/// Adds a warning for each name that has a number or a `_` after it in Rust.
 pub fn add_renamed<'a>(
     alloc: Global,
     written: &Written<'_, 'a>,

@@ -1,8 +1,8 @@
 //! The files that name others, and the proofs beside them.
 
+use super::definition::{Definition, Proof};
 use super::file::OutputFile;
 use super::imports::{push_names, push_use, words_of};
-use super::piece::{Piece, Proof};
 use std::alloc::{AllocError, Global};
 use std::fmt::Write;
 
@@ -16,7 +16,7 @@ pub mod asn1;
 pub fn root_of(
     alloc: Global,
     module: &str,
-    all: &Vec<Piece>,
+    all: &Vec<Definition>,
     values: Option<&str>,
 ) -> Result<OutputFile, AllocError> {
     let mut file = OutputFile {
@@ -32,15 +32,15 @@ pub fn root_of(
 fn push_mods(
     out: &mut String,
     module: &str,
-    all: &Vec<Piece>,
+    all: &Vec<Definition>,
     values: Option<&str>,
 ) -> Result<(), AllocError> {
     write!(
         out,
         "//! Written by asn1_compile from the module {module}: change the module instead.\n//!\n//! The types of the module.\n\n"
     )?;
-    for piece in all.iter() {
-        let file = piece.file.as_str();
+    for definition in all.iter() {
+        let file = definition.file.as_str();
         write!(out, "mod {file};\n")?;
     }
     match values {
@@ -49,30 +49,30 @@ fn push_mods(
     }
 }
 
-fn push_exports(alloc: Global, out: &mut String, all: &Vec<Piece>) -> Result<(), AllocError> {
-    for piece in all.iter() {
-        if piece.is_public {
-            push_export(alloc, out, piece)?;
+fn push_exports(alloc: Global, out: &mut String, all: &Vec<Definition>) -> Result<(), AllocError> {
+    for definition in all.iter() {
+        if definition.is_public {
+            push_export(alloc, out, definition)?;
         }
     }
     Ok(())
 }
 
-fn push_export(alloc: Global, out: &mut String, piece: &Piece) -> Result<(), AllocError> {
+fn push_export(alloc: Global, out: &mut String, definition: &Definition) -> Result<(), AllocError> {
     out.push_str("pub ")?;
-    let (body, file) = (piece.body.as_str(), piece.file.as_str());
+    let (body, file) = (definition.body.as_str(), definition.file.as_str());
     let words = words_of(alloc, body)?;
-    push_use(alloc, out, &words, file, piece.names.as_str())
+    push_use(alloc, out, &words, file, definition.names.as_str())
 }
 
-/// The file of a proof of a function that a piece implements for `Encode`.
+/// The file of a proof of a function that a definition implements for `Encode`.
 pub fn proof_file(
     alloc: Global,
     krate: &str,
-    piece: &Piece,
+    definition: &Definition,
     proof: &Proof,
 ) -> Result<OutputFile, AllocError> {
-    let (name, file) = (piece.name.as_str(), piece.file.as_str());
+    let (name, file) = (definition.name.as_str(), definition.file.as_str());
     let (function, text) = (proof.function, proof.text.as_str());
     Ok(OutputFile {
         path: format!(in alloc; "proofs/asn1/{file}/{name}Encode/{function}/Answers.antt")?,
@@ -83,7 +83,7 @@ pub fn proof_file(
 }
 
 /// The root of a crate that holds the module and nothing else.
-pub fn library_of(alloc: Global, all: &Vec<Piece>) -> Result<OutputFile, AllocError> {
+pub fn library_of(alloc: Global, all: &Vec<Definition>) -> Result<OutputFile, AllocError> {
     let mut file = OutputFile {
         path: String::from_str(alloc, "src/lib.rt")?,
         text: String::from_str(alloc, LIBRARY)?,
@@ -97,11 +97,11 @@ pub fn library_of(alloc: Global, all: &Vec<Piece>) -> Result<OutputFile, AllocEr
 }
 
 // All public names, each on its line.
-fn public_names(alloc: Global, all: &Vec<Piece>) -> Result<String, AllocError> {
+fn public_names(alloc: Global, all: &Vec<Definition>) -> Result<String, AllocError> {
     let mut names = String::new(alloc);
-    for piece in all.iter() {
-        if piece.is_public {
-            names.push_str(piece.names.as_str())?;
+    for definition in all.iter() {
+        if definition.is_public {
+            names.push_str(definition.names.as_str())?;
         }
     }
     Ok(names)

@@ -52,7 +52,7 @@ while
 yield";
 
 /// The name in words of lower case with `_` between them: `tbsCertificate` is `tbs_certificate`. A
-/// keyword of Rust gets a `_` behind it.
+/// keyword of Rust gets a `_` after it.
 pub fn snake_name(alloc: Global, name: &str) -> Result<String, AllocError> {
     let mut text = String::new(alloc);
     let octets = name.as_bytes();
@@ -90,7 +90,7 @@ pub fn pascal_name(alloc: Global, name: &str) -> Result<String, AllocError> {
     Ok(text)
 }
 
-// Whether a word begins at this index: behind a hyphen; at a capital behind a small letter or a
+// Whether a word begins at this index: after a hyphen; at a capital after a small letter or a
 // digit, but for a single small letter in front of several capitals, as in `dNSName`; and at a
 // capital in front of a small letter.
 fn begins_word(octets: &[u8], at: usize) -> bool {
@@ -100,8 +100,8 @@ fn begins_word(octets: &[u8], at: usize) -> bool {
     if !is_upper(octets[at]) {
         return false;
     }
-    let is_behind_small = is_lower(octets[at - 1]) || is_digit(octets[at - 1]);
-    if is_behind_small && at > 1 {
+    let is_after_small = is_lower(octets[at - 1]) || is_digit(octets[at - 1]);
+    if is_after_small && at > 1 {
         return true;
     }
     at + 1 < octets.len() && is_lower(octets[at + 1])

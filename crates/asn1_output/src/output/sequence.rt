@@ -1,8 +1,8 @@
-//! The text of a SEQUENCE.
+//! Writes the Rust source of a SEQUENCE type.
 ghost use Rattle.std.specs.Prelude.{◌<◌};
 
 use super::field::{Field, FieldPresence, Row, lifetime_of, push_checks, push_fields, push_row};
-use super::part::PartText;
+use super::sequence_part::PartText;
 use super::template::{Items, Places, Tuples, fill, push_tuple};
 use std::alloc::{AllocError, Global};
 use std::fmt::Write;

@@ -1,8 +1,8 @@
 //! Where the files of a module import their types from.
 
+use super::definition::Definition;
 use super::directive::{name_of_type, own_default, own_type};
 use super::imports::push_use;
-use super::piece::Piece;
 use asn1_check::{ExternalType, Module};
 use asn1_syntax::{Component, NameIndex, TypeForm, is_line_of, push_line};
 use std::alloc::{AllocError, Global};
@@ -12,8 +12,8 @@ use std::alloc::{AllocError, Global};
 pub struct Sources<'m> {
     // The types that are written by hand, each on its line.
     by_hand: String,
-    pieces: &'m Vec<Piece>,
-    // The piece of each type.
+    definitions: &'m Vec<Definition>,
+    // The definition of each type.
     places: NameIndex<'m>,
     // The crates that hold imported types.
     crates: Vec<OtherCrate<'m>>,
@@ -28,20 +28,20 @@ struct OtherCrate<'m> {
 }
 
 impl<'m> Sources<'m> {
-    /// The sources of the files of these pieces.
+    /// The sources of the files of these definitions.
     pub fn of(
         alloc: Global,
         module: &'m Module<'_>,
-        pieces: &'m Vec<Piece>,
+        definitions: &'m Vec<Definition>,
     ) -> Result<Self, AllocError> {
         let mut sources = Sources {
             by_hand: types_by_hand(alloc, module)?,
-            pieces,
+            definitions,
             places: NameIndex::new(alloc),
             crates: Vec::new(alloc),
         };
-        for (place, piece) in pieces.iter().enumerate() {
-            for name in piece.names.lines() {
+        for (place, definition) in definitions.iter().enumerate() {
+            for name in definition.names.lines() {
                 sources.places.add(name, place)?;
             }
         }
@@ -69,19 +69,19 @@ impl<'m> Sources<'m> {
         Ok(())
     }
 
-    /// Adds the imports of those types of other pieces, and of those written by hand, that are
-    /// among the words of a piece.
+    /// Adds the imports of those types of other definitions, and of those written by hand, that are
+    /// among the words of a definition.
     pub fn push_own(
         &self,
         alloc: Global,
         out: &mut String,
-        piece: &Piece,
+        definition: &Definition,
         words: &NameIndex<'_>,
     ) -> Result<(), AllocError> {
         push_use(alloc, out, words, "crate", self.by_hand.as_str())?;
         for place in self.places_of(alloc, words)?.iter() {
-            if let Some(other) = self.pieces.get(*place)
-                && other.file.as_str() != piece.file.as_str()
+            if let Some(other) = self.definitions.get(*place)
+                && other.file.as_str() != definition.file.as_str()
             {
                 let file = other.file.as_str();
                 let path = format!(in alloc; "crate::asn1::{file}")?;
@@ -91,7 +91,7 @@ impl<'m> Sources<'m> {
         Ok(())
     }
 
-    // The pieces of types that are among the words, each once, in their order.
+    // The definitions of types that are among the words, each once, in their order.
     fn places_of(&self, alloc: Global, words: &NameIndex<'_>) -> Result<Vec<usize>, AllocError> {
         let mut places = Vec::new(alloc);
         for word in words.names.iter() {

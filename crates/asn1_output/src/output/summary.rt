@@ -2,8 +2,8 @@
 
 use super::abilities::has_item;
 use super::naming::text_at;
-use super::pieces::Written;
 use super::types::named_type;
+use super::written::Written;
 use asn1_check::{
     Checks, Constants, External, ExternalType, ExternalTypes, Module, RustType, bare_form,
     base_form, copy_at, has_no_tag, has_value, range_at,

@@ -78,9 +78,9 @@ pub fn numbered(number: usize) -> TagPrefix {
     TagPrefix { tag, tagging: None }
 }
 
-/// The type with this index, if `inside` stands behind all its tags and names; `None` if a type
+/// The type with this index, if `inside` is after all its tags and names; `None` if a type
 /// that is written by hand, or an imported one with a tag of its own, is among them.
-pub fn behind_tags(
+pub fn after_tags(
     alloc: Global,
     module: &Module<'_>,
     index: usize,
@@ -91,13 +91,13 @@ pub fn behind_tags(
     };
     let mut text = inside;
     for prefix in prefixes.iter().rev() {
-        text = behind_tag(alloc, *prefix, text.as_str())?;
+        text = after_tag(alloc, *prefix, text.as_str())?;
     }
     Ok(Some(text))
 }
 
 /// The type of this tag in front of the type of an element.
-pub fn behind_tag(alloc: Global, prefix: TagPrefix, inside: &str) -> Result<String, AllocError> {
+pub fn after_tag(alloc: Global, prefix: TagPrefix, inside: &str) -> Result<String, AllocError> {
     wrapped_text(alloc, word_of(tagging(prefix.tagging)), inside, prefix.tag)
 }
 
@@ -162,7 +162,7 @@ fn is_imported_plain(module: &Module<'_>, name: &str) -> bool {
     }
 }
 
-/// The type behind the tags of a type.
+/// The type after the tags of a type.
 pub fn leaf_of(module: &Module<'_>, index: usize) -> usize {
     let mut index = index;
     for _ in module.nodes.iter() {
@@ -177,16 +177,16 @@ pub fn leaf_of(module: &Module<'_>, index: usize) -> usize {
     index
 }
 
-/// The type behind the tags and the names of a type; the last name, if another crate holds what it
+/// The type after the tags and the names of a type; the last name, if another crate holds what it
 /// stands for.
 pub fn end_of(module: &Module<'_>, index: usize) -> usize {
     let mut index = index;
     for _ in module.nodes.iter() {
-        let behind = leaf_of(module, base_of(module, index));
-        if behind == index {
+        let after = leaf_of(module, base_of(module, index));
+        if after == index {
             return index;
         }
-        index = behind;
+        index = after;
     }
     index
 }

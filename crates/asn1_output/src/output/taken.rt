@@ -5,7 +5,7 @@ use std::alloc::{AllocError, Global};
 use std::collections::HashSet;
 use std::fmt::Write;
 
-/// The ends of a name that stands alone.
+/// The ends of a name that is alone.
 pub const ALONE: &str = "\n";
 
 /// Names that are taken. Two names whose words are the same are one, since files have the names of
@@ -34,7 +34,7 @@ impl Taken {
     }
 
     /// Takes a name with these ends, or if it is not free the first one that is free of those with
-    /// a number behind it, from 2 on; `between` stands in front of the number.
+    /// a number after it, from 2 on; `between` is in front of the number.
     pub fn take_free(
         &mut self,
         alloc: Global,

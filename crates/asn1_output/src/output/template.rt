@@ -2,13 +2,13 @@
 
 use std::alloc::{AllocError, Global};
 
-/// What stands in the places of a template.
+/// What is in the places of a template.
 pub trait Places {
     /// Adds the text in the place of this letter.
     fn push_place(&self, out: &mut String, letter: char) -> Result<(), AllocError>;
 }
 
-/// Adds a template, in which each `@` and the letter behind it stand for the text of that place.
+/// Adds a template, in which each `@` and the letter after it stand for the text of that place.
 pub fn fill<P: Places>(out: &mut String, template: &str, places: &P) -> Result<(), AllocError> {
     let mut is_place = false;
     for character in template.chars() {
@@ -31,18 +31,18 @@ pub fn filled<P: Places>(alloc: Global, template: &str, places: &P) -> Result<St
     Ok(text)
 }
 
-/// Texts that stand one after the other, by index.
+/// Texts that are one after the other, by index.
 pub trait Items {
     /// Adds the item with this index.
     fn push_item(&self, out: &mut String, index: usize) -> Result<(), AllocError>;
 }
 
-/// What stands around and between the members of tuples.
+/// What is around and between the members of tuples.
 pub trait Tuples: Items {
     /// What a tuple of so many members begins with.
     fn open(&self, count: usize) -> &'static str;
 
-    /// What stands between members.
+    /// What is between members.
     fn between(&self) -> &'static str;
 }
 

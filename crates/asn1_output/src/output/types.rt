@@ -7,7 +7,7 @@ use super::lists::list_field;
 use super::naming::text_at;
 use super::nest;
 use super::numbers::{OPEN, are_small, bounds, is_closed, is_enumeration, is_open};
-use super::tagged::{behind_tags, numbered, tagged};
+use super::tagged::{after_tags, numbered, tagged};
 use asn1_check::{
     Module, RustKind, RustType, TagSet, are_numbered, automatic_number, base_form, contained,
     find_type,
@@ -263,7 +263,7 @@ fn narrowed(
         return Ok(None);
     }
     let inside = format!(in alloc; "IntegerIn<{low}, {high}>")?;
-    behind_tags(alloc, module, of, inside)
+    after_tags(alloc, module, of, inside)
 }
 
 /// The type that a name stands for, if it is that of the type with this index.

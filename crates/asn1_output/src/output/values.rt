@@ -1,9 +1,9 @@
 //! The file of the values of a module.
 
+use super::definition::Definition;
 use super::docs::doc_of;
 use super::file::OutputFile;
 use super::imports::{push_ghost_use, words_of};
-use super::piece::Piece;
 use super::rust_names::snake_name;
 use super::taken::{ALONE, Taken};
 use super::template::{Places, fill};
@@ -42,9 +42,9 @@ pub fn name_of(oid: &ObjectIdentifierRef<'_>) -> Option<&'static str> {
 const LARGE: u64 = 1048576;
 
 /// The name of the file, without its ending: one that no type has.
-pub fn values_name(pieces: &Vec<Piece>) -> &'static str {
-    for piece in pieces.iter() {
-        if piece.file.as_str() == "values" {
+pub fn values_name(definitions: &Vec<Definition>) -> &'static str {
+    for definition in definitions.iter() {
+        if definition.file.as_str() == "values" {
             return "module_values";
         }
     }
@@ -56,13 +56,13 @@ pub fn values_name(pieces: &Vec<Piece>) -> &'static str {
 pub fn values_file(
     alloc: Global,
     module: &Module<'_>,
-    pieces: &Vec<Piece>,
+    definitions: &Vec<Definition>,
 ) -> Result<Option<OutputFile>, AllocError> {
     let texts = texts_of(alloc, module)?;
     if texts.constants.is_empty() && texts.functions.is_empty() {
         return Ok(None);
     }
-    Ok(Some(file_of(alloc, module, pieces, &texts)?))
+    Ok(Some(file_of(alloc, module, definitions, &texts)?))
 }
 
 // The texts of the values of a module.
@@ -96,10 +96,10 @@ fn texts_of(alloc: Global, module: &Module<'_>) -> Result<Texts, AllocError> {
 fn file_of(
     alloc: Global,
     module: &Module<'_>,
-    pieces: &Vec<Piece>,
+    definitions: &Vec<Definition>,
     texts: &Texts,
 ) -> Result<OutputFile, AllocError> {
-    let name = values_name(pieces);
+    let name = values_name(definitions);
     let mut file = OutputFile {
         path: format!(in alloc; "src/asn1/{name}.rt")?,
         text: String::new(alloc),

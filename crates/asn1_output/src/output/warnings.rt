@@ -3,10 +3,10 @@
 use super::directive::own_type;
 use super::kept::is_kept;
 use super::numbers::{is_enumeration, is_open};
-use super::pieces::Written;
 use super::renamed::add_renamed;
 use super::tagged::is_checked;
 use super::values::is_written;
+use super::written::Written;
 use asn1_check::{Module, RustKind, base_form, range_at};
 use asn1_syntax::{Constraint, Endpoint, Item, LeftOut, Range, TypeForm, TypeNode, Warning};
 use std::alloc::{AllocError, Global};

@@ -4,8 +4,8 @@ use std::alloc::{AllocError, Global};
 
 const WIDTH: usize = 100;
 
-/// Adds a text, with long clauses broken in front of words that begin with `(` or `⟦`, behind `;`
-/// and, if they quote no types, behind `,`.
+/// Adds a text, with long clauses broken in front of words that begin with `(` or `⟦`, after `;`
+/// and, if they quote no types, after `,`.
 pub fn push_wrapped(alloc: Global, out: &mut String, text: &str) -> Result<(), AllocError> {
     for line in text.lines() {
         if is_long_clause(line) {
@@ -45,7 +45,7 @@ fn push_clause(alloc: Global, out: &mut String, line: &str) -> Result<(), AllocE
 }
 
 // Adds words that stay on one line, on a new line if this one has no room, and returns the column
-// behind them.
+// after them.
 fn push_group(out: &mut String, group: &str, column: usize) -> Result<usize, AllocError> {
     let words = group.trim_end();
     let width = words.chars().count();

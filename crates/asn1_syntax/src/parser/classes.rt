@@ -8,7 +8,7 @@ use crate::item_kind::ItemKind;
 use crate::simple_type::SimpleType;
 
 impl<'a> Parser<'a> {
-    /// Whether a class stands here behind `::=`.
+    /// Whether a class is here after `::=`.
     pub(super) fn is_class(&self) -> bool {
         let of = self.peek_second();
         self.peek().is("::=") && self.is_class_name(of)
@@ -22,7 +22,7 @@ impl<'a> Parser<'a> {
         let mut found = self.find(name.text);
         for _ in 0..16u32 {
             let place = found?;
-            let at = self.behind_assign(place)?;
+            let at = self.after_assign(place)?;
             if self.item_at(at).is("CLASS") {
                 return Some(Place {
                     at: at.saturating_add(1),
@@ -45,7 +45,7 @@ impl<'a> Parser<'a> {
             let Some(place) = self.find_at(frame, item.text) else {
                 return false;
             };
-            let Some(at) = self.behind_assign(place) else {
+            let Some(at) = self.after_assign(place) else {
                 return false;
             };
             item = self.item_at(at);
@@ -54,8 +54,8 @@ impl<'a> Parser<'a> {
         false
     }
 
-    /// The number of the item that a name stands for: the argument, or what stands behind `::=`.
-    pub(super) fn behind_assign(&self, place: Place) -> Option<usize> {
+    /// The number of the item that a name stands for: the argument, or what stands after `::=`.
+    pub(super) fn after_assign(&self, place: Place) -> Option<usize> {
         if place.is_argument {
             return Some(place.at);
         }
@@ -78,15 +78,15 @@ impl<'a> Parser<'a> {
             return Err(unsupported(self.peek(), "one field of a class"));
         }
         self.field = Some(field);
-        let behind = match self.class_named(name) {
-            Some(class) => self.behind_field(class, field),
+        let after = match self.class_named(name) {
+            Some(class) => self.after_field(class, field),
             None if self.is_class_name(name) => {
                 self.field_type = Some(type_of_builtin(field));
                 return Ok(None);
             }
             None => return Err(unsupported(name, "a class of a module that is given")),
         };
-        let Some(place) = behind else {
+        let Some(place) = after else {
             return Err(unsupported(field, "a field of its class"));
         };
         if field.kind == ItemKind::UpperName || self.item_at(place.at).is("&") {
@@ -97,8 +97,8 @@ impl<'a> Parser<'a> {
         Ok(Some(self.go(place, name, Vec::new(self.alloc))?))
     }
 
-    /// The place behind the name of a field of the class whose fields stand in these braces.
-    pub(super) fn behind_field(&self, class: Place, field: Item<'a>) -> Option<Place> {
+    /// The place after the name of a field of the class whose fields are in these braces.
+    pub(super) fn after_field(&self, class: Place, field: Item<'a>) -> Option<Place> {
         let end = self.end_of_group(class.at);
         for at in class.at..end {
             if self.item_at(at).is("&")

@@ -11,7 +11,7 @@ use crate::object_set::TableUse;
 use crate::range::Range;
 
 impl<'a> Parser<'a> {
-    /// Parses a constraint without a type in it, up to the parenthesis behind it. One that is no
+    /// Parses a constraint without a type in it, up to the parenthesis after it. One that is no
     /// range and no size is not read.
     pub(super) fn constraint(&mut self) -> Result<Constraint<'a>, Failure<'a>> {
         let item = self.peek();
@@ -48,8 +48,8 @@ impl<'a> Parser<'a> {
         }
     }
 
-    /// Parses a constraint which says that a field of a class stands in the objects of a set, if this is
-    /// one, up to the parenthesis behind it (X.682, 10).
+    /// Parses a constraint which says that a field of a class is in the objects of a set, if this is
+    /// one, up to the parenthesis after it (X.682, 10).
     pub(super) fn table(
         &mut self,
         field: Option<Item<'a>>,
@@ -101,7 +101,7 @@ impl<'a> Parser<'a> {
         Ok(members)
     }
 
-    /// Moves past `ENCODED BY` and the value behind it (X.682, 11).
+    /// Moves past `ENCODED BY` and the value after it (X.682, 11).
     pub(super) fn encoded_by(&mut self) -> Result<(), Failure<'a>> {
         if self.takes("ENCODED") {
             self.expect("BY")?;
@@ -110,7 +110,7 @@ impl<'a> Parser<'a> {
         Ok(())
     }
 
-    /// Parses the size behind the word SIZE.
+    /// Parses the size after the word SIZE.
     pub(super) fn size(&mut self) -> Result<Constraint<'a>, Failure<'a>> {
         let item = self.peek();
         self.expect("(")?;
@@ -148,7 +148,7 @@ impl<'a> Parser<'a> {
         self.peek().is("-") && !self.item_at(self.at.saturating_add(2)).is(".")
     }
 
-    // Whether what stands here combines the constraint in front with another one (X.680, 50.1).
+    // Whether what is here combines the constraint in front with another one (X.680, 50.1).
     fn is_set_operator(&self) -> bool {
         let item = self.peek();
         item.is("|")
@@ -163,12 +163,12 @@ impl<'a> Parser<'a> {
             || item.is("!")
     }
 
-    // Whether more than the end stands behind a comma and an extension mark.
+    // Whether more than the end is after a comma and an extension mark.
     fn is_open_end(&self) -> bool {
         self.peek_second().is("...") && !self.item_at(self.at.saturating_add(2)).is(")")
     }
 
-    // Moves to the parenthesis behind the constraint that begins with an item.
+    // Moves to the parenthesis after the constraint that begins with an item.
     fn unread(&mut self, item: Item<'a>) -> Result<Constraint<'a>, Failure<'a>> {
         self.to_end()?;
         Ok(Constraint::Unread(item))
@@ -195,7 +195,7 @@ impl<'a> Parser<'a> {
         Err(refused(self.peek(), ")"))
     }
 
-    // Parses a range, or a single value, and an extension mark behind it.
+    // Parses a range, or a single value, and an extension mark after it.
     fn range(&mut self) -> Result<Range<'a>, Failure<'a>> {
         let item = self.peek();
         let low = self.endpoint()?;

@@ -29,7 +29,7 @@ pub fn check_digits<'a>(items: &Vec<Item<'a>>) -> Result<(), Failure<'a>> {
     Ok(())
 }
 
-// Whether only digits and white space stand between the quotation marks.
+// Whether only digits and white space are between the quotation marks.
 fn has_digits(text: &str, is_hexadecimal: bool) -> bool {
     let inside = text.get(1..text.len().saturating_sub(2)).unwrap_or("");
     for octet in inside.as_bytes() {

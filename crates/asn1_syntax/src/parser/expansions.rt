@@ -51,7 +51,7 @@ impl<'a> Parser<'a> {
         Ok(())
     }
 
-    // Parses arguments in braces. The parameters stand in the braces which open at an item.
+    // Parses arguments in braces. The parameters are in the braces which open at an item.
     fn arguments(
         &mut self,
         formal: usize,
@@ -59,7 +59,7 @@ impl<'a> Parser<'a> {
     ) -> Result<Vec<Parameter<'a>>, Failure<'a>> {
         let names = self.parameter_names(formal)?;
         if !self.takes("{") {
-            return Err(unsupported(item, "arguments behind a type with parameters"));
+            return Err(unsupported(item, "arguments after a type with parameters"));
         }
         let mut at = self.at;
         let end = self.end_of_group(at.saturating_sub(1)).saturating_sub(1);
@@ -75,7 +75,7 @@ impl<'a> Parser<'a> {
         Ok(parameters)
     }
 
-    // The number of the comma behind the argument that begins at an item, or of the brace at this end.
+    // The number of the comma after the argument that begins at an item, or of the brace at this end.
     fn end_of_argument(&self, from: usize, end: usize) -> usize {
         let mut depth = 0u64;
         for at in from..end {
@@ -95,15 +95,15 @@ impl<'a> Parser<'a> {
     fn parameter_names(&self, formal: usize) -> Result<Vec<&'a str>, Failure<'a>> {
         let mut names = Vec::new(self.alloc);
         for at in formal..self.end_of_group(formal) {
-            let behind = self.item_at(at.saturating_add(1));
-            if behind.is(",") || behind.is("}") {
+            let after = self.item_at(at.saturating_add(1));
+            if after.is(",") || after.is("}") {
                 names.push(self.item_at(at).text)?;
             }
         }
         Ok(names)
     }
 
-    // Moves to the type of an alternative of the CHOICE that stands here, and leaves behind that.
+    // Moves to the type of an alternative of the CHOICE that is here, and leaves behind that.
     fn alternative(&mut self, name: Item<'a>) -> Result<Option<Back>, Failure<'a>> {
         let choice = self.next();
         let Some(brace) = self.structure(choice) else {
@@ -117,13 +117,13 @@ impl<'a> Parser<'a> {
                 let at = at.saturating_add(1);
                 return Ok(Some(self.go(Place { at, ..brace }, name, Vec::new(self.alloc))?));
             }
-            at = self.behind_comma(at, end);
+            at = self.after_comma(at, end);
         }
         Err(unsupported(name, NO_CHOICE))
     }
 
-    // The number of the item behind the next comma that no brackets are around.
-    fn behind_comma(&self, from: usize, end: usize) -> usize {
+    // The number of the item after the next comma that no brackets are around.
+    fn after_comma(&self, from: usize, end: usize) -> usize {
         let mut depth = 0u64;
         for at in from..end {
             let item = self.item_at(at);
@@ -138,11 +138,11 @@ impl<'a> Parser<'a> {
         end
     }
 
-    /// The brace that opens the components of the type with this name, behind its names and tags.
+    /// The brace that opens the components of the type with this name, after its names and tags.
     pub(super) fn structure(&self, name: Item<'a>) -> Option<Place> {
         let mut place = self.find(name.text)?;
         for _ in 0..16u32 {
-            let at = self.behind_tags(self.behind_assign(place)?);
+            let at = self.after_tags(self.after_assign(place)?);
             let item = self.item_at(at);
             if item.is("SEQUENCE") || item.is("SET") || item.is("CHOICE") {
                 let at = at.saturating_add(1);
@@ -162,8 +162,8 @@ impl<'a> Parser<'a> {
         None
     }
 
-    // The number of the item behind tags.
-    fn behind_tags(&self, at: usize) -> usize {
+    // The number of the item after tags.
+    fn after_tags(&self, at: usize) -> usize {
         let mut at = at;
         for _ in 0..16u32 {
             if self.item_at(at).is("[") {

@@ -38,7 +38,7 @@ impl<'a> Parser<'a> {
         Ok(tags)
     }
 
-    /// Parses `EXPORTS`, and returns the names behind it.
+    /// Parses `EXPORTS`, and returns the names after it.
     pub(super) fn exports(&mut self) -> Result<Vec<Item<'a>>, Failure<'a>> {
         let mut names = Vec::new(self.alloc);
         if !self.takes("EXPORTS") {
@@ -91,7 +91,7 @@ impl<'a> Parser<'a> {
         Ok(names)
     }
 
-    // Moves past the braces behind a name with parameters (X.680, 13.1).
+    // Moves past the braces after a name with parameters (X.680, 13.1).
     fn empty_braces(&mut self) -> Result<(), Failure<'a>> {
         if self.takes("{") {
             self.expect("}")?;
@@ -99,7 +99,7 @@ impl<'a> Parser<'a> {
         Ok(())
     }
 
-    // Parses the name of a module, and moves past the OBJECT IDENTIFIER behind it.
+    // Parses the name of a module, and moves past the OBJECT IDENTIFIER after it.
     fn module_name(&mut self) -> Result<Item<'a>, Failure<'a>> {
         let name = self.expect_kind(ItemKind::UpperName, "the name of a module")?;
         if self.peek().is("{") {
@@ -110,10 +110,10 @@ impl<'a> Parser<'a> {
 
     // Whether the name at this place is one that is imported from the next module.
     fn begins_import(&self) -> bool {
-        let behind = self.peek_second();
-        behind.is(",")
-            || behind.is("FROM")
-            || (behind.is("{") && self.item_at(self.at.saturating_add(2)).is("}"))
+        let after = self.peek_second();
+        after.is(",")
+            || after.is("FROM")
+            || (after.is("{") && self.item_at(self.at.saturating_add(2)).is("}"))
     }
 
     // Parses the names that one module defines, and its name.

@@ -8,7 +8,7 @@ use crate::item_kind::ItemKind;
 const VERSION: &str = "that these components come together is not checked";
 
 impl<'a> Parser<'a> {
-    /// Moves past an extension mark behind so many others, and returns it. A CHOICE has an alternative
+    /// Moves past an extension mark after so many others, and returns it. A CHOICE has an alternative
     /// in front of its first one.
     pub(super) fn component_mark(
         &mut self,
@@ -32,7 +32,7 @@ impl<'a> Parser<'a> {
         }
     }
 
-    /// Moves past the comma behind a component, unless the components end there.
+    /// Moves past the comma after a component, unless the components end there.
     pub(super) fn component_end(&mut self) -> Result<(), Failure<'a>> {
         if self.ends_version() {
             return match self.versions {
@@ -42,13 +42,13 @@ impl<'a> Parser<'a> {
         }
         self.expect(",")?;
         if self.peek().is("}") {
-            return Err(refused(self.peek(), "a component behind the comma"));
+            return Err(refused(self.peek(), "a component after the comma"));
         }
         Ok(())
     }
 
-    /// Moves past `[[`, with the number of a version if one stands behind it, where additions stand
-    /// and no brackets are open; whether it stands here (X.680, 25.1). What these brackets are around
+    /// Moves past `[[`, with the number of a version if one is after it, where additions are
+    /// and no brackets are open; whether it is here (X.680, 25.1). What these brackets are around
     /// is read like other additions.
     pub(super) fn takes_version(&mut self, are_additions: bool) -> Result<bool, Failure<'a>> {
         if !self.peek().is("[[") || !are_additions || self.versions > 0 {
@@ -62,7 +62,7 @@ impl<'a> Parser<'a> {
         Ok(true)
     }
 
-    // Moves past `]]` if brackets are open; whether `}` stands here then.
+    // Moves past `]]` if brackets are open; whether `}` is here then.
     fn ends_version(&mut self) -> bool {
         if self.versions > 0 && self.takes("]]") {
             self.versions = 0;

@@ -7,7 +7,7 @@ use crate::reserved::is_reserved;
 use crate::simple_type::SimpleType;
 
 impl<'a> Parser<'a> {
-    /// Moves from an assignment that is not supported, which begins at this index, to the one behind
+    /// Moves from an assignment that is not supported, which begins at this index, to the one after
     /// it, or to the end of the module.
     pub(super) fn to_next_assignment(&mut self, start: usize) {
         let own = self.assign_from(start.saturating_add(1));
@@ -24,7 +24,7 @@ impl<'a> Parser<'a> {
         };
     }
 
-    /// Whether a type, and a set of its values behind `::=`, stand here.
+    /// Whether a type, and a set of its values after `::=`, are here.
     pub(super) fn is_set_assignment(&self) -> bool {
         let assign = self.assign_from(self.at);
         !self.peek().is("::=")
@@ -32,7 +32,7 @@ impl<'a> Parser<'a> {
             && self.name_before(assign, self.at.saturating_sub(1)) < self.at
     }
 
-    // The index behind the END of a macro whose `::=` has this index.
+    // The index after the END of a macro whose `::=` has this index.
     fn end_of_macro(&self, assign: usize) -> usize {
         for at in assign..self.items.len() {
             if self.item_at(at).is("END") {
@@ -69,7 +69,7 @@ impl<'a> Parser<'a> {
                 break;
             }
             at = self.group_before(at, least);
-            if self.is_name(at) && (is_type || self.is_behind_name(at, least)) {
+            if self.is_name(at) && (is_type || self.is_after_name(at, least)) {
                 return if is_type { at } else { at.saturating_sub(1) };
             }
             if self.is_name(at) && self.item_at(at.saturating_add(1)).is("{") && has_governor {
@@ -121,7 +121,7 @@ impl<'a> Parser<'a> {
     }
 
     // Whether the item in front of this one is the name of a set.
-    fn is_behind_name(&self, at: usize, least: usize) -> bool {
+    fn is_after_name(&self, at: usize, least: usize) -> bool {
         at > least && self.is_name(at.saturating_sub(1))
     }
 

@@ -31,7 +31,7 @@ impl<'a> Parser<'a> {
         };
         self.at = self.at.saturating_add(1);
         let at = if place.is_argument {
-            self.behind_parameters(place).at
+            self.after_parameters(place).at
         } else {
             place.at.saturating_add(3)
         };
@@ -66,7 +66,7 @@ impl<'a> Parser<'a> {
     // The number for which a name stands: an argument, or a value.
     fn named_endpoint(&mut self, item: Item<'a>) -> Result<Endpoint<'a>, Failure<'a>> {
         let argument = match self.find(item.text) {
-            Some(place) if place.is_argument => self.behind_parameters(place),
+            Some(place) if place.is_argument => self.after_parameters(place),
             _ => return Ok(Endpoint::Name(self.own_name(item)?)),
         };
         let of = Item {

@@ -72,8 +72,8 @@ impl<'a> Parser<'a> {
             return self.peek().text != self.item_at(at.saturating_add(2)).text;
         }
         if first.is("&") {
-            let behind = self.item_at(self.end_of_group(at));
-            return self.peek().is("}") || self.peek().text == behind.text;
+            let after = self.item_at(self.end_of_group(at));
+            return self.peek().is("}") || self.peek().text == after.text;
         }
         self.peek().text != first.text
     }
@@ -96,7 +96,7 @@ impl<'a> Parser<'a> {
         Ok(fields)
     }
 
-    // Parses what stands in a field.
+    // Parses what is in a field.
     fn object_field(
         &mut self,
         class: Place,
@@ -119,11 +119,11 @@ impl<'a> Parser<'a> {
 
     // Whether the field of a class stands for types.
     fn is_type_field(&self, class: Place, name: Item<'a>) -> bool {
-        let Some(place) = self.behind_field(class, name) else {
+        let Some(place) = self.after_field(class, name) else {
             return false;
         };
-        let behind = self.item_at(place.at);
-        behind.is(",") || behind.is("}") || behind.is("OPTIONAL") || behind.is("DEFAULT")
+        let after = self.item_at(place.at);
+        after.is(",") || after.is("}") || after.is("OPTIONAL") || after.is("DEFAULT")
     }
 
     /// Parses a set of objects of this class.
@@ -158,7 +158,7 @@ impl<'a> Parser<'a> {
         Err(unsupported(self.peek(), "the name of an object or of a set"))
     }
 
-    // The object in braces that stands here, as one item.
+    // The object in braces that is here, as one item.
     fn whole_item(&self) -> Item<'a> {
         let item = self.peek();
         let last = self.end_of_group(self.at).saturating_sub(1);

@@ -39,7 +39,7 @@ impl<'a> Parser<'a> {
             && (self.peek_second().is("DEFINITIONS") || self.peek_second().is("{"))
     }
 
-    // The outline of the module that begins here, behind which this moves.
+    // The outline of the module that begins here, after which this moves.
     fn module_outline(&mut self) -> Result<ModuleOutline<'a>, Failure<'a>> {
         let (name, tags) = self.header()?;
         let exports = self.exports()?;
@@ -101,7 +101,7 @@ impl<'a> Parser<'a> {
         Ok(())
     }
 
-    // Finds the names behind the last module that are those of no other module.
+    // Finds the names after the last module that are those of no other module.
     fn add_own_names(&mut self) -> Result<(), Failure<'a>> {
         let last = match self.items.last() {
             Some(item) => item.comments,

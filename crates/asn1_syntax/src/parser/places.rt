@@ -52,7 +52,7 @@ pub struct Back {
 const NOT_IMPORTED: &str = "a name of a module that is given";
 
 impl<'a> Parser<'a> {
-    /// Where this name is defined, for what stands here.
+    /// Where this name is defined, for what is here.
     pub(super) fn find(&self, name: &str) -> Option<Place> {
         self.find_at(self.frame, name)
     }
@@ -124,8 +124,8 @@ impl<'a> Parser<'a> {
         self.frames.truncate(back.frames);
     }
 
-    /// The place behind the names of parameters that an item stands for.
-    pub(super) fn behind_parameters(&self, place: Place) -> Place {
+    /// The place after the names of parameters that an item stands for.
+    pub(super) fn after_parameters(&self, place: Place) -> Place {
         let mut place = place;
         for _ in 0..self.frames.len() {
             match self.find_at(place.frame, self.item_at(place.at).text) {
@@ -193,7 +193,7 @@ impl<'a> Parser<'a> {
         Err(unsupported(item, NOT_IMPORTED))
     }
 
-    // The number of the module in which stands what is read.
+    // The number of the module that is read.
     fn module(&self) -> usize {
         match self.frames.get(self.frame) {
             Some(frame) => frame.module,
@@ -216,7 +216,7 @@ impl<'a> Parser<'a> {
         false
     }
 
-    /// The number of the item behind the brackets that open at this one.
+    /// The number of the item after the brackets that open at this one.
     pub(super) fn end_of_group(&self, at: usize) -> usize {
         let mut depth = 0u64;
         for end in at..self.items.len() {

@@ -21,7 +21,7 @@ const TAGGED_ADDITION: &str =
     "an addition without a tag, since the components in front of it have none";
 
 impl<'a> Parser<'a> {
-    /// Parses a type in which types may stand at so many levels, and returns its index.
+    /// Parses a type in which types may be at so many levels, and returns its index.
     #[cycle(types)]
     pub(super) fn type_at(&mut self, depth: u32) -> Result<usize, Failure<'a>> {
         let item = self.next();
@@ -32,13 +32,13 @@ impl<'a> Parser<'a> {
         if let Some(back) = self.expand(item)? {
             let of = self.type_at(depth - 1)?;
             self.come_back(back);
-            self.constraint_behind(&mut constraints, depth - 1)?;
+            self.constraint_after(&mut constraints, depth - 1)?;
             self.add_constraints(of, constraints)?;
             return Ok(of);
         }
         let mut mark = None;
         let form = self.form(item, &mut constraints, &mut mark, depth - 1)?;
-        self.constraint_behind(&mut constraints, depth - 1)?;
+        self.constraint_after(&mut constraints, depth - 1)?;
         let item = self.name_of(item, &form)?;
         self.add(TypeNode {
             item,
@@ -48,7 +48,7 @@ impl<'a> Parser<'a> {
         })
     }
 
-    // The failure of a type that has too many around it, or leads back to itself by what stands in the
+    // The failure of a type that has too many around it, or leads back to itself by what is in the
     // place of names.
     fn too_deep(&self, item: Item<'a>) -> Failure<'a> {
         let expected = "at most 64 types around a type";
@@ -69,7 +69,7 @@ impl<'a> Parser<'a> {
         self.own_name(item)
     }
 
-    // Parses how a type is made. The size of a list, which stands in front of its items, goes to
+    // Parses how a type is made. The size of a list, which is in front of its items, goes to
     // `constraints`, and the extension mark to `mark`.
     #[cycle(types)]
     fn form(
@@ -104,7 +104,7 @@ impl<'a> Parser<'a> {
         Ok(TypeForm::SequenceOf(self.list_of(constraints, depth)?))
     }
 
-    // Whether `{ ... }` stands here: a SEQUENCE of which no component is known. If so, moves past it.
+    // Whether `{ ... }` is here: a SEQUENCE of which no component is known. If so, moves past it.
     fn takes_unread(&mut self) -> bool {
         let at = self.at;
         let is_unread = self.item_at(at).is("{")
@@ -189,7 +189,7 @@ impl<'a> Parser<'a> {
         Ok(components)
     }
 
-    // Checks that each name behind `DEFINED BY`, from this index on, is that of a component.
+    // Checks that each name after `DEFINED BY`, from this index on, is that of a component.
     fn check_defined_by(
         &mut self,
         start: usize,
@@ -252,7 +252,7 @@ impl<'a> Parser<'a> {
         Ok(add_roots(components, more)?)
     }
 
-    // Moves to the components of the type behind COMPONENTS OF, if its module is given.
+    // Moves to the components of the type after COMPONENTS OF, if its module is given.
     fn to_components(&mut self) -> Result<Option<Back>, Failure<'a>> {
         self.at = self.at.saturating_add(1);
         self.expect("OF")?;
@@ -297,7 +297,7 @@ impl<'a> Parser<'a> {
         Ok(())
     }
 
-    // What the module says of tags in which stands what is read.
+    // What the module that is read says of tags.
     fn module_tags(&self) -> TagDefault {
         let Some(frame) = self.frames.get(self.frame) else {
             return TagDefault::Explicit;
@@ -323,9 +323,9 @@ impl<'a> Parser<'a> {
         Ok(Presence::Required)
     }
 
-    // Parses the constraints behind a type.
+    // Parses the constraints after a type.
     #[cycle(types)]
-    fn constraint_behind(
+    fn constraint_after(
         &mut self,
         constraints: &mut Vec<Constraint<'a>>,
         depth: u32,
@@ -355,7 +355,7 @@ impl<'a> Parser<'a> {
         Ok(index)
     }
 
-    // Parses a tag behind `[`.
+    // Parses a tag after `[`.
     fn tag_prefix(&mut self) -> Result<TagPrefix, Failure<'a>> {
         let class = if self.takes("APPLICATION") {
             TagClass::Application
@@ -497,7 +497,7 @@ fn has_component(components: &Vec<Component<'_>>, name: &str) -> bool {
     false
 }
 
-// The first one of these marks, with the place in front of the second one, or behind all components.
+// The first one of these marks, with the place in front of the second one, or after all components.
 fn mark_of<'a>(marks: &Vec<Mark<'a>>, count: usize) -> Option<Mark<'a>> {
     let first = marks.first()?;
     let insertion = match marks.get(1) {

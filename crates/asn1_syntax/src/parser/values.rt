@@ -32,10 +32,10 @@ impl<'a> Parser<'a> {
 
     // Whether a value of more than one item begins with this one.
     fn is_unread_value(&self, item: Item<'a>) -> bool {
-        let behind = self.peek_second();
-        let is_open = behind.is("{") || behind.kind == ItemKind::Number;
-        behind.is(":")
-            || behind.is(".")
+        let after = self.peek_second();
+        let is_open = after.is("{") || after.kind == ItemKind::Number;
+        after.is(":")
+            || after.is(".")
             || (item.is("-") && self.item_at(self.at.saturating_add(2)).is("."))
             || (item.kind == ItemKind::LowerName && is_open)
     }
@@ -47,7 +47,7 @@ impl<'a> Parser<'a> {
             return Ok(Value { item, form });
         }
         let argument = match self.find(item.text) {
-            Some(place) if place.is_argument => self.behind_parameters(place),
+            Some(place) if place.is_argument => self.after_parameters(place),
             _ => {
                 let item = self.own_name(item)?;
                 return Ok(Value { item, form });
@@ -70,12 +70,12 @@ impl<'a> Parser<'a> {
     fn unread_value(&mut self, item: Item<'a>) -> Result<Value<'a>, Failure<'a>> {
         let form = ValueForm::Unread;
         for _ in 0..self.items.len() {
-            let behind = self.peek_second();
+            let after = self.peek_second();
             if self.peek().is("-")
-                || self.is_unread_value(self.peek()) && !behind.is(":") && !behind.is(".")
+                || self.is_unread_value(self.peek()) && !after.is(":") && !after.is(".")
             {
                 self.at = self.at.saturating_add(1);
-            } else if behind.is(":") || behind.is(".") {
+            } else if after.is(":") || after.is(".") {
                 self.at = self.at.saturating_add(2);
             } else {
                 break;

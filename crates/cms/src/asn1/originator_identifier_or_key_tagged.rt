@@ -18,7 +18,7 @@ use std::alloc::Global;
 /// What an explicit tag has in it: a [`OriginatorIdentifierOrKey`].
 #[derive(Clone, Copy, Debug, Drop, PartialEq, Eq)]
 pub struct OriginatorIdentifierOrKeyTagged<'a> {
-    /// The value behind the tag.
+    /// The value after the tag.
     pub value: OriginatorIdentifierOrKey<'a>,
 }
 

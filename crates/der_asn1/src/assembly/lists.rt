@@ -8,9 +8,9 @@ ghost use Rattle.der_asn1.specs.Assembly.{ListAssembled};
 
 use super::written_item::WrittenItem;
 use super::written_values::write_values;
-use crate::item::DecodeItem;
-use crate::sequence_of::SequenceOf;
-use crate::set_of::SetOf;
+use crate::lists::item::DecodeItem;
+use crate::lists::sequence_of::SequenceOf;
+use crate::lists::set_of::SetOf;
 use der::{Error, SliceReader};
 use std::alloc::Global;
 

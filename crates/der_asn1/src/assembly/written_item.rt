@@ -2,16 +2,16 @@
 ghost use Rattle.std.specs.Prelude.{◌≡◌};
 ghost use Rattle.std.proofs.Common.{refl};
 
-use crate::any::AnyRef;
-use crate::checked::Checked;
-use crate::grammar::ContentsGrammar;
-use crate::integer_number::IntegerNumber;
-use crate::integer_of::IntegerOf;
-use crate::iter::BorrowedItem;
-use crate::sequence_of::SequenceOf;
-use crate::set_of::SetOf;
-use crate::time_format::TimeFormat;
-use crate::time_of::TimeOf;
+use crate::contents::checked::Checked;
+use crate::contents::grammar::ContentsGrammar;
+use crate::elements::any::AnyRef;
+use crate::lists::iter::BorrowedItem;
+use crate::lists::sequence_of::SequenceOf;
+use crate::lists::set_of::SetOf;
+use crate::numbers::integer_number::IntegerNumber;
+use crate::numbers::integer_of::IntegerOf;
+use crate::times::time_format::TimeFormat;
+use crate::times::time_of::TimeOf;
 use der::Encode;
 
 /// Items whose encodings, as [`Encode`] writes them, are the items of a list.

@@ -10,9 +10,9 @@ ghost use Rattle.der_core.specs.Header.{head_of};
 
 use crate::decode::{Decode, DecodeError};
 use crate::header::{Header, decode_guessed_header};
+use crate::identifier::guess;
 use crate::reader::{Lends, Reader, read_value};
 use crate::tag::fixed::FixedTag;
-use crate::tag::guess;
 use std::alloc::Global;
 
 /// The meaning of a type when its values are read: which values it has, and which octets are read

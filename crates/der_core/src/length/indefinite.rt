@@ -2,19 +2,20 @@
 ghost use Rattle.std.specs.Prelude.{◌≡◌, ◌≢◌, ◌≤◌, true, IfOk, IfErr};
 ghost use Rattle.der_base.specs.declared.encoding_rules.EncodingRules.TheVariants.{Ber};
 ghost use Rattle.der_base.specs.declared.error.ErrorKind.TheVariants.{Length as IncorrectLength};
-ghost use Rattle.der_core.specs.AfterFirstOctet.{DefiniteAfter, RefusesLongLength, identifier_tag};
+ghost use Rattle.der_core.specs.AfterFirstOctet.{DefiniteAfter, RefusesLongLength};
+ghost use Rattle.der_core.specs.Identifier.{tag_of};
 ghost use Rattle.der_core.specs.ReaderState.{rest_of, Same};
 ghost use Rattle.der_core.specs.Scan.{Scans, ScansNext, IsTurned};
 ghost use Rattle.der_core.specs.Turn.{PartRead, RefusesPart};
 
 mod walk;
 
+use crate::identifier::{Identifier, decode_number_after, has_constructed_bit};
 use crate::length::indefinite::walk::Walk;
 use crate::length::turns::Turns;
 use crate::length::{INDEFINITE, decode_long_length};
 use crate::reader::value::read_zero_octet;
 use crate::reader::{Octets, Reader, ReaderExt};
-use crate::tag::{decode_number_after, has_constructed_bit};
 use der_base::{Error, ErrorKind, Length};
 use std::marker::Brand;
 use std::sync::ledger::{Blank, Ledger};
@@ -111,18 +112,16 @@ fn next_part<R: Reader>(reader: &mut R, level: u8) -> Result<Part, Error>
         }
         return Ok(Part::Opens);
     }
-    let count = decode_definite(reader, octet, first, number)?;
+    let count = decode_definite(reader, octet, Identifier { first, number })?;
     reader.drain(Length::new(count))?;
     Ok(Part::Passes)
 }
 
-// A definite length after its first octet, and after an identifier with this leading octet and
-// number.
+// A definite length after its first octet, and after this identifier.
 fn decode_definite<R: Reader>(
     reader: &mut R,
     first: u8,
-    leading: u8,
-    number: u32,
+    identifier: Identifier,
 ) -> Result<u32, Error>
     requires { first ≢ 128 }
     ensures same { Same (R.state reader.old) (R.state reader.new) }
@@ -130,13 +129,13 @@ fn decode_definite<R: Reader>(
         (R.state reader.new)) }
     ensures exact { R.reliable ≡ true
         → IfErr result
-        (λ e. RefusesLongLength (IncorrectLength (identifier_tag leading number)) first
+        (λ e. RefusesLongLength (IncorrectLength (tag_of identifier)) first
         (R.state reader.old) e (R.state reader.new)) }
 {
     if first < INDEFINITE {
         return Ok(first as u32);
     }
-    decode_long_length(reader, first, Some((leading, number)))
+    decode_long_length(reader, first, Some(identifier))
 }
 
 // Scans the next body of a reader, which does not move: by an index if the reader returns slices,

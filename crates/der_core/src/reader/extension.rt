@@ -20,11 +20,12 @@ ghost use Rattle.der_core.specs.Element.{ElementReadBy};
 
 use crate::decode::Decode;
 use crate::header::{Header, decode_guessed_header, decode_header};
+use crate::identifier::guess;
 use crate::length::indefinite::scan_next_body;
 use crate::length::turns::Turns;
 use crate::reader::value::read_contents;
 use crate::reader::{Reader, Resumption};
-use crate::tag::{decode_tag, guess};
+use crate::tag::decode_tag;
 use der_base::{Error, ErrorKind, Length, Tag};
 use std::alloc::Global;
 use std::sync::ledger::Ledger;

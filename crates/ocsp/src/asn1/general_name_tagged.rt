@@ -18,7 +18,7 @@ use x509::GeneralName;
 /// What an explicit tag has in it: a [`GeneralName`].
 #[derive(Clone, Copy, Debug, Drop, PartialEq, Eq)]
 pub struct GeneralNameTagged<'a> {
-    /// The value behind the tag.
+    /// The value after the tag.
     pub value: GeneralName<'a>,
 }
 

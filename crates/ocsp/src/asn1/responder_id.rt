@@ -6,7 +6,7 @@ ghost use Rattle.std.proofs.Common.{refl};
 ghost use Rattle.der.specs.Prelude.{map_ok};
 ghost use Rattle.der_asn1.specs.Item.{decodes_same};
 ghost use Rattle.der_asn1.specs.Meaning.{alternative, choice_is_item, choice_item, choice_of, either};
-ghost use Rattle.der_asn1.specs.declared.either.Either.TheVariants.{First, Second};
+ghost use Rattle.der_asn1.specs.declared.fields.either.Either.TheVariants.{First, Second};
 ghost use Rattle.ocsp.specs.declared.asn1.responder_id.ResponderId.TheVariants as variant;
 
 use crate::asn1::key_hash::KeyHash;

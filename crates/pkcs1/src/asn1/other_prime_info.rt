@@ -15,7 +15,7 @@ use der::{
 use der_asn1::{BorrowedItem, DecodeItem, Described, IntRef, Item, Nestable, WrittenItem};
 use std::alloc::Global;
 
-/// A prime of a private key behind the first two (RFC 8017, A.1.2), borrowed from the input.
+/// A prime of a private key after the first two (RFC 8017, A.1.2), borrowed from the input.
 #[derive(Clone, Copy, Debug, Drop, PartialEq, Eq)]
 pub struct OtherPrimeInfo<'a> {
     /// The prime factor of n.

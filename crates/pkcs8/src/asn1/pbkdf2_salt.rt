@@ -6,7 +6,7 @@ ghost use Rattle.std.proofs.Common.{refl};
 ghost use Rattle.der.specs.Prelude.{map_ok};
 ghost use Rattle.der_asn1.specs.Item.{decodes_same};
 ghost use Rattle.der_asn1.specs.Meaning.{alternative, choice_is_item, choice_item, choice_of, either};
-ghost use Rattle.der_asn1.specs.declared.either.Either.TheVariants.{First, Second};
+ghost use Rattle.der_asn1.specs.declared.fields.either.Either.TheVariants.{First, Second};
 ghost use Rattle.pkcs8.specs.declared.asn1.pbkdf2_salt.Pbkdf2Salt.TheVariants as variant;
 
 use der::{Decode, Encode, Error, FromFields, Lends, Length, Reader, SliceReader, Tag, Writer};

@@ -18,7 +18,7 @@ use std::alloc::Global;
 /// What an explicit tag has in it: a [`EcParameters`].
 #[derive(Clone, Copy, Debug, Drop, PartialEq, Eq)]
 pub struct EcParametersTagged<'a> {
-    /// The value behind the tag.
+    /// The value after the tag.
     pub value: EcParameters<'a>,
 }
 

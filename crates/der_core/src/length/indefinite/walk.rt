@@ -1,12 +1,12 @@
 //! The scan of a body by an index, for readers that return slices (X.690 8.1.3.6).
 ghost use Rattle.std.specs.Prelude.{◌≡◌, ◌≢◌, ◌+◌, ◌^◌, ◌<◌, ◌≤◌, true, [], ◌∷◌, length, Err, IfOk, IfErr, OnOk};
 
+use crate::identifier::{Identifier, has_constructed_bit, is_ber_identifier, unknown};
 use crate::length::indefinite::{MAX_LEVEL, Part};
 use crate::length::turns::Turns;
 use crate::length::{INDEFINITE, least_of};
 use crate::reader::position::missing_octets;
 use crate::reader::slice::STEP;
-use crate::tag::{has_constructed_bit, is_ber_identifier, tag_of_identifier, unknown};
 use der_base::{Error, ErrorKind, Length};
 use std::sync::ledger::Ledger;
 
@@ -25,7 +25,8 @@ impl<'a> Walk<'a> {
     ghost use Rattle.der_base.specs.Length.{definite_length, digits, number};
     ghost use Rattle.der_base.specs.Tag.{continuation_octets, is_constructed};
     ghost use Rattle.der_base.specs.declared.error.ErrorKind.TheVariants.{Length as IncorrectLength};
-    ghost use Rattle.der_core.specs.AfterFirstOctet.{DefiniteAfter, IdentifierAfter, IsErrorOf, RefusesIdentifier, RefusesLongLength, RefusesNumber, identifier_tag};
+    ghost use Rattle.der_core.specs.AfterFirstOctet.{DefiniteAfter, IdentifierAfter, IsErrorOf, RefusesIdentifier, RefusesLongLength, RefusesNumber};
+    ghost use Rattle.der_core.specs.Identifier.{identifier_tag, tag_of};
     ghost use Rattle.der_core.specs.Outcome.{Gives};
     ghost use Rattle.der_core.specs.Reader.{drain_outcome};
     ghost use Rattle.der_core.specs.ReaderState.{rest_of, reader_position, Reads};
@@ -138,7 +139,7 @@ impl<'a> Walk<'a> {
             }
             return Ok(Part::Opens);
         }
-        let count = self.read_definite(octet, first, number)?;
+        let count = self.read_definite(octet, Identifier { first, number })?;
         self.pass(count)?;
         Ok(Part::Passes)
     }
@@ -194,23 +195,22 @@ impl<'a> Walk<'a> {
         }
     }
 
-    // A definite length after its first octet, and after an identifier with this leading octet and
-    // number.
+    // A definite length after its first octet, and after this identifier.
     #[inline(always)]
-    fn read_definite(&mut self, first: u8, leading: u8, number: u32) -> Result<u32, Error>
+    fn read_definite(&mut self, first: u8, identifier: Identifier) -> Result<u32, Error>
         requires { first ≢ 128 }
         ensures ok { IfOk result (λ n. DefiniteAfter first n (walk_state self.old)
             (walk_state self.new)) }
         ensures exact { IfErr result
             (λ e. IsErrorOf
-            (RefusesLongLength (IncorrectLength (identifier_tag leading number)) first)
+            (RefusesLongLength (IncorrectLength (tag_of identifier)) first)
             (walk_state self.old) e) }
     {
         if first < INDEFINITE {
             return Ok(first as u32);
         }
         if first > 0x84 {
-            return Err(self.error(tag_of_identifier(leading, number).length_error()));
+            return Err(self.error(identifier.refused_tag().length_error()));
         }
         let count = first - INDEFINITE;
         let mut value = 0u32;
@@ -219,7 +219,7 @@ impl<'a> Walk<'a> {
             value = value * 256 + octet as u32;
         }
         if value < least_of(count) {
-            return Err(self.error(tag_of_identifier(leading, number).length_error()));
+            return Err(self.error(identifier.refused_tag().length_error()));
         }
         Ok(value)
     }

@@ -2,7 +2,7 @@ use Rattle.std.proofs.Common.{◌≡◌, [], ◌∷◌, length, true, false, ref
 use Rattle.std.proofs.lemmas.List.Elements.{All-append, All-cons, All-nil}
 use Rattle.der.specs.Prelude.{rest_of, slice_state}
 use Rattle.der_asn1.specs.AnyRef.{IsAny, any_contents}
-use Rattle.der_asn1.specs.declared.any.AnyRef.{AnyRef}
+use Rattle.der_asn1.specs.declared.elements.any.AnyRef.{AnyRef}
 use Rattle.x509_lint.proofs.ElementLemmas.{any_apart, any_keep}
 use Rattle.std.proofs.lemmas.Grind.{not_there}
 use Rattle.x509_lint.proofs.FirstLemmas.{not_all}

@@ -7,8 +7,8 @@ decreases-type_at l = 10 * l.depth
 abbrev pub decreases-form : goal.decreases-form
 decreases-form l = 10 * l.depth + 9
 
-abbrev pub decreases-constraint_behind : goal.decreases-constraint_behind
-decreases-constraint_behind l = 10 * l.depth + 9
+abbrev pub decreases-constraint_after : goal.decreases-constraint_after
+decreases-constraint_after l = 10 * l.depth + 9
 
 abbrev pub decreases-components : goal.decreases-components
 decreases-components l = 10 * l.depth + 6

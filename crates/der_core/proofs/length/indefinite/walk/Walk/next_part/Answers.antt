@@ -6,7 +6,8 @@ use Rattle.der_core.specs.ReaderState.{Reads, stopped_state}
 use Rattle.der_core.specs.Outcome.{Gives}
 use Rattle.der_core.specs.Reader.{drain_outcome}
 use Rattle.der_core.specs.Turn.{RefusesPart}
-use Rattle.der_core.specs.AfterFirstOctet.{RefusesIdentifier, RefusesLongLength, identifier_tag}
+use Rattle.der_core.specs.AfterFirstOctet.{RefusesIdentifier, RefusesLongLength}
+use Rattle.der_core.specs.Identifier.{identifier_tag}
 use Rattle.der_core.specs.Walk.{walk_state}
 use Rattle.der_core.proofs.StateLemmas.{ByteRefused, reads_none, reads_on, error_stops}
 use Rattle.der_core.proofs.EocLemmas.{zero_read, zero_cut, other_read}

@@ -1,4 +1,0 @@
-use Rattle.der_asn1.proofs.item_walk.items_are_elements.Goals as goal
-
-pub returns : goal.returns
-returns g c = g.met.T.DecodeItem.is_item.element

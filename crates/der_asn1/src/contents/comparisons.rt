@@ -1,0 +1,41 @@
+//! The results of the comparisons that `derive` generates. Each function here calls one such
+//! comparison, and the contract of the function states the result of this comparison. Nothing calls
+//! the functions of this module.
+ghost use Rattle.std.specs.Prelude.{◌≡◌, ◌↔◌, IsTrue, Some};
+ghost use Rattle.der_asn1.specs.AnyRef.{any_contents};
+ghost use Rattle.der_asn1.specs.Times.{time_order};
+
+use crate::elements::any::AnyRef;
+use crate::times::date_time::DateTime;
+use std::cmp::Ordering;
+
+/// Calls `==`; the contract states that equal elements have the same tag and the same contents
+/// octets.
+fn any_equality<'a>(a: &AnyRef<'a>, b: &AnyRef<'a>) -> bool
+    ensures { IsTrue result
+        ↔ ((a.now.tag ≡ b.now.tag) × (any_contents a.now ≡ any_contents b.now)) }
+{
+    a == b
+}
+
+/// Calls `==`; the contract states that equal times have the same date and the same time of day.
+fn date_time_equality(a: DateTime, b: DateTime) -> bool
+    ensures { IsTrue result ↔ (a ≡ b) }
+{
+    a == b
+}
+
+/// Calls `Ord::cmp`; the contract states that the earlier time is less.
+fn date_time_ordering(a: DateTime, b: DateTime) -> Ordering
+    ensures { result ≡ time_order a b }
+{
+    a.cmp(&b)
+}
+
+/// Calls `PartialOrd::partial_cmp`; the contract states that any two times can be compared, and
+/// that the earlier time is less.
+fn date_time_partial_ordering(a: DateTime, b: DateTime) -> Option<Ordering>
+    ensures { result ≡ Some (time_order a b) }
+{
+    a.partial_cmp(&b)
+}

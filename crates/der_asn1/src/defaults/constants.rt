@@ -1,0 +1,86 @@
+//! Numbers, truth values and empty lists as defaults.
+ghost use Rattle.std.specs.Prelude.{◌≡◌, false, [], ◌∷◌};
+ghost use Rattle.der_asn1.specs.Integer.{integer_octets, signed_octets};
+
+use crate::contents::checked::Checked;
+use crate::defaults::with_default::DefaultOf;
+use crate::lists::item::Item;
+use crate::lists::sequence_of::SequenceOf;
+use crate::lists::set_of::SetOf;
+use crate::numbers::boolean::BooleanRef;
+use crate::numbers::integer_of::IntegerOf;
+
+/// The default value `N` of an INTEGER of 8 bits.
+pub struct DefaultU8<const N: u8>;
+
+/// The default value `N` of an INTEGER of 32 bits.
+pub struct DefaultU32<const N: u32>;
+
+/// The default value `N` of an INTEGER of 64 bits.
+pub struct DefaultU64<const N: u64>;
+
+/// The default value `N` of an INTEGER of 64 bits with a sign.
+pub struct DefaultI64<const N: i64>;
+
+/// The default value of `BOOLEAN DEFAULT TRUE`. The type [`BooleanRef`] itself has the default
+/// false.
+pub struct DefaultTrue;
+
+/// The default value of a list without elements, as in `SEQUENCE OF T DEFAULT {}`.
+pub struct DefaultEmpty;
+
+impl<const N: u8> DefaultOf<IntegerOf<u8>> for DefaultU8<N> {
+    ghost default_contents = { integer_octets false N };
+
+    fn default_value() -> IntegerOf<u8> {
+        IntegerOf { number: N }
+    }
+}
+
+impl<const N: u32> DefaultOf<IntegerOf<u32>> for DefaultU32<N> {
+    ghost default_contents = { integer_octets false N };
+
+    fn default_value() -> IntegerOf<u32> {
+        IntegerOf { number: N }
+    }
+}
+
+impl<const N: u64> DefaultOf<IntegerOf<u64>> for DefaultU64<N> {
+    ghost default_contents = { integer_octets false N };
+
+    fn default_value() -> IntegerOf<u64> {
+        IntegerOf { number: N }
+    }
+}
+
+impl<const N: i64> DefaultOf<IntegerOf<i64>> for DefaultI64<N> {
+    ghost default_contents = { signed_octets N };
+
+    fn default_value() -> IntegerOf<i64> {
+        IntegerOf { number: N }
+    }
+}
+
+impl<'a> DefaultOf<BooleanRef<'a>> for DefaultTrue {
+    ghost default_contents = { 255 ∷ [] };
+
+    fn default_value() -> BooleanRef<'a> {
+        Checked::formed(&[0xFF])
+    }
+}
+
+impl<'a, T: Item> DefaultOf<SequenceOf<'a, T>> for DefaultEmpty {
+    ghost default_contents = { [] };
+
+    fn default_value() -> SequenceOf<'a, T> {
+        SequenceOf::empty()
+    }
+}
+
+impl<'a, T: Item> DefaultOf<SetOf<'a, T>> for DefaultEmpty {
+    ghost default_contents = { [] };
+
+    fn default_value() -> SetOf<'a, T> {
+        SetOf::empty()
+    }
+}

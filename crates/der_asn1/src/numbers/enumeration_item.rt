@@ -1,0 +1,74 @@
+//! Items of an enumeration, and ENUMERATEDs and INTEGERs of them.
+ghost use Rattle.std.specs.Prelude.{◌≡◌, ◌↔◌, IsSome, IfSome, true, false};
+ghost use Rattle.der_asn1.specs.Enumeration.{item_form};
+ghost use Rattle.der_asn1.specs.Integer.{integer_octets};
+
+use crate::numbers::enumerated_of::EnumeratedOf;
+use crate::numbers::enumeration::Enumeration;
+use crate::numbers::integer_number::IntegerNumber;
+use crate::numbers::integer_octets::IntegerOctets;
+use crate::numbers::integer_of::IntegerOf;
+
+/// An item of an enumeration, as the number that an INTEGER or an ENUMERATED encodes.
+#[derive(Clone, Copy, Debug, PartialEq, Eq)]
+pub struct EnumerationItem<E: Enumeration>(pub E);
+
+/// An ENUMERATED as an item of the enumeration `E` (X.680 20). Reading refuses a number that no item
+/// has.
+pub type Enumerated<E> = EnumeratedOf<EnumerationItem<E>>;
+
+/// An INTEGER as an item of the enumeration `E`, as an INTEGER with named numbers and no others.
+/// Reading refuses a number that no item has.
+pub type NamedInteger<E> = IntegerOf<EnumerationItem<E>>;
+
+impl<E: Enumeration> IntegerNumber for EnumerationItem<E> {
+    ghost grammar = { item_form E.item_of };
+
+    ghost contents_of = { λ v. integer_octets false (E.number_of v.0) };
+
+    fn from_contents(octets: &[u8]) -> Option<Self> {
+        let number = u32::from_contents(octets)?;
+        let item = E::from_number(number)?;
+        Some(EnumerationItem(item))
+    }
+
+    fn to_contents(self) -> IntegerOctets {
+        self.0.to_number().to_contents()
+    }
+}
+
+impl<E: Enumeration> EnumeratedOf<EnumerationItem<E>> {
+    /// The ENUMERATED of this item.
+    pub fn new(item: E) -> Self
+        ensures { result.number.0 ≡ item }
+    {
+        EnumeratedOf {
+            number: EnumerationItem(item),
+        }
+    }
+
+    /// The item that the ENUMERATED encodes.
+    pub fn item(&self) -> E
+        ensures { result ≡ self.now.number.0 }
+    {
+        self.number.0
+    }
+}
+
+impl<E: Enumeration> IntegerOf<EnumerationItem<E>> {
+    /// The INTEGER of this item.
+    pub fn new(item: E) -> Self
+        ensures { result.number.0 ≡ item }
+    {
+        IntegerOf {
+            number: EnumerationItem(item),
+        }
+    }
+
+    /// The item that the INTEGER encodes.
+    pub fn item(&self) -> E
+        ensures { result ≡ self.now.number.0 }
+    {
+        self.number.0
+    }
+}

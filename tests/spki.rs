@@ -1,0 +1,3 @@
+//! Tests of `spki` over public keys that `openssl` made.
+
+mod public_keys;

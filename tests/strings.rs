@@ -1,6 +1,0 @@
-//! Tests of byte strings, texts and joined segments, from outside the library like a user's code.
-
-mod elements;
-mod readers;
-mod segments;
-mod strings;
