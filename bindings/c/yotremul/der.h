@@ -811,14 +811,13 @@ der_error der_write_integer(der_writer *writer, der_tag tag, const uint8_t *octe
 
 /* The |unused| low bits of the last octet are 0. */
 DER_NONNULL(1)
-der_error der_write_bit_string(der_writer *writer, der_tag tag, const uint8_t *octets, size_t length,
-                               uint8_t unused);
+der_error der_write_bit_string(der_writer *writer, der_tag tag, const uint8_t *octets, size_t length, uint8_t unused);
 DER_NONNULL(1)
 der_error der_write_null(der_writer *writer, der_tag tag);
 
 /* An OBJECT IDENTIFIER, given as contents octets, and in dotted notation. */
 DER_NONNULL(1)
-der_error der_write_oid(der_writer *writer, der_tag tag, const uint8_t *oid, size_t length);
+der_error der_write_oid(der_writer *writer, der_tag tag, const uint8_t *octets, size_t length);
 DER_NONNULL(1)
 der_error der_write_oid_text(der_writer *writer, der_tag tag, const char *text, size_t length);
 
@@ -849,27 +848,22 @@ DER_STATIC_ASSERT(header, sizeof(der_header) == 16 && offsetof(der_header, lengt
                               offsetof(der_header, constructed) == 12 && offsetof(der_header, indefinite) == 13);
 DER_STATIC_ASSERT(element, sizeof(der_element) == 40 && offsetof(der_element, length) == 8 &&
                                offsetof(der_element, tag) == 16 && offsetof(der_element, start) == 24 &&
-                               offsetof(der_element, contents_start) == 28 &&
-                               offsetof(der_element, constructed) == 32 && offsetof(der_element, indefinite) == 33);
+                               offsetof(der_element, contents_start) == 28 && offsetof(der_element, constructed) == 32 &&
+                               offsetof(der_element, indefinite) == 33);
 DER_STATIC_ASSERT(node, sizeof(der_node) == 24 && offsetof(der_node, start) == 8 &&
                             offsetof(der_node, contents_start) == 12 && offsetof(der_node, end) == 16 &&
                             offsetof(der_node, depth) == 20 && offsetof(der_node, constructed) == 21 &&
                             offsetof(der_node, indefinite) == 22);
-DER_STATIC_ASSERT(text, sizeof(der_text) == 24 && offsetof(der_text, type) == 16);
+DER_STATIC_ASSERT(text, sizeof(der_text) == 24 && offsetof(der_text, length) == 8 && offsetof(der_text, type) == 16);
 DER_STATIC_ASSERT(time, sizeof(der_time) == 16 && offsetof(der_time, year) == 8 && offsetof(der_time, month) == 10 &&
-                            offsetof(der_time, second) == 14);
-DER_STATIC_ASSERT(writer, sizeof(der_writer) == 40 && offsetof(der_writer, position) == 16 &&
-                              offsetof(der_writer, innermost) == 24 && offsetof(der_writer, failed) == 32);
-DER_STATIC_ASSERT(counter, sizeof(der_counter) == 16 && offsetof(der_counter, count) == 8 &&
-                               offsetof(der_counter, failed) == 12);
-DER_STATIC_ASSERT(mark, sizeof(der_mark) == 16 && offsetof(der_mark, outer) == 8);
+                            offsetof(der_time, day) == 11 && offsetof(der_time, hour) == 12 &&
+                            offsetof(der_time, minute) == 13 && offsetof(der_time, second) == 14);
 DER_STATIC_ASSERT(any, sizeof(der_any) == 24 && offsetof(der_any, tag) == 16);
 DER_STATIC_ASSERT(algorithm, sizeof(der_algorithm) == 40 && offsetof(der_algorithm, parameters) == 16);
 DER_STATIC_ASSERT(public_key, sizeof(der_public_key) == 80 && offsetof(der_public_key, algorithm) == 16 &&
                                   offsetof(der_public_key, key) == 56);
 DER_STATIC_ASSERT(certificate, sizeof(der_certificate) == 336 && offsetof(der_certificate, serial_number) == 16 &&
-                                   offsetof(der_certificate, issuer) == 32 &&
-                                   offsetof(der_certificate, subject) == 48 &&
+                                   offsetof(der_certificate, issuer) == 32 && offsetof(der_certificate, subject) == 48 &&
                                    offsetof(der_certificate, signed_algorithm) == 64 &&
                                    offsetof(der_certificate, public_key) == 104 &&
                                    offsetof(der_certificate, issuer_unique_id) == 184 &&
@@ -881,6 +875,7 @@ DER_STATIC_ASSERT(certificate, sizeof(der_certificate) == 336 && offsetof(der_ce
                                    offsetof(der_certificate, not_after) == 320 &&
                                    offsetof(der_certificate, version) == 328 &&
                                    offsetof(der_certificate, has_issuer_unique_id) == 329 &&
+                                   offsetof(der_certificate, has_subject_unique_id) == 330 &&
                                    offsetof(der_certificate, has_extensions) == 331);
 DER_STATIC_ASSERT(request, sizeof(der_request) == 192 && offsetof(der_request, subject) == 16 &&
                                offsetof(der_request, public_key) == 32 && offsetof(der_request, attributes) == 112 &&
@@ -890,6 +885,7 @@ DER_STATIC_ASSERT(private_key, sizeof(der_private_key) == 104 && offsetof(der_pr
                                    offsetof(der_private_key, attributes) == 56 &&
                                    offsetof(der_private_key, public_key) == 72 &&
                                    offsetof(der_private_key, version) == 96 &&
+                                   offsetof(der_private_key, has_attributes) == 97 &&
                                    offsetof(der_private_key, has_public_key) == 98);
 DER_STATIC_ASSERT(revocation_list, sizeof(der_revocation_list) == 192 &&
                                        offsetof(der_revocation_list, signed_algorithm) == 16 &&
@@ -901,19 +897,30 @@ DER_STATIC_ASSERT(revocation_list, sizeof(der_revocation_list) == 192 &&
                                        offsetof(der_revocation_list, this_update) == 168 &&
                                        offsetof(der_revocation_list, next_update) == 176 &&
                                        offsetof(der_revocation_list, version) == 184 &&
+                                       offsetof(der_revocation_list, has_next_update) == 185 &&
+                                       offsetof(der_revocation_list, has_entries) == 186 &&
                                        offsetof(der_revocation_list, has_extensions) == 187);
-DER_STATIC_ASSERT(revoked, sizeof(der_revoked) == 48 && offsetof(der_revoked, extensions) == 16 &&
-                               offsetof(der_revoked, revocation_date) == 32 &&
-                               offsetof(der_revoked, has_extensions) == 40);
-DER_STATIC_ASSERT(extension, sizeof(der_extension) == 40 && offsetof(der_extension, critical) == 32);
+DER_STATIC_ASSERT(extension, sizeof(der_extension) == 40 && offsetof(der_extension, value) == 16 &&
+                                 offsetof(der_extension, critical) == 32);
 DER_STATIC_ASSERT(attribute, sizeof(der_attribute) == 40 && offsetof(der_attribute, value) == 16);
 DER_STATIC_ASSERT(general_name, sizeof(der_general_name) == 64 && offsetof(der_general_name, identifier) == 16 &&
                                     offsetof(der_general_name, value) == 32 && offsetof(der_general_name, kind) == 56);
-DER_STATIC_ASSERT(usage, sizeof(der_usage) == 4 && offsetof(der_usage, present) == 2 && offsetof(der_usage, critical) == 3);
+DER_STATIC_ASSERT(revoked, sizeof(der_revoked) == 48 && offsetof(der_revoked, extensions) == 16 &&
+                               offsetof(der_revoked, revocation_date) == 32 && offsetof(der_revoked, has_extensions) == 40);
+DER_STATIC_ASSERT(usage, sizeof(der_usage) == 4 && offsetof(der_usage, present) == 2 &&
+                             offsetof(der_usage, critical) == 3);
 DER_STATIC_ASSERT(constraints, sizeof(der_constraints) == 16 && offsetof(der_constraints, present) == 8 &&
+                                   offsetof(der_constraints, critical) == 9 &&
                                    offsetof(der_constraints, is_authority) == 10 &&
                                    offsetof(der_constraints, has_path_length) == 11);
-DER_STATIC_ASSERT(names, sizeof(der_names) == 24 && offsetof(der_names, present) == 16 && offsetof(der_names, critical) == 17);
+DER_STATIC_ASSERT(names, sizeof(der_names) == 24 && offsetof(der_names, present) == 16 &&
+                             offsetof(der_names, critical) == 17);
+DER_STATIC_ASSERT(writer, sizeof(der_writer) == 40 && offsetof(der_writer, length) == 8 &&
+                              offsetof(der_writer, position) == 16 && offsetof(der_writer, innermost) == 24 &&
+                              offsetof(der_writer, failed) == 32);
+DER_STATIC_ASSERT(mark, sizeof(der_mark) == 16 && offsetof(der_mark, outer) == 8);
+DER_STATIC_ASSERT(counter, sizeof(der_counter) == 16 && offsetof(der_counter, count) == 8 &&
+                               offsetof(der_counter, failed) == 12);
 
 #ifdef __cplusplus
 }

@@ -1,4 +1,6 @@
 //! Certificates, requests, keys and revocation lists, for C.
+//!
+//! Written by tools/c_interface: change the crates that der_c uses instead.
 ghost use Rattle.der.specs.Prelude.{Same};
 ghost use Rattle.der_asn1.specs.ListAnswers.{ItemAnswer};
 ghost use Rattle.der_c_core.specs.CReader.{reader_state};
@@ -13,7 +15,7 @@ ghost use Rattle.der_c_x509.specs.PrivateKey.{IsPrivateKeyOf};
 ghost use Rattle.der_c_x509.specs.Request.{IsRequestOf};
 ghost use Rattle.der_c_x509.specs.RevocationList.{IsRevocationListOf};
 ghost use Rattle.der_c_x509.specs.Revoked.{IsRevokedOf};
-ghost use Rattle.std.specs.Prelude.{false, ◌<◌, ◌^◌, ◌≡◌};
+ghost use Rattle.std.specs.Prelude.{false, ◌<◌, ◌≡◌};
 ghost use Rattle.x509.specs.ExtensionIdentifiers.{id_ce};
 ghost use Rattle.x509.specs.Find.{FindsExtension, WholeRead};
 
@@ -60,33 +62,6 @@ pub extern "C" fn der_certificate_read<'a>(
     der_c_x509::der_certificate_read(alloc, octets, certificate)
 }
 
-/// Reads a certification request into `request`. `octets` must be the DER encoding of one request
-/// (RFC 2986, 4).
-///
-/// A call that fails leaves `request` unchanged. Fails with:
-///
-/// - `Overflow` without a position, if there are more than 4294967295 octets;
-/// - the error of the first octets that are not those of a request; its position, if it
-///   has one, counts from the start of `octets`;
-/// - `TrailingData`, if octets follow the request.
-///
-/// The errors are exactly those of `x509::CertReq::from_der`.
-#[unsafe(no_mangle)]
-pub extern "C" fn der_request_read<'a>(
-    alloc: Global,
-    octets: &'a [u8],
-    request: &mut DerRequest<'a>,
-) -> DerError
-    ensures { ReadsWhole (WholeRead ⟦<CertReq<'a> as FixedTag>⟧.tag_is
-        ⟦<CertReq<'a> as ReadValue>⟧.valid ⟦<CertReq<'a> as WrittenValue>⟧.contents false
-        ⟦<CertReq<'a> as DecodeValue<SliceReader<'a>>>⟧.decode_value_answers)
-        (IsRequestOf ⟦<CertReqInfo<'a> as Encode>⟧.encoding
-        ⟦<SubjectPublicKeyInfoRef<'a> as Encode>⟧.encoding) octets.now result request.old
-        request.new }
-{
-    der_c_x509::der_request_read(alloc, octets, request)
-}
-
 /// Reads a public key with its algorithm into `key`. `octets` must be the DER encoding of one
 /// SubjectPublicKeyInfo (RFC 5280, 4.1.2.7).
 ///
@@ -112,6 +87,33 @@ pub extern "C" fn der_public_key_read<'a>(
         key.new }
 {
     der_c_x509::der_public_key_read(alloc, octets, key)
+}
+
+/// Reads a certification request into `request`. `octets` must be the DER encoding of one request
+/// (RFC 2986, 4).
+///
+/// A call that fails leaves `request` unchanged. Fails with:
+///
+/// - `Overflow` without a position, if there are more than 4294967295 octets;
+/// - the error of the first octets that are not those of a request; its position, if it
+///   has one, counts from the start of `octets`;
+/// - `TrailingData`, if octets follow the request.
+///
+/// The errors are exactly those of `x509::CertReq::from_der`.
+#[unsafe(no_mangle)]
+pub extern "C" fn der_request_read<'a>(
+    alloc: Global,
+    octets: &'a [u8],
+    request: &mut DerRequest<'a>,
+) -> DerError
+    ensures { ReadsWhole (WholeRead ⟦<CertReq<'a> as FixedTag>⟧.tag_is
+        ⟦<CertReq<'a> as ReadValue>⟧.valid ⟦<CertReq<'a> as WrittenValue>⟧.contents false
+        ⟦<CertReq<'a> as DecodeValue<SliceReader<'a>>>⟧.decode_value_answers)
+        (IsRequestOf ⟦<CertReqInfo<'a> as Encode>⟧.encoding
+        ⟦<SubjectPublicKeyInfoRef<'a> as Encode>⟧.encoding) octets.now result request.old
+        request.new }
+{
+    der_c_x509::der_request_read(alloc, octets, request)
 }
 
 /// Reads a private key with its algorithm into `key`. `octets` must be the DER encoding of one
@@ -165,6 +167,29 @@ pub extern "C" fn der_crl_read<'a>(
     der_c_x509::der_crl_read(alloc, octets, list)
 }
 
+/// Reads the next extension of a list into `extension`. `reader` reads the contents of the list, as
+/// `der_certificate_read` returns them.
+///
+/// Every error makes the reader fail, except `TagUnexpected`, which leaves it unchanged. A call
+/// that fails leaves `extension` unchanged. At the end of the list the error is `Incomplete`.
+#[unsafe(no_mangle)]
+pub extern "C" fn der_next_extension<'a>(
+    alloc: Global,
+    reader: &mut DerReader<'a>,
+    extension: &mut DerExtension<'a>,
+) -> DerError
+    ensures same { Same (reader_state reader.old) (reader_state reader.new) }
+    ensures reads { ReadsItem ⟦<Extension<'a> as Decode<SliceReader<'a>>>⟧.is_next
+        (ItemAnswer (λ e f. f ≡ e) ⟦<Extension<'a> as Decode<SliceReader<'a>>>⟧.decode_answers)
+        IsExtensionOf (reader_state reader.old) result extension.old extension.new
+        (reader_state reader.new) }
+    ensures complete { ReadsNext ⟦<Extension<'a> as Decode<SliceReader<'a>>>⟧.is_next
+        ⟦<Extension<'a> as Decode<SliceReader<'a>>>⟧.decode_levels (reader_state reader.old) result
+        (reader_state reader.new) }
+{
+    der_c_x509::der_next_extension(alloc, reader, extension)
+}
+
 /// Reads the next attribute of one level of a name into `attribute`. A name is a SEQUENCE OF
 /// levels, and each level is a SET OF attributes (RFC 5280, 4.1.2.4). `reader` reads the contents
 /// of such a SET, which `der_enter` enters.
@@ -187,29 +212,6 @@ pub extern "C" fn der_next_attribute<'a>(
         (reader_state reader.old) result (reader_state reader.new) }
 {
     der_c_x509::der_next_attribute(alloc, reader, attribute)
-}
-
-/// Reads the next extension of a list into `extension`. `reader` reads the contents of the list, as
-/// `der_certificate_read` returns them.
-///
-/// Every error makes the reader fail, except `TagUnexpected`, which leaves it unchanged. A call
-/// that fails leaves `extension` unchanged. At the end of the list the error is `Incomplete`.
-#[unsafe(no_mangle)]
-pub extern "C" fn der_next_extension<'a>(
-    alloc: Global,
-    reader: &mut DerReader<'a>,
-    extension: &mut DerExtension<'a>,
-) -> DerError
-    ensures same { Same (reader_state reader.old) (reader_state reader.new) }
-    ensures reads { ReadsItem ⟦<Extension<'a> as Decode<SliceReader<'a>>>⟧.is_next
-        (ItemAnswer (λ e f. f ≡ e) ⟦<Extension<'a> as Decode<SliceReader<'a>>>⟧.decode_answers)
-        IsExtensionOf (reader_state reader.old) result extension.old extension.new
-        (reader_state reader.new) }
-    ensures complete { ReadsNext ⟦<Extension<'a> as Decode<SliceReader<'a>>>⟧.is_next
-        ⟦<Extension<'a> as Decode<SliceReader<'a>>>⟧.decode_levels (reader_state reader.old) result
-        (reader_state reader.new) }
-{
-    der_c_x509::der_next_extension(alloc, reader, extension)
 }
 
 /// Reads the next name of a list into `name`. `reader` reads the contents of GeneralNames, as

@@ -1,9 +1,9 @@
 //! Reading values, for C.
-ghost use Rattle.std.specs.Prelude.{false, ◌^◌};
-ghost use Rattle.der_core.specs.ReaderState.{Same};
+//!
+//! Written by tools/c_interface: change the crates that der_c uses instead.
+ghost use Rattle.der_asn1.specs.Forms.{bits_form, boolean_form, integer_form, null_form, oid_form};
+ghost use Rattle.der_asn1.specs.Integer.{integer_octets, signed_form, signed_octets, unsigned_form};
 ghost use Rattle.der_c_core.specs.CReader.{reader_state};
-ghost use Rattle.der_c_values.specs.Forms.{bits_form, boolean_form, integer_form, null_form, oid_form};
-ghost use Rattle.der_c_values.specs.Integer.{integer_octets, signed_form, signed_octets, unsigned_form};
 ghost use Rattle.der_c_values.specs.Characters.{TakesCharacter};
 ghost use Rattle.der_c_values.specs.Dotted.{ComparesOid, EncodesText, GivesOidText};
 ghost use Rattle.der_c_values.specs.OidArcs.{GivesArcs};
@@ -11,6 +11,8 @@ ghost use Rattle.der_c_values.specs.StringTypes.{IsTextOf, is_string_type, strin
 ghost use Rattle.der_c_values.specs.TimeValues.{IsTimeOf, is_time_type, time_form};
 ghost use Rattle.der_c_values.specs.ValueCalls.{IsValueOf, ReadsTyped, ReadsValue};
 ghost use Rattle.der_c_values.specs.ValueContents.{bits_contents, boolean_contents, null_contents, span_contents};
+ghost use Rattle.der_core.specs.ReaderState.{Same};
+ghost use Rattle.std.specs.Prelude.{false, ◌^◌};
 
 use der_c_core::{DerBits, DerError, DerReader, DerSpan};
 use der_c_values::{DerText, DerTime};
@@ -151,67 +153,6 @@ pub extern "C" fn der_read_oid<'a>(
     der_c_values::der_read_oid(reader, tag, oid)
 }
 
-/// Writes the dotted notation of an OBJECT IDENTIFIER and a final zero octet to the start of
-/// `text`, such as `2.5.29.17`. `oid` are the contents octets of the OBJECT IDENTIFIER (X.690
-/// 8.19). Sets `count` to the number of octets of the text, without the zero octet.
-///
-/// A call that fails leaves `text` and `count` unchanged. Fails without a position with:
-///
-/// - `Value` with the tag OBJECT IDENTIFIER, if `oid` are not such contents;
-/// - `Overflow`, if a subidentifier does not fit in 128 bits;
-/// - `Overlength`, if there is no space in `text`.
-#[unsafe(no_mangle)]
-pub extern "C" fn der_oid_text(oid: &[u8], text: &mut [u8], count: &mut usize) -> DerError
-    ensures { GivesOidText oid.now result text.old text.new count.old count.new }
-{
-    der_c_values::der_oid_text(oid, text, count)
-}
-
-/// Writes the arcs of an OBJECT IDENTIFIER, such as 2, 5, 29 and 17 of `2.5.29.17`, to the start of
-/// `arcs`, and sets `count` to their number. `oid` are the contents octets of the OBJECT IDENTIFIER
-/// (X.690 8.19). There is one arc more than `oid` has octets at most.
-///
-/// A call that fails leaves `arcs` and `count` unchanged. Fails without a position with:
-///
-/// - `Value` with the tag OBJECT IDENTIFIER, if `oid` are not such contents;
-/// - `Overflow`, if an arc does not fit in 64 bits;
-/// - `Overlength`, if there is no space in `arcs`.
-#[unsafe(no_mangle)]
-pub extern "C" fn der_oid_arcs(oid: &[u8], arcs: &mut [u64], count: &mut usize) -> DerError
-    ensures { GivesArcs oid.now result arcs.old arcs.new count.old count.new }
-{
-    der_c_values::der_oid_arcs(oid, arcs, count)
-}
-
-/// Writes the contents octets (X.690 8.19) of the OBJECT IDENTIFIER with this dotted notation, such
-/// as `2.5.29.17`, to the start of `oid`, and sets `count` to their number. `text` has no final
-/// zero octet, and no leading zeros in its numbers.
-///
-/// A call that fails leaves `oid` and `count` unchanged. Fails without a position with:
-///
-/// - `OidMalformed`, if `text` is not the dotted notation of an OBJECT IDENTIFIER;
-/// - `Overflow`, if a subidentifier does not fit in 128 bits, or if there are more than 256
-///   contents octets;
-/// - `Overlength`, if there is no space in `oid`.
-#[unsafe(no_mangle)]
-pub extern "C" fn der_oid_from_text(text: &[u8], oid: &mut [u8], count: &mut usize) -> DerError
-    ensures { EncodesText text.now result oid.old oid.new count.old count.new }
-{
-    der_c_values::der_oid_from_text(text, oid, count)
-}
-
-/// Whether `oid` are the contents octets of the OBJECT IDENTIFIER (X.690 8.19) whose dotted
-/// notation is `text`, such as `2.5.29.17`. `text` has no final zero octet, and no leading zeros in
-/// its numbers.
-///
-/// The result is false if a subidentifier of `oid` does not fit in 128 bits.
-#[unsafe(no_mangle)]
-pub extern "C" fn der_oid_is(oid: &[u8], text: &[u8]) -> bool
-    ensures { ComparesOid oid.now text.now result }
-{
-    der_c_values::der_oid_is(oid, text)
-}
-
 /// Reads a string of the type `string_type` (X.680 41, X.690 8.23) into `text`. `string_type` is
 /// the word of the universal tag of UTF8String, NumericString, PrintableString, TeletexString,
 /// IA5String, VisibleString or BMPString. The tag of the next element must be `tag`, a word as
@@ -280,4 +221,65 @@ pub extern "C" fn der_read_time(
         tag (reader_state reader.old) result time.old time.new (reader_state reader.new) }
 {
     der_c_values::der_read_time(reader, tag, time_type, time)
+}
+
+/// Writes the dotted notation of an OBJECT IDENTIFIER and a final zero octet to the start of
+/// `text`, such as `2.5.29.17`. `oid` are the contents octets of the OBJECT IDENTIFIER (X.690
+/// 8.19). Sets `count` to the number of octets of the text, without the zero octet.
+///
+/// A call that fails leaves `text` and `count` unchanged. Fails without a position with:
+///
+/// - `Value` with the tag OBJECT IDENTIFIER, if `oid` are not such contents;
+/// - `Overflow`, if a subidentifier does not fit in 128 bits;
+/// - `Overlength`, if there is no space in `text`.
+#[unsafe(no_mangle)]
+pub extern "C" fn der_oid_text(oid: &[u8], text: &mut [u8], count: &mut usize) -> DerError
+    ensures { GivesOidText oid.now result text.old text.new count.old count.new }
+{
+    der_c_values::der_oid_text(oid, text, count)
+}
+
+/// Writes the arcs of an OBJECT IDENTIFIER, such as 2, 5, 29 and 17 of `2.5.29.17`, to the start of
+/// `arcs`, and sets `count` to their number. `oid` are the contents octets of the OBJECT IDENTIFIER
+/// (X.690 8.19). There is one arc more than `oid` has octets at most.
+///
+/// A call that fails leaves `arcs` and `count` unchanged. Fails without a position with:
+///
+/// - `Value` with the tag OBJECT IDENTIFIER, if `oid` are not such contents;
+/// - `Overflow`, if an arc does not fit in 64 bits;
+/// - `Overlength`, if there is no space in `arcs`.
+#[unsafe(no_mangle)]
+pub extern "C" fn der_oid_arcs(oid: &[u8], arcs: &mut [u64], count: &mut usize) -> DerError
+    ensures { GivesArcs oid.now result arcs.old arcs.new count.old count.new }
+{
+    der_c_values::der_oid_arcs(oid, arcs, count)
+}
+
+/// Writes the contents octets (X.690 8.19) of the OBJECT IDENTIFIER with this dotted notation, such
+/// as `2.5.29.17`, to the start of `oid`, and sets `count` to their number. `text` has no final
+/// zero octet, and no leading zeros in its numbers.
+///
+/// A call that fails leaves `oid` and `count` unchanged. Fails without a position with:
+///
+/// - `OidMalformed`, if `text` is not the dotted notation of an OBJECT IDENTIFIER;
+/// - `Overflow`, if a subidentifier does not fit in 128 bits, or if there are more than 256
+///   contents octets;
+/// - `Overlength`, if there is no space in `oid`.
+#[unsafe(no_mangle)]
+pub extern "C" fn der_oid_from_text(text: &[u8], oid: &mut [u8], count: &mut usize) -> DerError
+    ensures { EncodesText text.now result oid.old oid.new count.old count.new }
+{
+    der_c_values::der_oid_from_text(text, oid, count)
+}
+
+/// Whether `oid` are the contents octets of the OBJECT IDENTIFIER (X.690 8.19) whose dotted
+/// notation is `text`, such as `2.5.29.17`. `text` has no final zero octet, and no leading zeros in
+/// its numbers.
+///
+/// The result is false if a subidentifier of `oid` does not fit in 128 bits.
+#[unsafe(no_mangle)]
+pub extern "C" fn der_oid_is(oid: &[u8], text: &[u8]) -> bool
+    ensures { ComparesOid oid.now text.now result }
+{
+    der_c_values::der_oid_is(oid, text)
 }

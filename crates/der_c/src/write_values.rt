@@ -1,14 +1,16 @@
 //! Writing values, for C.
-ghost use Rattle.std.specs.Prelude.{[], false};
+//!
+//! Written by tools/c_interface: change the crates that der_c uses instead.
+ghost use Rattle.der_asn1.specs.Forms.{integer_form, oid_form};
+ghost use Rattle.der_asn1.specs.Integer.{integer_octets, signed_octets};
 ghost use Rattle.der_c_core.specs.CWriter.{KeepsOpen, writer_state};
 ghost use Rattle.der_c_core.specs.WriterCalls.{WritesElement};
-ghost use Rattle.der_c_values.specs.Forms.{integer_form, oid_form};
-ghost use Rattle.der_c_values.specs.Integer.{integer_octets, signed_octets};
 ghost use Rattle.der_c_values.specs.StringTypes.{string_form};
 ghost use Rattle.der_c_values.specs.TimeValues.{WritesSeconds, date_of, is_time_of, time_contents};
 ghost use Rattle.der_c_values.specs.ValueContents.{boolean_contents};
 ghost use Rattle.der_c_values.specs.WriteCalls.{WritesBits, WritesValue};
 ghost use Rattle.der_c_values.specs.WriteOidText.{WritesOidText};
+ghost use Rattle.std.specs.Prelude.{[], false};
 
 use der_c_core::{DerError, DerWriter};
 use der_c_values::DerTime;
@@ -189,7 +191,7 @@ pub extern "C" fn der_write_time(
 }
 
 /// Writes the time that is `seconds` after 1970-01-01T00:00:00Z, or before it if `seconds` is
-/// negative, as [`der_write_time`] does.
+/// negative, as `der_write_time` does.
 ///
 /// `writer` has failed after an error. Fails with:
 ///

@@ -1,11 +1,14 @@
-//! Writing, for C.
-ghost use Rattle.std.specs.Prelude.{◌≡◌, length};
-ghost use Rattle.der_core.specs.Writer.{fresh_state, failed_state};
-ghost use Rattle.der_c_core.specs.CWriter.{writer_state, KeepsOpen};
-ghost use Rattle.der_c_core.specs.WriterCalls.{WritesOctets, WritesHeader, WritesElement, Measures};
+//! Writing, and sets that are sorted, for C.
+//!
+//! Written by tools/c_interface: change the crates that der_c uses instead.
+ghost use Rattle.der_c_core.specs.CWriter.{KeepsOpen, writer_state};
 ghost use Rattle.der_c_core.specs.Part.{BeginsElement, EndsElement, FinishesWriting};
+ghost use Rattle.der_c_core.specs.SetOrder.{SpansAscend};
+ghost use Rattle.der_c_core.specs.WriterCalls.{Measures, WritesElement, WritesHeader, WritesOctets};
+ghost use Rattle.der_core.specs.Writer.{failed_state, fresh_state};
+ghost use Rattle.std.specs.Prelude.{IsPermutation, length, ◌≡◌};
 
-use der_c_core::{DerError, DerMark, DerWriter};
+use der_c_core::{DerError, DerMark, DerSpan, DerWriter};
 
 /// Makes `writer` a writer into `octets`, from their start. `writer` writes at most 4294967295
 /// octets, even if there are more `octets`.
@@ -67,7 +70,7 @@ pub extern "C" fn der_write(writer: &mut DerWriter<'_>, octets: &[u8]) -> DerErr
 /// - `TagNumberInvalid` without a position, if `tag` is not a valid tag word (the first octet of
 ///   the identifier, plus 256 times the tag number if that is 31 or more) and `writer` has not
 ///   failed;
-/// - the errors of [`der_write`].
+/// - the errors of `der_write`.
 #[unsafe(no_mangle)]
 pub extern "C" fn der_write_header(writer: &mut DerWriter<'_>, tag: u64, length: u32) -> DerError
     ensures writes { WritesHeader tag length (writer_state writer.old) result (writer_state writer.new) }
@@ -76,7 +79,7 @@ pub extern "C" fn der_write_header(writer: &mut DerWriter<'_>, tag: u64, length:
     der_c_core::der_write_header(writer, tag, length)
 }
 
-/// Writes an element: a header with the tag `tag`, a word as [`der_write_header`] takes it, and
+/// Writes an element: a header with the tag `tag`, a word as `der_write_header` takes it, and
 /// then `contents`.
 ///
 /// After a call that fails, `writer` has failed. Such a call may have written the header or its
@@ -84,7 +87,7 @@ pub extern "C" fn der_write_header(writer: &mut DerWriter<'_>, tag: u64, length:
 ///
 /// - `Overflow` without a position, if there are more than 4294967295 octets of contents and `writer`
 ///   has not failed;
-/// - the errors of [`der_write_header`] and [`der_write`].
+/// - the errors of `der_write_header` and `der_write`.
 #[unsafe(no_mangle)]
 pub extern "C" fn der_write_element(
     writer: &mut DerWriter<'_>,
@@ -115,11 +118,11 @@ pub extern "C" fn der_element_length(tag: u64, length: u32, count: &mut u32) -> 
 
 /// Begins an element with the tag `tag`: writes its header, with one octet reserved for the length,
 /// and sets `mark` to where its contents begin. All octets that are written after this call and
-/// before [`der_end`] are its contents.
+/// before `der_end` are its contents.
 ///
 /// A call that fails leaves `mark` unchanged, and `writer` has failed after it. Fails with
 /// `TagNumberInvalid`, `Failed`, `Overflow` and `Overlength`, as
-/// [`der_write_header`] does.
+/// `der_write_header` does.
 #[unsafe(no_mangle)]
 pub extern "C" fn der_begin(writer: &mut DerWriter<'_>, tag: u64, mark: &mut DerMark) -> DerError
     ensures { BeginsElement tag writer.old result mark.old mark.new writer.new }
@@ -135,11 +138,24 @@ pub extern "C" fn der_begin(writer: &mut DerWriter<'_>, tag: u64, mark: &mut Der
 ///
 /// - `Failed` at the position of `writer`, if `writer` had already failed;
 /// - kind 23 at the position of `writer`, if the element is not the innermost open element;
-/// - `Overlength` or `Overflow`, as by [`der_write`], if the length needs more
+/// - `Overlength` or `Overflow`, as by `der_write`, if the length needs more
 ///   octets and there is no space for them.
 #[unsafe(no_mangle)]
 pub extern "C" fn der_end(writer: &mut DerWriter<'_>, mark: &DerMark) -> DerError
     ensures { EndsElement mark.now writer.old result writer.new }
 {
     der_c_core::der_end(writer, mark)
+}
+
+/// Sorts `elements` into the order of a SET OF (X.690 11.6), that of their octets. Each span is to be
+/// the encoding of one element, which is not checked. Equal elements may follow each other.
+///
+/// It cannot fail. It moves the spans, and not the octets that they point to.
+#[unsafe(no_mangle)]
+pub extern "C" fn der_sort_set(elements: &mut [DerSpan<'_>])
+    ensures same { IsPermutation elements.old elements.new }
+    ensures count { length elements.new ≡ length elements.old }
+    ensures sorted { SpansAscend elements.new }
+{
+    der_c_core::der_sort_set(elements)
 }

@@ -1,0 +1,135 @@
+//! The calls of `der.h`. Written by tools/c_interface: change the crates that der_c uses instead.
+use super::{
+    Node, RawAttribute, RawBits, RawCertificate, RawConstraints, RawCounter, RawElement, RawError, RawExtension,
+    RawGeneralName, RawHeader, RawMark, RawNames, RawPrivateKey, RawPublicKey, RawReader, RawRequest,
+    RawRevocationList, RawRevoked, RawSpan, RawText, RawTime, RawUsage, RawWriter,
+};
+
+unsafe extern "C" {
+    pub safe fn der_version() -> u32;
+    pub fn der_error_text(error: RawError, text: *mut u8, capacity: usize) -> usize;
+    pub fn der_reader_init<'a>(octets: *const u8, length: usize, ber: bool, reader: &mut RawReader<'a>) -> RawError;
+    pub safe fn der_position(reader: &RawReader<'_>) -> usize;
+    pub safe fn der_is_finished(reader: &RawReader<'_>) -> bool;
+    pub safe fn der_finish(reader: &RawReader<'_>) -> RawError;
+    pub safe fn der_read_header(reader: &mut RawReader<'_>, header: &mut RawHeader) -> RawError;
+    pub safe fn der_read_element<'a>(reader: &mut RawReader<'a>, element: &mut RawElement<'a>) -> RawError;
+    pub safe fn der_skip(reader: &mut RawReader<'_>) -> RawError;
+    pub safe fn der_expect<'a>(reader: &mut RawReader<'a>, tag: u64, element: &mut RawElement<'a>) -> RawError;
+    pub safe fn der_optional<'a>(
+        reader: &mut RawReader<'a>,
+        tag: u64,
+        element: &mut RawElement<'a>,
+        present: &mut bool,
+    ) -> RawError;
+    pub safe fn der_enter<'a>(reader: &mut RawReader<'a>, tag: u64, inside: &mut RawReader<'a>) -> RawError;
+    pub safe fn der_open<'a>(
+        reader: &mut RawReader<'a>,
+        element: &RawElement<'a>,
+        inside: &mut RawReader<'a>,
+    ) -> RawError;
+    pub safe fn der_element_octets<'a>(
+        reader: &RawReader<'a>,
+        element: &RawElement<'a>,
+        octets: &mut RawSpan<'a>,
+    ) -> RawError;
+    pub safe fn der_scan(reader: &mut RawReader<'_>, count: &mut u32) -> RawError;
+    pub fn der_read_tree(reader: &mut RawReader<'_>, nodes: *mut Node, capacity: usize, count: &mut usize) -> RawError;
+    pub fn der_compare(
+        first: *const u8,
+        first_length: usize,
+        second: *const u8,
+        second_length: usize,
+        order: &mut i32,
+    ) -> RawError;
+    pub safe fn der_read_boolean(reader: &mut RawReader<'_>, tag: u64, value: &mut bool) -> RawError;
+    pub safe fn der_read_uint64(reader: &mut RawReader<'_>, tag: u64, value: &mut u64) -> RawError;
+    pub safe fn der_read_int64(reader: &mut RawReader<'_>, tag: u64, value: &mut i64) -> RawError;
+    pub safe fn der_read_integer<'a>(reader: &mut RawReader<'a>, tag: u64, value: &mut RawSpan<'a>) -> RawError;
+    pub safe fn der_read_bit_string<'a>(reader: &mut RawReader<'a>, tag: u64, bits: &mut RawBits<'a>) -> RawError;
+    pub safe fn der_read_null(reader: &mut RawReader<'_>, tag: u64) -> RawError;
+    pub safe fn der_read_oid<'a>(reader: &mut RawReader<'a>, tag: u64, oid: &mut RawSpan<'a>) -> RawError;
+    pub safe fn der_read_text<'a>(
+        reader: &mut RawReader<'a>,
+        tag: u64,
+        string_type: u64,
+        text: &mut RawText<'a>,
+    ) -> RawError;
+    pub safe fn der_next_character(text: &mut RawText<'_>, character: &mut u32) -> bool;
+    pub safe fn der_read_time(reader: &mut RawReader<'_>, tag: u64, time_type: u64, time: &mut RawTime) -> RawError;
+    pub fn der_oid_text(oid: *const u8, length: usize, text: *mut u8, capacity: usize, count: &mut usize) -> RawError;
+    pub fn der_oid_arcs(oid: *const u8, length: usize, arcs: *mut u64, capacity: usize, count: &mut usize) -> RawError;
+    pub fn der_oid_from_text(
+        text: *const u8,
+        length: usize,
+        oid: *mut u8,
+        capacity: usize,
+        count: &mut usize,
+    ) -> RawError;
+    pub fn der_oid_is(oid: *const u8, length: usize, text: *const u8, text_length: usize) -> bool;
+    pub fn der_certificate_read<'a>(
+        octets: *const u8,
+        length: usize,
+        certificate: &mut RawCertificate<'a>,
+    ) -> RawError;
+    pub fn der_public_key_read<'a>(octets: *const u8, length: usize, key: &mut RawPublicKey<'a>) -> RawError;
+    pub fn der_request_read<'a>(octets: *const u8, length: usize, request: &mut RawRequest<'a>) -> RawError;
+    pub fn der_private_key_read<'a>(octets: *const u8, length: usize, key: &mut RawPrivateKey<'a>) -> RawError;
+    pub fn der_crl_read<'a>(octets: *const u8, length: usize, list: &mut RawRevocationList<'a>) -> RawError;
+    pub safe fn der_next_extension<'a>(reader: &mut RawReader<'a>, extension: &mut RawExtension<'a>) -> RawError;
+    pub safe fn der_next_attribute<'a>(reader: &mut RawReader<'a>, attribute: &mut RawAttribute<'a>) -> RawError;
+    pub safe fn der_next_general_name<'a>(reader: &mut RawReader<'a>, name: &mut RawGeneralName<'a>) -> RawError;
+    pub safe fn der_next_revoked<'a>(reader: &mut RawReader<'a>, entry: &mut RawRevoked<'a>) -> RawError;
+    pub fn der_key_usage<'a>(extensions: *const u8, length: usize, usage: &mut RawUsage) -> RawError;
+    pub fn der_basic_constraints<'a>(
+        extensions: *const u8,
+        length: usize,
+        constraints: &mut RawConstraints,
+    ) -> RawError;
+    pub fn der_subject_alternative_name<'a>(
+        extensions: *const u8,
+        length: usize,
+        names: &mut RawNames<'a>,
+    ) -> RawError;
+    pub fn der_writer_init<'a>(octets: *mut u8, length: usize, writer: &mut RawWriter<'a>);
+    pub safe fn der_written(writer: &RawWriter<'_>) -> usize;
+    pub safe fn der_writer_finish(writer: &RawWriter<'_>) -> RawError;
+    pub safe fn der_writer_fail(writer: &mut RawWriter<'_>);
+    pub fn der_write(writer: &mut RawWriter<'_>, octets: *const u8, length: usize) -> RawError;
+    pub safe fn der_write_header(writer: &mut RawWriter<'_>, tag: u64, length: u32) -> RawError;
+    pub fn der_write_element(writer: &mut RawWriter<'_>, tag: u64, contents: *const u8, length: usize) -> RawError;
+    pub safe fn der_element_length(tag: u64, length: u32, count: &mut u32) -> RawError;
+    pub safe fn der_begin(writer: &mut RawWriter<'_>, tag: u64, mark: &mut RawMark) -> RawError;
+    pub safe fn der_end(writer: &mut RawWriter<'_>, mark: &RawMark) -> RawError;
+    pub safe fn der_counter_init(counter: &mut RawCounter);
+    pub safe fn der_count(counter: &mut RawCounter, length: usize) -> RawError;
+    pub safe fn der_count_header(counter: &mut RawCounter, tag: u64, length: u32) -> RawError;
+    pub safe fn der_count_element(counter: &mut RawCounter, tag: u64, length: u32) -> RawError;
+    pub safe fn der_count_begin(counter: &mut RawCounter, tag: u64, mark: &mut RawMark) -> RawError;
+    pub safe fn der_count_end(counter: &mut RawCounter, mark: &RawMark) -> RawError;
+    pub safe fn der_counted(counter: &RawCounter, count: &mut u32) -> RawError;
+    pub fn der_sort_set(elements: *mut RawSpan<'_>, count: usize);
+    pub safe fn der_write_boolean(writer: &mut RawWriter<'_>, tag: u64, value: bool) -> RawError;
+    pub safe fn der_write_uint64(writer: &mut RawWriter<'_>, tag: u64, value: u64) -> RawError;
+    pub safe fn der_write_int64(writer: &mut RawWriter<'_>, tag: u64, value: i64) -> RawError;
+    pub fn der_write_integer(writer: &mut RawWriter<'_>, tag: u64, octets: *const u8, length: usize) -> RawError;
+    pub fn der_write_bit_string(
+        writer: &mut RawWriter<'_>,
+        tag: u64,
+        octets: *const u8,
+        length: usize,
+        unused: u8,
+    ) -> RawError;
+    pub safe fn der_write_null(writer: &mut RawWriter<'_>, tag: u64) -> RawError;
+    pub fn der_write_oid(writer: &mut RawWriter<'_>, tag: u64, octets: *const u8, length: usize) -> RawError;
+    pub fn der_write_oid_text(writer: &mut RawWriter<'_>, tag: u64, text: *const u8, length: usize) -> RawError;
+    pub fn der_write_text(
+        writer: &mut RawWriter<'_>,
+        tag: u64,
+        string_type: u64,
+        octets: *const u8,
+        length: usize,
+    ) -> RawError;
+    pub safe fn der_write_time(writer: &mut RawWriter<'_>, tag: u64, time_type: u64, time: &RawTime) -> RawError;
+    pub safe fn der_write_time_seconds(writer: &mut RawWriter<'_>, tag: u64, time_type: u64, seconds: i64) -> RawError;
+}
