@@ -11,24 +11,22 @@ use std::fmt::Write;
 
 /// Shows each block of a text.
 pub fn show_blocks(show: &mut Show<'_>, place: &Place<'_>, text: &[u8]) {
-    let mut blocks = Blocks::new(text);
     let mut is_first = true;
-    for _ in 0..text.len() {
-        match blocks.next_block() {
-            Some(Ok(block)) => {
+    for found in Blocks::new(text) {
+        match found {
+            Ok(block) => {
                 if !is_first && show.options.shown == Shown::Text {
                     show.page.put("\n");
                 }
                 is_first = false;
                 show_block(show, place, &block);
             }
-            Some(Err(error)) => {
+            Err(error) => {
                 show.begin_error(place);
                 let _ = write!(show.errors, "{error}\n");
                 show.errors.flush();
                 return;
             }
-            None => return,
         }
     }
 }
