@@ -3,12 +3,28 @@ use std::path::Path;
 
 const FOLDERS: [&str; 3] = ["/usr/local/lib", "/usr/lib/x86_64-linux-gnu", "/usr/lib"];
 
+fn has_archive(folder: &str) -> bool {
+    Path::new(folder).join("libder_c.a").is_file()
+}
+
 fn main() {
+    println!("cargo:rerun-if-env-changed=DER_C_LIB");
+    // a page of documentation links nothing
+    if std::env::var_os("DOCS_RS").is_some() {
+        return;
+    }
     let named = std::env::var("DER_C_LIB").ok();
-    let found = FOLDERS.into_iter().find(|it| Path::new(it).join("libder_c.a").is_file());
-    let folder = named.as_deref().or(found).unwrap_or(FOLDERS[0]);
+    let folder = match &named {
+        Some(folder) if has_archive(folder) => folder,
+        Some(folder) => panic!("DER_C_LIB names the folder {folder}, which has no libder_c.a"),
+        None => FOLDERS.into_iter().find(|it| has_archive(it)).unwrap_or_else(|| {
+            panic!(
+                "there is no libder_c.a in {}: let DER_C_LIB name the folder that has it",
+                FOLDERS.join(", ")
+            )
+        }),
+    };
     println!("cargo:rustc-link-search=native={folder}");
     println!("cargo:rustc-link-lib=static=der_c");
-    println!("cargo:rerun-if-env-changed=DER_C_LIB");
     println!("cargo:rerun-if-changed={folder}/libder_c.a");
 }

@@ -60,3 +60,8 @@ pub fn compare(first: &[u8], second: &[u8]) -> Result<Ordering, Error> {
 pub fn version() -> u32 {
     sys::der_version()
 }
+
+/// The example of the page is compiled and run as a test.
+#[cfg(doctest)]
+#[doc = include_str!("../README.md")]
+pub struct Readme;

@@ -14,6 +14,7 @@ pub mod ContextSpecific
 pub mod Forms
 pub mod Integer
 pub mod NamedBits
+pub mod NumberTag
 pub mod Ranges
 pub mod Enumeration
 pub mod EqualContents

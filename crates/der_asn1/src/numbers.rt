@@ -2,12 +2,11 @@
 
 pub(crate) mod boolean;
 pub(crate) mod enumerated;
-pub(crate) mod enumerated_of;
 pub(crate) mod enumeration;
 pub(crate) mod enumeration_item;
 pub(crate) mod in_range;
 pub(crate) mod integer;
 pub(crate) mod integer_number;
 pub(crate) mod integer_octets;
-pub(crate) mod integer_of;
+pub(crate) mod number_of;
 pub(crate) mod open_enumerated;

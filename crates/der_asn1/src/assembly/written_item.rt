@@ -9,7 +9,7 @@ use crate::lists::iter::BorrowedItem;
 use crate::lists::sequence_of::SequenceOf;
 use crate::lists::set_of::SetOf;
 use crate::numbers::integer_number::IntegerNumber;
-use crate::numbers::integer_of::IntegerOf;
+use crate::numbers::number_of::NumberOf;
 use crate::times::time_format::TimeFormat;
 use crate::times::time_of::TimeOf;
 use der::Encode;
@@ -38,7 +38,7 @@ impl<'a, F: ContentsGrammar> WrittenItem for Checked<'a, F> {
     ghost writes_valid = { λ v is. is };
 }
 
-impl<N: IntegerNumber> WrittenItem for IntegerOf<N> {
+impl<N: IntegerNumber, const ENUMERATED: bool> WrittenItem for NumberOf<N, ENUMERATED> {
     ghost written = { λ v. refl };
 
     ghost writes_valid = { λ v is. is };

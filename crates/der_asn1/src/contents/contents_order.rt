@@ -10,9 +10,8 @@ use crate::elements::any::AnyRef;
 use crate::lists::item::Item;
 use crate::lists::sequence_of::SequenceOf;
 use crate::lists::set_of::SetOf;
-use crate::numbers::enumerated_of::EnumeratedOf;
 use crate::numbers::integer_number::IntegerNumber;
-use crate::numbers::integer_of::IntegerOf;
+use crate::numbers::number_of::NumberOf;
 use crate::times::time_format::TimeFormat;
 use crate::times::time_of::TimeOf;
 use der::{Error, Orderly, ValueOrd};
@@ -77,7 +76,7 @@ impl<'a, T: Item> Orderly for SetOf<'a, T> {
 }
 
 /// Compares the contents octets of two values in lexicographic order. Never fails.
-impl<N: IntegerNumber> ValueOrd for IntegerOf<N> {
+impl<N: IntegerNumber, const ENUMERATED: bool> ValueOrd for NumberOf<N, ENUMERATED> {
     ghost value_order = { octets_order (λ v. N.contents_of v.number) };
 
     fn value_cmp(&self, other: &Self) -> Result<Ordering, Error> {
@@ -86,21 +85,7 @@ impl<N: IntegerNumber> ValueOrd for IntegerOf<N> {
     }
 }
 
-impl<N: IntegerNumber> Orderly for IntegerOf<N> {
-    ghost orderly = { λ _ _ _ _. refl };
-}
-
-/// Compares the contents octets of two values in lexicographic order. Never fails.
-impl<N: IntegerNumber> ValueOrd for EnumeratedOf<N> {
-    ghost value_order = { octets_order (λ v. N.contents_of v.number) };
-
-    fn value_cmp(&self, other: &Self) -> Result<Ordering, Error> {
-        let (contents, others) = (self.number.to_contents(), other.number.to_contents());
-        Ok(contents.as_slice().cmp(others.as_slice()))
-    }
-}
-
-impl<N: IntegerNumber> Orderly for EnumeratedOf<N> {
+impl<N: IntegerNumber, const ENUMERATED: bool> Orderly for NumberOf<N, ENUMERATED> {
     ghost orderly = { λ _ _ _ _. refl };
 }
 

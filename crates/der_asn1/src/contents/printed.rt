@@ -1,7 +1,8 @@
 //! Values as text, for engineers: the name of the ASN.1 type, and the contents octets in
 //! hexadecimal.
 ghost use Rattle.std.specs.Prelude.{Some};
-ghost use Rattle.der.specs.Prelude.{Enumerated as EnumeratedTag, Integer as IntegerTag, Sequence};
+ghost use Rattle.der.specs.Prelude.{Sequence};
+ghost use Rattle.der_asn1.specs.NumberTag.{number_tag};
 ghost use Rattle.der.specs.Prelude.{Set as SetTag};
 ghost use Rattle.der_asn1.specs.AnyRef.{any_contents};
 ghost use Rattle.der_asn1.specs.Printed.{value_text};
@@ -13,9 +14,8 @@ use crate::elements::any::AnyRef;
 use crate::lists::item::Item;
 use crate::lists::sequence_of::SequenceOf;
 use crate::lists::set_of::SetOf;
-use crate::numbers::enumerated_of::EnumeratedOf;
 use crate::numbers::integer_number::IntegerNumber;
-use crate::numbers::integer_of::IntegerOf;
+use crate::numbers::number_of::{NumberOf, number_tag};
 use crate::times::time_format::TimeFormat;
 use crate::times::time_of::TimeOf;
 use der::Tag;
@@ -67,24 +67,12 @@ impl<'a, T: Item> fmt::Debug for SetOf<'a, T> {
 
 /// Prints the tag as its `Display` does, then in parentheses the contents octets, each as two
 /// upper-case hexadecimal digits.
-impl<N: IntegerNumber> fmt::Debug for IntegerOf<N> {
-    ghost debug_output = { λ v. Some (value_text IntegerTag (N.contents_of v.number)) };
+impl<N: IntegerNumber, const ENUMERATED: bool> fmt::Debug for NumberOf<N, ENUMERATED> {
+    ghost debug_output = { λ v. Some (value_text (number_tag ENUMERATED) (N.contents_of v.number)) };
 
     fn fmt<W: fmt::Write>(&self, f: &mut fmt::Formatter<W>) -> fmt::Result {
         let contents = self.number.to_contents();
-        let (tag, octets) = (Tag::Integer, Hexadecimal(contents.as_slice()));
-        write!(f, "{tag}({octets})")
-    }
-}
-
-/// Prints the tag as its `Display` does, then in parentheses the contents octets, each as two
-/// upper-case hexadecimal digits.
-impl<N: IntegerNumber> fmt::Debug for EnumeratedOf<N> {
-    ghost debug_output = { λ v. Some (value_text EnumeratedTag (N.contents_of v.number)) };
-
-    fn fmt<W: fmt::Write>(&self, f: &mut fmt::Formatter<W>) -> fmt::Result {
-        let contents = self.number.to_contents();
-        let (tag, octets) = (Tag::Enumerated, Hexadecimal(contents.as_slice()));
+        let (tag, octets) = (number_tag(ENUMERATED), Hexadecimal(contents.as_slice()));
         write!(f, "{tag}({octets})")
     }
 }

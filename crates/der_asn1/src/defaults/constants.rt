@@ -8,7 +8,7 @@ use crate::lists::item::Item;
 use crate::lists::sequence_of::SequenceOf;
 use crate::lists::set_of::SetOf;
 use crate::numbers::boolean::BooleanRef;
-use crate::numbers::integer_of::IntegerOf;
+use crate::numbers::number_of::IntegerOf;
 
 /// The default value `N` of an INTEGER of 8 bits.
 pub struct DefaultU8<const N: u8>;

@@ -9,9 +9,8 @@ use crate::contents::grammar::ContentsGrammar;
 use crate::lists::item::Item;
 use crate::lists::sequence_of::SequenceOf;
 use crate::lists::set_of::SetOf;
-use crate::numbers::enumerated_of::EnumeratedOf;
 use crate::numbers::integer_number::IntegerNumber;
-use crate::numbers::integer_of::IntegerOf;
+use crate::numbers::number_of::NumberOf;
 use crate::times::time_format::TimeFormat;
 use crate::times::time_of::TimeOf;
 use der::{ReadValue, WrittenValue};
@@ -52,7 +51,7 @@ impl<'a, F: ContentsGrammar> EqualContents for Checked<'a, F> {
 }
 
 /// Values are equal if their contents octets are the same.
-impl<N: IntegerNumber> PartialEq for IntegerOf<N> {
+impl<N: IntegerNumber, const ENUMERATED: bool> PartialEq for NumberOf<N, ENUMERATED> {
     ghost eq = { equal_contents (λ v. N.contents_of v.number) };
 
     ghost laws = { equal_contents-partial (λ v. N.contents_of v.number) };
@@ -62,32 +61,11 @@ impl<N: IntegerNumber> PartialEq for IntegerOf<N> {
     }
 }
 
-impl<N: IntegerNumber> Eq for IntegerOf<N> {
+impl<N: IntegerNumber, const ENUMERATED: bool> Eq for NumberOf<N, ENUMERATED> {
     ghost laws = { equal_contents-equivalence (λ v. N.contents_of v.number) };
 }
 
-impl<N: IntegerNumber> EqualContents for IntegerOf<N> {
-    ghost by_contents = { λ v w. refl };
-
-    ghost one_contents = { λ v w rules h octets one two. one.1 ∙ sym two.1 };
-}
-
-/// Values are equal if their contents octets are the same.
-impl<N: IntegerNumber> PartialEq for EnumeratedOf<N> {
-    ghost eq = { equal_contents (λ v. N.contents_of v.number) };
-
-    ghost laws = { equal_contents-partial (λ v. N.contents_of v.number) };
-
-    fn eq(&self, other: &Self) -> bool {
-        self.number.to_contents().as_slice() == other.number.to_contents().as_slice()
-    }
-}
-
-impl<N: IntegerNumber> Eq for EnumeratedOf<N> {
-    ghost laws = { equal_contents-equivalence (λ v. N.contents_of v.number) };
-}
-
-impl<N: IntegerNumber> EqualContents for EnumeratedOf<N> {
+impl<N: IntegerNumber, const ENUMERATED: bool> EqualContents for NumberOf<N, ENUMERATED> {
     ghost by_contents = { λ v w. refl };
 
     ghost one_contents = { λ v w rules h octets one two. one.1 ∙ sym two.1 };

@@ -1,7 +1,7 @@
 //! The types of this crate as items of lists.
 ghost use Rattle.std.specs.Prelude.{false, true};
 ghost use Rattle.std.proofs.Common.{arith, refl};
-ghost use Rattle.der.specs.Prelude.{ElementNext, Integer as IntegerTag, TakesWhole, element_levels, element_octets};
+ghost use Rattle.der.specs.Prelude.{ElementNext, TakesWhole, element_levels, element_octets};
 ghost use Rattle.der.specs.Tag.{label};
 ghost use Rattle.der_asn1.specs.Checked.{AcceptsCheckedContents, HasCheckedContents, checked_contents_lawful};
 ghost use Rattle.der_asn1.specs.ContextSpecific.{TakesImplicit, context_tag, explicit_lawful, implicit_lawful};
@@ -18,7 +18,6 @@ use crate::lists::iter::BorrowedItem;
 use crate::lists::sequence_of::SequenceOf;
 use crate::lists::set_of::SetOf;
 use crate::numbers::integer_number::IntegerNumber;
-use crate::numbers::integer_of::IntegerOf;
 use crate::times::time_format::TimeFormat;
 use crate::times::time_of::TimeOf;
 use der::{DecodeValue, FixedTag, Lawful, Lends, ReadValue, WrittenValue};
@@ -45,21 +44,6 @@ impl<'a, F: ContentsGrammar, R: Lends<Borrowed = &'a [u8]>> DecodeItem<R> for Ch
     ghost decodes_items = { decodes_same (element_item F.tag_is (AcceptsCheckedContents F.grammar
         (λ v. v.octets.now)) (HasCheckedContents F.grammar (λ v. v.octets.now))
         (λ v. v.octets.now) (λ _. 0) false) };
-}
-
-impl<N: IntegerNumber> Item for IntegerOf<N> {
-    ghost item = { element_item IntegerTag (AcceptsCheckedContents N.grammar
-        (λ v. N.contents_of v.number)) (HasCheckedContents N.grammar
-        (λ v. N.contents_of v.number)) (λ v. N.contents_of v.number) (λ _. 0) false };
-}
-
-impl<'a, N: IntegerNumber, R: Lends<Borrowed = &'a [u8]>> DecodeItem<R> for IntegerOf<N> {
-    ghost is_item = { element_is_item (checked_contents_lawful IntegerTag N.grammar
-        (λ v. N.contents_of v.number) (Prim.omega arith)) false };
-
-    ghost decodes_items = { decodes_same (element_item IntegerTag (AcceptsCheckedContents N.grammar
-        (λ v. N.contents_of v.number)) (HasCheckedContents N.grammar
-        (λ v. N.contents_of v.number)) (λ v. N.contents_of v.number) (λ _. 0) false) };
 }
 
 impl<F: TimeFormat> Item for TimeOf<F> {
@@ -114,10 +98,6 @@ impl<'a> BorrowedItem for AnyRef<'a> {
 }
 
 impl<'a, F: ContentsGrammar> BorrowedItem for Checked<'a, F> {
-    ghost borrowed = { refl };
-}
-
-impl<N: IntegerNumber> BorrowedItem for IntegerOf<N> {
     ghost borrowed = { refl };
 }
 

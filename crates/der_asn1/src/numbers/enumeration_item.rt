@@ -3,11 +3,10 @@ ghost use Rattle.std.specs.Prelude.{◌≡◌, ◌↔◌, IsSome, IfSome, true, 
 ghost use Rattle.der_asn1.specs.Enumeration.{item_form};
 ghost use Rattle.der_asn1.specs.Integer.{integer_octets};
 
-use crate::numbers::enumerated_of::EnumeratedOf;
 use crate::numbers::enumeration::Enumeration;
 use crate::numbers::integer_number::IntegerNumber;
 use crate::numbers::integer_octets::IntegerOctets;
-use crate::numbers::integer_of::IntegerOf;
+use crate::numbers::number_of::{EnumeratedOf, IntegerOf, NumberOf};
 
 /// An item of an enumeration, as the number that an INTEGER or an ENUMERATED encodes.
 #[derive(Clone, Copy, Debug, PartialEq, Eq)]
@@ -37,35 +36,17 @@ impl<E: Enumeration> IntegerNumber for EnumerationItem<E> {
     }
 }
 
-impl<E: Enumeration> EnumeratedOf<EnumerationItem<E>> {
-    /// The ENUMERATED of this item.
+impl<E: Enumeration, const ENUMERATED: bool> NumberOf<EnumerationItem<E>, ENUMERATED> {
+    /// The INTEGER or ENUMERATED of this item.
     pub fn new(item: E) -> Self
         ensures { result.number.0 ≡ item }
     {
-        EnumeratedOf {
+        NumberOf {
             number: EnumerationItem(item),
         }
     }
 
-    /// The item that the ENUMERATED encodes.
-    pub fn item(&self) -> E
-        ensures { result ≡ self.now.number.0 }
-    {
-        self.number.0
-    }
-}
-
-impl<E: Enumeration> IntegerOf<EnumerationItem<E>> {
-    /// The INTEGER of this item.
-    pub fn new(item: E) -> Self
-        ensures { result.number.0 ≡ item }
-    {
-        IntegerOf {
-            number: EnumerationItem(item),
-        }
-    }
-
-    /// The item that the INTEGER encodes.
+    /// The item that the value encodes.
     pub fn item(&self) -> E
         ensures { result ≡ self.now.number.0 }
     {

@@ -5,7 +5,7 @@ ghost use Rattle.der_asn1.specs.Ranges.{IsWithin, range_form};
 
 use crate::numbers::integer_number::IntegerNumber;
 use crate::numbers::integer_octets::IntegerOctets;
-use crate::numbers::integer_of::IntegerOf;
+use crate::numbers::number_of::IntegerOf;
 
 /// A number from `MIN` to `MAX`, both included.
 #[derive(Clone, Copy, Debug, PartialEq, Eq)]

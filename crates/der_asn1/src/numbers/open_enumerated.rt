@@ -2,8 +2,8 @@
 ghost use Rattle.std.specs.Prelude.{◌≡◌, pos};
 ghost use Rattle.der_asn1.specs.Enumeration.{item_with_number};
 
-use crate::numbers::enumerated_of::EnumeratedOf;
 use crate::numbers::enumeration::Enumeration;
+use crate::numbers::number_of::EnumeratedOf;
 
 /// An ENUMERATED with an extension mark is read as a number, so that a number which no item has, as
 /// that of an item of a later version of the module (X.680 20.1), is kept and written again.
