@@ -2,7 +2,7 @@ use Rattle.std.proofs.Common.{◌≡◌, false, true, Ok, Err, length, refl, ap,
 use Rattle.std.proofs.lemmas.Result.{IfOk-weaker, err_from_is_err_and}
 use Rattle.der_asn1.specs.SequenceOf.{joined_encodings}
 use Rattle.der_asn1.proofs.AssemblyLemmas.{all_writable, joined_same, never_lacks}
-use Rattle.der_asn1.proofs.lists.assembly.lists.set_of.Goals as goal
+use Rattle.der_asn1.proofs.assembly.lists.set_of.Goals as goal
 
 pub returns-in_err-octets-clause-succeeds : goal.returns-in_err-octets-clause-succeeds
 returns-in_err-octets-clause-succeeds g c are ascend short fits =

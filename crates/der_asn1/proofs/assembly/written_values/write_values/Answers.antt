@@ -5,7 +5,7 @@ use Rattle.der.specs.Writer.{WriterState}
 use Rattle.der_asn1.specs.SequenceOf.{joined_encodings}
 use Rattle.der_asn1.specs.Assembly.{ValuesWritten}
 use Rattle.der_asn1.proofs.AssemblyLemmas.{joined-fits, joined-more, valid_in, writes_all, writes_on, writes_refused}
-use Rattle.der_asn1.proofs.lists.assembly.written_values.write_values.Goals as goal
+use Rattle.der_asn1.proofs.assembly.written_values.write_values.Goals as goal
 
 pub values-preserved : goal.values-preserved
 values-preserved g c =

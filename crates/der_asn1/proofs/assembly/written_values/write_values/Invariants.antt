@@ -2,7 +2,7 @@ use Rattle.std.proofs.Common.{◌≡◌, false, take, drop}
 use Rattle.der.specs.Prelude.{slice_writer_state}
 use Rattle.der_asn1.specs.SequenceOf.{joined_encodings}
 use Rattle.der_asn1.proofs.AssemblyLemmas.{IsWriting}
-use Rattle.der_asn1.proofs.lists.assembly.written_values.write_values.Given as goal
+use Rattle.der_asn1.proofs.assembly.written_values.write_values.Given as goal
 
 abbrev pub invariant-values : goal.invariant-values
 invariant-values g l =
