@@ -57,6 +57,8 @@ mod visits;
 #[cfg(test)]
 mod x509;
 #[cfg(test)]
+mod x509_lenient;
+#[cfg(test)]
 mod x509_lint;
 #[cfg(test)]
 mod x509_names;

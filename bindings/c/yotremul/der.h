@@ -654,6 +654,11 @@ typedef struct der_usage {
 DER_MUST_USE DER_NONNULL(3)
 der_error der_key_usage(const uint8_t *extensions, size_t length, der_usage *usage);
 
+/* der_key_usage_lenient does the same where the contents of the extension are BER and not DER: the bits may have zero
+ * bits after them, as some roots have them. |*is_der| is whether they are DER, and true if the extension is absent. */
+DER_MUST_USE DER_NONNULL(3, 4)
+der_error der_key_usage_lenient(const uint8_t *extensions, size_t length, der_usage *usage, bool *is_der);
+
 /* What basicConstraints says (RFC 5280, 4.2.1.9). */
 typedef struct der_constraints {
     uint64_t path_length; /* how many certificates of authorities may follow; one that is negative or
@@ -667,6 +672,11 @@ typedef struct der_constraints {
 
 DER_MUST_USE DER_NONNULL(3)
 der_error der_basic_constraints(const uint8_t *extensions, size_t length, der_constraints *constraints);
+
+/* der_basic_constraints_lenient likewise: a field may be written though it has its default, as |cA FALSE|. */
+DER_MUST_USE DER_NONNULL(3, 4)
+der_error der_basic_constraints_lenient(const uint8_t *extensions, size_t length, der_constraints *constraints,
+                                        bool *is_der);
 
 /* The names of subjectAltName (RFC 5280, 4.2.1.6), for |der_next_general_name|. */
 typedef struct der_names {

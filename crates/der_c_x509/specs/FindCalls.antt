@@ -21,19 +21,18 @@ pub record RefusesList {T : Type 0} (reads : ReaderState → Result T Error → 
 
 -- the result of a lookup, with its error as C sees it; a type that occurs more than once is
 -- `SetDuplicate`
-abbrev pub found_answer : {A : Type 0} → Result (Option (Known A)) FindError
-    → Result (Option (Known A)) DerError
+abbrev pub found_answer : {A : Type 0} → Result A FindError → Result A DerError
 found_answer (Ok found) = Ok found
 found_answer (Err Repeated) = Err (error_code (error_of_kind SetDuplicate))
 found_answer (Err (Contents e)) = Err (error_code e)
 
 -- the octets are not a list of extensions, or the extension is looked up in the list
 pub data FindsIn {A : Type 0} (Refuses : List ℕ → Error → Type 0)
-    (finds : List ℕ → Result (Option (Known A)) FindError → Type 0) (octets : List ℕ)
-    (result : Result (Option (Known A)) DerError) : Type 0 where
+    (finds : List ℕ → Result A FindError → Type 0) (octets : List ℕ) (result : Result A DerError)
+    : Type 0 where
   no_list : (e : Error) → Refuses octets e → result ≡ Err (error_code e)
       → FindsIn Refuses finds octets result
-  in_list : (answer : Result (Option (Known A)) FindError) → finds octets answer
+  in_list : (answer : Result A FindError) → finds octets answer
       → result ≡ found_answer answer → FindsIn Refuses finds octets result
 
 -- the extension is absent or found, and the struct is that of it; or there is an error, and the

@@ -5,6 +5,7 @@ pub mod Fields
 pub mod FindCalls
 pub mod Items
 pub mod Known
+pub mod LenientCalls
 pub mod PrivateKey
 pub mod Request
 pub mod RevocationList

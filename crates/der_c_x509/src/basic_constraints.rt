@@ -53,7 +53,9 @@ fn path_length_of(value: &Optional<IntRef<'_>>) -> Option<(bool, u64)>
 }
 
 // The extension as a struct of C; `None` if its limit is not from 0 to 2^64 - 1.
-fn constraints_of<'a>(found: &Option<Known<BasicConstraints<'a>>>) -> Option<DerBasicConstraints>
+pub(crate) fn constraints_of<'a>(
+    found: &Option<Known<BasicConstraints<'a>>>,
+) -> Option<DerBasicConstraints>
     ensures { IsConstraintsAnswer found.now result }
 {
     match found {

@@ -30,9 +30,7 @@ where
 }
 
 // The result of a lookup, with its error as C sees it.
-fn c_answer<V: Drop>(
-    answer: Result<Option<Known<V>>, FindError>,
-) -> Result<Option<Known<V>>, DerError>
+pub(crate) fn c_answer<T: Drop>(answer: Result<T, FindError>) -> Result<T, DerError>
     ensures { result ≡ found_answer answer }
 {
     match answer {

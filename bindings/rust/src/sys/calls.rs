@@ -81,10 +81,22 @@ unsafe extern "C" {
     pub safe fn der_next_general_name<'a>(reader: &mut RawReader<'a>, name: &mut RawGeneralName<'a>) -> RawError;
     pub safe fn der_next_revoked<'a>(reader: &mut RawReader<'a>, entry: &mut RawRevoked<'a>) -> RawError;
     pub fn der_key_usage<'a>(extensions: *const u8, length: usize, usage: &mut RawUsage) -> RawError;
+    pub fn der_key_usage_lenient<'a>(
+        extensions: *const u8,
+        length: usize,
+        usage: &mut RawUsage,
+        is_der: &mut bool,
+    ) -> RawError;
     pub fn der_basic_constraints<'a>(
         extensions: *const u8,
         length: usize,
         constraints: &mut RawConstraints,
+    ) -> RawError;
+    pub fn der_basic_constraints_lenient<'a>(
+        extensions: *const u8,
+        length: usize,
+        constraints: &mut RawConstraints,
+        is_der: &mut bool,
     ) -> RawError;
     pub fn der_subject_alternative_name<'a>(
         extensions: *const u8,

@@ -1,0 +1,6 @@
+use Rattle.std.proofs.Common.{◌≡◌, ◌<◌, ◌^◌}
+use Rattle.der_c_x509.specs.Known.{first_bits}
+use Rattle.der_c_x509.proofs.lenient.bits_of.Given as goal
+
+abbrev pub invariant-loop-n : goal.invariant-loop-n
+invariant-loop-n l = (l.bits ≡ first_bits l.n l.found.value.octets.now) × (l.bits < 2 ^ l.n)

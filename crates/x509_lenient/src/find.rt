@@ -1,0 +1,77 @@
+//! Lookup of extensions that may be BER.
+ghost use Rattle.x509_lenient.specs.Lenient.{BerRead, FindsLenient, IsDerOf, LenientAnswer, SaysDerOf};
+
+use crate::extension::LenientExtension;
+use crate::lenient::Lenient;
+use der::{DecodeBytes, DecodeValue, Error, Lawful, SliceReader};
+use der_asn1::{Item, lawful_from_der};
+use std::alloc::Global;
+use x509::{Extension, Extensions, FindError, Occurrence};
+
+/// The extension of a type in a list, whose contents may be BER; `None` if no extension has this type.
+///
+/// # Errors
+///
+/// - `Repeated`, if more than one extension has this type.
+/// - `Contents`, if the contents are not a value under BER, with the error of `from_ber`. Its position counts from the
+///   start of the contents.
+pub fn find_lenient<'a, K: LenientExtension<'a>>(
+    alloc: Global,
+    extensions: &Extensions<'a>,
+) -> Result<Option<Lenient<K::Lenient>>, FindError>
+where
+    K::Value: DecodeValue<SliceReader<'a>, Error = Error>,
+    K::Lenient: DecodeValue<SliceReader<'a>, Error = Error>,
+    ensures { FindsLenient ⟦<Extension<'a> as Item>⟧.item.valid ⟦<Extension<'a> as Item>⟧.item.octets
+        (BerRead K.Lenient.tag_is K.Lenient.takes K.Lenient.value_levels K.Lenient.allocates
+        K.Lenient.decode_value_answers) (SaysDerOf K.Value.allocates
+        (IsDerOf K.Value.tag_is K.Value.valid K.Value.contents)) K.id_octets
+        extensions.now.items.octets.now result }
+{
+    let oid = K::identifier();
+    match extensions.get(alloc, &oid) {
+        Occurrence::Absent => Ok(None),
+        Occurrence::Once(extension) => read_lenient::<K>(alloc, &extension),
+        Occurrence::Several => Err(FindError::Repeated),
+    }
+}
+
+// Decodes the contents of an extension as a value under BER.
+fn read_lenient<'a, K: LenientExtension<'a>>(
+    alloc: Global,
+    extension: &Extension<'a>,
+) -> Result<Option<Lenient<K::Lenient>>, FindError>
+where
+    K::Value: DecodeValue<SliceReader<'a>, Error = Error>,
+    K::Lenient: DecodeValue<SliceReader<'a>, Error = Error>,
+    ensures { LenientAnswer (BerRead K.Lenient.tag_is K.Lenient.takes K.Lenient.value_levels
+        K.Lenient.allocates K.Lenient.decode_value_answers) (SaysDerOf K.Value.allocates
+        (IsDerOf K.Value.tag_is K.Value.valid K.Value.contents)) extension.now result }
+{
+    let octets = extension.extn_value.octets();
+    match <K::Lenient as DecodeBytes>::from_ber(alloc, octets) {
+        Ok(value) => {
+            let critical = extension.critical.0.is_true();
+            let is_der = is_der_of::<K::Value>(alloc, octets);
+            Ok(Some(Lenient {
+                critical,
+                is_der,
+                value,
+            }))
+        }
+        Err(error) => Err(FindError::Contents(error)),
+    }
+}
+
+// Whether the octets are the DER encoding of a value.
+fn is_der_of<'a, T: Lawful + DecodeValue<SliceReader<'a>, Error = Error>>(
+    alloc: Global,
+    octets: &'a [u8],
+) -> bool
+    ensures { SaysDerOf T.allocates (IsDerOf T.tag_is T.valid T.contents) octets.now result }
+{
+    match lawful_from_der::<T>(alloc, octets) {
+        Ok(_) => true,
+        Err(_) => false,
+    }
+}
