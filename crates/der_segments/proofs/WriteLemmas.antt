@@ -81,9 +81,9 @@ module _ {all left others : List (List ℕ)} {p old new : List ℕ} {at : ℕ} (
   pub piece_copied : {end : ℕ} {after : List ℕ} → end ≡ at + length p → take end after ≡ take at new ++ p → drop end after ≡ drop end new → CopiesPieces all others end old after
   piece_copied {end} {after} is front back =
       let before : take at new ≡ joined_pieces h.done = ap (take at) h.copied ∙ take_at (joined_pieces h.done) (drop at old) at (sym h.counted) in
-      let after : drop at new ≡ drop at old = ap (drop at) h.copied ∙ drop_at (joined_pieces h.done) (drop at old) at (sym h.counted) in
+      let behind : drop at new ≡ drop at old = ap (drop at) h.copied ∙ drop_at (joined_pieces h.done) (drop at old) at (sym h.counted) in
       let rest : drop end new ≡ drop end old =
-      ap (λ n. drop n new) is ∙ sym (drop-drop (length p) at new) ∙ ap (drop (length p)) after ∙ drop-drop (length p) at old ∙ ap (λ n. drop n old) (sym is) in
+      ap (λ n. drop n new) is ∙ sym (drop-drop (length p) at new) ∙ ap (drop (length p)) behind ∙ drop-drop (length p) at old ∙ ap (λ n. drop n old) (sym is) in
       record {
         done = h.done ++ p ∷ [];
         split = all_split ∙ sym (append_assoc h.done (p ∷ []) others);
