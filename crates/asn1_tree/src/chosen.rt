@@ -11,7 +11,7 @@ use crate::types::find_type;
 use asn1_schema::{Node, NodeKind, Schema};
 
 /// The node that the OBJECT IDENTIFIER chooses for an open type.
-pub(crate) fn chosen(schema: &Schema<'_>, node: &Node, known: Option<Known<'_>>) -> Option<u32>
+pub fn chosen(schema: &Schema<'_>, node: &Node, known: Option<Known<'_>>) -> Option<u32>
     requires fits { IsNode schema.now.counts schema.now.pool.now node.now }
     requires ascending { IsAscending schema.now.counts schema.now.octets.now node.now }
     ensures kind { IfSome result (λ m. node.now.kind ≡ Open) }

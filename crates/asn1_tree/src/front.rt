@@ -19,7 +19,7 @@ use ber::{Header, is_end_of_contents, read_header};
 /// The header of an element at the front, if so many levels are left for it; otherwise the rule that is
 /// broken.
 #[inline(always)]
-pub(crate) fn front_header(octets: &[u8], depth: usize) -> Result<Header, Rule>
+pub fn front_header(octets: &[u8], depth: usize) -> Result<Header, Rule>
     ensures next { IfOk result (λ h. IsNext h octets.now) }
     ensures real { IfOk result (λ h. h ≢ end_header) }
     ensures known { IfOk result (λ h. HasReservedTag (label_of_header h) → ⊥) }

@@ -13,7 +13,7 @@ use ber::{Universal, read_element};
 
 /// The last component that is an OBJECT IDENTIFIER.
 #[derive(Clone, Copy)]
-pub(crate) struct Known<'a> {
+pub struct Known<'a> {
     /// The index of its field.
     pub field: u32,
     /// Its contents octets.

@@ -141,8 +141,13 @@ pub fn is_ber(
     Ok(verdict.is_ber())
 }
 
-// The verdict on octets as a value of a node. Most need no memory.
-fn verdict_on(
+/// The verdict on octets as a value of a node of a table. Memory is needed as for [`is_der`]. The caller must
+/// ensure that there is such a node.
+///
+/// # Errors
+///
+/// There is no such memory.
+pub fn verdict_on(
     alloc: Global,
     schema: &Schema<'_>,
     node: u32,

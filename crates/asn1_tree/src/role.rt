@@ -3,8 +3,8 @@
 // No index of a row.
 pub(crate) const NO_INDEX: u32 = 0xffff_ffff;
 
-// How many levels of elements may be nested.
-pub(crate) const LEVELS: usize = 64;
+/// How many levels of elements may be nested.
+pub const LEVELS: usize = 64;
 
 /// What an element is to those around it.
 #[derive(Clone, Copy)]

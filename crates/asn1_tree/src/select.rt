@@ -32,7 +32,7 @@ pub(crate) fn begins(schema: &Schema<'_>, node: u32, octets: &[u8]) -> bool
 }
 
 /// The first field of a node, from a field on, with a tag that octets begin with.
-pub(crate) fn find_field(schema: &Schema<'_>, node: Node, first: u32, octets: &[u8]) -> Option<u32>
+pub fn find_field(schema: &Schema<'_>, node: Node, first: u32, octets: &[u8]) -> Option<u32>
     requires there { IsRange node.parts schema.now.counts.fields }
     requires part { node.parts.start ≤ first }
     ensures found { IfSome result (λ k. (f : AField) × (first ≤ k)

@@ -7,7 +7,7 @@ use ber::Universal;
 
 /// What the contents of a value are.
 #[derive(Clone, Copy)]
-pub(crate) enum Shape {
+pub enum Shape {
     /// The components of a SEQUENCE.
     Components,
     /// The elements of a SET.

@@ -5,7 +5,7 @@ use crate::full::Full;
 
 /// The text so far, in memory of the caller.
 #[derive(Drop)]
-pub(crate) struct Text<'t> {
+pub struct Text<'t> {
     octets: &'t mut [u8],
     count: usize,
     ghost within: { count ≤ length octets.now },

@@ -20,7 +20,7 @@ use asn1_schema::{Node, Schema};
 use ber::{Form, Universal};
 
 /// Whether an encoding is that of a string in the constructed form.
-pub(crate) fn is_joined(constructed: bool, universal: Universal) -> bool
+pub fn is_joined(constructed: bool, universal: Universal) -> bool
     ensures { result ≡ is_joined constructed universal }
 {
     constructed && is_string(universal.form())

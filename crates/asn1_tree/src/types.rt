@@ -18,7 +18,7 @@ use der_base::Class;
 
 /// The node with an index.
 #[tactic(auto, unfolding(crate::specs::Types::types_in))]
-pub(crate) fn node_of(schema: &Schema<'_>, index: u32) -> Node
+pub fn node_of(schema: &Schema<'_>, index: u32) -> Node
     requires { index < schema.now.counts.nodes }
     ensures value { slice_get (types_in schema.now.octets.now).nodes index ≡ Some result }
     ensures fits { IsNode schema.now.counts schema.now.pool.now result }
@@ -29,7 +29,7 @@ pub(crate) fn node_of(schema: &Schema<'_>, index: u32) -> Node
 
 /// The field with an index.
 #[tactic(auto, unfolding(crate::specs::Types::types_in))]
-pub(crate) fn field_of(schema: &Schema<'_>, index: u32) -> Field
+pub fn field_of(schema: &Schema<'_>, index: u32) -> Field
     requires { index < schema.now.counts.fields }
     ensures value { slice_get (types_in schema.now.octets.now).fields index ≡ Some result }
     ensures fits { IsField schema.now.counts schema.now.pool.now result }
@@ -39,7 +39,7 @@ pub(crate) fn field_of(schema: &Schema<'_>, index: u32) -> Field
 
 /// The octets of the default of a field.
 #[tactic(auto, unfolding(crate::specs::Types::types_in))]
-pub(crate) fn default_of<'a>(schema: &Schema<'a>, field: Field) -> &'a [u8]
+pub fn default_of<'a>(schema: &Schema<'a>, field: Field) -> &'a [u8]
     requires fits { IsField schema.now.counts schema.now.pool.now field }
     requires there { field.presence ≡ Default }
     ensures { result.now ≡ octets_of (types_in schema.now.octets.now).pool field.default }
@@ -49,7 +49,7 @@ pub(crate) fn default_of<'a>(schema: &Schema<'a>, field: Field) -> &'a [u8]
 
 /// The node that a tag selects.
 #[tactic(auto, unfolding(crate::specs::Types::types_in))]
-pub(crate) fn select(schema: &Schema<'_>, index: u32, class: Class, number: u32) -> Option<Selected>
+pub fn select(schema: &Schema<'_>, index: u32, class: Class, number: u32) -> Option<Selected>
     requires { index < schema.now.counts.nodes }
     ensures found { IfSome result (λ s. IsSelected (types_in schema.now.octets.now) index class
         number s.field s.node) }

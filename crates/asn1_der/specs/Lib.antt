@@ -1,0 +1,5 @@
+pub mod Rewriting
+pub mod Lists
+pub mod Components
+pub mod Same
+pub mod Pieces

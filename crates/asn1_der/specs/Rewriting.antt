@@ -1,0 +1,27 @@
+-- The contents octets of a universal type under DER, beside others of the same value under BER.
+use Rattle.std.specs.Prelude.{◌≡◌, ◌≢◌, ℕ, List, [], ◌∷◌}
+use Rattle.ber.specs.declared.universal.Universal.{Universal}
+use Rattle.ber.specs.declared.universal.Universal.TheVariants as types
+use Rattle.asn1_der.specs.declared.rewriting.Rewriting.{Rewriting}
+use Rattle.asn1_der.specs.declared.rewriting.Rewriting.TheVariants.{Boolean, Bits, UtcTime, GeneralizedTime, Same}
+
+-- how they change
+abbrev pub rewriting_of : Universal → Rewriting
+rewriting_of types.Boolean = Boolean
+rewriting_of types.BitString = Bits
+rewriting_of types.UtcTime = UtcTime
+rewriting_of types.GeneralizedTime = GeneralizedTime
+rewriting_of _ = Same
+
+-- FALSE stays 0, and TRUE is FF (11.1)
+pub record IsTruth (text v : List ℕ) : Type 0 where
+  pub no : text ≡ 0 ∷ [] → v ≡ 0 ∷ []
+  pub yes : (octet : ℕ) → text ≡ octet ∷ [] → octet ≢ 0 → v ≡ 255 ∷ []
+
+-- these contents octets are rewritten as those; nothing is said of bits and of times
+abbrev pub IsRewritten : Rewriting → List ℕ → List ℕ → Type 0
+IsRewritten Boolean text v = IsTruth text v
+IsRewritten Bits text v = Unit {0}
+IsRewritten UtcTime text v = Unit {0}
+IsRewritten GeneralizedTime text v = Unit {0}
+IsRewritten Same text v = v ≡ text

@@ -1,0 +1,41 @@
+//! The OBJECT IDENTIFIER that chooses an open type.
+ghost use Rattle.std.specs.Prelude.{◌≡◌, ◌↔◌, ◌<◌, true, slice_get, IfOk};
+ghost use Rattle.asn1_schema.specs.declared.node_kind.NodeKind.TheVariants.{Universal as Universally};
+ghost use Rattle.ber.specs.declared.universal.Universal.TheVariants.{ObjectIdentifier};
+ghost use Rattle.asn1_tree.specs.Known.{Follows, known_in};
+ghost use Rattle.asn1_tree.specs.Types.{types_in};
+
+use crate::refusal::Refusal;
+use asn1_schema::{Node, NodeKind, Schema};
+use asn1_tree::walking::{Known, node_of};
+use ber::{Universal, read_element};
+
+/// What is known after a component of a field, which has this node and these octets.
+pub(crate) fn known_after<'a>(
+    schema: &Schema<'_>,
+    node: u32,
+    field: u32,
+    octets: &'a [u8],
+    known: Option<Known<'a>>,
+) -> Result<Option<Known<'a>>, Refusal>
+    requires { node < schema.now.counts.nodes }
+    ensures { IfOk result (λ after. Follows (slice_get (types_in schema.now.octets.now).nodes node) field
+        octets.now (known_in known.entry) (known_in after)) }
+{
+    if !is_identifier(node_of(schema, node)) {
+        return Ok(known);
+    }
+    match read_element(octets) {
+        Ok(element) if element.rest.is_empty() => Ok(Some(Known {
+            field,
+            identifier: element.contents,
+        })),
+        _ => Err(Refusal::NotBer),
+    }
+}
+
+fn is_identifier(node: Node) -> bool
+    ensures { (result ≡ true) ↔ (node.kind ≡ Universally ObjectIdentifier) }
+{
+    matches!(node.kind, NodeKind::Universal(Universal::ObjectIdentifier))
+}

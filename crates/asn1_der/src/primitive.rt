@@ -1,0 +1,58 @@
+//! The writer of contents octets.
+ghost use Rattle.std.specs.Prelude.{IfOk};
+ghost use Rattle.asn1_tree.specs.Strings.{AreSegments};
+ghost use Rattle.asn1_der.specs.Rewriting.{IsRewritten, IsTruth, rewriting_of};
+
+use crate::bits::put_bits;
+use crate::generalized_time::generalized_time;
+use crate::refusal::Refusal;
+use crate::rewriting::Rewriting;
+use crate::utc_time::utc_time;
+use asn1_tree::join_segments;
+use ber::Universal;
+use std::alloc::{AllocError, Global};
+
+/// The text of a string in the constructed form.
+pub(crate) fn joined_text(
+    alloc: Global,
+    universal: Universal,
+    contents: &[u8],
+) -> Result<Vec<u8>, Refusal>
+    ensures { IfOk result (λ text. AreSegments 64 universal contents.now text.items) }
+{
+    let mut room = vec![in alloc; 0u8; contents.len().saturating_add(1)]?;
+    match join_segments(universal, contents, room.as_mut_slice())? {
+        Some(text) => Ok(text.as_slice().to_vec(alloc)?),
+        None => Err(Refusal::NotBer),
+    }
+}
+
+/// The contents octets of a value of a universal type under DER, of which these are some under BER. `named` says
+/// whether the bits of a BIT STRING have names.
+pub(crate) fn rewritten(
+    alloc: Global,
+    universal: Universal,
+    named: bool,
+    contents: &[u8],
+) -> Result<Vec<u8>, AllocError>
+    ensures { IfOk result (λ v. IsRewritten (rewriting_of universal) contents.now v.items) }
+{
+    match Rewriting::of(universal) {
+        Rewriting::Boolean => boolean(alloc, contents),
+        Rewriting::Bits => put_bits(alloc, named, contents),
+        Rewriting::UtcTime => utc_time(alloc, contents),
+        Rewriting::GeneralizedTime => generalized_time(alloc, contents),
+        Rewriting::Same => contents.to_vec(alloc),
+    }
+}
+
+// TRUE is one octet FF (X.690 11.1).
+fn boolean(alloc: Global, contents: &[u8]) -> Result<Vec<u8>, AllocError>
+    ensures { IfOk result (λ v. IsTruth contents.now v.items) }
+{
+    match contents {
+        [0] => contents.to_vec(alloc),
+        [_] => [0xffu8].to_vec(alloc),
+        _ => contents.to_vec(alloc),
+    }
+}
