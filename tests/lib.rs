@@ -9,6 +9,8 @@ mod asn1_contents;
 #[cfg(test)]
 mod asn1_cursor;
 #[cfg(test)]
+mod asn1_der;
+#[cfg(test)]
 mod asn1_schema;
 #[cfg(test)]
 mod asn1_tree;
