@@ -29,6 +29,8 @@ mod fixtures;
 #[cfg(test)]
 mod keys;
 #[cfg(test)]
+mod name_forms;
+#[cfg(test)]
 mod ocsp;
 #[cfg(test)]
 mod parcels;
