@@ -59,4 +59,6 @@ mod visits;
 #[cfg(test)]
 mod writers;
 #[cfg(test)]
+mod x509_match;
+#[cfg(test)]
 mod x509_names;
