@@ -37,6 +37,8 @@ mod der_uses;
 #[cfg(test)]
 mod fixtures;
 #[cfg(test)]
+mod name_forms;
+#[cfg(test)]
 mod ocsp;
 #[cfg(test)]
 mod parcels;
@@ -62,5 +64,7 @@ mod x509;
 mod x509_lenient;
 #[cfg(test)]
 mod x509_lint;
+#[cfg(test)]
+mod x509_match;
 #[cfg(test)]
 mod x509_names;

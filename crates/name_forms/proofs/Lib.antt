@@ -1,0 +1,4 @@
+mod CheckLemmas
+mod HostLemmas
+mod LabelLemmas
+mod PlaceLemmas

@@ -1,0 +1,112 @@
+//! Host names, compared without case.
+ghost use Rattle.std.specs.Prelude.{◌≡◌, ◌↔◌, ◌<◌, ◌∷◌, true, EachIndex, SomeIndex, length, slice_index};
+ghost use Rattle.name_forms.specs.Hosts.{begins_with_dot, HasBefore, IsBelowHost, IsDomainName, IsHostWithin, IsSameHost, is_host_octet, is_letter};
+
+use crate::rest::rest;
+
+/// Whether two host names are the same, but for the case of letters of ASCII (RFC 5280, 7.2).
+pub fn is_same_host(first: &[u8], second: &[u8]) -> bool
+    ensures { (result ≡ true) ↔ IsSameHost first.now second.now }
+{
+    first.eq_ignore_ascii_case(second)
+}
+
+/// Whether a dNSName is within a constraint: it is the constraint, or has labels added on the left of
+/// it (RFC 5280, 4.2.1.10). Every name is within the empty constraint. The RFC does not say what a
+/// constraint means that begins with a dot: here one label or more is added on the left of it.
+pub fn is_below_host(base: &[u8], name: &[u8]) -> bool
+    ensures { (result ≡ true) ↔ IsBelowHost base.now name.now }
+{
+    if base.is_empty() || is_same_host(name, base) {
+        return true;
+    }
+    if begins_with_dot(base) {
+        has_before(base, name)
+    } else {
+        has_labels_before(base, name)
+    }
+}
+
+/// Whether the host of a URI or a mailbox is within a constraint (RFC 5280, 4.2.1.10): in the domain
+/// whose name is after a leading dot, but not its own host; or else it is the host that the
+/// constraint names.
+pub fn is_host_within(base: &[u8], name: &[u8]) -> bool
+    ensures { (result ≡ true) ↔ IsHostWithin base.now name.now }
+{
+    if begins_with_dot(base) {
+        has_before(base, name)
+    } else {
+        is_same_host(name, base)
+    }
+}
+
+fn begins_with_dot(octets: &[u8]) -> bool
+    ensures { result ≡ begins_with_dot octets.now }
+{
+    match octets {
+        [first, ..] => *first == b'.',
+        [] => false,
+    }
+}
+
+// Whether a name ends with these octets, and has more before them.
+fn has_before(end: &[u8], name: &[u8]) -> bool
+    ensures { (result ≡ true) ↔ HasBefore end.now name.now }
+{
+    name.len() > end.len() && is_same_host(rest(name, name.len() - end.len()), end)
+}
+
+// Whether a name ends with a dot and these octets, and has more before the dot.
+fn has_labels_before(end: &[u8], name: &[u8]) -> bool
+    ensures { (result ≡ true) ↔ HasBefore (46 ∷ end.now) name.now }
+{
+    if name.len() < 2 || name.len() - 2 < end.len() {
+        return false;
+    }
+    let at = name.len() - end.len();
+    name[at - 1] == b'.' && is_same_host(rest(name, at), end)
+}
+
+/// Whether the octets are a host name with a letter: an address of version 4 has none.
+pub fn is_domain_name(octets: &[u8]) -> bool
+    ensures { (result ≡ true) ↔ IsDomainName octets.now }
+{
+    are_of_host(octets) && has_letter(octets)
+}
+
+fn are_of_host(octets: &[u8]) -> bool
+    ensures { (result ≡ true)
+        ↔ EachIndex octets.now (λ k. is_host_octet (slice_index octets.now k) ≡ true) }
+{
+    for at in 0..octets.len() {
+        if !is_host_octet(octets[at]) {
+            return false;
+        }
+    }
+    true
+}
+
+fn has_letter(octets: &[u8]) -> bool
+    ensures { (result ≡ true)
+        ↔ SomeIndex octets.now (λ k. is_letter (slice_index octets.now k) ≡ true) }
+{
+    for at in 0..octets.len() {
+        if is_letter(octets[at]) {
+            return true;
+        }
+    }
+    false
+}
+
+pub(crate) fn is_letter(octet: u8) -> bool
+    ensures { result ≡ is_letter octet }
+{
+    64 < octet && octet < 91 || 96 < octet && octet < 123
+}
+
+// A letter, a digit, a hyphen or a dot.
+fn is_host_octet(octet: u8) -> bool
+    ensures { result ≡ is_host_octet octet }
+{
+    is_letter(octet) || 47 < octet && octet < 58 || octet == b'-' || octet == b'.'
+}

@@ -1,0 +1,35 @@
+//! The forms of names in certificates, as octets: texts, host names, mailboxes, URIs and addresses.
+//!
+//! The functions compare names as RFC 5280 demands (7.1, 7.2 and 7.5): [`texts_match`],
+//! [`is_same_host`], [`mailboxes_match`]. They compare a name with a constraint of its form
+//! (4.2.1.10): [`is_below_host`], [`is_mail_within`], [`is_uri_within`], [`is_address_within`]. And
+//! they say whether octets have the syntax of a form (4.2.1.6): [`is_host_name`], [`is_mailbox`],
+//! [`is_uri`], [`is_address`].
+//!
+//! Proved: each answer, exactly. Only letters of ASCII have a case, and only spaces of ASCII are
+//! spaces: the tables of stringprep (RFC 4518) for other characters are not used, and names in other
+//! alphabets are compared octet by octet. Nothing is allocated.
+#![tactic(auto)]
+
+mod address;
+mod host;
+mod host_name;
+mod mailbox;
+mod mailbox_syntax;
+mod mark;
+mod rest;
+mod scheme;
+mod text;
+mod uri;
+mod uri_part;
+mod uri_syntax;
+
+pub use address::{is_address, is_address_within, is_range};
+pub use host::{is_below_host, is_domain_name, is_host_within, is_same_host};
+pub use host_name::{is_host, is_host_name};
+pub use mailbox::{has_mailbox, is_mail_within, mailboxes_match};
+pub use mailbox_syntax::is_mailbox;
+pub use scheme::has_scheme;
+pub use text::texts_match;
+pub use uri::{has_domain_name, is_uri_within};
+pub use uri_syntax::{has_host, is_uri};

@@ -1,0 +1,39 @@
+//! Schemes of URIs (RFC 3986, 3.1).
+ghost use Rattle.std.specs.Prelude.{◌≡◌, ◌↔◌, ◌<◌, length, true};
+ghost use Rattle.name_forms.specs.UriSyntax.{HasScheme, fits_scheme, is_scheme_octet};
+
+use crate::host::is_letter;
+
+/// Whether the octets are a scheme, a colon, and at least one more octet.
+pub fn has_scheme(octets: &[u8]) -> bool
+    ensures { (result ≡ true) ↔ HasScheme octets.now }
+{
+    for at in 0..octets.len() {
+        let octet = octets[at];
+        if octet == b':' {
+            return at > 0 && octets.len() - at > 1;
+        }
+        if !fits_scheme(at, octet) {
+            return false;
+        }
+    }
+    false
+}
+
+// Whether an octet may be that of a scheme at this place.
+fn fits_scheme(at: usize, octet: u8) -> bool
+    ensures { result ≡ fits_scheme at octet }
+{
+    if at == 0 {
+        is_letter(octet)
+    } else {
+        is_scheme_octet(octet)
+    }
+}
+
+// A letter, a digit, or one of + - .
+fn is_scheme_octet(octet: u8) -> bool
+    ensures { result ≡ is_scheme_octet octet }
+{
+    is_letter(octet) || 47 < octet && octet < 58 || octet == 43 || octet == 45 || octet == 46
+}

@@ -1,0 +1,47 @@
+//! Attributes of names compared.
+ghost use Rattle.std.specs.Prelude.{◌≡◌, ◌↔◌, ◌&&◌, true};
+ghost use Rattle.x509_match.specs.NameMatching.{AttributesMatch, ValuesMatch, is_text_tag};
+
+use der::Tag;
+use der_asn1::AnyRef;
+use name_forms::texts_match;
+use x509::AttributeTypeAndValue;
+
+/// Whether two attributes have the same type and values that match (RFC 5280, 7.1): of
+/// PrintableStrings, UTF8Strings and IA5Strings the prepared texts are the same, and other values
+/// are the same element, octet by octet.
+pub fn attributes_match(
+    first: &AttributeTypeAndValue<'_>,
+    second: &AttributeTypeAndValue<'_>,
+) -> bool
+    ensures { (result ≡ true) ↔ AttributesMatch first.now second.now }
+{
+    first.oid.octets() == second.oid.octets() && values_match(&first.value, &second.value)
+}
+
+fn values_match(first: &AnyRef<'_>, second: &AnyRef<'_>) -> bool
+    ensures { (result ≡ true) ↔ ValuesMatch first.now second.now }
+{
+    if are_texts(first.tag, second.tag) {
+        return texts_match(first.contents, second.contents);
+    }
+    is_same_tag(first.tag, second.tag) && first.contents == second.contents
+}
+
+fn are_texts(first: Tag, second: Tag) -> bool
+    ensures { result ≡ (is_text_tag first && is_text_tag second) }
+{
+    is_text_tag(first) && is_text_tag(second)
+}
+
+fn is_text_tag(tag: Tag) -> bool
+    ensures { result ≡ is_text_tag tag }
+{
+    matches!(tag, Tag::PrintableString | Tag::Utf8String | Tag::Ia5String)
+}
+
+pub(crate) fn is_same_tag(first: Tag, second: Tag) -> bool
+    ensures { (result ≡ true) ↔ (first ≡ second) }
+{
+    first == second
+}

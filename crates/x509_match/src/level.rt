@@ -1,0 +1,72 @@
+//! Levels of names compared.
+ghost use Rattle.std.specs.Prelude.{◌≡◌, ◌↔◌, true};
+ghost use Rattle.x509.specs.CertificateLists.{level_octets};
+ghost use Rattle.x509_match.specs.NameMatching.{AreAsMany, HasMatch, HaveMatches, LevelsMatch};
+
+use crate::attribute::attributes_match;
+use std::alloc::Global;
+use x509::{AttributeTypeAndValue, RelativeDistinguishedName};
+
+/// Whether two levels have as many attributes, and each of the first has a match in the second (RFC
+/// 5280, 7.1).
+pub fn levels_match(
+    alloc: Global,
+    first: &RelativeDistinguishedName<'_>,
+    second: &RelativeDistinguishedName<'_>,
+) -> bool
+    ensures { (result ≡ true) ↔ LevelsMatch first.now second.now }
+{
+    are_as_many(alloc, first, second) && have_matches(alloc, first, second)
+}
+
+fn are_as_many(
+    alloc: Global,
+    first: &RelativeDistinguishedName<'_>,
+    second: &RelativeDistinguishedName<'_>,
+) -> bool
+    ensures { (result ≡ true) ↔ AreAsMany (level_octets first.now) (level_octets second.now) }
+{
+    let mut others = second.attributes.iter(alloc);
+    for attribute in first.attributes.iter(alloc) {
+        match others.next() {
+            Some(_other) => {}
+            None => return false,
+        }
+    }
+    match others.next() {
+        Some(_other) => false,
+        None => true,
+    }
+}
+
+// Whether each attribute of one level has a match in the other.
+fn have_matches(
+    alloc: Global,
+    first: &RelativeDistinguishedName<'_>,
+    second: &RelativeDistinguishedName<'_>,
+) -> bool
+    ensures { (result ≡ true) ↔ HaveMatches (level_octets first.now) (level_octets second.now) }
+{
+    for attribute in first.attributes.iter(alloc) {
+        if !has_match(alloc, second, &attribute) {
+            return false;
+        }
+    }
+    true
+}
+
+// Whether an attribute matches one of the level.
+fn has_match(
+    alloc: Global,
+    level: &RelativeDistinguishedName<'_>,
+    attribute: &AttributeTypeAndValue<'_>,
+) -> bool
+    ensures { (result ≡ true) ↔ HasMatch (level_octets level.now) attribute.now }
+{
+    for other in level.attributes.iter(alloc) {
+        if attributes_match(attribute, &other) {
+            return true;
+        }
+    }
+    false
+}

@@ -1,0 +1,20 @@
+//! Names of certificates compared, as RFC 5280 demands (7.1).
+//!
+//! [`names_match`] says whether two names are the same, as those of an issuer and of the subject of
+//! the authority above it, and [`is_name_within`] whether a name is within the subtree of another, as
+//! a constraint of names has it (4.2.1.10).
+//!
+//! Proved: each answer, exactly. Values that are PrintableStrings, UTF8Strings or IA5Strings are
+//! compared after preparation by `name_forms::texts_match`: without the case of ASCII, and with
+//! spaces between other characters alone. Values of other types are compared octet by octet. Nothing
+//! is allocated. The time is in proportion to the size of the names, and within one level to the
+//! product of the numbers of attributes.
+#![tactic(auto)]
+
+mod attribute;
+mod level;
+mod name;
+
+pub use attribute::attributes_match;
+pub use level::levels_match;
+pub use name::{is_name_within, names_match};

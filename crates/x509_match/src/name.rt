@@ -1,0 +1,44 @@
+//! Names compared.
+ghost use Rattle.std.specs.Prelude.{◌≡◌, ◌↔◌, true};
+ghost use Rattle.x509_match.specs.NameMatching.{HasLevelsOf, IsNameWithin, NamesMatch};
+
+use crate::level::levels_match;
+use std::alloc::Global;
+use x509::Name;
+
+/// Whether two names match (RFC 5280, 7.1): as many levels, which match in the same order. This does
+/// not use `alloc`.
+pub fn names_match(alloc: Global, first: &Name<'_>, second: &Name<'_>) -> bool
+    ensures { (result ≡ true) ↔ NamesMatch first.now second.now }
+{
+    has_levels_of(alloc, first, second, true)
+}
+
+/// Whether a name is within the subtree of another (RFC 5280, 7.1 and 4.2.1.10): it begins with
+/// levels that match those of the other. This does not use `alloc`.
+pub fn is_name_within(alloc: Global, base: &Name<'_>, name: &Name<'_>) -> bool
+    ensures { (result ≡ true) ↔ IsNameWithin base.now name.now }
+{
+    has_levels_of(alloc, base, name, false)
+}
+
+// Whether the second name has the levels of the first, and, as a whole, no others.
+fn has_levels_of(alloc: Global, first: &Name<'_>, second: &Name<'_>, whole: bool) -> bool
+    ensures { (result ≡ true) ↔ HasLevelsOf whole first.now second.now }
+{
+    let mut others = second.levels.iter(alloc);
+    for level in first.levels.iter(alloc) {
+        match others.next() {
+            Some(other) => {
+                if !levels_match(alloc, &level, &other) {
+                    return false;
+                }
+            }
+            None => return false,
+        }
+    }
+    match others.next() {
+        Some(_other) => !whole,
+        None => true,
+    }
+}

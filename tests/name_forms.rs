@@ -1,0 +1,5 @@
+//! Tests of the crate `name_forms`.
+
+mod constraints;
+mod openssl;
+mod syntax;

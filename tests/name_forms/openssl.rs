@@ -1,0 +1,90 @@
+//! What openssl says of names and constraints. Written by tools/matched, which asked `openssl verify`.
+
+// A constraint, a name, and whether openssl finds it within the constraint.
+pub type Case = (&'static [u8], &'static [u8], bool);
+
+/// Constraints of dNSNames, and names.
+pub static DNS: [Case; 14] = [
+    (b"example.org", b"example.org", true),
+    (b"example.org", b"EXAMPLE.org", true),
+    (b"example.org", b"www.example.org", true),
+    (b"example.org", b"a.b.Example.Org", true),
+    (b"example.org", b"badexample.org", false),
+    (b"example.org", b"example.com", false),
+    (b"example.org", b"org", false),
+    (b"example.org", b"example.org.com", false),
+    (b".example.org", b"example.org", false),
+    (b".example.org", b"www.example.org", true),
+    (b".example.org", b"a.b.example.org", true),
+    (b"org", b"example.org", true),
+    (b"b.example.org", b"a.b.example.org", true),
+    (b"b.example.org", b"ab.example.org", false),
+];
+
+/// Constraints of rfc822Names, and names.
+pub static MAIL: [Case; 13] = [
+    (b"a@example.org", b"a@example.org", true),
+    (b"a@example.org", b"A@example.org", false),
+    (b"a@example.org", b"a@EXAMPLE.ORG", true),
+    (b"a@example.org", b"b@example.org", false),
+    (b"a@example.org", b"a@www.example.org", false),
+    (b"example.org", b"a@example.org", true),
+    (b"example.org", b"b@Example.org", true),
+    (b"example.org", b"a@www.example.org", false),
+    (b"example.org", b"a@badexample.org", false),
+    (b".example.org", b"a@example.org", false),
+    (b".example.org", b"a@www.example.org", true),
+    (b".example.org", b"a@b.c.EXAMPLE.org", true),
+    (b".example.org", b"a@badexample.org", false),
+];
+
+/// Constraints of URIs, and names.
+pub static URIS: [Case; 13] = [
+    (b"example.org", b"http://example.org/", true),
+    (b"example.org", b"http://EXAMPLE.org/a", true),
+    (b"example.org", b"http://example.org:8080/", true),
+    (b"example.org", b"http://www.example.org/", false),
+    (b"example.org", b"http://badexample.org/", false),
+    (b"example.org", b"ftp://example.org", true),
+    (b".example.org", b"http://example.org/", false),
+    (b".example.org", b"http://www.example.org/", true),
+    (b".example.org", b"http://a.b.example.org:1/x", true),
+    (b".example.org", b"http://badexample.org/", false),
+    (b"example.org", b"mailto:a@example.org", false),
+    (b"example.org", b"urn:example.org", false),
+    (b"example.org", b"http:/example.org/", false),
+];
+
+/// Constraints of iPAddresses, and names.
+pub static ADDRESSES: [Case; 10] = [
+    (&[0xC0, 0x00, 0x02, 0x00, 0xFF, 0xFF, 0xFF, 0x00], &[0xC0, 0x00, 0x02, 0x01], true),
+    (&[0xC0, 0x00, 0x02, 0x00, 0xFF, 0xFF, 0xFF, 0x00], &[0xC0, 0x00, 0x02, 0xFF], true),
+    (&[0xC0, 0x00, 0x02, 0x00, 0xFF, 0xFF, 0xFF, 0x00], &[0xC0, 0x00, 0x03, 0x01], false),
+    (&[0xC0, 0x00, 0x02, 0x00, 0xFF, 0xFF, 0xFF, 0x00], &[0x20, 0x01, 0x0D, 0xB8, 0x00, 0x00, 0x00, 0x00, 0x00, 0x00, 0x00, 0x00, 0x00, 0x00, 0x00, 0x01], false),
+    (&[0x20, 0x01, 0x0D, 0xB8, 0x00, 0x00, 0x00, 0x00, 0x00, 0x00, 0x00, 0x00, 0x00, 0x00, 0x00, 0x00, 0xFF, 0xFF, 0xFF, 0xFF, 0x00, 0x00, 0x00, 0x00, 0x00, 0x00, 0x00, 0x00, 0x00, 0x00, 0x00, 0x00], &[0x20, 0x01, 0x0D, 0xB8, 0x00, 0x00, 0x00, 0x00, 0x00, 0x00, 0x00, 0x00, 0x00, 0x00, 0x00, 0x01], true),
+    (&[0x20, 0x01, 0x0D, 0xB8, 0x00, 0x00, 0x00, 0x00, 0x00, 0x00, 0x00, 0x00, 0x00, 0x00, 0x00, 0x00, 0xFF, 0xFF, 0xFF, 0xFF, 0x00, 0x00, 0x00, 0x00, 0x00, 0x00, 0x00, 0x00, 0x00, 0x00, 0x00, 0x00], &[0x20, 0x01, 0x0D, 0xB9, 0x00, 0x00, 0x00, 0x00, 0x00, 0x00, 0x00, 0x00, 0x00, 0x00, 0x00, 0x01], false),
+    (&[0x20, 0x01, 0x0D, 0xB8, 0x00, 0x00, 0x00, 0x00, 0x00, 0x00, 0x00, 0x00, 0x00, 0x00, 0x00, 0x00, 0xFF, 0xFF, 0xFF, 0xFF, 0x00, 0x00, 0x00, 0x00, 0x00, 0x00, 0x00, 0x00, 0x00, 0x00, 0x00, 0x00], &[0xC0, 0x00, 0x02, 0x01], false),
+    (&[0xC0, 0x00, 0x02, 0x05, 0xFF, 0xFF, 0x00, 0xFF], &[0xC0, 0x00, 0x02, 0x05], true),
+    (&[0xC0, 0x00, 0x02, 0x05, 0xFF, 0xFF, 0x00, 0xFF], &[0xC0, 0x00, 0x09, 0x05], true),
+    (&[0xC0, 0x00, 0x02, 0x05, 0xFF, 0xFF, 0x00, 0xFF], &[0xC0, 0x00, 0x02, 0x06], false),
+];
+
+/// Values of a commonName, and whether openssl takes them for the same.
+pub static NAMES: [Case; 16] = [
+    (b"Example", b"example", true),
+    (b"Example One", b"EXAMPLE ONE", true),
+    (b"a  b", b"a b", true),
+    (b" a b ", b"a b", true),
+    (b"a b", b"ab", false),
+    (&[0x61, 0x09, 0x62], b"a b", true),
+    (b"a", b"b", false),
+    (b"a b c", b"a  b   c", true),
+    (b"x", b"xx", false),
+    (&[0xC3, 0xA9], &[0xC3, 0x89], false),
+    (&[0xC3, 0xA9], &[0xC3, 0xA9], true),
+    (b"a b", b"a b c", false),
+    (b"a ", b"a", true),
+    (b"a@b", b"A@B", true),
+    (b"a-b", b"a_b", false),
+    (b"[", b"{", false),
+];
