@@ -70,8 +70,5 @@ fn is_der_of<'a, T: Lawful + DecodeValue<SliceReader<'a>, Error = Error>>(
 ) -> bool
     ensures { SaysDerOf T.allocates (IsDerOf T.tag_is T.valid T.contents) octets.now result }
 {
-    match lawful_from_der::<T>(alloc, octets) {
-        Ok(_) => true,
-        Err(_) => false,
-    }
+    lawful_from_der::<T>(alloc, octets).is_ok()
 }
