@@ -5,10 +5,14 @@
 //! are unsafe: the caller ensures that they describe a slice.
 use core::marker::PhantomData;
 
+mod calls;
 mod certificates;
+mod trees;
 mod values;
 
+pub use calls::*;
 pub use certificates::*;
+pub use trees::*;
 pub use values::*;
 
 #[repr(C)]
@@ -136,6 +140,12 @@ const _: () = {
     assert!(size_of::<RawMark>() == 16 && offset_of!(RawMark, outer) == 8);
 };
 
+/// The number of the kind for what may occur once and occurs again.
+pub const DUPLICATE: u8 = 10;
+
+/// The number of the kind for an element of another reader.
+pub const READER: u8 = 14;
+
 /// The number of the kind that has two tags.
 pub const TAG_UNEXPECTED: u8 = 17;
 
@@ -153,6 +163,14 @@ impl RawReader<'_> {
         failed: false,
         borrow: PhantomData,
     };
+}
+
+#[repr(C)]
+#[derive(Clone, Copy, Default)]
+pub struct RawCounter {
+    pub innermost: usize,
+    pub count: u32,
+    pub failed: bool,
 }
 
 impl RawElement<'_> {
@@ -208,51 +226,4 @@ impl RawWriter<'_> {
         failed: false,
         borrow: PhantomData,
     };
-}
-
-unsafe extern "C" {
-    pub safe fn der_version() -> u32;
-    pub fn der_error_text(error: RawError, text: *mut u8, capacity: usize) -> usize;
-    pub fn der_reader_init<'a>(octets: *const u8, length: usize, ber: bool, reader: &mut RawReader<'a>) -> RawError;
-    pub safe fn der_finish(reader: &RawReader) -> RawError;
-    pub safe fn der_read_header(reader: &mut RawReader, header: &mut RawHeader) -> RawError;
-    pub safe fn der_read_element<'a>(reader: &mut RawReader<'a>, element: &mut RawElement<'a>) -> RawError;
-    pub safe fn der_skip(reader: &mut RawReader) -> RawError;
-    pub safe fn der_expect<'a>(reader: &mut RawReader<'a>, tag: u64, element: &mut RawElement<'a>) -> RawError;
-    pub safe fn der_optional<'a>(
-        reader: &mut RawReader<'a>,
-        tag: u64,
-        element: &mut RawElement<'a>,
-        present: &mut bool,
-    ) -> RawError;
-    pub safe fn der_enter<'a>(reader: &mut RawReader<'a>, tag: u64, inside: &mut RawReader<'a>) -> RawError;
-    pub safe fn der_open<'a>(
-        reader: &mut RawReader<'a>,
-        element: &RawElement<'a>,
-        inside: &mut RawReader<'a>,
-    ) -> RawError;
-    pub safe fn der_element_octets<'a>(
-        reader: &RawReader<'a>,
-        element: &RawElement<'a>,
-        octets: &mut RawSpan<'a>,
-    ) -> RawError;
-    pub safe fn der_scan(reader: &mut RawReader, count: &mut u32) -> RawError;
-    pub fn der_read_tree(reader: &mut RawReader, nodes: *mut Node, capacity: usize, count: &mut usize) -> RawError;
-    pub fn der_compare(
-        first: *const u8,
-        first_length: usize,
-        second: *const u8,
-        second_length: usize,
-        order: &mut i32,
-    ) -> RawError;
-    pub fn der_writer_init<'a>(octets: *mut u8, length: usize, writer: &mut RawWriter<'a>);
-    pub safe fn der_written(writer: &RawWriter) -> usize;
-    pub safe fn der_writer_finish(writer: &RawWriter) -> RawError;
-    pub safe fn der_writer_fail(writer: &mut RawWriter);
-    pub fn der_write(writer: &mut RawWriter, octets: *const u8, length: usize) -> RawError;
-    pub safe fn der_write_header(writer: &mut RawWriter, tag: u64, length: u32) -> RawError;
-    pub fn der_write_element(writer: &mut RawWriter, tag: u64, contents: *const u8, length: usize) -> RawError;
-    pub safe fn der_element_length(tag: u64, length: u32, count: &mut u32) -> RawError;
-    pub safe fn der_begin(writer: &mut RawWriter, tag: u64, mark: &mut RawMark) -> RawError;
-    pub safe fn der_end(writer: &mut RawWriter, mark: &RawMark) -> RawError;
 }

@@ -1,4 +1,6 @@
 //! Certificates, requests, keys and revocation lists, for C.
+//!
+//! Written by tools/c_interface: change the crates below.
 ghost use Rattle.der.specs.Prelude.{Same};
 ghost use Rattle.der_asn1.specs.ListAnswers.{ItemAnswer};
 ghost use Rattle.der_c_core.specs.CReader.{reader_state};
@@ -13,7 +15,7 @@ ghost use Rattle.der_c_x509.specs.PrivateKey.{IsPrivateKeyOf};
 ghost use Rattle.der_c_x509.specs.Request.{IsRequestOf};
 ghost use Rattle.der_c_x509.specs.RevocationList.{IsRevocationListOf};
 ghost use Rattle.der_c_x509.specs.Revoked.{IsRevokedOf};
-ghost use Rattle.std.specs.Prelude.{false, ◌<◌, ◌^◌, ◌≡◌};
+ghost use Rattle.std.specs.Prelude.{false, ◌<◌, ◌≡◌};
 ghost use Rattle.x509.specs.ExtensionIdentifiers.{id_ce};
 ghost use Rattle.x509.specs.Find.{FindsExtension, WholeRead};
 
@@ -43,7 +45,8 @@ use x509::{
 ///   has one, counts from the start of `octets`;
 /// - `TrailingData`, if octets follow the certificate.
 ///
-/// The errors are exactly those of `x509::Certificate::from_der`.
+/// The errors are exactly those of `x509::Certificate::from_der`, but for `Incomplete` where the contents of the value are
+/// cut: it is at their start, and says where they would end.
 #[unsafe(no_mangle)]
 pub extern "C" fn der_certificate_read<'a>(
     alloc: Global,
@@ -70,7 +73,8 @@ pub extern "C" fn der_certificate_read<'a>(
 ///   has one, counts from the start of `octets`;
 /// - `TrailingData`, if octets follow the request.
 ///
-/// The errors are exactly those of `x509::CertReq::from_der`.
+/// The errors are exactly those of `x509::CertReq::from_der`, but for `Incomplete` where the contents of the value are
+/// cut: it is at their start, and says where they would end.
 #[unsafe(no_mangle)]
 pub extern "C" fn der_request_read<'a>(
     alloc: Global,
@@ -97,7 +101,8 @@ pub extern "C" fn der_request_read<'a>(
 ///   has one, counts from the start of `octets`;
 /// - `TrailingData`, if octets follow the key.
 ///
-/// The errors are exactly those of `spki::SubjectPublicKeyInfoRef::from_der`.
+/// The errors are exactly those of `spki::SubjectPublicKeyInfoRef::from_der`, but for `Incomplete` where the contents of the value are
+/// cut: it is at their start, and says where they would end.
 #[unsafe(no_mangle)]
 pub extern "C" fn der_public_key_read<'a>(
     alloc: Global,
@@ -124,7 +129,8 @@ pub extern "C" fn der_public_key_read<'a>(
 ///   has one, counts from the start of `octets`;
 /// - `TrailingData`, if octets follow the key.
 ///
-/// The errors are exactly those of `pkcs8::PrivateKeyInfo::from_der`.
+/// The errors are exactly those of `pkcs8::PrivateKeyInfo::from_der`, but for `Incomplete` where the contents of the value are
+/// cut: it is at their start, and says where they would end.
 #[unsafe(no_mangle)]
 pub extern "C" fn der_private_key_read<'a>(
     alloc: Global,
@@ -149,9 +155,10 @@ pub extern "C" fn der_private_key_read<'a>(
 ///   has one, counts from the start of `octets`;
 /// - `TrailingData`, if octets follow the list.
 ///
-/// The errors are exactly those of `x509::CertificateList::from_der`.
+/// The errors are exactly those of `x509::CertificateList::from_der`, but for `Incomplete` where the contents of the value are
+/// cut: it is at their start, and says where they would end.
 #[unsafe(no_mangle)]
-pub extern "C" fn der_crl_read<'a>(
+pub extern "C" fn der_revocation_list_read<'a>(
     alloc: Global,
     octets: &'a [u8],
     list: &mut DerRevocationList<'a>,
@@ -162,7 +169,7 @@ pub extern "C" fn der_crl_read<'a>(
         (IsRevocationListOf ⟦<TbsCertList<'a> as Encode>⟧.encoding) octets.now result list.old
         list.new }
 {
-    der_c_x509::der_crl_read(alloc, octets, list)
+    der_c_x509::der_revocation_list_read(alloc, octets, list)
 }
 
 /// Reads the next attribute of one level of a name into `attribute`. A name is a SEQUENCE OF
@@ -236,7 +243,7 @@ pub extern "C" fn der_next_general_name<'a>(
 }
 
 /// Reads the next entry of a revocation list into `entry`. `reader` reads the contents of the list
-/// of entries, as `der_crl_read` returns them.
+/// of entries, as `der_revocation_list_read` returns them.
 ///
 /// Every error makes the reader fail, except `TagUnexpected`, which leaves it unchanged. A call
 /// that fails leaves `entry` unchanged. At the end of the list the error is `Incomplete`.

@@ -1,7 +1,9 @@
-//! Counting what a writer would write, for C.
-ghost use Rattle.std.specs.Prelude.{◌≡◌};
+//! Counting what would be written, for C.
+//!
+//! Written by tools/c_interface: change the crates below.
 ghost use Rattle.der_base.specs.Arithmetic.{element_count};
-ghost use Rattle.der_c_core.specs.CounterCalls.{Counts, CountsTagged, CountsBegin, CountsEnd, GivesCount, no_count, header_count};
+ghost use Rattle.der_c_core.specs.CounterCalls.{Counts, CountsBegin, CountsEnd, CountsTagged, GivesCount, header_count, no_count};
+ghost use Rattle.std.specs.Prelude.{◌≡◌};
 
 use der_c_core::{DerCounter, DerError, DerMark};
 
@@ -27,7 +29,7 @@ pub extern "C" fn der_count(counter: &mut DerCounter, length: usize) -> DerError
 }
 
 /// Counts the header of an element of `tag`, a word as `der_write_header` takes it, with `length`
-/// octets of contents. Fails as [`der_count`] does, and with `TagNumberInvalid` without a position.
+/// octets of contents. Fails as `der_count` does, and with `TagNumberInvalid` without a position.
 #[unsafe(no_mangle)]
 pub extern "C" fn der_count_header(counter: &mut DerCounter, tag: u64, length: u32) -> DerError
     ensures { CountsTagged (λ t. header_count t length) tag counter.old result counter.new }
@@ -35,7 +37,7 @@ pub extern "C" fn der_count_header(counter: &mut DerCounter, tag: u64, length: u
     der_c_core::der_count_header(counter, tag, length)
 }
 
-/// Counts an element of `tag` with `length` octets of contents. Fails as [`der_count_header`] does.
+/// Counts an element of `tag` with `length` octets of contents. Fails as `der_count_header` does.
 #[unsafe(no_mangle)]
 pub extern "C" fn der_count_element(counter: &mut DerCounter, tag: u64, length: u32) -> DerError
     ensures { CountsTagged (λ t. element_count t length) tag counter.old result counter.new }
@@ -44,7 +46,7 @@ pub extern "C" fn der_count_element(counter: &mut DerCounter, tag: u64, length: 
 }
 
 /// Begins an element of `tag`, as `der_begin` does: counts a header with a length octet, and sets
-/// `mark`. A call that fails leaves `mark` unchanged. Fails as [`der_count_header`] does.
+/// `mark`. A call that fails leaves `mark` unchanged. Fails as `der_count_header` does.
 #[unsafe(no_mangle)]
 pub extern "C" fn der_count_begin(
     counter: &mut DerCounter,
@@ -57,7 +59,7 @@ pub extern "C" fn der_count_begin(
 }
 
 /// Ends the element that was begun with `mark`, as `der_end` does: counts the octets that its length
-/// needs beyond one. Fails as [`der_count`] does, and with the kind 23 at the number of octets
+/// needs beyond one. Fails as `der_count` does, and with the kind 23 at the number of octets
 /// counted, if `mark` is not that of the innermost open element.
 #[unsafe(no_mangle)]
 pub extern "C" fn der_count_end(counter: &mut DerCounter, mark: &DerMark) -> DerError

@@ -1,4 +1,6 @@
 //! Texts of errors, for C.
+//!
+//! Written by tools/c_interface: change the crates below.
 ghost use Rattle.der_c_core.specs.ErrorText.{WritesErrorText};
 
 use der_c_core::DerError;

@@ -1,19 +1,21 @@
 //! Reading, for C.
-ghost use Rattle.std.specs.Prelude.{◌≡◌, ◌^◌, ◌<◌, ◌≤◌, ◌↔◌, IsTrue, length, IsPermutation};
+//!
+//! Written by tools/c_interface: change the crates below.
 ghost use Rattle.der_base.specs.Error.{error_of_kind};
 ghost use Rattle.der_base.specs.declared.error.ErrorKind.TheVariants.{Overflow};
-ghost use Rattle.der_core.specs.ReaderState.{initial_state, Same};
-ghost use Rattle.der_core.specs.Reader.{finish_answer};
-ghost use Rattle.der_c_core.specs.ErrorCode.{no_error, error_code};
-ghost use Rattle.der_c_core.specs.CReader.{reader_state, rules_of, answer_code};
-ghost use Rattle.der_c_core.specs.HeaderCall.{ReadsHeader};
-ghost use Rattle.der_c_core.specs.ElementCalls.{ReadsElement, ExpectsElement, FindsOptional, SkipsElement};
+ghost use Rattle.der_c_core.specs.CReader.{answer_code, reader_state, rules_of};
+ghost use Rattle.der_c_core.specs.CompareCall.{Compares};
+ghost use Rattle.der_c_core.specs.ElementCalls.{ExpectsElement, FindsOptional, ReadsElement, SkipsElement};
 ghost use Rattle.der_c_core.specs.EnterCalls.{EntersElement, OpensElement};
+ghost use Rattle.der_c_core.specs.ErrorCode.{error_code, no_error};
+ghost use Rattle.der_c_core.specs.HeaderCall.{ReadsHeader};
 ghost use Rattle.der_c_core.specs.Octets.{GivesOctets};
 ghost use Rattle.der_c_core.specs.ScanCall.{ScansBody};
-ghost use Rattle.der_c_core.specs.Tree.{ReadsTree};
-ghost use Rattle.der_c_core.specs.CompareCall.{Compares};
 ghost use Rattle.der_c_core.specs.SetOrder.{SpansAscend};
+ghost use Rattle.der_c_core.specs.Tree.{ReadsTree};
+ghost use Rattle.der_core.specs.Reader.{finish_answer};
+ghost use Rattle.der_core.specs.ReaderState.{Same, initial_state};
+ghost use Rattle.std.specs.Prelude.{IsPermutation, IsTrue, length, ◌<◌, ◌^◌, ◌↔◌, ◌≡◌, ◌≤◌};
 
 use der_c_core::{DerElement, DerError, DerHeader, DerNode, DerReader, DerSpan};
 
@@ -84,7 +86,7 @@ pub extern "C" fn der_read_header(reader: &mut DerReader<'_>, header: &mut DerHe
 ///
 /// A call that fails leaves `element` unchanged, and `reader` has failed after it. Fails with:
 ///
-/// - the errors of [`der_read_header`];
+/// - the errors of `der_read_header`;
 /// - `Incomplete` or `Overflow`, if octets of the contents are missing.
 #[unsafe(no_mangle)]
 pub extern "C" fn der_read_element<'a>(
@@ -101,7 +103,7 @@ pub extern "C" fn der_read_element<'a>(
 /// Consumes the next element and stores nothing of it. Consumes the header, the contents, and the
 /// end-of-contents octets of an indefinite length.
 ///
-/// Fails with the errors of [`der_read_element`], and `reader` has failed then.
+/// Fails with the errors of `der_read_element`, and `reader` has failed then.
 #[unsafe(no_mangle)]
 pub extern "C" fn der_skip(reader: &mut DerReader<'_>) -> DerError
     ensures same { Same (reader_state reader.old) (reader_state reader.new) }
@@ -111,13 +113,15 @@ pub extern "C" fn der_skip(reader: &mut DerReader<'_>) -> DerError
 }
 
 /// Reads the next element into `element`. The tag of this element must be `tag`, a word as in
-/// [`DerElement::tag`].
+/// `DerElement::tag`.
 ///
 /// A call that fails leaves `element` unchanged. Fails with:
 ///
-/// - the errors of [`der_read_element`]; `reader` has failed then;
-/// - `TagUnexpected` without a position, if the next element has another tag; `reader` is unchanged
-///   then.
+/// - the errors of `der_read_element`; `reader` has failed then;
+/// - `TagUnexpected` at the position of `reader`, if the next element has another tag; `reader` is
+///   unchanged then;
+/// - `TagNumberInvalid` without a position, if there is a next element and `tag` is the word of no
+///   tag; `reader` has failed then.
 #[unsafe(no_mangle)]
 pub extern "C" fn der_expect<'a>(
     reader: &mut DerReader<'a>,
@@ -132,12 +136,13 @@ pub extern "C" fn der_expect<'a>(
 }
 
 /// Reads the next element into `element` and sets `present` to true, if the tag of this element is
-/// `tag`, a word as in [`DerElement::tag`]. Sets `present` to false if `reader` is at its end or the
+/// `tag`, a word as in `DerElement::tag`. Sets `present` to false if `reader` is at its end or the
 /// next element has another tag; `reader` and `element` are unchanged then.
 ///
 /// A call that fails leaves `element` and `present` unchanged, and `reader` has failed after it.
-/// Fails with the errors of [`der_read_element`], also if the header of an element with another tag
-/// is faulty.
+/// Fails with the errors of `der_read_element`, also if the header of an element with another tag
+/// is faulty; and with `TagNumberInvalid` without a position, if there is a next element and `tag`
+/// is the word of no tag.
 #[unsafe(no_mangle)]
 pub extern "C" fn der_optional<'a>(
     reader: &mut DerReader<'a>,
@@ -153,10 +158,10 @@ pub extern "C" fn der_optional<'a>(
 }
 
 /// Consumes the next element, and makes `inside` a reader of its contents. The tag of this element
-/// must be `tag`, a word as in [`DerElement::tag`].
+/// must be `tag`, a word as in `DerElement::tag`.
 ///
 /// A call that fails leaves `inside` unchanged. It fails with the errors of
-/// [`der_expect`] for the same octets, and with:
+/// `der_expect` for the same octets, and with:
 ///
 /// - `NestingDepth` at the position after the header, if the whole element is there and `reader` is
 ///   inside 64 elements.
@@ -241,7 +246,7 @@ pub extern "C" fn der_scan(reader: &mut DerReader<'_>, count: &mut u32) -> DerEr
 /// After a call that fails, `reader` has failed, at the start of the element that was not read.
 /// Fails with:
 ///
-/// - the errors of [`der_read_element`];
+/// - the errors of `der_read_element`;
 /// - `Overlength` without a position, if there are more elements than `nodes` has places.
 #[unsafe(no_mangle)]
 pub extern "C" fn der_read_tree(

@@ -1,9 +1,9 @@
 //! Reading values, for C.
-ghost use Rattle.std.specs.Prelude.{false, ◌^◌};
-ghost use Rattle.der_core.specs.ReaderState.{Same};
+//!
+//! Written by tools/c_interface: change the crates below.
+ghost use Rattle.der_asn1.specs.Forms.{bits_form, boolean_form, integer_form, null_form, oid_form};
+ghost use Rattle.der_asn1.specs.Integer.{integer_octets, signed_form, signed_octets, unsigned_form};
 ghost use Rattle.der_c_core.specs.CReader.{reader_state};
-ghost use Rattle.der_c_values.specs.Forms.{bits_form, boolean_form, integer_form, null_form, oid_form};
-ghost use Rattle.der_c_values.specs.Integer.{integer_octets, signed_form, signed_octets, unsigned_form};
 ghost use Rattle.der_c_values.specs.Characters.{TakesCharacter};
 ghost use Rattle.der_c_values.specs.Dotted.{ComparesOid, EncodesText, GivesOidText};
 ghost use Rattle.der_c_values.specs.OidArcs.{GivesArcs};
@@ -11,6 +11,8 @@ ghost use Rattle.der_c_values.specs.StringTypes.{IsTextOf, is_string_type, strin
 ghost use Rattle.der_c_values.specs.TimeValues.{IsTimeOf, is_time_type, time_form};
 ghost use Rattle.der_c_values.specs.ValueCalls.{IsValueOf, ReadsTyped, ReadsValue};
 ghost use Rattle.der_c_values.specs.ValueContents.{bits_contents, boolean_contents, null_contents, span_contents};
+ghost use Rattle.der_core.specs.ReaderState.{Same};
+ghost use Rattle.std.specs.Prelude.{false, ◌^◌};
 
 use der_c_core::{DerBits, DerError, DerReader, DerSpan};
 use der_c_values::{DerText, DerTime};

@@ -1,14 +1,16 @@
 //! Writing values, for C.
-ghost use Rattle.std.specs.Prelude.{[], false};
+//!
+//! Written by tools/c_interface: change the crates below.
+ghost use Rattle.der_asn1.specs.Forms.{integer_form, oid_form};
+ghost use Rattle.der_asn1.specs.Integer.{integer_octets, signed_octets};
 ghost use Rattle.der_c_core.specs.CWriter.{KeepsOpen, writer_state};
 ghost use Rattle.der_c_core.specs.WriterCalls.{WritesElement};
-ghost use Rattle.der_c_values.specs.Forms.{integer_form, oid_form};
-ghost use Rattle.der_c_values.specs.Integer.{integer_octets, signed_octets};
 ghost use Rattle.der_c_values.specs.StringTypes.{string_form};
 ghost use Rattle.der_c_values.specs.TimeValues.{WritesSeconds, date_of, is_time_of, time_contents};
 ghost use Rattle.der_c_values.specs.ValueContents.{boolean_contents};
 ghost use Rattle.der_c_values.specs.WriteCalls.{WritesBits, WritesValue};
 ghost use Rattle.der_c_values.specs.WriteOidText.{WritesOidText};
+ghost use Rattle.std.specs.Prelude.{[], false};
 
 use der_c_core::{DerError, DerWriter};
 use der_c_values::DerTime;
@@ -50,6 +52,18 @@ pub extern "C" fn der_write_int64(writer: &mut DerWriter<'_>, tag: u64, value: i
     der_c_values::der_write_int64(writer, tag, value)
 }
 
+/// Writes a NULL (X.690 8.8) with the tag `tag`, a word as `der_write_header` takes it.
+///
+/// Fails with the errors of `der_write_element`; `writer` has failed then.
+#[unsafe(no_mangle)]
+pub extern "C" fn der_write_null(writer: &mut DerWriter<'_>, tag: u64) -> DerError
+    ensures writes { WritesElement tag [] (writer_state writer.old) result
+        (writer_state writer.new) }
+    ensures keeps_open { KeepsOpen writer.old writer.new }
+{
+    der_c_values::der_write_null(writer, tag)
+}
+
 /// Writes an INTEGER of any size (X.690 8.3) with the tag `tag`, a word as `der_write_header` takes
 /// it. `octets` are its contents: a number in two's complement, the most significant octet first,
 /// in the fewest octets.
@@ -65,6 +79,46 @@ pub extern "C" fn der_write_integer(writer: &mut DerWriter<'_>, tag: u64, octets
     ensures keeps_open { KeepsOpen writer.old writer.new }
 {
     der_c_values::der_write_integer(writer, tag, octets)
+}
+
+/// Writes an OBJECT IDENTIFIER (X.690 8.19) with the tag `tag`, a word as `der_write_header` takes
+/// it. `octets` are its contents.
+///
+/// `writer` has failed after an error. Fails with:
+///
+/// - `Value` with the tag `tag`, without a position, if `octets` are not contents of an OBJECT
+///   IDENTIFIER;
+/// - the errors of `der_write_element`.
+#[unsafe(no_mangle)]
+pub extern "C" fn der_write_oid(writer: &mut DerWriter<'_>, tag: u64, octets: &[u8]) -> DerError
+    ensures writes { WritesValue (oid_form octets.now) octets.now tag
+        (writer_state writer.old) result (writer_state writer.new) }
+    ensures keeps_open { KeepsOpen writer.old writer.new }
+{
+    der_c_values::der_write_oid(writer, tag, octets)
+}
+
+/// Writes a string of the type `string_type` (X.680 41, X.690 8.23) with the tag `tag`, a word as
+/// `der_write_header` takes it. `string_type` is a word as `der_read_text` takes it, and `octets`
+/// are the contents.
+///
+/// `writer` has failed after an error. Fails with:
+///
+/// - `Value` with the tag `tag`, without a position, if `octets` are not characters of the type, or
+///   if `string_type` is not the word of a string type;
+/// - the errors of `der_write_element`.
+#[unsafe(no_mangle)]
+pub extern "C" fn der_write_text(
+    writer: &mut DerWriter<'_>,
+    tag: u64,
+    string_type: u64,
+    octets: &[u8],
+) -> DerError
+    ensures writes { WritesValue (string_form string_type octets.now) octets.now tag
+        (writer_state writer.old) result (writer_state writer.new) }
+    ensures keeps_open { KeepsOpen writer.old writer.new }
+{
+    der_c_values::der_write_text(writer, tag, string_type, octets)
 }
 
 /// Writes a BIT STRING (X.690 8.6, 11.2) with the tag `tag`, a word as `der_write_header` takes it.
@@ -92,35 +146,6 @@ pub extern "C" fn der_write_bit_string(
     der_c_values::der_write_bit_string(writer, tag, octets, unused)
 }
 
-/// Writes a NULL (X.690 8.8) with the tag `tag`, a word as `der_write_header` takes it.
-///
-/// Fails with the errors of `der_write_element`; `writer` has failed then.
-#[unsafe(no_mangle)]
-pub extern "C" fn der_write_null(writer: &mut DerWriter<'_>, tag: u64) -> DerError
-    ensures writes { WritesElement tag [] (writer_state writer.old) result
-        (writer_state writer.new) }
-    ensures keeps_open { KeepsOpen writer.old writer.new }
-{
-    der_c_values::der_write_null(writer, tag)
-}
-
-/// Writes an OBJECT IDENTIFIER (X.690 8.19) with the tag `tag`, a word as `der_write_header` takes
-/// it. `octets` are its contents.
-///
-/// `writer` has failed after an error. Fails with:
-///
-/// - `Value` with the tag `tag`, without a position, if `octets` are not contents of an OBJECT
-///   IDENTIFIER;
-/// - the errors of `der_write_element`.
-#[unsafe(no_mangle)]
-pub extern "C" fn der_write_oid(writer: &mut DerWriter<'_>, tag: u64, octets: &[u8]) -> DerError
-    ensures writes { WritesValue (oid_form octets.now) octets.now tag
-        (writer_state writer.old) result (writer_state writer.new) }
-    ensures keeps_open { KeepsOpen writer.old writer.new }
-{
-    der_c_values::der_write_oid(writer, tag, octets)
-}
-
 /// Writes the OBJECT IDENTIFIER (X.690 8.19) with the dotted notation `text`, such as `2.5.29.17`,
 /// with the tag `tag`, a word as `der_write_header` takes it. `text` has no final zero octet, and
 /// no leading zeros in its numbers.
@@ -138,29 +163,6 @@ pub extern "C" fn der_write_oid_text(writer: &mut DerWriter<'_>, tag: u64, text:
     ensures keeps_open { KeepsOpen writer.old writer.new }
 {
     der_c_values::der_write_oid_text(writer, tag, text)
-}
-
-/// Writes a string of the type `string_type` (X.680 41, X.690 8.23) with the tag `tag`, a word as
-/// `der_write_header` takes it. `string_type` is a word as `der_read_text` takes it, and `octets`
-/// are the contents.
-///
-/// `writer` has failed after an error. Fails with:
-///
-/// - `Value` with the tag `tag`, without a position, if `octets` are not characters of the type, or
-///   if `string_type` is not the word of a string type;
-/// - the errors of `der_write_element`.
-#[unsafe(no_mangle)]
-pub extern "C" fn der_write_text(
-    writer: &mut DerWriter<'_>,
-    tag: u64,
-    string_type: u64,
-    octets: &[u8],
-) -> DerError
-    ensures writes { WritesValue (string_form string_type octets.now) octets.now tag
-        (writer_state writer.old) result (writer_state writer.new) }
-    ensures keeps_open { KeepsOpen writer.old writer.new }
-{
-    der_c_values::der_write_text(writer, tag, string_type, octets)
 }
 
 /// Writes a time of the type `time_type` with the tag `tag`, a word as `der_write_header` takes it.
@@ -189,7 +191,7 @@ pub extern "C" fn der_write_time(
 }
 
 /// Writes the time that is `seconds` after 1970-01-01T00:00:00Z, or before it if `seconds` is
-/// negative, as [`der_write_time`] does.
+/// negative, as `der_write_time` does.
 ///
 /// `writer` has failed after an error. Fails with:
 ///

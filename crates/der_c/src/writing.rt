@@ -1,9 +1,11 @@
 //! Writing, for C.
-ghost use Rattle.std.specs.Prelude.{◌≡◌, length};
-ghost use Rattle.der_core.specs.Writer.{fresh_state, failed_state};
-ghost use Rattle.der_c_core.specs.CWriter.{writer_state, KeepsOpen};
-ghost use Rattle.der_c_core.specs.WriterCalls.{WritesOctets, WritesHeader, WritesElement, Measures};
+//!
+//! Written by tools/c_interface: change the crates below.
+ghost use Rattle.der_c_core.specs.CWriter.{KeepsOpen, writer_state};
 ghost use Rattle.der_c_core.specs.Part.{BeginsElement, EndsElement, FinishesWriting};
+ghost use Rattle.der_c_core.specs.WriterCalls.{Measures, WritesElement, WritesHeader, WritesOctets};
+ghost use Rattle.der_core.specs.Writer.{failed_state, fresh_state};
+ghost use Rattle.std.specs.Prelude.{length, ◌≡◌};
 
 use der_c_core::{DerError, DerMark, DerWriter};
 
@@ -23,28 +25,6 @@ pub extern "C" fn der_written(writer: &DerWriter<'_>) -> usize
     ensures { result ≡ length (writer_state writer.now).octets }
 {
     der_c_core::der_written(writer)
-}
-
-/// Succeeds if `writer` has not failed and no element is open.
-///
-/// The position of each error is that of `writer`, the number of octets written. Fails with:
-///
-/// - `Failed`, if `writer` has failed;
-/// - kind 23, if an element was begun and not ended.
-#[unsafe(no_mangle)]
-pub extern "C" fn der_writer_finish(writer: &DerWriter<'_>) -> DerError
-    ensures { FinishesWriting writer.now result }
-{
-    der_c_core::der_writer_finish(writer)
-}
-
-/// Makes `writer` fail: every later call on it fails with `Failed`. The octets written remain.
-#[unsafe(no_mangle)]
-pub extern "C" fn der_writer_fail(writer: &mut DerWriter<'_>)
-    ensures fails { writer_state writer.new ≡ failed_state (writer_state writer.old) }
-    ensures keeps_open { KeepsOpen writer.old writer.new }
-{
-    der_c_core::der_writer_fail(writer)
 }
 
 /// Writes `octets` unchanged.
@@ -67,7 +47,7 @@ pub extern "C" fn der_write(writer: &mut DerWriter<'_>, octets: &[u8]) -> DerErr
 /// - `TagNumberInvalid` without a position, if `tag` is not a valid tag word (the first octet of
 ///   the identifier, plus 256 times the tag number if that is 31 or more) and `writer` has not
 ///   failed;
-/// - the errors of [`der_write`].
+/// - the errors of `der_write`.
 #[unsafe(no_mangle)]
 pub extern "C" fn der_write_header(writer: &mut DerWriter<'_>, tag: u64, length: u32) -> DerError
     ensures writes { WritesHeader tag length (writer_state writer.old) result (writer_state writer.new) }
@@ -76,7 +56,7 @@ pub extern "C" fn der_write_header(writer: &mut DerWriter<'_>, tag: u64, length:
     der_c_core::der_write_header(writer, tag, length)
 }
 
-/// Writes an element: a header with the tag `tag`, a word as [`der_write_header`] takes it, and
+/// Writes an element: a header with the tag `tag`, a word as `der_write_header` takes it, and
 /// then `contents`.
 ///
 /// After a call that fails, `writer` has failed. Such a call may have written the header or its
@@ -84,7 +64,7 @@ pub extern "C" fn der_write_header(writer: &mut DerWriter<'_>, tag: u64, length:
 ///
 /// - `Overflow` without a position, if there are more than 4294967295 octets of contents and `writer`
 ///   has not failed;
-/// - the errors of [`der_write_header`] and [`der_write`].
+/// - the errors of `der_write_header` and `der_write`.
 #[unsafe(no_mangle)]
 pub extern "C" fn der_write_element(
     writer: &mut DerWriter<'_>,
@@ -115,11 +95,11 @@ pub extern "C" fn der_element_length(tag: u64, length: u32, count: &mut u32) -> 
 
 /// Begins an element with the tag `tag`: writes its header, with one octet reserved for the length,
 /// and sets `mark` to where its contents begin. All octets that are written after this call and
-/// before [`der_end`] are its contents.
+/// before `der_end` are its contents.
 ///
 /// A call that fails leaves `mark` unchanged, and `writer` has failed after it. Fails with
 /// `TagNumberInvalid`, `Failed`, `Overflow` and `Overlength`, as
-/// [`der_write_header`] does.
+/// `der_write_header` does.
 #[unsafe(no_mangle)]
 pub extern "C" fn der_begin(writer: &mut DerWriter<'_>, tag: u64, mark: &mut DerMark) -> DerError
     ensures { BeginsElement tag writer.old result mark.old mark.new writer.new }
@@ -135,11 +115,33 @@ pub extern "C" fn der_begin(writer: &mut DerWriter<'_>, tag: u64, mark: &mut Der
 ///
 /// - `Failed` at the position of `writer`, if `writer` had already failed;
 /// - kind 23 at the position of `writer`, if the element is not the innermost open element;
-/// - `Overlength` or `Overflow`, as by [`der_write`], if the length needs more
+/// - `Overlength` or `Overflow`, as by `der_write`, if the length needs more
 ///   octets and there is no space for them.
 #[unsafe(no_mangle)]
 pub extern "C" fn der_end(writer: &mut DerWriter<'_>, mark: &DerMark) -> DerError
     ensures { EndsElement mark.now writer.old result writer.new }
 {
     der_c_core::der_end(writer, mark)
+}
+
+/// Succeeds if `writer` has not failed and no element is open.
+///
+/// The position of each error is that of `writer`, the number of octets written. Fails with:
+///
+/// - `Failed`, if `writer` has failed;
+/// - kind 23, if an element was begun and not ended.
+#[unsafe(no_mangle)]
+pub extern "C" fn der_writer_finish(writer: &DerWriter<'_>) -> DerError
+    ensures { FinishesWriting writer.now result }
+{
+    der_c_core::der_writer_finish(writer)
+}
+
+/// Makes `writer` fail: every later call on it fails with `Failed`. The octets written remain.
+#[unsafe(no_mangle)]
+pub extern "C" fn der_writer_fail(writer: &mut DerWriter<'_>)
+    ensures fails { writer_state writer.new ≡ failed_state (writer_state writer.old) }
+    ensures keeps_open { KeepsOpen writer.old writer.new }
+{
+    der_c_core::der_writer_fail(writer)
 }

@@ -1,5 +1,5 @@
 //! Certificates and keys of `der.h`.
-use super::{RawBits, RawError, RawReader, RawSpan};
+use super::{RawBits, RawSpan};
 
 #[repr(C)]
 #[derive(Clone, Copy)]
@@ -294,20 +294,3 @@ const _: () = {
     assert!(offset_of!(RawRevocationList, entries) == 72 && offset_of!(RawRevocationList, version) == 184);
     assert!(size_of::<RawRevoked>() == 48 && offset_of!(RawRevoked, revocation_date) == 32);
 };
-
-unsafe extern "C" {
-    pub fn der_certificate_read<'a>(octets: *const u8, length: usize, certificate: &mut RawCertificate<'a>)
-    -> RawError;
-    pub fn der_public_key_read<'a>(octets: *const u8, length: usize, key: &mut RawPublicKey<'a>) -> RawError;
-    pub fn der_request_read<'a>(octets: *const u8, length: usize, request: &mut RawRequest<'a>) -> RawError;
-    pub fn der_private_key_read<'a>(octets: *const u8, length: usize, key: &mut RawPrivateKey<'a>) -> RawError;
-    pub fn der_crl_read<'a>(octets: *const u8, length: usize, list: &mut RawRevocationList<'a>) -> RawError;
-    pub safe fn der_next_revoked<'a>(reader: &mut RawReader<'a>, entry: &mut RawRevoked<'a>) -> RawError;
-    pub safe fn der_next_extension<'a>(reader: &mut RawReader<'a>, extension: &mut RawExtension<'a>) -> RawError;
-    pub safe fn der_next_attribute<'a>(reader: &mut RawReader<'a>, attribute: &mut RawAttribute<'a>) -> RawError;
-    pub safe fn der_next_general_name<'a>(reader: &mut RawReader<'a>, name: &mut RawGeneralName<'a>) -> RawError;
-    pub fn der_key_usage(extensions: *const u8, length: usize, usage: &mut RawUsage) -> RawError;
-    pub fn der_basic_constraints(extensions: *const u8, length: usize, constraints: &mut RawConstraints) -> RawError;
-    pub fn der_subject_alternative_name<'a>(extensions: *const u8, length: usize, names: &mut RawNames<'a>)
-    -> RawError;
-}
