@@ -107,9 +107,9 @@ static void see_revocation_list(const uint8_t *octets, size_t length)
     der_reader entries = DER_READER_INIT, reasons = DER_READER_INIT;
     der_revoked entry = DER_REVOKED_INIT;
     der_extension reason = DER_EXTENSION_INIT;
-    must(der_crl_read(octets, length - 1, &list).kind == DER_INCOMPLETE);
+    must(der_revocation_list_read(octets, length - 1, &list).kind == DER_INCOMPLETE);
     must(memcmp(&list, &before, sizeof before) == 0);
-    must(der_crl_read(octets, length, &list).kind == DER_OK && list.version == 2);
+    must(der_revocation_list_read(octets, length, &list).kind == DER_OK && list.version == 2);
     must(list.has_next_update && list.next_update - list.this_update == 30 * 86400 && list.has_entries);
     see_subject(list.issuer);
     must(der_reader_init(list.entries.octets, list.entries.length, false, &entries).kind == DER_OK);
@@ -165,10 +165,74 @@ static bool ends_with(const char *path, const char *end)
     return length >= count && strcmp(path + length - count, end) == 0;
 }
 
+/* Reads the octets as what the end of the path says. */
+static der_error read_as(const char *path, const uint8_t *octets, size_t length)
+{
+    der_certificate certificate = DER_CERTIFICATE_INIT;
+    der_request request = DER_REQUEST_INIT;
+    der_public_key public_key = DER_PUBLIC_KEY_INIT;
+    der_private_key private_key = DER_PRIVATE_KEY_INIT;
+    der_revocation_list list = DER_REVOCATION_LIST_INIT;
+    if (ends_with(path, "-certificate.der"))
+        return der_certificate_read(octets, length, &certificate);
+    if (ends_with(path, "-request.der"))
+        return der_request_read(octets, length, &request);
+    if (ends_with(path, "-public.der"))
+        return der_public_key_read(octets, length, &public_key);
+    if (ends_with(path, "-private.der"))
+        return der_private_key_read(octets, length, &private_key);
+    return der_revocation_list_read(octets, length, &list);
+}
+
+/* An error of octets that are cut says how many are needed: all, once the header is there. So a caller
+ * that reads as many and tries again is done after two rounds. */
+static void see_needed(const char *path, const uint8_t *octets, size_t length)
+{
+    size_t header = octets[1] < 0x80 ? 2 : 2 + (octets[1] & 0x7F);
+    for (size_t cut = 0; cut < length; cut++) {
+        der_error error = read_as(path, octets, cut);
+        must(error.kind == DER_INCOMPLETE && error.second == cut);
+        must(error.first == (cut < header ? cut + 1 : length) && error.position == (cut < header ? cut : header));
+    }
+    must(read_as(path, octets, length).kind == DER_OK);
+}
+
+/* Items of a list that are cut say so too, in octets from the start of the list. */
+static void see_needed_items(void)
+{
+    static const uint8_t item[] = {0x30, 6, 6, 1, 0x55, 4, 1, 1}, name[] = {0x82, 3, 'a', 'b', 'c'};
+    static const uint8_t entry[] = {0x30, 18, 2, 1, 7, 23, 13, '2', '6', '0', '1', '0', '1', '0', '0', '0', '0', '0', '0', 'Z'};
+    for (size_t cut = 2; cut < sizeof entry; cut++) {
+        der_reader reader = DER_READER_INIT;
+        der_extension extension = DER_EXTENSION_INIT;
+        der_attribute attribute = DER_ATTRIBUTE_INIT;
+        der_general_name found = DER_GENERAL_NAME_INIT;
+        der_revoked revoked = DER_REVOKED_INIT;
+        der_error error;
+        if (cut < sizeof item) {
+            must(der_reader_init(item, cut, false, &reader).kind == DER_OK);
+            error = der_next_extension(&reader, &extension);
+            must(error.kind == DER_INCOMPLETE && error.first == sizeof item && error.second == cut && error.position == 2);
+            must(der_reader_init(item, cut, false, &reader).kind == DER_OK);
+            error = der_next_attribute(&reader, &attribute);
+            must(error.kind == DER_INCOMPLETE && error.first == sizeof item && error.second == cut && error.position == 2);
+        }
+        if (cut < sizeof name) {
+            must(der_reader_init(name, cut, false, &reader).kind == DER_OK);
+            error = der_next_general_name(&reader, &found);
+            must(error.kind == DER_INCOMPLETE && error.first == sizeof name && error.second == cut && error.position == 2);
+        }
+        must(der_reader_init(entry, cut, false, &reader).kind == DER_OK);
+        error = der_next_revoked(&reader, &revoked);
+        must(error.kind == DER_INCOMPLETE && error.first == sizeof entry && error.second == cut && error.position == 2);
+    }
+}
+
 int main(int argc, char **argv)
 {
     static uint8_t octets[SPACE];
     see_usages();
+    see_needed_items();
     for (int i = 1; i < argc; i++) {
         FILE *file = fopen(argv[i], "rb");
         must(file != NULL);
@@ -192,6 +256,7 @@ int main(int argc, char **argv)
         } else {
             continue;
         }
+        see_needed(argv[i], octets, length);
         read_count++;
     }
     printf("%ld files, %ld cuts refused\n", read_count, refused_count);

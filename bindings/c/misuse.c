@@ -94,6 +94,7 @@ static void see_tags(void)
     bool present = true;
     der_error error = der_expect(&reader, DER_SEQUENCE, &element);
     HOLDS(error.kind == DER_TAG_UNEXPECTED && error.expected == 0x30 && error.actual == 2);
+    HOLDS(error.has_position && error.position == 0);
     HOLDS(der_enter(&reader, DER_SEQUENCE, &inside).kind == DER_TAG_UNEXPECTED);
     HOLDS(der_optional(&reader, DER_BOOLEAN, &element, &present).kind == DER_OK && !present);
     HOLDS(der_position(&reader) == 0 && !(der_is_finished)(&reader) && !der_is_finished(&reader));
@@ -104,6 +105,98 @@ static void see_tags(void)
     HOLDS((der_is_finished)(&reader) && der_is_finished(&reader) && der_finish(&reader).kind == DER_OK);
     HOLDS(is(der_expect(&reader, DER_INTEGER, &element), DER_INCOMPLETE, 3, 4, 3));
     HOLDS(has_failed(&reader));
+}
+
+/* A number that is no tag is reported as such, before what is wrong with the element or the value. */
+static void see_no_tag(void)
+{
+    static const uint8_t octets[] = {2, 1, 7, 4, 1, 8};
+    static const der_tag none[] = {0, 7, 0x1F, UINT64_C(0x80) + 256, DER_CONTEXT(31) - 256, UINT64_MAX};
+    for (size_t i = 0; i < sizeof none / sizeof *none; i++) {
+        der_reader reader = reader_of(octets, sizeof octets, false), inside = DER_READER_INIT;
+        der_element element = DER_ELEMENT_INIT;
+        bool present = true;
+        int64_t number = 5;
+        HOLDS(der_expect(&reader, none[i], &element).kind == DER_TAG_NUMBER_INVALID && has_failed(&reader));
+        reader = reader_of(octets, sizeof octets, false);
+        HOLDS(der_enter(&reader, none[i], &inside).kind == DER_TAG_NUMBER_INVALID && has_failed(&reader));
+        reader = reader_of(octets, sizeof octets, false);
+        HOLDS(der_optional(&reader, none[i], &element, &present).kind == DER_TAG_NUMBER_INVALID && present);
+        HOLDS(has_failed(&reader) && element.length == 0);
+        reader = reader_of(octets, sizeof octets, false);
+        HOLDS(der_read_int64(&reader, none[i], &number).kind == DER_TAG_NUMBER_INVALID && number == 5);
+        HOLDS(has_failed(&reader));
+    }
+}
+
+/* A second tag that does not match is reported where its header begins. */
+static void see_place_of_tag(void)
+{
+    static const uint8_t octets[] = {0x30, 6, 2, 1, 7, 4, 1, 8};
+    der_reader reader = reader_of(octets, sizeof octets, false), inside = DER_READER_INIT;
+    der_element element = DER_ELEMENT_INIT;
+    HOLDS(der_enter(&reader, DER_SEQUENCE, &inside).kind == DER_OK && der_skip(&inside).kind == DER_OK);
+    HOLDS(is(der_expect(&inside, DER_CONTEXT(1000), &element), DER_TAG_UNEXPECTED, 5, 1000, 0));
+    HOLDS(is(der_enter(&inside, DER_SET, &reader), DER_TAG_UNEXPECTED, 5, 0, 0) && der_position(&inside) == 5);
+}
+
+/* Writing what is no value with what is no tag says that it is no tag, and every error has a text. */
+static der_error written(int call, der_writer *writer, der_tag tag)
+{
+    static const uint8_t long_zero[] = {0, 1};
+    const der_time time = {0, 2026, 13, 1, 0, 0, 0};
+    switch (call) {
+    case 0:
+        return der_write_integer(writer, tag, long_zero, 2);
+    case 1:
+        return der_write_oid(writer, tag, long_zero, 0);
+    case 2:
+        return der_write_text(writer, tag, DER_NUMERIC_STRING, (const uint8_t *)"a", 1);
+    case 3:
+        return der_write_bit_string(writer, tag, long_zero, 2, 1);
+    case 4:
+        return der_write_oid_text(writer, tag, "2.5.29.", 7);
+    case 5:
+        return der_write_time(writer, tag, DER_UTC_TIME, &time);
+    case 6:
+        return der_write_time_seconds(writer, tag, DER_UTC_TIME, INT64_MAX);
+    default:
+        return der_write_time_seconds(writer, tag, DER_UTC_TIME, INT64_C(-62167219200));
+    }
+}
+
+static void see_no_value(void)
+{
+    for (int call = 0; call < 8; call++) {
+        uint8_t out[16];
+        char text[160];
+        der_writer writer = DER_WRITER_INIT;
+        der_writer_init(out, sizeof out, &writer);
+        der_error error = written(call, &writer, 0);
+        HOLDS(error.kind == DER_TAG_NUMBER_INVALID && der_written(&writer) == 0);
+        HOLDS(der_error_text(error, text, sizeof text) > 0 && strcmp(text, "no error") != 0);
+        HOLDS(der_writer_finish(&writer).kind == DER_FAILED);
+        der_writer_init(out, sizeof out, &writer);
+        error = written(call, &writer, DER_CONTEXT(1000));
+        HOLDS(error.kind == DER_VALUE && error.actual == 0x9F && error.second == 1000 && der_written(&writer) == 0);
+        HOLDS(der_error_text(error, text, sizeof text) > 0 && strcmp(text, "no error") != 0);
+    }
+}
+
+/* A number that is too large is no malformed identifier. */
+static void see_large_identifiers(void)
+{
+    uint8_t oid[300];
+    char text[1000] = "2.5";
+    size_t count = 9;
+    HOLDS(der_oid_from_text(DER_LITERAL("2.5.340282366920938463463374607431768211456"), oid, sizeof oid, &count).kind ==
+          DER_OVERFLOW);
+    for (int i = 0; i < 300; i++)
+        strcat(text, ".1");
+    HOLDS(der_oid_from_text(text, strlen(text), oid, sizeof oid, &count).kind == DER_OVERFLOW);
+    HOLDS(der_oid_from_text(DER_LITERAL("2.5..1"), oid, sizeof oid, &count).kind == DER_OID_MALFORMED && count == 9);
+    HOLDS(der_oid_from_text(DER_LITERAL("2.5.29.17"), oid, sizeof oid, &count).kind == DER_OK && count == 3);
+    HOLDS(der_oid_is(oid, count, DER_LITERAL("2.5.29.17")) && !der_oid_is(oid, count, DER_LITERAL("2.5.29.1")));
 }
 
 /* A call that the rules or the depth refuse makes the reader fail too. */
@@ -148,6 +241,14 @@ static void see_foreign(void)
     HOLDS(der_skip(&small).kind == DER_OK && der_finish(&small).kind == DER_OK);
     HOLDS(der_element_octets(&reader, &element, &span).kind == DER_OK && span.octets == octets && span.length == 5);
     HOLDS(der_open(&reader, &element, &inside).kind == DER_OK);
+    /* also one whose positions are in the octets of the other reader */
+    static const uint8_t longer[] = {0x30, 3, 1, 1, 0};
+    der_reader another = reader_of(longer, sizeof longer, false);
+    der_error error = DER_ERROR_INIT;
+    span.length = 9;
+    HOLDS(der_open(&another, &element, &inside).kind == DER_READER);
+    HOLDS(der_element_octets(&another, &element, &span).kind == DER_READER && span.length == 9);
+    HOLDS(der_skip(&another).kind == DER_OK && der_finish(&another).kind == error.kind);
 }
 
 /* A writer counts the elements that are begun and not ended. */
@@ -230,6 +331,10 @@ int main(void)
     HOLDS(der_version() == DER_VERSION);
     see_cuts();
     see_tags();
+    see_no_tag();
+    see_place_of_tag();
+    see_no_value();
+    see_large_identifiers();
     see_rules();
     see_foreign();
     see_marks();

@@ -18,7 +18,9 @@
  *   - |DER_INCOMPLETE| says that octets are missing: |first| is needed, |second| are there, both in
  *     octets from the start of the input. If a header was read and its contents are cut, |first| is
  *     where the element would end. If the header itself is cut, |first| is one octet more than there
- *     is: how long the element would be is not known.
+ *     is: how long the element would be is not known. So it is for an element inside a certificate, a
+ *     request, a key, a list or an item that passes the end of the one around it, which more octets
+ *     do not mend, and for those inside the extensions that |der_key_usage| and its kin read.
  *
  * What is read. Under DER each element is a header and contents, with the fewest octets for the tag
  * number and for the length (X.690 10.1). Under BER, lengths of the indefinite form are read too, at
@@ -63,7 +65,7 @@ extern "C" {
 #else
 #define DER_NUMBER(n) ((uint64_t)(n))
 #define DER_NO_OCTETS ((const uint8_t *)"")
-#define DER_NO_BUFFER ((uint8_t *)"")
+#define DER_NO_BUFFER ((uint8_t *)(uintptr_t)"")
 #endif
 
 #if defined(__cplusplus) && __cplusplus >= 201103L
@@ -128,6 +130,7 @@ typedef struct der_error {
     uint32_t first;    /* depends on |kind|; the tag number of |expected| if it is 31 or more */
     uint32_t second;   /* depends on |kind|; the tag number of |actual| if it is 31 or more */
 } der_error;
+#define DER_ERROR_INIT {DER_OK, false, 0, 0, 0, 0, 0}
 
 /* der_error_text writes the text of |error| and a zero octet into |text|, truncated to |capacity|
  * octets with the zero octet, and returns the number of octets without the zero octet. It writes
@@ -269,14 +272,16 @@ der_error der_read_element(der_reader *reader, der_element *element);
 DER_MUST_USE DER_NONNULL(1)
 der_error der_skip(der_reader *reader);
 
-/* der_expect reads an element that has this tag. Fails like |der_read_element|, and with
- * DER_TAG_UNEXPECTED if the next element has another tag. */
+/* der_expect reads an element that has this tag. Fails like |der_read_element|; with
+ * DER_TAG_UNEXPECTED, at the start of the next element, if that has another tag; and with
+ * DER_TAG_NUMBER_INVALID if |tag| is no tag. */
 DER_MUST_USE DER_NONNULL(1, 3)
 der_error der_expect(der_reader *reader, der_tag tag, der_element *element);
 
 /* der_optional reads an element that has this tag, if it is next, and sets |*present| to whether it
  * is. At the end of the octets, and where the next element has another tag, |*present| is false,
- * there is no error, and the reader and |*element| are unchanged. Fails like |der_read_element|. */
+ * there is no error, and the reader and |*element| are unchanged. Fails like |der_read_element|, and
+ * with DER_TAG_NUMBER_INVALID if |tag| is no tag and there is a next element. */
 DER_MUST_USE DER_NONNULL(1, 3, 4)
 der_error der_optional(der_reader *reader, der_tag tag, der_element *element, bool *present);
 
@@ -289,15 +294,39 @@ der_error der_enter(der_reader *reader, der_tag tag, der_reader *inside);
 /* der_open makes |inside| read the contents of |element|, which |reader| or a copy of it has read
  * before. Fails with DER_READER if the element does not lie in the octets of the reader, with
  * DER_FAILED if the reader has failed, and with DER_NESTING_DEPTH if the element is inside 64
- * others. |reader| stays where it is. */
+ * others. |reader| stays where it is. The function sees only whether the positions of the element are
+ * in the input; the macro also compares where its contents are, so it refuses an element of other
+ * octets too. */
 DER_MUST_USE DER_NONNULL(1, 2, 3)
 der_error der_open(der_reader *reader, const der_element *element, der_reader *inside);
 
 /* der_element_octets sets |*octets| to all octets of |element|, which |reader| or a copy of it has
  * read before: the header, the contents and the end-of-contents octets, as they are signed or
- * hashed. Fails with DER_READER if the element does not lie in the octets of the reader. */
+ * hashed. Fails with DER_READER if the element does not lie in the octets of the reader, which the
+ * macro sees as that of |der_open| does. */
 DER_MUST_USE DER_NONNULL(1, 2, 3)
 der_error der_element_octets(const der_reader *reader, const der_element *element, der_span *octets);
+
+DER_NONNULL(1, 2)
+static inline bool der_is_foreign(const der_reader *reader, const der_element *element)
+{
+    return !reader->failed && element->contents != reader->octets + element->contents_start;
+}
+DER_MUST_USE DER_NONNULL(1, 2, 3)
+static inline der_error der_open_inline(der_reader *reader, const der_element *element, der_reader *inside)
+{
+    der_error foreign = {DER_READER, false, 0, 0, 0, 0, 0};
+    return der_is_foreign(reader, element) ? foreign : der_open(reader, element, inside);
+}
+DER_MUST_USE DER_NONNULL(1, 2, 3)
+static inline der_error der_element_octets_inline(const der_reader *reader, const der_element *element,
+                                                  der_span *octets)
+{
+    der_error foreign = {DER_READER, false, 0, 0, 0, 0, 0};
+    return der_is_foreign(reader, element) ? foreign : der_element_octets(reader, element, octets);
+}
+#define der_open(reader, element, inside) der_open_inline(reader, element, inside)
+#define der_element_octets(reader, element, octets) der_element_octets_inline(reader, element, octets)
 
 /* der_scan consumes indefinite-length contents and the end-of-contents octets that close them
  * (X.690 8.1.3.6), and sets |*count| to the number of octets consumed, end-of-contents octets
@@ -432,8 +461,11 @@ der_error der_oid_arcs(const uint8_t *oid, size_t length, uint64_t *arcs, size_t
 DER_MUST_USE DER_NONNULL(5)
 der_error der_oid_from_text(const char *text, size_t length, uint8_t *oid, size_t capacity, size_t *count);
 
-/* der_oid_is returns whether |oid| is the OBJECT IDENTIFIER that |text| is in dotted notation. */
+/* der_oid_is returns whether |oid| is the OBJECT IDENTIFIER that |text| is in dotted notation. With
+ * DER_LITERAL the text is a literal: der_oid_is(oid, length, DER_LITERAL("2.5.29.17")). It stands for
+ * the octets of a literal and their number, without the final zero octet. */
 bool der_oid_is(const uint8_t *oid, size_t length, const char *text, size_t text_length);
+#define DER_LITERAL(text) ("" text), (sizeof(text) - 1)
 
 /* Certificates, requests and keys.
  *
@@ -553,10 +585,10 @@ typedef struct der_revocation_list {
      DER_BITS_INIT,      0,                  0,             0,             false,         false,              \
      false}
 
-/* der_crl_read reads |octets|, which must be one revocation list and no more. Each entry is checked;
+/* der_revocation_list_read reads |octets|, which must be one revocation list and no more. Each entry is checked;
  * |der_next_revoked| reads them one by one. */
 DER_MUST_USE DER_NONNULL(3)
-der_error der_crl_read(const uint8_t *octets, size_t length, der_revocation_list *list);
+der_error der_revocation_list_read(const uint8_t *octets, size_t length, der_revocation_list *list);
 
 /* Items of lists. Make a |der_reader| of the span of the list, read items until |der_is_finished|;
  * positions of errors count from the start of the span. At the end the error is DER_INCOMPLETE. */
@@ -805,8 +837,8 @@ der_error der_counted(const der_counter *counter, uint32_t *count);
 void der_sort_set(der_span *elements, size_t count);
 
 /* Values. Each call writes one element with |tag|, whose contents are those of the value under DER.
- * They fail like |der_write_element|, and with DER_VALUE if the argument is no value of the type;
- * nothing is written then. An OCTET STRING is written by |der_write_element|. */
+ * They fail like |der_write_element|, and with DER_VALUE if |tag| is a tag and the argument is no
+ * value of the type; nothing is written then. An OCTET STRING is written by |der_write_element|. */
 
 DER_NONNULL(1)
 der_error der_write_boolean(der_writer *writer, der_tag tag, bool value);
@@ -827,7 +859,7 @@ der_error der_write_null(der_writer *writer, der_tag tag);
 
 /* An OBJECT IDENTIFIER, given as contents octets, and in dotted notation. */
 DER_NONNULL(1)
-der_error der_write_oid(der_writer *writer, der_tag tag, const uint8_t *octets, size_t length);
+der_error der_write_oid(der_writer *writer, der_tag tag, const uint8_t *oid, size_t length);
 DER_NONNULL(1)
 der_error der_write_oid_text(der_writer *writer, der_tag tag, const char *text, size_t length);
 

@@ -9,7 +9,7 @@ use crate::value::Bits;
 use core::fmt;
 
 /// An element of any tag, without its header. Its contents are not checked.
-#[derive(Clone, Copy, PartialEq, Eq, Debug)]
+#[derive(Clone, Copy, PartialEq, Eq, Hash, Debug)]
 pub struct Any<'a> {
     /// The tag.
     pub tag: Tag,
@@ -27,7 +27,7 @@ impl<'a> Any<'a> {
 }
 
 /// An algorithm (RFC 5280, 4.1.1.2).
-#[derive(Clone, Copy, PartialEq, Eq, Debug)]
+#[derive(Clone, Copy, PartialEq, Eq, Hash, Debug)]
 pub struct Algorithm<'a> {
     /// Which algorithm it is.
     pub identifier: Oid<'a>,
@@ -47,7 +47,7 @@ impl<'a> From<&RawAlgorithm<'a>> for Algorithm<'a> {
 }
 
 /// A public key (SubjectPublicKeyInfo; RFC 5280, 4.1.2.7).
-#[derive(Clone, Copy, PartialEq, Eq)]
+#[derive(Clone, Copy, PartialEq, Eq, Hash)]
 pub struct PublicKey<'a> {
     /// All octets of the SubjectPublicKeyInfo, as they are hashed.
     pub whole: &'a [u8],

@@ -70,6 +70,14 @@ pub enum ErrorKind {
 }
 
 impl Error {
+    /// An error of the kind with this number, without a position.
+    pub(crate) fn of_kind(kind: u8) -> Self {
+        Error(RawError {
+            kind,
+            ..Default::default()
+        })
+    }
+
     /// The kind of error, with its tags and numbers.
     pub fn kind(&self) -> ErrorKind {
         let RawError { first, second, .. } = self.0;

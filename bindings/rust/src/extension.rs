@@ -9,7 +9,7 @@ use core::fmt;
 use core::iter::FusedIterator;
 
 /// An extension (RFC 5280, 4.2). Its value is not checked.
-#[derive(Clone, Copy, PartialEq, Eq)]
+#[derive(Clone, Copy, PartialEq, Eq, Hash)]
 pub struct Extension<'a> {
     /// The type of the extension.
     pub identifier: Oid<'a>,
@@ -50,12 +50,26 @@ pub struct BasicConstraints {
 }
 
 /// The extensions of a certificate, a list that is iterated.
-#[derive(Clone, Copy, PartialEq, Eq)]
+#[derive(Clone, Copy, PartialEq, Eq, Hash)]
 pub struct Extensions<'a> {
     pub(crate) contents: &'a [u8],
 }
 
 impl<'a> Extensions<'a> {
+    /// The extensions that these octets are in DER, as an extensionRequest has them.
+    ///
+    /// # Errors
+    ///
+    /// The first step of reading that fails, at its position. The octets must be one list, and no more.
+    pub fn from_der(octets: &'a [u8]) -> Result<Self, Error> {
+        let mut extensions = crate::items::list(octets)?;
+        let contents = extensions.rest();
+        while !extensions.is_finished() {
+            next_extension(&mut extensions)?;
+        }
+        Ok(Extensions { contents })
+    }
+
     /// The keyUsage extension, if it is there.
     ///
     /// # Errors
@@ -123,18 +137,20 @@ impl<'a> Iterator for ExtensionIter<'a> {
     type Item = Result<Extension<'a>, Error>;
 
     fn next(&mut self) -> Option<Self::Item> {
-        crate::items::next(&mut self.reader, |reader| {
-            let mut raw = RawExtension::EMPTY;
-            answer(sys::der_next_extension(&mut reader.0, &mut raw))?;
-            Ok(Extension {
-                identifier: Oid {
-                    contents: raw.identifier.octets(),
-                },
-                value: raw.value.octets(),
-                critical: raw.critical,
-            })
-        })
+        crate::items::next(&mut self.reader, next_extension)
     }
+}
+
+fn next_extension<'a>(reader: &mut Reader<'a>) -> Result<Extension<'a>, Error> {
+    let mut raw = RawExtension::EMPTY;
+    answer(sys::der_next_extension(&mut reader.0, &mut raw))?;
+    Ok(Extension {
+        identifier: Oid {
+            contents: raw.identifier.octets(),
+        },
+        value: raw.value.octets(),
+        critical: raw.critical,
+    })
 }
 
 impl FusedIterator for ExtensionIter<'_> {}

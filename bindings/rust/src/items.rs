@@ -1,6 +1,15 @@
 //! Lists that are read item by item.
 use crate::error::Error;
 use crate::reader::Reader;
+use crate::tag::Tag;
+
+/// A reader of the items of a list, a SEQUENCE that all octets are.
+pub(crate) fn list(octets: &[u8]) -> Result<Reader<'_>, Error> {
+    let mut reader = Reader::der(octets)?;
+    let items = reader.enter(Tag::SEQUENCE)?;
+    reader.finish()?;
+    Ok(items)
+}
 
 /// The next item of a list. After an error there is no other item.
 pub(crate) fn next<'a, T>(

@@ -10,6 +10,7 @@
 #![no_std]
 
 mod certificate;
+mod counter;
 mod element;
 mod error;
 mod extension;
@@ -28,6 +29,7 @@ mod writer;
 
 pub use certificate::{Algorithm, Any, Certificate, PublicKey};
 use core::cmp::Ordering;
+pub use counter::Counter;
 pub use element::{Element, Header};
 use error::answer;
 pub use error::{Error, ErrorKind};

@@ -11,7 +11,7 @@ use core::fmt::{self, Write};
 use core::iter::FusedIterator;
 
 /// An attribute of a name. Its value is not checked.
-#[derive(Clone, Copy, PartialEq, Eq, Debug)]
+#[derive(Clone, Copy, PartialEq, Eq, Hash, Debug)]
 pub struct Attribute<'a> {
     /// The type of the attribute.
     pub identifier: Oid<'a>,
@@ -27,12 +27,29 @@ impl<'a> Attribute<'a> {
 }
 
 /// A name (RFC 5280, 4.1.2.4): levels, from the root of the directory, of attributes each.
-#[derive(Clone, Copy, PartialEq, Eq)]
+#[derive(Clone, Copy, PartialEq, Eq, Hash)]
 pub struct Name<'a> {
     pub(crate) contents: &'a [u8],
 }
 
 impl<'a> Name<'a> {
+    /// The name that these octets are in DER.
+    ///
+    /// # Errors
+    ///
+    /// The first step of reading that fails, at its position. The octets must be one name, and no more.
+    pub fn from_der(octets: &'a [u8]) -> Result<Self, Error> {
+        let mut levels = crate::items::list(octets)?;
+        let contents = levels.rest();
+        while !levels.is_finished() {
+            let mut level = levels.enter(Tag::SET)?;
+            while !level.is_finished() {
+                next_attribute(&mut level)?;
+            }
+        }
+        Ok(Name { contents })
+    }
+
     /// All attributes, level by level.
     pub fn attributes(&self) -> Attributes<'a> {
         Attributes {
@@ -40,12 +57,64 @@ impl<'a> Name<'a> {
             level: Reader::der(&[]),
         }
     }
+}
 
-    /// The reader of each level.
-    fn levels(&self) -> impl Iterator<Item = Reader<'a>> + Clone {
-        let mut reader = Reader::der(self.contents);
-        core::iter::from_fn(move || crate::items::next(&mut reader, |it| it.enter(Tag::SET))?.ok())
+/// How many parts the levels of a name are divided into, to be printed from the last to the first.
+const PARTS: usize = 32;
+
+/// Levels of a name, from the place of a reader on.
+#[derive(Clone, Copy)]
+struct Levels<'a> {
+    reader: Reader<'a>,
+    count: usize,
+}
+
+impl<'a> Levels<'a> {
+    /// The levels of a name up to the first that cannot be read.
+    fn of(name: Name<'a>) -> Option<Self> {
+        let reader = Reader::der(name.contents).ok()?;
+        let (mut ahead, mut count) = (reader, 0);
+        while !ahead.is_finished() && ahead.enter(Tag::SET).is_ok() {
+            count += 1;
+        }
+        Some(Levels { reader, count })
     }
+
+    /// Prints the levels, the last first. They are divided into parts, whose places one walk finds: so the
+    /// time is that of as many walks as a number of levels has digits to the base 32.
+    fn write(mut self, f: &mut fmt::Formatter<'_>, is_first: &mut bool) -> fmt::Result {
+        if self.count <= 1 {
+            return match self.reader.enter(Tag::SET) {
+                Ok(level) if self.count == 1 => write_level(f, level, is_first),
+                _ => Ok(()),
+            };
+        }
+        let size = self.count.div_ceil(PARTS);
+        let mut parts = [Levels { count: 0, ..self }; PARTS];
+        for part in &mut parts {
+            let count = size.min(self.count);
+            *part = Levels { count, ..self };
+            for _ in 0..count {
+                let _level = self.reader.enter(Tag::SET);
+            }
+            self.count -= count;
+        }
+        parts.into_iter().rev().try_for_each(|it| it.write(f, is_first))
+    }
+}
+
+/// Prints a level, after a comma if it is not the first.
+fn write_level(f: &mut fmt::Formatter<'_>, level: Reader<'_>, is_first: &mut bool) -> fmt::Result {
+    if !core::mem::replace(is_first, false) {
+        f.write_char(',')?;
+    }
+    for (place, attribute) in attributes_of(level).enumerate() {
+        if place > 0 {
+            f.write_char('+')?;
+        }
+        write_attribute(f, &attribute)?;
+    }
+    Ok(())
 }
 
 /// The attributes of a [`Name`]; the iterator ends after an error.
@@ -103,24 +172,12 @@ const SHORT_NAMES: [(&[u8], &str); 9] = [
 /// Prints the name as RFC 4514 does: the last level first, special characters escaped. Control
 /// characters are escaped too. The value of a type without a short name, or one that is no string, is
 /// its contents octets in hexadecimal.
-///
-/// No memory is taken: each level is found from the start again, so the time to print a name grows
-/// with the square of its number of levels.
 impl fmt::Display for Name<'_> {
     fn fmt(&self, f: &mut fmt::Formatter<'_>) -> fmt::Result {
-        let count = self.levels().count();
-        for at in (0..count).rev() {
-            if at + 1 < count {
-                f.write_char(',')?;
-            }
-            for (place, attribute) in self.levels().nth(at).into_iter().flat_map(attributes_of).enumerate() {
-                if place > 0 {
-                    f.write_char('+')?;
-                }
-                write_attribute(f, &attribute)?;
-            }
+        match Levels::of(*self) {
+            Some(levels) => levels.write(f, &mut true),
+            None => Ok(()),
         }
-        Ok(())
     }
 }
 
@@ -170,7 +227,7 @@ impl fmt::Debug for Name<'_> {
 }
 
 /// A general name (RFC 5280, 4.2.1.6). The characters of names are those of an IA5String.
-#[derive(Clone, Copy, PartialEq, Eq, Debug)]
+#[derive(Clone, Copy, PartialEq, Eq, Hash, Debug)]
 #[non_exhaustive]
 pub enum GeneralName<'a> {
     /// A name of another form.
@@ -194,9 +251,25 @@ pub enum GeneralName<'a> {
 }
 
 /// A list of general names.
-#[derive(Clone, Copy, PartialEq, Eq)]
+#[derive(Clone, Copy, PartialEq, Eq, Hash)]
 pub struct GeneralNames<'a> {
     pub(crate) contents: &'a [u8],
+}
+
+impl<'a> GeneralNames<'a> {
+    /// The general names that these octets are in DER, as the value of a subjectAltName is.
+    ///
+    /// # Errors
+    ///
+    /// The first step of reading that fails, at its position. The octets must be one list, and no more.
+    pub fn from_der(octets: &'a [u8]) -> Result<Self, Error> {
+        let mut names = crate::items::list(octets)?;
+        let contents = names.rest();
+        while !names.is_finished() {
+            next_general_name(&mut names)?;
+        }
+        Ok(GeneralNames { contents })
+    }
 }
 
 impl fmt::Debug for GeneralNames<'_> {
@@ -226,12 +299,14 @@ impl<'a> Iterator for GeneralNameIter<'a> {
     type Item = Result<GeneralName<'a>, Error>;
 
     fn next(&mut self) -> Option<Self::Item> {
-        crate::items::next(&mut self.reader, |reader| {
-            let mut raw = RawGeneralName::EMPTY;
-            answer(sys::der_next_general_name(&mut reader.0, &mut raw))?;
-            Ok(GeneralName::of(&raw))
-        })
+        crate::items::next(&mut self.reader, next_general_name)
     }
+}
+
+fn next_general_name<'a>(reader: &mut Reader<'a>) -> Result<GeneralName<'a>, Error> {
+    let mut raw = RawGeneralName::EMPTY;
+    answer(sys::der_next_general_name(&mut reader.0, &mut raw))?;
+    Ok(GeneralName::of(&raw))
 }
 
 impl FusedIterator for GeneralNameIter<'_> {}

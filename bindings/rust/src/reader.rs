@@ -116,20 +116,46 @@ impl<'a> Reader<'a> {
         Ok(Reader(inside))
     }
 
-    /// A reader of the contents of an element that this reader, or a copy of it, has read.
+    /// Fails with [`Reader`](crate::ErrorKind::Reader) if an element lies in other octets than those of
+    /// this reader. The library sees only whether its positions are in them.
+    #[inline]
+    fn owns(&self, element: &Element<'a>) -> Result<(), Error> {
+        let place = self.0.octets.wrapping_add(element.0.contents_start as usize);
+        if self.0.failed || place == element.0.contents {
+            return Ok(());
+        }
+        Err(Error::of_kind(sys::READER))
+    }
+
+    /// A reader of the contents of an element that this reader, or a copy of it, has read. An element of
+    /// other octets is the error [`Reader`](crate::ErrorKind::Reader).
     #[inline]
     pub fn open(&mut self, element: &Element<'a>) -> Result<Reader<'a>, Error> {
+        self.owns(element)?;
         let mut inside = RawReader::EMPTY;
         answer(sys::der_open(&mut self.0, &element.0, &mut inside))?;
         Ok(Reader(inside))
     }
 
     /// All octets of an element that this reader, or a copy of it, has read: its header, contents
-    /// and end-of-contents octets, as they are signed or hashed.
+    /// and end-of-contents octets, as they are signed or hashed. An element of other octets is the error
+    /// [`Reader`](crate::ErrorKind::Reader).
     pub fn octets_of(&self, element: &Element<'a>) -> Result<&'a [u8], Error> {
+        self.owns(element)?;
         let mut span = RawSpan::EMPTY;
         answer(sys::der_element_octets(&self.0, &element.0, &mut span))?;
         Ok(span.octets())
+    }
+
+    /// The octets that are left.
+    pub(crate) fn rest(&self) -> &'a [u8] {
+        // SAFETY: proved: the position is at most the end, which is in the input that is borrowed for 'a.
+        unsafe {
+            core::slice::from_raw_parts(
+                self.0.octets.add(self.0.position),
+                self.0.end as usize - self.0.position,
+            )
+        }
     }
 
     /// Where the reader is, in octets from the start of the input.

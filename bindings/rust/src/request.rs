@@ -1,9 +1,12 @@
 //! Certificate requests.
 use crate::certificate::{Algorithm, PublicKey};
 use crate::error::{Error, answer};
+use crate::extension::Extensions;
 use crate::name::Name;
 use crate::octets::Hex;
+use crate::reader::Reader;
 use crate::sys::{self, RawRequest};
+use crate::tag::Tag;
 use crate::value::Bits;
 use core::fmt;
 
@@ -46,6 +49,34 @@ impl<'a> Request<'a> {
             signature_algorithm: (&raw.signature_algorithm).into(),
             signature: raw.signature.into(),
         })
+    }
+}
+
+impl<'a> Request<'a> {
+    /// The extensions that the attribute extensionRequest asks for (RFC 2985, 5.4.2), if it is there.
+    ///
+    /// # Errors
+    ///
+    /// The first attribute that cannot be read; [`Duplicate`](crate::ErrorKind::Duplicate) if the attribute is
+    /// there more than once; the error of its value.
+    pub fn extensions(&self) -> Result<Option<Extensions<'a>>, Error> {
+        let (mut attributes, mut found) = (Reader::der(self.attributes)?, None);
+        while !attributes.is_finished() {
+            let mut attribute = attributes.enter(Tag::SEQUENCE)?;
+            let identifier = attribute.oid(Tag::OBJECT_IDENTIFIER)?;
+            let mut values = attribute.enter(Tag::SET)?;
+            attribute.finish()?;
+            if identifier != *"1.2.840.113549.1.9.14" {
+                continue;
+            }
+            let value = values.read()?;
+            let extensions = Extensions::from_der(values.octets_of(&value)?)?;
+            values.finish()?;
+            if found.replace(extensions).is_some() {
+                return Err(Error::of_kind(sys::DUPLICATE));
+            }
+        }
+        Ok(found)
     }
 }
 

@@ -46,7 +46,7 @@ impl<'a> RevocationList<'a> {
     pub fn from_der(octets: &'a [u8]) -> Result<Self, Error> {
         let mut raw = RawRevocationList::EMPTY;
         // SAFETY: pointer and length describe a slice, which the list borrows for 'a.
-        answer(unsafe { sys::der_crl_read(octets.as_ptr(), octets.len(), &mut raw) })?;
+        answer(unsafe { sys::der_revocation_list_read(octets.as_ptr(), octets.len(), &mut raw) })?;
         Ok(RevocationList {
             version: raw.version,
             issuer: Name {

@@ -137,6 +137,20 @@ pub struct Time {
     pub second: u8,
 }
 
+impl Time {
+    /// The time that is so many seconds after 1970-01-01T00:00:00Z, or before it for a negative number, as
+    /// [`not_after`](crate::Certificate::not_after) has them; `None` if its year is not from 0 to 9999.
+    pub fn from_unix_seconds(seconds: i64) -> Option<Self> {
+        let mut octets = [0; 17];
+        let mut writer = Writer::new(&mut octets);
+        writer
+            .time_seconds(Tag::GENERALIZED_TIME, Tag::GENERALIZED_TIME, seconds)
+            .ok()?;
+        let mut reader = Reader::der(writer.finish().ok()?).ok()?;
+        Some(reader.time(Tag::GENERALIZED_TIME, Tag::GENERALIZED_TIME).ok()?.0)
+    }
+}
+
 /// Prints the time as RFC 3339 does: `2026-11-26T23:05:00Z`.
 impl fmt::Display for Time {
     fn fmt(&self, f: &mut fmt::Formatter<'_>) -> fmt::Result {

@@ -45,7 +45,7 @@ fn errors_are_reported() {
     let error = reader.expect(Tag::context(1000, true)).unwrap_err();
     assert_eq!(
         error.to_string(),
-        "unexpected ASN.1 DER tag: expected CONTEXT-SPECIFIC [1000] (constructed), got APPLICATION [129] (primitive)"
+        "unexpected ASN.1 DER tag: expected CONTEXT-SPECIFIC [1000] (constructed), got APPLICATION [129] (primitive) at DER byte 0"
     );
     // the element was not consumed
     assert_eq!(reader.read().unwrap().tag(), Tag(0x5f + 256 * 129));

@@ -47,7 +47,8 @@ use x509::{
 ///   has one, counts from the start of `octets`;
 /// - `TrailingData`, if octets follow the certificate.
 ///
-/// The errors are exactly those of `x509::Certificate::from_der`.
+/// The errors are exactly those of `x509::Certificate::from_der`, but for `Incomplete` where the contents of the value are
+/// cut: it is at their start, and says where they would end.
 #[unsafe(no_mangle)]
 pub extern "C" fn der_certificate_read<'a>(
     alloc: Global,
@@ -74,7 +75,8 @@ pub extern "C" fn der_certificate_read<'a>(
 ///   has one, counts from the start of `octets`;
 /// - `TrailingData`, if octets follow the key.
 ///
-/// The errors are exactly those of `spki::SubjectPublicKeyInfoRef::from_der`.
+/// The errors are exactly those of `spki::SubjectPublicKeyInfoRef::from_der`, but for `Incomplete` where the contents of the value are
+/// cut: it is at their start, and says where they would end.
 #[unsafe(no_mangle)]
 pub extern "C" fn der_public_key_read<'a>(
     alloc: Global,
@@ -101,7 +103,8 @@ pub extern "C" fn der_public_key_read<'a>(
 ///   has one, counts from the start of `octets`;
 /// - `TrailingData`, if octets follow the request.
 ///
-/// The errors are exactly those of `x509::CertReq::from_der`.
+/// The errors are exactly those of `x509::CertReq::from_der`, but for `Incomplete` where the contents of the value are
+/// cut: it is at their start, and says where they would end.
 #[unsafe(no_mangle)]
 pub extern "C" fn der_request_read<'a>(
     alloc: Global,
@@ -128,7 +131,8 @@ pub extern "C" fn der_request_read<'a>(
 ///   has one, counts from the start of `octets`;
 /// - `TrailingData`, if octets follow the key.
 ///
-/// The errors are exactly those of `pkcs8::PrivateKeyInfo::from_der`.
+/// The errors are exactly those of `pkcs8::PrivateKeyInfo::from_der`, but for `Incomplete` where the contents of the value are
+/// cut: it is at their start, and says where they would end.
 #[unsafe(no_mangle)]
 pub extern "C" fn der_private_key_read<'a>(
     alloc: Global,
@@ -153,9 +157,10 @@ pub extern "C" fn der_private_key_read<'a>(
 ///   has one, counts from the start of `octets`;
 /// - `TrailingData`, if octets follow the list.
 ///
-/// The errors are exactly those of `x509::CertificateList::from_der`.
+/// The errors are exactly those of `x509::CertificateList::from_der`, but for `Incomplete` where the contents of the value are
+/// cut: it is at their start, and says where they would end.
 #[unsafe(no_mangle)]
-pub extern "C" fn der_crl_read<'a>(
+pub extern "C" fn der_revocation_list_read<'a>(
     alloc: Global,
     octets: &'a [u8],
     list: &mut DerRevocationList<'a>,
@@ -166,7 +171,7 @@ pub extern "C" fn der_crl_read<'a>(
         (IsRevocationListOf ⟦<TbsCertList<'a> as Encode>⟧.encoding) octets.now result list.old
         list.new }
 {
-    der_c_x509::der_crl_read(alloc, octets, list)
+    der_c_x509::der_revocation_list_read(alloc, octets, list)
 }
 
 /// Reads the next extension of a list into `extension`. `reader` reads the contents of the list, as
@@ -240,7 +245,7 @@ pub extern "C" fn der_next_general_name<'a>(
 }
 
 /// Reads the next entry of a revocation list into `entry`. `reader` reads the contents of the list
-/// of entries, as `der_crl_read` returns them.
+/// of entries, as `der_revocation_list_read` returns them.
 ///
 /// Every error makes the reader fail, except `TagUnexpected`, which leaves it unchanged. A call
 /// that fails leaves `entry` unchanged. At the end of the list the error is `Incomplete`.

@@ -5,10 +5,12 @@
 //! and that each struct was made by the functions here.
 #![tactic(auto)]
 
+mod blocks;
 mod certificates;
 mod counting;
 mod errors;
 mod reading;
+mod trees;
 mod values;
 mod version;
 mod write_values;

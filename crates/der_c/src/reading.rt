@@ -117,8 +117,10 @@ pub extern "C" fn der_skip(reader: &mut DerReader<'_>) -> DerError
 /// A call that fails leaves `element` unchanged. Fails with:
 ///
 /// - the errors of `der_read_element`; `reader` has failed then;
-/// - `TagUnexpected` without a position, if the next element has another tag; `reader` is unchanged
-///   then.
+/// - `TagUnexpected` at the position of `reader`, if the next element has another tag; `reader` is
+///   unchanged then;
+/// - `TagNumberInvalid` without a position, if there is a next element and `tag` is the word of no
+///   tag; `reader` has failed then.
 #[unsafe(no_mangle)]
 pub extern "C" fn der_expect<'a>(
     reader: &mut DerReader<'a>,
@@ -138,7 +140,8 @@ pub extern "C" fn der_expect<'a>(
 ///
 /// A call that fails leaves `element` and `present` unchanged, and `reader` has failed after it.
 /// Fails with the errors of `der_read_element`, also if the header of an element with another tag
-/// is faulty.
+/// is faulty; and with `TagNumberInvalid` without a position, if there is a next element and `tag`
+/// is the word of no tag.
 #[unsafe(no_mangle)]
 pub extern "C" fn der_optional<'a>(
     reader: &mut DerReader<'a>,

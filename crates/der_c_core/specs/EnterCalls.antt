@@ -13,7 +13,7 @@ use Rattle.der_core.specs.Header.{head_of, HeaderNext}
 use Rattle.der_core.specs.declared.header.Header.{Header}
 use Rattle.der_c_core.specs.ErrorCode.{no_error, error_code}
 use Rattle.der_c_core.specs.Failure.{Fails, RefusesHeader, RefusesContents}
-use Rattle.der_c_core.specs.ElementCalls.{unexpected_code}
+use Rattle.der_c_core.specs.ElementCalls.{RefusesTag}
 use Rattle.der_c_core.specs.TagWord.{tag_word}
 use Rattle.der_c_core.specs.CReader.{reader_state}
 use Rattle.der_c_core.specs.declared.reader.DerReader.{DerReader}
@@ -40,7 +40,7 @@ pub data EntersElement (word : ℕ) (s : ReaderState) (result : DerError) (old n
   no_header : Fails (RefusesHeader s) result t → new ≡ old → EntersElement word s result old new t
   other_tag : (h : Header) (u : ReaderState) → Passes (HeaderNext h) s u
       → tag_word (head_of h).tag ≢ word
-      → result ≡ unexpected_code word (tag_word (head_of h).tag) → new ≡ old → t ≡ s
+      → RefusesTag word (tag_word (head_of h).tag) s result t → new ≡ old
       → EntersElement word s result old new t
   following : (h : Header) (u : ReaderState) → Passes (HeaderNext h) s u
       → tag_word (head_of h).tag ≡ word → EntersContents (head_of h) u result old new t

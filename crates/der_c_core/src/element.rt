@@ -2,14 +2,15 @@
 ghost use Rattle.std.specs.Prelude.{◌≡◌, ◌^◌, ◌<◌, ◌≤◌, length};
 ghost use Rattle.der_core.specs.ReaderState.{Same};
 ghost use Rattle.der_core.specs.Header.{head_of};
-ghost use Rattle.der_c_core.specs.ElementCalls.{ReadsContents, ReadsElement, ExpectsElement, FindsOptional, MeetsElement, SkipsElement, unexpected_code};
+ghost use Rattle.der_c_core.specs.ElementCalls.{ReadsContents, ReadsElement, ExpectsElement, FindsOptional, MeetsElement, SkipsElement, RefusesTag, unexpected_code};
 ghost use Rattle.der_c_core.specs.Short.{IsShortValue};
 ghost use Rattle.der_c_core.specs.CReader.{reader_state};
 
 use crate::error::DerError;
 use crate::reader::DerReader;
 use crate::short::{ShortElement, short_element};
-use crate::tag::word_of;
+use crate::tag::{is_tag, word_of};
+use der_base::ErrorKind;
 use der_core::{Header, Reader, decode_header};
 
 /// An element: a header and its contents. Positions are in octets from the start of the input.
@@ -157,18 +158,31 @@ pub fn der_skip(reader: &mut DerReader<'_>) -> DerError
     read_slowly(reader, &mut element)
 }
 
-// The error for an unexpected tag, from the words of both tags.
+// Refuses the next element, whose tag has the word `actual`, because its tag is not `expected`; if
+// that is the word of no tag, the reader fails.
 #[cold]
 #[inline(never)]
-pub(crate) fn unexpected(expected: u64, actual: u64) -> DerError
-    ensures { result ≡ unexpected_code expected actual }
+pub(crate) fn refuse_tag(reader: &mut DerReader<'_>, expected: u64, actual: u64) -> DerError
+    ensures same { Same (reader_state reader.old) (reader_state reader.new) }
+    ensures refuses { RefusesTag expected actual (reader_state reader.old) result
+        (reader_state reader.new) }
+{
+    if !is_tag(expected) {
+        return reader.fail(ErrorKind::TagNumberInvalid.to_error());
+    }
+    unexpected(expected, actual, reader.position as u32)
+}
+
+// The error for an unexpected tag at a position, from the words of both tags.
+fn unexpected(expected: u64, actual: u64, position: u32) -> DerError
+    ensures { result ≡ unexpected_code expected actual position }
 {
     DerError {
         kind: 17,
-        has_position: false,
+        has_position: true,
         expected: (expected % 256) as u8,
         actual: (actual % 256) as u8,
-        position: 0,
+        position,
         first: (expected / 256 % (1 << 32)) as u32,
         second: (actual / 256 % (1 << 32)) as u32,
     }
@@ -180,8 +194,10 @@ pub(crate) fn unexpected(expected: u64, actual: u64) -> DerError
 /// A call that fails leaves `element` unchanged. Fails with:
 ///
 /// - the errors of [`der_read_element`]; `reader` has failed then;
-/// - `TagUnexpected` without a position, if the next element has another tag; `reader` is unchanged
-///   then.
+/// - `TagUnexpected` at the position of `reader`, if the next element has another tag; `reader` is
+///   unchanged then;
+/// - `TagNumberInvalid` without a position, if there is a next element and `tag` is the word of no
+///   tag; `reader` has failed then.
 #[inline(always)]
 pub fn der_expect<'a>(
     reader: &mut DerReader<'a>,
@@ -197,7 +213,7 @@ pub fn der_expect<'a>(
             if met == tag {
                 DerError::NONE
             } else {
-                unexpected(tag, met)
+                refuse_tag(reader, tag, met)
             }
         }
         Err(error) => error,
@@ -210,7 +226,8 @@ pub fn der_expect<'a>(
 ///
 /// A call that fails leaves `element` and `present` unchanged, and `reader` has failed after it.
 /// Fails with the errors of [`der_read_element`], also if the header of an element with another tag
-/// is faulty.
+/// is faulty; and with `TagNumberInvalid` without a position, if there is a next element and `tag`
+/// is the word of no tag.
 #[inline(always)]
 pub fn der_optional<'a>(
     reader: &mut DerReader<'a>,
@@ -228,7 +245,14 @@ pub fn der_optional<'a>(
     }
     match meet(reader, tag, element) {
         Ok(met) => {
-            *present = met == tag;
+            if met == tag {
+                *present = true;
+                return DerError::NONE;
+            }
+            if !is_tag(tag) {
+                return refuse_tag(reader, tag, met);
+            }
+            *present = false;
             DerError::NONE
         }
         Err(error) => error,

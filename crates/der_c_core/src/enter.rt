@@ -6,7 +6,7 @@ ghost use Rattle.der_c_core.specs.EnterCalls.{EntersElement, EntersContents, Ope
 ghost use Rattle.der_c_core.specs.declared.reader.DerReader.{DerReader as Reading};
 ghost use Rattle.der_c_core.specs.CReader.{reader_state};
 
-use crate::element::{DerElement, unexpected};
+use crate::element::{DerElement, refuse_tag};
 use crate::error::{DerError, foreign};
 use crate::reader::{DerReader, MAX_DEPTH};
 use crate::short::short_element;
@@ -32,7 +32,7 @@ pub fn der_enter<'a>(reader: &mut DerReader<'a>, tag: u64, inside: &mut DerReade
 {
     if let Some(next) = short_element(reader) {
         if next.first as u64 != tag {
-            return unexpected(tag, next.first as u64);
+            return refuse_tag(reader, tag, next.first as u64);
         }
         if reader.depth < MAX_DEPTH {
             *inside = DerReader {
@@ -74,7 +74,7 @@ fn enter_generally<'a>(reader: &mut DerReader<'a>, tag: u64, inside: &mut DerRea
             let met = word_of(header.tag());
             if met != tag {
                 reader.position = start;
-                return unexpected(tag, met);
+                return refuse_tag(reader, tag, met);
             }
             enter(reader, header, inside)
         }

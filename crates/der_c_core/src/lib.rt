@@ -12,6 +12,7 @@ mod element;
 mod enter;
 mod error;
 mod header;
+mod located;
 mod mark;
 mod octets;
 mod reader;
@@ -35,6 +36,7 @@ pub use element::{DerElement, der_expect, der_optional, der_read_element, der_sk
 pub use enter::{der_enter, der_open};
 pub use error::{DerError, c_error};
 pub use header::{DerHeader, der_read_header};
+pub use located::{located_error, located_in};
 pub use mark::DerMark;
 pub use octets::der_element_octets;
 pub use reader::DerReader;
@@ -42,7 +44,7 @@ pub use reader::calls::{der_finish, der_is_finished, der_position, der_reader_in
 pub use scan::der_scan;
 pub use set::der_sort_set;
 pub use span::DerSpan;
-pub use tag::word_of;
+pub use tag::{is_tag, word_of};
 pub use text::der_error_text;
 pub use tree::{DerNode, der_read_tree};
 pub use writer::DerWriter;

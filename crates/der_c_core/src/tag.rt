@@ -1,6 +1,7 @@
 //! Tags as 64-bit words of C.
-ghost use Rattle.std.specs.Prelude.{◌≡◌, IfSome, None};
+ghost use Rattle.std.specs.Prelude.{◌≡◌, IfSome, None, true, false};
 ghost use Rattle.der_base.specs.Tag.{universal_tag};
+ghost use Rattle.der_base.specs.declared.tag.Tag.{Tag as ATag};
 ghost use Rattle.der_c_core.specs.TagWord.{IsTagWord, NoTagWord, said_tag, tag_octet, long_number, tag_word};
 
 use der_base::{Class, Tag, TagNumber};
@@ -21,6 +22,16 @@ pub(crate) fn tag_of_word(word: u64) -> Option<Tag>
     } else {
         None
     }
+}
+
+/// Whether `word` is that of a tag: the first octet of its identifier, plus 256 times its number if
+/// that is 31 or more.
+#[cold]
+pub fn is_tag(word: u64) -> bool
+    ensures some { result ≡ true → (t : ATag) × IsTagWord word t }
+    ensures none { result ≡ false → NoTagWord word }
+{
+    tag_of_word(word).is_some()
 }
 
 /// The tag whose identifier begins with `octet`. If the low five bits of `octet` are all set (long

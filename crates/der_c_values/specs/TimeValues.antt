@@ -8,8 +8,7 @@ use Rattle.der_asn1.specs.UnixTime.{unix_seconds}
 use Rattle.der_asn1.specs.declared.times.date_time.DateTime.{DateTime}
 use Rattle.der_c_core.specs.WriterCalls.{WritesElement}
 use Rattle.der_c_core.specs.declared.error.DerError.{DerError}
-use Rattle.der_c_values.specs.ValueCalls.{value_code}
-use Rattle.der_c_values.specs.WriteCalls.{RefusesWrite}
+use Rattle.der_c_values.specs.WriteCalls.{RefusesNoValue}
 use Rattle.der_c_values.specs.declared.time.DerTime.{DerTime}
 
 abbrev pub date_of : DerTime → DateTime
@@ -52,10 +51,10 @@ pub record IsTimeOf (word : ℕ) (octets : List ℕ) (t : DerTime) : Type 0 wher
 pub data WritesSeconds (time_type : ℕ) (seconds : ℤ) (word : ℕ) (s : WriterState)
     (result : DerError) (u : WriterState) : Type 0 where
   no_date : (seconds <ℤ negsuc 62167219199) ⊎ (pos 253402300800 ≤ℤ seconds)
-      → RefusesWrite (value_code word) s result u
+      → RefusesNoValue word s result u
       → WritesSeconds time_type seconds word s result u
   no_value : (t : DateTime) → is_date_time t ≡ true → unix_seconds t ≡ seconds
-      → is_time_of time_type t ≡ false → RefusesWrite (value_code word) s result u
+      → is_time_of time_type t ≡ false → RefusesNoValue word s result u
       → WritesSeconds time_type seconds word s result u
   of_value : (t : DateTime) → is_time_of time_type t ≡ true → unix_seconds t ≡ seconds
       → WritesElement word (time_contents time_type t) s result u

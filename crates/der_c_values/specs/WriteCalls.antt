@@ -1,11 +1,13 @@
 -- The results of writing a value in C (`WritesValue`), and of a BIT STRING, whose contents are two
--- writes (`WritesBits`). `RefusesWrite` is the result where there is no such value.
+-- writes (`WritesBits`). `RefusesNoValue` is the result where there is no such value.
 use Rattle.std.specs.Prelude.{◌≡◌, ◌≢◌, ℕ, ◌+◌, ◌^◌, ◌<◌, ◌≤◌, Bool, true, false, List, [], ◌∷◌, length, if◌then◌else◌}
 use Rattle.der_base.specs.Error.{error_at, error_of_kind}
-use Rattle.der_base.specs.declared.error.ErrorKind.TheVariants.{Failed, Overflow}
+use Rattle.der_base.specs.declared.error.ErrorKind.TheVariants.{Failed, Overflow, TagNumberInvalid}
+use Rattle.der_base.specs.declared.tag.Tag.{Tag}
 use Rattle.der_core.specs.Writer.{WriterState, writer_position, failed_state}
 use Rattle.der_asn1.specs.Forms.{bits_form}
 use Rattle.der_c_core.specs.ErrorCode.{no_error, error_code}
+use Rattle.der_c_core.specs.TagWord.{IsTagWord, NoTagWord}
 use Rattle.der_c_core.specs.WriterCalls.{WritesOctets, WritesHeader, WritesElement}
 use Rattle.der_c_core.specs.declared.error.DerError.{DerError}
 use Rattle.der_c_values.specs.ValueCalls.{value_code}
@@ -18,10 +20,19 @@ pub record RefusesWrite (code : DerError) (s : WriterState) (result : DerError) 
       else code)
   pub leaves : t ≡ failed_state s
 
+-- there is no such value: the error is `Value` with the tag of the word, or that the word is that of no
+-- tag
+pub data RefusesNoValue (word : ℕ) (s : WriterState) (result : DerError) (t : WriterState)
+    : Type 0 where
+  of_tag : (tag : Tag) → IsTagWord word tag → RefusesWrite (value_code word) s result t
+      → RefusesNoValue word s result t
+  no_tag : NoTagWord word → RefusesWrite (error_code (error_of_kind TagNumberInvalid)) s result t
+      → RefusesNoValue word s result t
+
 -- there is no value with these contents; or there is, and an element with them is written
 pub data WritesValue (is_value : Bool) (octets : List ℕ) (word : ℕ) (s : WriterState)
     (result : DerError) (t : WriterState) : Type 0 where
-  no_value : is_value ≡ false → RefusesWrite (value_code word) s result t
+  no_value : is_value ≡ false → RefusesNoValue word s result t
       → WritesValue is_value octets word s result t
   of_value : is_value ≡ true → WritesElement word octets s result t
       → WritesValue is_value octets word s result t
@@ -44,7 +55,7 @@ WritesBitsElement word unused octets =
 -- written
 pub data WritesBits (unused : ℕ) (octets : List ℕ) (word : ℕ) (s : WriterState)
     (result : DerError) (t : WriterState) : Type 0 where
-  no_value : bits_form (unused ∷ octets) ≡ false → RefusesWrite (value_code word) s result t
+  no_value : bits_form (unused ∷ octets) ≡ false → RefusesNoValue word s result t
       → WritesBits unused octets word s result t
   too_long : bits_form (unused ∷ octets) ≡ true → 2 ^ 32 ≤ 1 + length octets
       → RefusesWrite (error_code (error_of_kind Overflow)) s result t

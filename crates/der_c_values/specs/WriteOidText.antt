@@ -4,8 +4,7 @@ use Rattle.der_core.specs.Writer.{WriterState}
 use Rattle.der_c_core.specs.WriterCalls.{WritesElement}
 use Rattle.der_c_core.specs.declared.error.DerError.{DerError}
 use Rattle.der_c_values.specs.Dotted.{IsEncoded}
-use Rattle.der_c_values.specs.ValueCalls.{value_code}
-use Rattle.der_c_values.specs.WriteCalls.{RefusesWrite}
+use Rattle.der_c_values.specs.WriteCalls.{RefusesNoValue}
 
 -- an element is written with the contents of which the text is the dotted notation; or there is an
 -- error, because there are no such contents, or they are too large
@@ -13,4 +12,4 @@ pub data WritesOidText (text : List ℕ) (word : ℕ) (s : WriterState) (result 
     (t : WriterState) : Type 0 where
   of_text : (octets : List ℕ) → IsEncoded text octets → WritesElement word octets s result t
       → WritesOidText text word s result t
-  no_text : RefusesWrite (value_code word) s result t → WritesOidText text word s result t
+  no_text : RefusesNoValue word s result t → WritesOidText text word s result t

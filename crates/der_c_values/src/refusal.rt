@@ -20,6 +20,12 @@ pub(crate) const OVERLENGTH: DerError = DerError {
     ..DerError::NONE
 };
 
+/// The error `TagNumberInvalid`, without a position.
+pub(crate) const INVALID_TAG: DerError = DerError {
+    kind: 16,
+    ..DerError::NONE
+};
+
 /// The error `Value` with the tag of this word, without a position.
 pub(crate) fn value_error(tag: u64) -> DerError
     ensures { result ≡ value_code tag }

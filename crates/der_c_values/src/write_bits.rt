@@ -4,8 +4,8 @@ ghost use Rattle.der_asn1.specs.Forms.{bits_form};
 ghost use Rattle.der_c_core.specs.CWriter.{KeepsOpen, writer_state};
 ghost use Rattle.der_c_values.specs.WriteCalls.{WritesBits, WritesBitsElement};
 
-use crate::refusal::{OVERFLOW, value_error};
-use crate::write_refusal::refuse_write;
+use crate::refusal::OVERFLOW;
+use crate::write_refusal::{refuse_no_value, refuse_write};
 use der_asn1::{BitStringGrammar, ContentsGrammar};
 use der_c_core::{DerError, DerWriter, der_write, der_write_header};
 
@@ -32,7 +32,7 @@ pub fn der_write_bit_string(
     ensures keeps_open { KeepsOpen writer.old writer.new }
 {
     if !are_bits(unused, octets) {
-        return refuse_write(writer, value_error(tag));
+        return refuse_no_value(writer, tag);
     }
     if octets.len() >= u32::MAX as usize {
         return refuse_write(writer, OVERFLOW);

@@ -4,9 +4,8 @@ ghost use Rattle.der_c_core.specs.CWriter.{KeepsOpen, writer_state};
 ghost use Rattle.der_c_values.specs.StringTypes.{string_form};
 ghost use Rattle.der_c_values.specs.WriteCalls.{WritesValue};
 
-use crate::refusal::value_error;
 use crate::text::has_form;
-use crate::write_refusal::refuse_write;
+use crate::write_refusal::refuse_no_value;
 use der_asn1::{ContentsGrammar, IntegerGrammar, ObjectIdentifierGrammar};
 use der_c_core::{DerError, DerWriter, der_write_element};
 
@@ -25,7 +24,7 @@ pub fn der_write_integer(writer: &mut DerWriter<'_>, tag: u64, octets: &[u8]) ->
     ensures keeps_open { KeepsOpen writer.old writer.new }
 {
     if !IntegerGrammar::matches_grammar(octets) {
-        return refuse_write(writer, value_error(tag));
+        return refuse_no_value(writer, tag);
     }
     der_write_element(writer, tag, octets)
 }
@@ -45,7 +44,7 @@ pub fn der_write_oid(writer: &mut DerWriter<'_>, tag: u64, octets: &[u8]) -> Der
     ensures keeps_open { KeepsOpen writer.old writer.new }
 {
     if !ObjectIdentifierGrammar::matches_grammar(octets) {
-        return refuse_write(writer, value_error(tag));
+        return refuse_no_value(writer, tag);
     }
     der_write_element(writer, tag, octets)
 }
@@ -71,7 +70,7 @@ pub fn der_write_text(
     ensures keeps_open { KeepsOpen writer.old writer.new }
 {
     if !has_form(string_type, octets) {
-        return refuse_write(writer, value_error(tag));
+        return refuse_no_value(writer, tag);
     }
     der_write_element(writer, tag, octets)
 }

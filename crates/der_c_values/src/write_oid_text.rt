@@ -3,8 +3,7 @@ ghost use Rattle.der_c_core.specs.CWriter.{KeepsOpen, writer_state};
 ghost use Rattle.der_c_values.specs.WriteOidText.{WritesOidText};
 
 use crate::oid_from_text::contents_of;
-use crate::refusal::value_error;
-use crate::write_refusal::refuse_write;
+use crate::write_refusal::refuse_no_value;
 use der_c_core::{DerError, DerWriter, der_write_element};
 
 /// Writes the OBJECT IDENTIFIER (X.690 8.19) with the dotted notation `text`, such as `2.5.29.17`,
@@ -24,6 +23,6 @@ pub fn der_write_oid_text(writer: &mut DerWriter<'_>, tag: u64, text: &[u8]) -> 
 {
     match contents_of(text) {
         Ok(contents) => der_write_element(writer, tag, contents.as_slice()),
-        Err(_) => refuse_write(writer, value_error(tag)),
+        Err(_) => refuse_no_value(writer, tag),
     }
 }

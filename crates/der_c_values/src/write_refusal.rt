@@ -1,8 +1,9 @@
 //! Writing what is no value.
 ghost use Rattle.der_c_core.specs.CWriter.{KeepsOpen, writer_state};
-ghost use Rattle.der_c_values.specs.WriteCalls.{RefusesWrite};
+ghost use Rattle.der_c_values.specs.WriteCalls.{RefusesNoValue, RefusesWrite};
 
-use der_c_core::{DerError, DerWriter, der_write, der_writer_fail};
+use crate::refusal::{INVALID_TAG, value_error};
+use der_c_core::{DerError, DerWriter, der_write, der_writer_fail, is_tag};
 
 /// Makes `writer` fail, and returns `error`, or `Failed` if `writer` had failed. Writes nothing.
 #[cold]
@@ -17,4 +18,19 @@ pub(crate) fn refuse_write(writer: &mut DerWriter<'_>, error: DerError) -> DerEr
     }
     der_writer_fail(writer);
     error
+}
+
+/// Makes `writer` fail because an argument is no value. Returns `Value` with the tag of this word, or
+/// `TagNumberInvalid` if it is the word of no tag; and `Failed` if `writer` had failed.
+#[cold]
+#[inline(never)]
+pub(crate) fn refuse_no_value(writer: &mut DerWriter<'_>, tag: u64) -> DerError
+    ensures writes { RefusesNoValue tag (writer_state writer.old) result (writer_state writer.new) }
+    ensures keeps_open { KeepsOpen writer.old writer.new }
+{
+    if is_tag(tag) {
+        refuse_write(writer, value_error(tag))
+    } else {
+        refuse_write(writer, INVALID_TAG)
+    }
 }

@@ -4,10 +4,9 @@ ghost use Rattle.der_c_core.specs.CWriter.{KeepsOpen, writer_state};
 ghost use Rattle.der_c_values.specs.TimeValues.{date_of, is_time_of, time_contents, WritesSeconds};
 ghost use Rattle.der_c_values.specs.WriteCalls.{WritesValue};
 
-use crate::refusal::value_error;
 use crate::time::DerTime;
 use crate::time_type::{contents_of, has_time};
-use crate::write_refusal::refuse_write;
+use crate::write_refusal::refuse_no_value;
 use der_asn1::DateTime;
 use der_c_core::{DerError, DerWriter, der_write_element};
 
@@ -35,7 +34,7 @@ pub fn der_write_time(
 {
     let date = date_time(time);
     if !has_time(time_type, &date) {
-        return refuse_write(writer, value_error(tag));
+        return refuse_no_value(writer, tag);
     }
     der_write_element(writer, tag, contents_of(time_type, &date).as_slice())
 }
@@ -61,10 +60,10 @@ pub fn der_write_time_seconds(
     ensures keeps_open { KeepsOpen writer.old writer.new }
 {
     let Some(date) = DateTime::from_unix_seconds(seconds) else {
-        return refuse_write(writer, value_error(tag));
+        return refuse_no_value(writer, tag);
     };
     if !has_time(time_type, &date) {
-        return refuse_write(writer, value_error(tag));
+        return refuse_no_value(writer, tag);
     }
     der_write_element(writer, tag, contents_of(time_type, &date).as_slice())
 }

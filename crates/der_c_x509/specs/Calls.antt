@@ -8,16 +8,17 @@ use Rattle.der_base.specs.declared.error.ErrorKind.TheVariants.{TagUnexpected}
 use Rattle.der_base.specs.declared.encoding_rules.EncodingRules.{EncodingRules}
 use Rattle.der_core.specs.ReaderState.{ReaderState, rest_of, advanced_state, stopped_state}
 use Rattle.der_core.specs.Decode.{Passes}
-use Rattle.der_c_core.specs.ErrorCode.{no_error, error_code}
+use Rattle.der_c_core.specs.ErrorCode.{no_error}
+use Rattle.der_c_core.specs.Located.{Locates, LocatesIn}
 use Rattle.der_c_core.specs.declared.error.DerError.{DerError}
 
 -- decoding the octets returns a value, and the struct is that of the value; or it returns an error,
--- which is reported, and the struct is unchanged
+-- which is reported where the octets are cut (`LocatesIn`), and the struct is unchanged
 pub data ReadsWhole {A S : Type 0} (decodes : List ℕ → Result A Error → Type 0)
     (IsOf : A → S → Type 0) (octets : List ℕ) (result : DerError) (old new : S) : Type 0 where
   read : (v : A) → decodes octets (Ok v) → IsOf v new → result ≡ no_error
       → ReadsWhole decodes IsOf octets result old new
-  refused : (e : Error) → decodes octets (Err e) → result ≡ error_code e → new ≡ old
+  refused : (e : Error) → decodes octets (Err e) → LocatesIn octets e result → new ≡ old
       → ReadsWhole decodes IsOf octets result old new
 
 -- whether an error is an unexpected tag
@@ -36,7 +37,7 @@ pub record RefusesItem {A : Type 0} (decodes : ReaderState → Result A Error �
   pub error : Error
   pub left : ReaderState
   pub refused : decodes s (Err error) left
-  pub reported : result ≡ error_code error
+  pub reported : Locates s error result
   pub leaves : t ≡ refused_state s error left
 
 -- the next octets are a value, which is decoded and passed; or decoding returns an error

@@ -12,7 +12,7 @@ use crate::strings::{bits_of, span_of};
 use crate::time::seconds_of;
 use der::{DecodeValue, Encode, FixedTag, ReadValue, SliceReader, WrittenValue};
 use der_asn1::{BitStringRef, Explicit, Implicit, Optional, lawful_from_der};
-use der_c_core::{DerBits, DerError, DerSpan, c_error};
+use der_c_core::{DerBits, DerError, DerSpan, located_in};
 use spki::SubjectPublicKeyInfoRef;
 use std::alloc::Global;
 use x509::{Certificate, Extensions, TbsCertificate, Version};
@@ -180,7 +180,8 @@ fn certificate_of<'a>(octets: &'a [u8], value: &Certificate<'a>) -> DerCertifica
 ///   has one, counts from the start of `octets`;
 /// - `TrailingData`, if octets follow the certificate.
 ///
-/// The errors are exactly those of `x509::Certificate::from_der`.
+/// The errors are exactly those of `x509::Certificate::from_der`, but for `Incomplete` where the contents of the value are
+/// cut: it is at their start, and says where they would end.
 pub fn der_certificate_read<'a>(
     alloc: Global,
     octets: &'a [u8],
@@ -198,6 +199,6 @@ pub fn der_certificate_read<'a>(
             *certificate = certificate_of(octets, &value);
             DerError::NONE
         }
-        Err(error) => c_error(error),
+        Err(error) => located_in(octets, error),
     }
 }

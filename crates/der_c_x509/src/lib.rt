@@ -37,6 +37,6 @@ pub use lenient::{der_basic_constraints_lenient, der_key_usage_lenient};
 pub use private_key::{DerPrivateKey, der_private_key_read};
 pub use public_key::{DerPublicKey, der_public_key_read};
 pub use request::{DerRequest, der_request_read};
-pub use revocation_list::{DerRevocationList, der_crl_read};
+pub use revocation_list::{DerRevocationList, der_revocation_list_read};
 pub use revoked::{DerRevoked, der_next_revoked};
 pub use subject_names::{DerGeneralNames, der_subject_alternative_name};

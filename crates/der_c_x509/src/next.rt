@@ -7,7 +7,7 @@ ghost use Rattle.der_c_core.specs.CReader.{reader_state};
 ghost use Rattle.der_c_x509.specs.Calls.{NextComplete, NextItem, is_unexpected_tag, refused_state};
 
 use der::{Decode, Error, ErrorKind, Reader};
-use der_c_core::{DerError, DerReader, c_error};
+use der_c_core::{DerError, DerReader, located_error};
 use std::alloc::Global;
 
 // Reads an item. An error makes the reader fail, except `TagUnexpected`, which leaves it unchanged.
@@ -27,8 +27,9 @@ pub(crate) fn next_item<'a, T: Decode<DerReader<'a>, Error = Error>>(
     match decode_item::<T>(alloc, reader) {
         Ok(value) => Ok(value),
         Err(error) => {
+            let code = located_error(before.fork(), error);
             leave(reader, before, error);
-            Err(c_error(error))
+            Err(code)
         }
     }
 }

@@ -9,7 +9,7 @@ use crate::certificate::optional_bits_of;
 use crate::strings::span_of;
 use der::{DecodeValue, FixedTag, ReadValue, SliceReader, WrittenValue};
 use der_asn1::{Implicit, Optional, lawful_from_der};
-use der_c_core::{DerBits, DerError, DerSpan, c_error};
+use der_c_core::{DerBits, DerError, DerSpan, located_in};
 use pkcs8::{PrivateKeyAttributes, PrivateKeyInfo, Version};
 use std::alloc::Global;
 
@@ -97,7 +97,8 @@ fn private_key_of<'a>(value: &PrivateKeyInfo<'a>) -> DerPrivateKey<'a>
 ///   has one, counts from the start of `octets`;
 /// - `TrailingData`, if octets follow the key.
 ///
-/// The errors are exactly those of `pkcs8::PrivateKeyInfo::from_der`.
+/// The errors are exactly those of `pkcs8::PrivateKeyInfo::from_der`, but for `Incomplete` where the contents of the value are
+/// cut: it is at their start, and says where they would end.
 pub fn der_private_key_read<'a>(
     alloc: Global,
     octets: &'a [u8],
@@ -113,6 +114,6 @@ pub fn der_private_key_read<'a>(
             *key = private_key_of(&value);
             DerError::NONE
         }
-        Err(error) => c_error(error),
+        Err(error) => located_in(octets, error),
     }
 }

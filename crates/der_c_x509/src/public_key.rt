@@ -8,7 +8,7 @@ use crate::algorithm::{DerAlgorithm, algorithm_of};
 use crate::strings::bits_of;
 use der::{DecodeValue, Encode, FixedTag, ReadValue, SliceReader, WrittenValue};
 use der_asn1::lawful_from_der;
-use der_c_core::{DerBits, DerError, DerSpan, c_error};
+use der_c_core::{DerBits, DerError, DerSpan, located_in};
 use spki::SubjectPublicKeyInfoRef;
 use std::alloc::Global;
 
@@ -58,7 +58,8 @@ pub(crate) fn public_key_of<'a>(
 ///   has one, counts from the start of `octets`;
 /// - `TrailingData`, if octets follow the key.
 ///
-/// The errors are exactly those of `spki::SubjectPublicKeyInfoRef::from_der`.
+/// The errors are exactly those of `spki::SubjectPublicKeyInfoRef::from_der`, but for `Incomplete` where the contents of the value are
+/// cut: it is at their start, and says where they would end.
 pub fn der_public_key_read<'a>(
     alloc: Global,
     octets: &'a [u8],
@@ -76,6 +77,6 @@ pub fn der_public_key_read<'a>(
             *key = public_key_of(octets, &value);
             DerError::NONE
         }
-        Err(error) => c_error(error),
+        Err(error) => located_in(octets, error),
     }
 }

@@ -10,7 +10,7 @@ use crate::public_key::{DerPublicKey, public_key_of};
 use crate::strings::bits_of;
 use der::{DecodeValue, Encode, FixedTag, ReadValue, SliceReader, WrittenValue};
 use der_asn1::lawful_from_der;
-use der_c_core::{DerBits, DerError, DerSpan, c_error};
+use der_c_core::{DerBits, DerError, DerSpan, located_in};
 use spki::SubjectPublicKeyInfoRef;
 use std::alloc::Global;
 use x509::{CertReq, CertReqInfo};
@@ -85,7 +85,8 @@ fn request_of<'a>(octets: &'a [u8], value: &CertReq<'a>) -> DerRequest<'a>
 ///   has one, counts from the start of `octets`;
 /// - `TrailingData`, if octets follow the request.
 ///
-/// The errors are exactly those of `x509::CertReq::from_der`.
+/// The errors are exactly those of `x509::CertReq::from_der`, but for `Incomplete` where the contents of the value are
+/// cut: it is at their start, and says where they would end.
 pub fn der_request_read<'a>(
     alloc: Global,
     octets: &'a [u8],
@@ -103,6 +104,6 @@ pub fn der_request_read<'a>(
             *request = request_of(octets, &value);
             DerError::NONE
         }
-        Err(error) => c_error(error),
+        Err(error) => located_in(octets, error),
     }
 }

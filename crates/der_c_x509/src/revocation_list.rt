@@ -12,7 +12,7 @@ use crate::strings::bits_of;
 use crate::time::{optional_seconds_of, seconds_of};
 use der::{DecodeValue, Encode, FixedTag, ReadValue, SliceReader, WrittenValue};
 use der_asn1::{Optional, SequenceOf, lawful_from_der};
-use der_c_core::{DerBits, DerError, DerSpan, c_error};
+use der_c_core::{DerBits, DerError, DerSpan, located_in};
 use std::alloc::Global;
 use x509::{CertificateList, RevokedCertificate, TbsCertList, Version};
 
@@ -134,8 +134,9 @@ fn list_of<'a>(octets: &'a [u8], value: &CertificateList<'a>) -> DerRevocationLi
 ///   has one, counts from the start of `octets`;
 /// - `TrailingData`, if octets follow the list.
 ///
-/// The errors are exactly those of `x509::CertificateList::from_der`.
-pub fn der_crl_read<'a>(
+/// The errors are exactly those of `x509::CertificateList::from_der`, but for `Incomplete` where the contents of the value are
+/// cut: it is at their start, and says where they would end.
+pub fn der_revocation_list_read<'a>(
     alloc: Global,
     octets: &'a [u8],
     list: &mut DerRevocationList<'a>,
@@ -151,6 +152,6 @@ pub fn der_crl_read<'a>(
             *list = list_of(octets, &value);
             DerError::NONE
         }
-        Err(error) => c_error(error),
+        Err(error) => located_in(octets, error),
     }
 }

@@ -66,7 +66,7 @@ fn revoked_of<'a>(value: &RevokedCertificate<'a>) -> DerRevoked<'a>
 }
 
 /// Reads the next entry of a revocation list into `entry`. `reader` reads the contents of the list
-/// of entries, as `der_crl_read` returns them.
+/// of entries, as `der_revocation_list_read` returns them.
 ///
 /// Every error makes the reader fail, except `TagUnexpected`, which leaves it unchanged. A call
 /// that fails leaves `entry` unchanged. At the end of the list the error is `Incomplete`.

@@ -1,22 +1,22 @@
 //! Tables of types, and the kinds of values.
 
-use crate::answer::{FULL, NONE};
-use crate::printed::printed;
 use asn1_schema::Schema;
-use asn1_tree::{Departure, Entry};
-use der_show_text::{Output, Space};
-use der_show_tree::{ANY, KINDS, Kind, Room, TABLE_ROOM, find_kind_in, put_table};
+use asn1_tree::Entry;
+use der_c_tree::{
+    der_kind_find, der_kind_of_label, der_kind_type, der_known_types, der_known_types_room,
+    der_type_find, put_kind_word,
+};
 
 /// How many octets are enough for the table of types.
 #[unsafe(no_mangle)]
 pub extern "C" fn page_table_room() -> usize {
-    TABLE_ROOM
+    der_known_types_room()
 }
 
 /// Puts the table of the types that `der_show` knows into `table`, and returns how many octets it has.
 #[unsafe(no_mangle)]
 pub extern "C" fn page_table(table: &mut [u8]) -> usize {
-    put_table(table)
+    der_known_types(table)
 }
 
 /// How many types a table has, as `asn1_compile --schema` writes it; 0 if the octets are no table.
@@ -28,20 +28,15 @@ pub extern "C" fn page_types(table: &[u8]) -> u32 {
     }
 }
 
-/// The index of the type of this name in a table; [`NONE`] if it has none, or if the octets are no table.
+/// The index of the type of this name in a table; [`NONE`](der_c_tree::NONE) if it has none, or if the octets are no
+/// table.
 #[unsafe(no_mangle)]
 pub extern "C" fn page_type(table: &[u8], name: &[u8]) -> u32 {
-    let Ok(schema) = Schema::new(table) else {
-        return NONE;
-    };
-    match std::str::from_utf8(name) {
-        Ok(name) => schema.find_node(name).unwrap_or(NONE),
-        Err(_) => NONE,
-    }
+    der_type_find(table, name)
 }
 
-/// The index of the kind of a value, by the table of `page_table`; [`NONE`] if it is of none, and [`FULL`] if there is
-/// no room.
+/// The index of the kind of a value, by the table of `page_table`; [`NONE`](der_c_tree::NONE) if it is of none, and
+/// [`FULL`](der_c_tree::FULL) if there is no room.
 #[unsafe(no_mangle)]
 pub extern "C" fn page_find(
     table: &[u8],
@@ -50,62 +45,23 @@ pub extern "C" fn page_find(
     marks: &mut [u32],
     text: &mut [u8],
 ) -> u32 {
-    let Ok(schema) = Schema::new(table) else {
-        return NONE;
-    };
-    let mut departures: [Departure; 0] = [];
-    let mut room = Room {
-        entries,
-        departures: &mut departures,
-        marks,
-        text,
-    };
-    match find_kind_in(&mut room, &schema, octets) {
-        Ok(Some(kind)) => index_of(kind),
-        Ok(None) => NONE,
-        Err(_) => FULL,
-    }
+    der_kind_find(table, octets, entries, marks, text)
 }
 
-fn index_of(kind: Kind) -> u32 {
-    let mut index = 0u32;
-    for each in KINDS {
-        if each == kind {
-            return index;
-        }
-        index = index.saturating_add(1);
-    }
-    NONE
-}
-
-/// The index of the kind that the label of a PEM block promises; [`NONE`] for another label.
+/// The index of the kind that the label of a PEM block promises; [`NONE`](der_c_tree::NONE) for another label.
 #[unsafe(no_mangle)]
 pub extern "C" fn page_kind_of_label(label: &[u8]) -> u32 {
-    match std::str::from_utf8(label) {
-        Ok(label) => match Kind::of_label(label) {
-            Some(kind) => index_of(kind),
-            None => NONE,
-        },
-        Err(_) => NONE,
-    }
+    der_kind_of_label(label)
 }
 
 /// The index of the type of a kind in the table of `page_table`; that of any value if the index is of no kind.
 #[unsafe(no_mangle)]
 pub extern "C" fn page_node(kind: u32) -> u32 {
-    match KINDS.get(kind as usize) {
-        Some(kind) => kind.node(),
-        None => ANY,
-    }
+    der_kind_type(kind)
 }
 
 /// Prints the word for a kind, as the option `--as` of `der_show` has it.
 #[unsafe(no_mangle)]
 pub extern "C" fn page_kind_word(kind: u32, text: &mut [u8]) -> usize {
-    let mut out = Output::to(Space::new(text));
-    out.put(match KINDS.get(kind as usize) {
-        Some(kind) => kind.word(),
-        None => "elements",
-    });
-    printed(&out)
+    put_kind_word(kind, text)
 }

@@ -7,12 +7,8 @@
 //! likewise that there is no room.
 #![tactic(auto)]
 
-mod answer;
 mod blocks;
-mod departures;
 mod elements;
-mod found;
 mod kinds;
-mod printed;
 mod rows;
 mod version;

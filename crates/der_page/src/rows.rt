@@ -1,13 +1,11 @@
 //! Lines for elements.
 
-use crate::answer::NO_ROOM;
-use crate::printed::printed;
 use asn1_cursor::Cursor;
 use asn1_schema::{NodeKind, Schema};
 use asn1_tree::Entry;
-use ber::Universal;
-use der_show_print::{Form, Printer, put_name, put_plain, put_plain_element, put_tag};
-use der_show_text::{Characters, Output, Space, Style, put_identifier, put_text};
+use der_c_tree::{NO_ROOM, printed, put_value};
+use der_show_print::{Form, Printer, put_tag};
+use der_show_text::{Characters, Output, Space, Style, put_text};
 
 /// Prints a line for each of `count` elements from the one with the index `first` on. A line has, between tabs, the
 /// name of the field, that of the alternative of a CHOICE, that of the type, the tag, and the text of the value; each may
@@ -77,26 +75,5 @@ fn letter_of(element: Cursor<'_>) -> u8 {
         Some(NodeKind::SequenceOf | NodeKind::SetOf) => b'l',
         Some(_) if element.inner().is_some() => b'x',
         _ => b'o',
-    }
-}
-
-// The text of a primitive value, of a name, or of the OBJECT IDENTIFIER that an element begins with.
-fn put_value(printer: &mut Printer<Space<'_>>, element: Cursor<'_>) {
-    if !element.is_constructed() {
-        match element.kind() {
-            Some(NodeKind::Universal(_)) => put_plain(printer, element),
-            _ => put_plain_element(printer, element),
-        }
-        return;
-    }
-    if element.type_name() == Some("Name") {
-        put_name(&mut printer.out, element);
-        return;
-    }
-    if let Some(first) = element.children().next()
-        && first.universal() == Some(Universal::ObjectIdentifier)
-        && !first.is_constructed()
-    {
-        put_identifier(&mut printer.out, first.contents());
     }
 }

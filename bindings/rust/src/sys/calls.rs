@@ -1,8 +1,8 @@
 //! The calls of `der.h`. Written by tools/c_interface: change the crates that der_c uses instead.
 use super::{
-    Node, RawAttribute, RawBits, RawCertificate, RawConstraints, RawCounter, RawElement, RawError, RawExtension,
-    RawGeneralName, RawHeader, RawMark, RawNames, RawPrivateKey, RawPublicKey, RawReader, RawRequest,
-    RawRevocationList, RawRevoked, RawSpan, RawText, RawTime, RawUsage, RawWriter,
+    Node, RawAttribute, RawBits, RawCertificate, RawConstraints, RawCounter, RawElement, RawEntry, RawError,
+    RawExtension, RawGeneralName, RawHeader, RawMark, RawNames, RawPemBlock, RawPrivateKey, RawPublicKey, RawReader,
+    RawRequest, RawRevocationList, RawRevoked, RawSpan, RawText, RawTime, RawTreeFound, RawUsage, RawWriter,
 };
 
 unsafe extern "C" {
@@ -75,7 +75,11 @@ unsafe extern "C" {
     pub fn der_public_key_read<'a>(octets: *const u8, length: usize, key: &mut RawPublicKey<'a>) -> RawError;
     pub fn der_request_read<'a>(octets: *const u8, length: usize, request: &mut RawRequest<'a>) -> RawError;
     pub fn der_private_key_read<'a>(octets: *const u8, length: usize, key: &mut RawPrivateKey<'a>) -> RawError;
-    pub fn der_crl_read<'a>(octets: *const u8, length: usize, list: &mut RawRevocationList<'a>) -> RawError;
+    pub fn der_revocation_list_read<'a>(
+        octets: *const u8,
+        length: usize,
+        list: &mut RawRevocationList<'a>,
+    ) -> RawError;
     pub safe fn der_next_extension<'a>(reader: &mut RawReader<'a>, extension: &mut RawExtension<'a>) -> RawError;
     pub safe fn der_next_attribute<'a>(reader: &mut RawReader<'a>, attribute: &mut RawAttribute<'a>) -> RawError;
     pub safe fn der_next_general_name<'a>(reader: &mut RawReader<'a>, name: &mut RawGeneralName<'a>) -> RawError;
@@ -144,4 +148,116 @@ unsafe extern "C" {
     ) -> RawError;
     pub safe fn der_write_time(writer: &mut RawWriter<'_>, tag: u64, time_type: u64, time: &RawTime) -> RawError;
     pub safe fn der_write_time_seconds(writer: &mut RawWriter<'_>, tag: u64, time_type: u64, seconds: i64) -> RawError;
+    pub safe fn der_known_types_room() -> usize;
+    pub fn der_known_types(table: *mut u8, capacity: usize) -> usize;
+    pub fn der_type_find(table: *const u8, table_length: usize, name: *const u8, length: usize) -> u32;
+    pub fn der_kind_find(
+        table: *const u8,
+        table_length: usize,
+        octets: *const u8,
+        length: usize,
+        entries: *mut RawEntry,
+        capacity: usize,
+        marks: *mut u32,
+        mark_count: usize,
+        text: *mut u8,
+        buffer_length: usize,
+    ) -> u32;
+    pub fn der_kind_of_label(label: *const u8, length: usize) -> u32;
+    pub safe fn der_kind_type(kind: u32) -> u32;
+    pub fn der_kind_word(kind: u32, text: *mut u8, capacity: usize) -> usize;
+    pub fn der_tree_read(
+        table: *const u8,
+        table_length: usize,
+        node: u32,
+        octets: *const u8,
+        length: usize,
+        entries: *mut RawEntry,
+        capacity: usize,
+        marks: *mut u32,
+        mark_count: usize,
+        text: *mut u8,
+        buffer_length: usize,
+        list: *mut u8,
+        list_length: usize,
+        found: &mut RawTreeFound,
+    ) -> bool;
+    pub fn der_tree_find<'a>(
+        table: *const u8,
+        table_length: usize,
+        octets: *const u8,
+        length: usize,
+        entries: *const RawEntry,
+        count: usize,
+        from: usize,
+        path: *const u8,
+        path_length: usize,
+    ) -> usize;
+    pub fn der_tree_child<'a>(
+        table: *const u8,
+        table_length: usize,
+        octets: *const u8,
+        length: usize,
+        entries: *const RawEntry,
+        count: usize,
+        parent: usize,
+        number: usize,
+    ) -> usize;
+    pub fn der_tree_octets<'a>(
+        octets: *const u8,
+        length: usize,
+        entries: *const RawEntry,
+        count: usize,
+        index: usize,
+        part: &mut RawSpan<'a>,
+    ) -> bool;
+    pub fn der_tree_contents<'a>(
+        octets: *const u8,
+        length: usize,
+        entries: *const RawEntry,
+        count: usize,
+        index: usize,
+        part: &mut RawSpan<'a>,
+    ) -> bool;
+    pub fn der_tree_name<'a>(
+        table: *const u8,
+        table_length: usize,
+        octets: *const u8,
+        length: usize,
+        entries: *const RawEntry,
+        count: usize,
+        index: usize,
+        text: *mut u8,
+        capacity: usize,
+    ) -> usize;
+    pub fn der_tree_type<'a>(
+        table: *const u8,
+        table_length: usize,
+        octets: *const u8,
+        length: usize,
+        entries: *const RawEntry,
+        count: usize,
+        index: usize,
+        text: *mut u8,
+        capacity: usize,
+    ) -> usize;
+    pub fn der_tree_text<'a>(
+        table: *const u8,
+        table_length: usize,
+        octets: *const u8,
+        length: usize,
+        entries: *const RawEntry,
+        count: usize,
+        index: usize,
+        text: *mut u8,
+        capacity: usize,
+    ) -> usize;
+    pub fn der_pem_next(
+        text: *const u8,
+        length: usize,
+        octets: *mut u8,
+        capacity: usize,
+        block: &mut RawPemBlock,
+    ) -> u32;
+    pub fn der_base64_decode(text: *const u8, length: usize, octets: *mut u8, capacity: usize) -> usize;
 }

@@ -2,6 +2,26 @@
 use core::marker::PhantomData;
 
 #[repr(C)]
+#[derive(Clone, Copy, Default, PartialEq, Eq, Hash, Debug)]
+pub struct RawTreeFound {
+    pub entries: usize,
+    pub departures: usize,
+    pub lost: usize,
+    pub listed: usize,
+    pub verdict: u32,
+}
+
+#[repr(C)]
+#[derive(Clone, Copy, Default, PartialEq, Eq, Hash, Debug)]
+pub struct RawPemBlock {
+    pub label: usize,
+    pub label_length: usize,
+    pub line: usize,
+    pub length: usize,
+    pub end: usize,
+}
+
+#[repr(C)]
 #[derive(Clone, Copy)]
 pub struct RawAlgorithm<'a> {
     pub identifier: RawSpan<'a>,
@@ -468,6 +488,16 @@ impl RawWriter<'_> {
 // The layouts that the library was compiled for.
 const _: () = {
     use core::mem::{offset_of, size_of};
+    assert!(size_of::<RawTreeFound>() == 40);
+    assert!(offset_of!(RawTreeFound, departures) == 8);
+    assert!(offset_of!(RawTreeFound, lost) == 16);
+    assert!(offset_of!(RawTreeFound, listed) == 24);
+    assert!(offset_of!(RawTreeFound, verdict) == 32);
+    assert!(size_of::<RawPemBlock>() == 40);
+    assert!(offset_of!(RawPemBlock, label_length) == 8);
+    assert!(offset_of!(RawPemBlock, line) == 16);
+    assert!(offset_of!(RawPemBlock, length) == 24);
+    assert!(offset_of!(RawPemBlock, end) == 32);
     assert!(size_of::<RawAlgorithm>() == 40);
     assert!(offset_of!(RawAlgorithm, parameters) == 16);
     assert!(size_of::<RawAny>() == 24);

@@ -6,7 +6,7 @@ use Rattle.der_c_core.proofs.enter.enter_generally.Goals as goal
 
 pub returns-then-met-tag-clause-enters : goal.returns-then-met-tag-clause-enters
 returns-then-met-tag-clause-enters c =
-    other_tag c.in-Ok.header _ c.in-Ok.ensures.ok (search rules) (search rules) refl (search rules)
+    other_tag c.in-Ok.header _ c.in-Ok.ensures.ok (search rules) (search rules) refl
 
 pub returns-else-met-tag-clause-enters : goal.returns-else-met-tag-clause-enters
 returns-else-met-tag-clause-enters c =

@@ -1,3 +1,4 @@
+use Rattle.std.proofs.Common.{◌∙◌}
 use Rattle.der_c_x509.proofs.next.next_item.Goals as goal
 
 pub returns-in-Ok-clause-reads : goal.returns-in-Ok-clause-reads
@@ -9,6 +10,6 @@ returns-in-Err-clause-reads g c =
       error = c.in-Err.error;
       left = _;
       refused = c.in-Err.ensures.exact;
-      reported = c.c_error.ensures;
+      reported = rw (c.fork.ensures ∙ c.fork-before.ensures) at c.located_error-code.ensures;
       leaves = rw c.fork-before.ensures at c.leave.ensures;
     }

@@ -12,4 +12,4 @@ pub returns-in-Err : goal.returns-in-Err
 returns-in-Err c =
     ReadsWhole.refused c.in-Err.error
     (record { ok = c.in-Err.ensures.ok; complete = c.in-Err.ensures.complete; exact = c.in-Err.ensures.exact })
-    c.c_error.ensures refl
+    c.located_in.ensures refl

@@ -1,6 +1,6 @@
 use Rattle.std.proofs.Common.{refl}
 use Rattle.der_c_x509.specs.Calls.{ReadsWhole}
-use Rattle.der_c_x509.proofs.revocation_list.der_crl_read.Goals as goal
+use Rattle.der_c_x509.proofs.revocation_list.der_revocation_list_read.Goals as goal
 
 pub returns-in-Ok : goal.returns-in-Ok
 returns-in-Ok c =
@@ -12,4 +12,4 @@ pub returns-in-Err : goal.returns-in-Err
 returns-in-Err c =
     ReadsWhole.refused c.in-Err.error
     (record { ok = c.in-Err.ensures.ok; complete = c.in-Err.ensures.complete; exact = c.in-Err.ensures.exact })
-    c.c_error.ensures refl
+    c.located_in.ensures refl

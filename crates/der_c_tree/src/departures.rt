@@ -1,6 +1,6 @@
 //! Departures.
 
-use crate::printed::printed;
+use crate::output::printed;
 use asn1_cursor::Cursor;
 use asn1_schema::Schema;
 use asn1_tree::{Departure, Entry};

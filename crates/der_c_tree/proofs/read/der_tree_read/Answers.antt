@@ -3,8 +3,8 @@ use Rattle.der_base.specs.declared.encoding_rules.EncodingRules.TheVariants.{Der
 use Rattle.asn1_schema.specs.Table.{table_in}
 use Rattle.asn1_tree.specs.Encoding.{IsDer, IsBer}
 use Rattle.asn1_tree.specs.Types.{types_in}
-use Rattle.der_page.proofs.FoundLemmas.{both_ways}
-use Rattle.der_page.proofs.elements.page_read.Goals as goal
+use Rattle.der_c_tree.proofs.FoundLemmas.{both_ways}
+use Rattle.der_c_tree.proofs.read.der_tree_read.Goals as goal
 
 pub returns-in-Ok-read_into-clause-der : goal.returns-in-Ok-read_into-clause-der
 unfolding types_in

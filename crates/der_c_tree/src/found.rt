@@ -8,7 +8,7 @@ use asn1_tree::Verdict;
 /// What is known of a value beside its elements.
 #[repr(C)]
 #[derive(Clone, Copy)]
-pub struct PageFound {
+pub struct DerTreeFound {
     /// The number of elements.
     pub entries: usize,
     /// The number of departures that are listed.
@@ -19,6 +19,17 @@ pub struct PageFound {
     pub listed: usize,
     /// 0 if the octets are DER, 1 if they are BER alone, 2 if they are neither.
     pub verdict: u32,
+}
+
+impl DerTreeFound {
+    /// No tree.
+    pub const EMPTY: DerTreeFound = DerTreeFound {
+        entries: 0,
+        departures: 0,
+        lost: 0,
+        listed: 0,
+        verdict: 2,
+    };
 }
 
 /// The number that stands for a verdict.

@@ -1,0 +1,156 @@
+//! Names, extensions and general names from octets, requests with extensions, counters and times.
+use der_c::{
+    Counter, Error, ErrorKind, Extensions, GeneralName, GeneralNames, Name, Reader, Request, Tag, Time, Writer,
+};
+use std::time::{Duration, Instant};
+
+/// A name of one level for each text: `CN=text`.
+fn name_of(texts: &[&str]) -> Vec<u8> {
+    let mut octets = vec![0; 64 + 32 * texts.len()];
+    let mut writer = Writer::new(&mut octets);
+    writer
+        .inside(Tag::SEQUENCE, |name| {
+            texts.iter().try_for_each(|text| {
+                name.inside(Tag::SET, |level| {
+                    level.inside(Tag::SEQUENCE, |attribute| {
+                        attribute.oid(Tag::OBJECT_IDENTIFIER, "2.5.4.3")?;
+                        attribute.text(Tag::UTF8_STRING, Tag::UTF8_STRING, text.as_bytes())
+                    })
+                })
+            })
+        })
+        .unwrap();
+    writer.finish().unwrap().to_vec()
+}
+
+#[test]
+fn levels_are_printed_in_reverse() {
+    for count in [0, 1, 2, 31, 32, 33, 63, 64, 65, 1000, 1025] {
+        let texts: Vec<String> = (0..count).map(|it: usize| it.to_string()).collect();
+        let octets = name_of(&texts.iter().map(String::as_str).collect::<Vec<_>>());
+        let wanted: Vec<String> = texts.iter().rev().map(|it| format!("CN={it}")).collect();
+        assert_eq!(Name::from_der(&octets).unwrap().to_string(), wanted.join(","));
+    }
+}
+
+/// 32 KiB of empty levels took 14 seconds.
+#[test]
+fn many_levels_are_printed_soon() {
+    let mut octets = vec![0x30, 0x82, 0x80, 0x00];
+    octets.extend([0x31, 0].repeat(1 << 14));
+    let name = Name::from_der(&octets).unwrap();
+    let begun = Instant::now();
+    assert_eq!(name.to_string(), ",".repeat((1 << 14) - 1));
+    assert!(begun.elapsed() < Duration::from_secs(2));
+}
+
+#[test]
+fn names_are_whole() {
+    let octets = name_of(&["a", "b"]);
+    let error = Name::from_der(&octets[..octets.len() - 1]).unwrap_err();
+    assert!(matches!(error.kind(), ErrorKind::Incomplete { expected, .. } if expected as usize == octets.len()));
+    let longer = [&octets[..], &[5, 0]].concat();
+    assert!(matches!(
+        Name::from_der(&longer).unwrap_err().kind(),
+        ErrorKind::TrailingData { remaining: 2, .. }
+    ));
+    assert!(matches!(
+        Name::from_der(&[0x30, 2, 5, 0]).unwrap_err().kind(),
+        ErrorKind::TagUnexpected { .. }
+    ));
+    assert!(Name::from_der(&[0x30, 4, 0x31, 2, 5, 0]).is_err());
+}
+
+#[test]
+fn general_names_are_read_from_octets() {
+    let octets = [0x30, 5, 0x82, 3, b'a', b'.', b'b'];
+    let names: Vec<_> = GeneralNames::from_der(&octets).unwrap().into_iter().collect();
+    assert_eq!(names, [Ok(GeneralName::Dns("a.b"))]);
+    assert!(GeneralNames::from_der(&[0x30, 2, 0x8F, 0]).is_err());
+}
+
+/// An extension that is critical, with its value in hexadecimal.
+const CONSTRAINTS: [u8; 16] = [0x30, 14, 6, 3, 0x55, 0x1D, 0x13, 1, 1, 0xFF, 4, 4, 0x30, 2, 5, 0];
+
+#[test]
+fn extensions_are_read_from_octets() {
+    let octets = [&[0x30, 16], &CONSTRAINTS[..]].concat();
+    let extensions = Extensions::from_der(&octets).unwrap();
+    let extension = extensions.into_iter().next().unwrap().unwrap();
+    assert!(extension.critical && extension.identifier == *"2.5.29.19");
+    assert!(Extensions::from_der(&octets[2..]).is_err());
+}
+
+/// The request of openssl that `bindings/test` makes, if it is there, asks for names.
+#[test]
+fn requests_have_extensions() {
+    let Ok(path) = std::env::var("DER_C_REQUEST") else {
+        return;
+    };
+    let octets = std::fs::read(path).unwrap();
+    let request = Request::from_der(&octets).unwrap();
+    let names = request
+        .extensions()
+        .unwrap()
+        .unwrap()
+        .subject_alternative_name()
+        .unwrap()
+        .unwrap();
+    let names: Vec<_> = names.into_iter().map(Result::unwrap).collect();
+    let wanted = [
+        GeneralName::Dns("example.org"),
+        GeneralName::Dns("www.example.org"),
+        GeneralName::Ip(&[127, 0, 0, 1]),
+    ];
+    assert_eq!(names, wanted);
+}
+
+#[test]
+fn a_counter_counts_what_a_writer_writes() -> Result<(), Error> {
+    let mut octets = [0; 400];
+    let (mut writer, mut counter) = (Writer::new(&mut octets), Counter::new());
+    writer.inside(Tag::SEQUENCE, |inside| {
+        inside.element(Tag::OCTET_STRING, &[0; 200])?;
+        inside.header(Tag::context(1000, false), 3)?;
+        inside.write(&[1, 2, 3])
+    })?;
+    counter.inside(Tag::SEQUENCE, |inside| {
+        inside.element(Tag::OCTET_STRING, 200)?;
+        inside.header(Tag::context(1000, false), 3)?;
+        inside.write(3)
+    })?;
+    assert_eq!(counter.finish()? as usize, writer.finish()?.len());
+    let failed = counter.inside(Tag::SEQUENCE, |inside| inside.element(Tag(7), 1));
+    assert_eq!(failed.unwrap_err().kind(), ErrorKind::TagNumberInvalid);
+    assert_eq!(counter.finish().unwrap_err().kind(), ErrorKind::Failed);
+    Ok(())
+}
+
+/// Seconds and times that `date -u -d @SECONDS +%FT%TZ` prints.
+#[test]
+fn times_are_made_of_seconds() {
+    let known = [
+        (0, "1970-01-01T00:00:00Z"),
+        (1767323045, "2026-01-02T03:04:05Z"),
+        (-1, "1969-12-31T23:59:59Z"),
+        (253402300799, "9999-12-31T23:59:59Z"),
+        (-62167219200, "0000-01-01T00:00:00Z"),
+    ];
+    for (seconds, text) in known {
+        assert_eq!(Time::from_unix_seconds(seconds).unwrap().to_string(), text);
+    }
+    assert_eq!(Time::from_unix_seconds(253402300800), None);
+    assert_eq!(Time::from_unix_seconds(-62167219201), None);
+}
+
+#[test]
+fn elements_of_other_octets_are_refused() {
+    let (octets, others) = ([0x30, 3, 2, 1, 7], [0x30, 3, 1, 1, 0]);
+    let mut reader = Reader::der(&octets).unwrap();
+    let element = reader.read().unwrap();
+    let mut other = Reader::der(&others).unwrap();
+    assert_eq!(other.open(&element).unwrap_err().kind(), ErrorKind::Reader);
+    assert_eq!(other.octets_of(&element).unwrap_err().kind(), ErrorKind::Reader);
+    assert!(reader.open(&element).is_ok() && reader.octets_of(&element).unwrap() == octets);
+    assert!(other.skip().is_ok() && other.finish().is_ok());
+}

@@ -1,0 +1,60 @@
+//! The elements of a value, and its departures.
+ghost use Rattle.std.specs.Prelude.{◌≡◌, ◌↔◌, ◌≤◌, true, false, length, take};
+ghost use Rattle.asn1_schema.specs.Table.{table_in};
+ghost use Rattle.asn1_tree.specs.Encoding.{IsDer, IsBer};
+ghost use Rattle.asn1_tree.specs.Entries.{are_placed};
+
+use crate::departures::list_departures;
+use crate::found::{DerTreeFound, number_of};
+use asn1_schema::Schema;
+use asn1_tree::{Departure, Entry, read_into};
+
+/// How many departures are listed at most. More are counted.
+const LISTED: usize = 1000;
+
+/// Reads `octets` as a value of the type `node` of a table: puts its elements into `entries`, and what else was found into
+/// `found`. Prints into `list` the departures as JSON, as `der_show --json` does, with the index of the element of each;
+/// nothing if they do not fit. Returns false, and leaves `found` as it was, if there is no room, no table, or no such
+/// type.
+pub fn der_tree_read(
+    table: &[u8],
+    node: u32,
+    octets: &[u8],
+    entries: &mut [Entry],
+    marks: &mut [u32],
+    text: &mut [u8],
+    list: &mut [u8],
+    found: &mut DerTreeFound,
+) -> bool
+    ensures der { result ≡ true
+        → (found.new.verdict ≡ 0) ↔ IsDer (table_in table.now) node octets.now }
+    ensures ber { result ≡ true
+        → (found.new.verdict ≤ 1) ↔ IsBer (table_in table.now) node octets.now }
+    ensures placed { result ≡ true
+        → are_placed (length octets.now) (take found.new.entries entries.new) ≡ true }
+    ensures fits { result ≡ true → found.new.entries ≤ length entries.new }
+    ensures same { result ≡ false → found.new ≡ found.old }
+{
+    let Ok(schema) = Schema::new(table) else {
+        return false;
+    };
+    if node >= schema.counts().nodes {
+        return false;
+    }
+    let mut departures = [Departure::NONE; LISTED];
+    match read_into(&schema, node, octets, entries, &mut departures, marks, text) {
+        Ok(read) => {
+            let kept = entries.get(..read.entries).unwrap_or(&[]);
+            let noted = departures.get(..read.departures).unwrap_or(&[]);
+            *found = DerTreeFound {
+                entries: read.entries,
+                departures: read.departures,
+                lost: read.lost,
+                listed: list_departures(&schema, octets, kept, noted, list),
+                verdict: number_of(read.verdict),
+            };
+            true
+        }
+        Err(_) => false,
+    }
+}
