@@ -57,7 +57,6 @@ impl<'a> Name<'a> {
             level: Reader::der(&[]),
         }
     }
-
 }
 
 /// How many parts the levels of a name are divided into, to be printed from the last to the first.

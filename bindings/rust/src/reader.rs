@@ -150,7 +150,12 @@ impl<'a> Reader<'a> {
     /// The octets that are left.
     pub(crate) fn rest(&self) -> &'a [u8] {
         // SAFETY: proved: the position is at most the end, which is in the input that is borrowed for 'a.
-        unsafe { core::slice::from_raw_parts(self.0.octets.add(self.0.position), self.0.end as usize - self.0.position) }
+        unsafe {
+            core::slice::from_raw_parts(
+                self.0.octets.add(self.0.position),
+                self.0.end as usize - self.0.position,
+            )
+        }
     }
 
     /// Where the reader is, in octets from the start of the input.

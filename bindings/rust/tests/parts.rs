@@ -1,5 +1,7 @@
 //! Names, extensions and general names from octets, requests with extensions, counters and times.
-use der_c::{Counter, Error, ErrorKind, Extensions, GeneralName, GeneralNames, Name, Reader, Request, Tag, Time, Writer};
+use der_c::{
+    Counter, Error, ErrorKind, Extensions, GeneralName, GeneralNames, Name, Reader, Request, Tag, Time, Writer,
+};
 use std::time::{Duration, Instant};
 
 /// A name of one level for each text: `CN=text`.
@@ -48,8 +50,14 @@ fn names_are_whole() {
     let error = Name::from_der(&octets[..octets.len() - 1]).unwrap_err();
     assert!(matches!(error.kind(), ErrorKind::Incomplete { expected, .. } if expected as usize == octets.len()));
     let longer = [&octets[..], &[5, 0]].concat();
-    assert!(matches!(Name::from_der(&longer).unwrap_err().kind(), ErrorKind::TrailingData { remaining: 2, .. }));
-    assert!(matches!(Name::from_der(&[0x30, 2, 5, 0]).unwrap_err().kind(), ErrorKind::TagUnexpected { .. }));
+    assert!(matches!(
+        Name::from_der(&longer).unwrap_err().kind(),
+        ErrorKind::TrailingData { remaining: 2, .. }
+    ));
+    assert!(matches!(
+        Name::from_der(&[0x30, 2, 5, 0]).unwrap_err().kind(),
+        ErrorKind::TagUnexpected { .. }
+    ));
     assert!(Name::from_der(&[0x30, 4, 0x31, 2, 5, 0]).is_err());
 }
 
@@ -76,12 +84,24 @@ fn extensions_are_read_from_octets() {
 /// The request of openssl that `bindings/test` makes, if it is there, asks for names.
 #[test]
 fn requests_have_extensions() {
-    let Ok(path) = std::env::var("DER_C_REQUEST") else { return };
+    let Ok(path) = std::env::var("DER_C_REQUEST") else {
+        return;
+    };
     let octets = std::fs::read(path).unwrap();
     let request = Request::from_der(&octets).unwrap();
-    let names = request.extensions().unwrap().unwrap().subject_alternative_name().unwrap().unwrap();
+    let names = request
+        .extensions()
+        .unwrap()
+        .unwrap()
+        .subject_alternative_name()
+        .unwrap()
+        .unwrap();
     let names: Vec<_> = names.into_iter().map(Result::unwrap).collect();
-    let wanted = [GeneralName::Dns("example.org"), GeneralName::Dns("www.example.org"), GeneralName::Ip(&[127, 0, 0, 1])];
+    let wanted = [
+        GeneralName::Dns("example.org"),
+        GeneralName::Dns("www.example.org"),
+        GeneralName::Ip(&[127, 0, 0, 1]),
+    ];
     assert_eq!(names, wanted);
 }
 
