@@ -27,7 +27,8 @@ static void see_places(const der_tree *tree)
         const der_entry *it = entries + i, *parent = entries + it->parent;
         size_t end = it->offset + it->header_length + it->contents_length;
         must(end <= tree->octets.length && it->header_length >= 2);
-        must(i == 0 ? it->parent == 0 && it->depth == 0 && it->offset == 0 : it->parent < i);
+        must(i == 0 ? it->parent == 0 && it->depth == 0 : it->parent < i);
+        must(i > 0 || it->offset == 0 || tree->found.verdict == 2);
         must(i == 0 || (it->depth == parent->depth + 1 && it->offset >= parent->offset + parent->header_length));
         must(i == 0 || it->offset > entries[i - 1].offset);
         must(i == 0 || end <= parent->offset + parent->header_length + parent->contents_length ||

@@ -105,8 +105,9 @@ bool der_tree_contents(const uint8_t *octets, size_t length, const der_entry *en
                        der_span *part);
 
 /* der_tree_name writes the name of the field that an element is, der_tree_type that of its type, and
- * der_tree_text the text of its value: a name as RFC 4514 has it, an OBJECT IDENTIFIER with its name,
- * a time, a number or a string. */
+ * der_tree_text the text of its value, as `der_show` prints it: a name, an OBJECT IDENTIFIER with its
+ * name, a time, a number or a string. The first element of a value whose octets begin with
+ * end-of-contents octets is the one after these. */
 size_t der_tree_name(const uint8_t *table, size_t table_length, const uint8_t *octets, size_t length,
                      const der_entry *entries, size_t count, size_t index, char *text, size_t capacity);
 size_t der_tree_type(const uint8_t *table, size_t table_length, const uint8_t *octets, size_t length,
