@@ -6,3 +6,4 @@ mod LintLemmas
 mod NamePlaceLemmas
 mod PolicyLemmas
 mod RuleLemmas
+mod ListRuleLemmas

@@ -10,6 +10,9 @@ use Rattle.x509_lint.specs.declared.pair_rule.PairRule.TheVariants as pair
 use Rattle.x509_lint.specs.declared.rule.Rule.{Rule}
 use Rattle.x509_lint.specs.declared.rule.Rule.TheVariants as of
 use Rattle.x509_lint.specs.declared.value_rule.ValueRule.TheVariants as value
+use Rattle.x509_lint.specs.declared.base_rule.BaseRule.TheVariants as base
+use Rattle.x509_lint.specs.declared.point_rule.PointRule.TheVariants as point
+use Rattle.x509_lint.specs.declared.policy_rule.PolicyRule.TheVariants as policy
 
 pub listed : (r : Rule) → slice_get RULES (place_of r) ≡ Some r
 listed of.VersionFields = refl
@@ -49,9 +52,20 @@ listed (of.Extension (extension.Value (value.Subtrees))) = refl
 listed (of.Extension (extension.Value (value.SubtreesPresent))) = refl
 listed (of.Extension (extension.Value (value.Locations))) = refl
 listed (of.Extension (extension.Value (value.IssuerAndSerial))) = refl
+listed (of.Extension (extension.Value (value.Policies (policy.Qualifiers)))) = refl
+listed (of.Extension (extension.Value (value.Policies (policy.TextTypes)))) = refl
+listed (of.Extension (extension.Value (value.Policies (policy.TextLengths)))) = refl
+listed (of.Extension (extension.Value (value.Policies (policy.Pointers)))) = refl
+listed (of.Extension (extension.Value (value.PointFields (point.Scheme)))) = refl
+listed (of.Extension (extension.Value (value.PointFields (point.IssuerName)))) = refl
+listed (of.Extension (extension.Value (value.PointFields (point.OneIssuer)))) = refl
+listed (of.Extension (extension.Value (value.Bases (base.Domain)))) = refl
+listed (of.Extension (extension.Value (value.Bases (base.Range)))) = refl
 listed (of.Extension (extension.Value (value.Names (form.Mail)))) = refl
 listed (of.Extension (extension.Value (value.Names (form.Host)))) = refl
 listed (of.Extension (extension.Value (value.Names (form.Scheme)))) = refl
+listed (of.Extension (extension.Value (value.Names (form.Uri)))) = refl
+listed (of.Extension (extension.Value (value.Names (form.Authority)))) = refl
 listed (of.Extension (extension.Value (value.Names (form.Address)))) = refl
 listed (of.Extension (extension.Value (value.Names (form.Directory)))) = refl
 listed (of.Pair (pair.CertSignOfAuthority)) = refl

@@ -1,14 +1,14 @@
 -- Extensions that are looked for (`IsFound`), and pairs of them (`given_of`, `wanted_of`).
-use Rattle.std.specs.Prelude.{◌≡◌, ℕ, Bool, false, true, List}
-use Rattle.der.specs.Prelude.{Integer}
+use Rattle.std.specs.Prelude.{◌≡◌, ℕ, Bool, false, true, List, []}
+use Rattle.der.specs.Prelude.{Integer, Sequence, element_octets}
 use Rattle.der_asn1.specs.ContextSpecific.{context_tag}
 use Rattle.der_asn1.specs.Forms.{is_false}
-use Rattle.x509.specs.ExtensionIdentifiers.{id_ce}
+use Rattle.x509.specs.ExtensionIdentifiers.{id_ce, id_pe}
 use Rattle.x509.specs.CertificateLists.{AreExtensions}
 use Rattle.x509.specs.Firsts.{IsFirstAt}
 use Rattle.x509.specs.declared.asn1.extension.Extension.{Extension}
 use Rattle.x509.specs.declared.asn1.extensions.Extensions.{Extensions}
-use Rattle.x509_lint.specs.Values.{HasAuthority, HasCertSign, HasPart}
+use Rattle.x509_lint.specs.Values.{HasAuthority, HasCertSign, HasMixedKinds, HasPart, IsLongNumber}
 use Rattle.x509_lint.specs.declared.extension_test.ExtensionTest.{ExtensionTest}
 use Rattle.x509_lint.specs.declared.extension_test.ExtensionTest.TheVariants as test
 use Rattle.x509_lint.specs.declared.pair_rule.PairRule.{PairRule}
@@ -30,6 +30,13 @@ IsWanted test.CriticalNumber id plain value = (id ≡ id_ce 20) × (plain ≡ fa
 IsWanted test.PlainDelta id plain value = (id ≡ id_ce 27) × (plain ≡ true)
 IsWanted test.PlainPoint id plain value = (id ≡ id_ce 28) × (plain ≡ true)
 IsWanted test.CriticalFreshest id plain value = (id ≡ id_ce 46) × (plain ≡ false)
+IsWanted test.Freshest id plain value = id ≡ id_ce 46
+IsWanted test.Delta id plain value = id ≡ id_ce 27
+IsWanted test.CriticalAccess id plain value = (id ≡ id_pe 1) × (plain ≡ false)
+IsWanted test.LongNumber id plain value = (id ≡ id_ce 20) × IsLongNumber value
+IsWanted test.MixedPoint id plain value = (id ≡ id_ce 28) × HasMixedKinds value
+IsWanted test.EmptyPoint id plain value = (id ≡ id_ce 28) × (value ≡ element_octets Sequence [])
+IsWanted test.IndirectPoint id plain value = (id ≡ id_ce 28) × HasPart (context_tag false 4) value
 
 abbrev pub IsFound : ExtensionTest → Extension → Type 0
 IsFound t v = IsWanted t v.extn_id.octets.now (is_false v.critical.0.octets.now) v.extn_value.octets.now

@@ -1,6 +1,7 @@
 pub mod Elements
-pub mod HostNames
-pub mod Separators
+pub mod Tests
+pub mod Identifiers
+pub mod Bases
 pub mod GeneralNameForms
 pub mod Parts
 pub mod Groups
@@ -15,9 +16,12 @@ pub mod SerialNumbers
 pub mod ExtensionChecks
 pub mod AttributeChecks
 pub mod PolicyChecks
+pub mod FieldRules
+pub mod EntryTests
 pub mod ValueRules
 pub mod NameChecks
 pub mod CertificateChecks
 pub mod Lint
 pub mod RuleList
+pub mod ListRuleList
 pub mod ListRules

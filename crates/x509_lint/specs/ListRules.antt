@@ -1,12 +1,17 @@
--- Rules for revocation lists (RFC 5280, 5.1 and 5.2): `ListKeeps`.
+-- Rules for revocation lists (RFC 5280, 5.1 to 5.3): `ListKeeps`.
 use Rattle.std.specs.Prelude.{◌≡◌, ◌≢◌, [], IfSome, IsSome, IsSomeAnd}
 use Rattle.x509.specs.declared.asn1.certificate_list.CertificateList.{CertificateList}
 use Rattle.x509.specs.declared.asn1.tbs_cert_list.TbsCertList.{TbsCertList}
 use Rattle.x509_lint.specs.CertificateChecks.{ExtensionsKeep}
 use Rattle.x509_lint.specs.Checks.{IsSameAlgorithm, certificate_version_number}
+use Rattle.x509_lint.specs.Elements.{EachElement}
+use Rattle.x509_lint.specs.EntryTests.{EntryKeeps}
 use Rattle.x509_lint.specs.ExtensionTests.{HasFound}
 use Rattle.x509_lint.specs.NameChecks.{NameKeeps}
 use Rattle.x509_lint.specs.ValidityChecks.{HasFormOfYear}
+use Rattle.x509_lint.specs.declared.entry_test.EntryTest.{EntryTest}
+use Rattle.x509_lint.specs.declared.entry_test.EntryTest.TheVariants as entry
+use Rattle.x509_lint.specs.declared.identifier.Identifier.TheVariants.{InvalidityDate, Reason}
 use Rattle.x509_lint.specs.declared.extension_rule.ExtensionRule.TheVariants as rule
 use Rattle.x509_lint.specs.declared.extension_test.ExtensionTest.{ExtensionTest}
 use Rattle.x509_lint.specs.declared.extension_test.ExtensionTest.TheVariants as test
@@ -40,6 +45,26 @@ HasSingleExtensions v = IfSome v.crl_extensions.0 (λ e. ExtensionsKeep rule.Ins
 abbrev pub HasInList : ExtensionTest → TbsCertList → Type 0
 HasInList t v = IsSomeAnd v.crl_extensions.0 (λ e. HasFound t e.0)
 
+-- all entries keep a test, if there are entries
+abbrev pub EntriesKeep : EntryTest → TbsCertList → Type 0
+EntriesKeep t v = IfSome v.revoked_certificates.0 (λ r. EachElement (EntryKeeps t) r.octets.now)
+
+-- the version is present, if an entry has extensions (5.1.2.1)
+abbrev pub HasEntryVersion : TbsCertList → Type 0
+HasEntryVersion v = (EntriesKeep entry.NoExtensions v → ⊥) → IsSome v.version.0
+
+-- a freshestCRL is not in a list of changes (5.2.6)
+abbrev pub HasFreshestOfComplete : TbsCertList → Type 0
+HasFreshestOfComplete v = HasInList test.Freshest v → HasInList test.Delta v → ⊥
+
+-- the reason removeFromCRL is in a list of changes alone (5.3.1)
+abbrev pub HasRemovedInChanges : TbsCertList → Type 0
+HasRemovedInChanges v = (HasInList test.Delta v → ⊥) → EntriesKeep entry.NotRemoved v
+
+-- a certificateIssuer is in an indirect list alone (5.3.3)
+abbrev pub HasIssuerOfIndirect : TbsCertList → Type 0
+HasIssuerOfIndirect v = (EntriesKeep entry.NoIssuer v → ⊥) → HasInList test.IndirectPoint v
+
 -- a revocation list keeps a rule
 abbrev pub ListKeeps : ListRule → CertificateList → Type 0
 ListKeeps of.SameAlgorithms l = IsSameAlgorithm l.signature_algorithm l.tbs_cert_list.signature
@@ -57,3 +82,15 @@ ListKeeps of.NumberNotCritical l = HasInList test.CriticalNumber l.tbs_cert_list
 ListKeeps of.DeltaCritical l = HasInList test.PlainDelta l.tbs_cert_list → ⊥
 ListKeeps of.PointCritical l = HasInList test.PlainPoint l.tbs_cert_list → ⊥
 ListKeeps of.FreshestNotCritical l = HasInList test.CriticalFreshest l.tbs_cert_list → ⊥
+ListKeeps of.EntryTimes l = EntriesKeep entry.Times l.tbs_cert_list
+ListKeeps of.EntryVersion l = HasEntryVersion l.tbs_cert_list
+ListKeeps of.NumberLength l = HasInList test.LongNumber l.tbs_cert_list → ⊥
+ListKeeps of.PointKinds l = HasInList test.MixedPoint l.tbs_cert_list → ⊥
+ListKeeps of.PointNotEmpty l = HasInList test.EmptyPoint l.tbs_cert_list → ⊥
+ListKeeps of.FreshestOfComplete l = HasFreshestOfComplete l.tbs_cert_list
+ListKeeps of.AccessNotCritical l = HasInList test.CriticalAccess l.tbs_cert_list → ⊥
+ListKeeps of.ReasonNotCritical l = EntriesKeep (entry.NotCritical Reason) l.tbs_cert_list
+ListKeeps of.RemovedInChanges l = HasRemovedInChanges l.tbs_cert_list
+ListKeeps of.DateNotCritical l = EntriesKeep (entry.NotCritical InvalidityDate) l.tbs_cert_list
+ListKeeps of.IssuerCritical l = EntriesKeep entry.IssuerCritical l.tbs_cert_list
+ListKeeps of.IssuerOfIndirect l = HasIssuerOfIndirect l.tbs_cert_list

@@ -8,8 +8,11 @@ use Rattle.x509_lint.specs.declared.pair_rule.PairRule.TheVariants as pair
 use Rattle.x509_lint.specs.declared.rule.Rule.{Rule}
 use Rattle.x509_lint.specs.declared.rule.Rule.TheVariants as of
 use Rattle.x509_lint.specs.declared.value_rule.ValueRule.TheVariants as value
+use Rattle.x509_lint.specs.declared.base_rule.BaseRule.TheVariants as base
+use Rattle.x509_lint.specs.declared.point_rule.PointRule.TheVariants as point
+use Rattle.x509_lint.specs.declared.policy_rule.PolicyRule.TheVariants as policy
 
--- the place of a rule in the list, counted from 0: 47 rules have the places 0 to 46
+-- the place of a rule in the list, counted from 0: 58 rules have the places 0 to 57
 abbrev pub place_of : Rule → ℕ
 place_of of.VersionFields = 0
 place_of of.SameAlgorithms = 1
@@ -48,13 +51,24 @@ place_of (of.Extension (extension.Value (value.Subtrees))) = 33
 place_of (of.Extension (extension.Value (value.SubtreesPresent))) = 34
 place_of (of.Extension (extension.Value (value.Locations))) = 35
 place_of (of.Extension (extension.Value (value.IssuerAndSerial))) = 36
-place_of (of.Extension (extension.Value (value.Names (form.Mail)))) = 37
-place_of (of.Extension (extension.Value (value.Names (form.Host)))) = 38
-place_of (of.Extension (extension.Value (value.Names (form.Scheme)))) = 39
-place_of (of.Extension (extension.Value (value.Names (form.Address)))) = 40
-place_of (of.Extension (extension.Value (value.Names (form.Directory)))) = 41
-place_of (of.Pair (pair.CertSignOfAuthority)) = 42
-place_of (of.Pair (pair.UsageOfAuthority)) = 43
-place_of (of.Pair (pair.KeyIdentifierOfAuthority)) = 44
-place_of (of.Pair (pair.NameConstraintsOfAuthority)) = 45
-place_of (of.Pair (pair.PathLengthOfCertSign)) = 46
+place_of (of.Extension (extension.Value (value.Policies (policy.Qualifiers)))) = 37
+place_of (of.Extension (extension.Value (value.Policies (policy.TextTypes)))) = 38
+place_of (of.Extension (extension.Value (value.Policies (policy.TextLengths)))) = 39
+place_of (of.Extension (extension.Value (value.Policies (policy.Pointers)))) = 40
+place_of (of.Extension (extension.Value (value.PointFields (point.Scheme)))) = 41
+place_of (of.Extension (extension.Value (value.PointFields (point.IssuerName)))) = 42
+place_of (of.Extension (extension.Value (value.PointFields (point.OneIssuer)))) = 43
+place_of (of.Extension (extension.Value (value.Bases (base.Domain)))) = 44
+place_of (of.Extension (extension.Value (value.Bases (base.Range)))) = 45
+place_of (of.Extension (extension.Value (value.Names (form.Mail)))) = 46
+place_of (of.Extension (extension.Value (value.Names (form.Host)))) = 47
+place_of (of.Extension (extension.Value (value.Names (form.Scheme)))) = 48
+place_of (of.Extension (extension.Value (value.Names (form.Uri)))) = 49
+place_of (of.Extension (extension.Value (value.Names (form.Authority)))) = 50
+place_of (of.Extension (extension.Value (value.Names (form.Address)))) = 51
+place_of (of.Extension (extension.Value (value.Names (form.Directory)))) = 52
+place_of (of.Pair (pair.CertSignOfAuthority)) = 53
+place_of (of.Pair (pair.UsageOfAuthority)) = 54
+place_of (of.Pair (pair.KeyIdentifierOfAuthority)) = 55
+place_of (of.Pair (pair.NameConstraintsOfAuthority)) = 56
+place_of (of.Pair (pair.PathLengthOfCertSign)) = 57

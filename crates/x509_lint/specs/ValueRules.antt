@@ -6,6 +6,7 @@ use Rattle.x509.specs.ExtensionIdentifiers.{id_ce}
 use Rattle.x509_lint.specs.Elements.{EachOfSequence, IsElement}
 use Rattle.x509_lint.specs.ExtensionChecks.{IsAccess}
 use Rattle.x509_lint.specs.ExtensionKinds.{IsAltNames, IsPoints}
+use Rattle.x509_lint.specs.FieldRules.{BasesKeep, PointKeeps, PolicyKeeps}
 use Rattle.x509_lint.specs.Groups.{GroupKeeps}
 use Rattle.x509_lint.specs.Parts.{PartKeeps}
 use Rattle.x509_lint.specs.PolicyChecks.{AreDistinctPolicies}
@@ -40,4 +41,7 @@ ValueKeeps value.Subtrees id v = id ≡ id_ce 30 → EachOfSequence (GroupKeeps 
 ValueKeeps value.SubtreesPresent id v = id ≡ id_ce 30 → EachOfSequence (PartKeeps part.NotEmpty) v
 ValueKeeps value.Locations id v = IsAccess id → EachOfSequence (GroupKeeps group.Location) v
 ValueKeeps value.IssuerAndSerial id v = id ≡ id_ce 35 → HasIssuerAndSerial v
+ValueKeeps (value.Policies r) id v = id ≡ id_ce 32 → PolicyKeeps r v
+ValueKeeps (value.PointFields r) id v = IsPoints id → PointKeeps r v
+ValueKeeps (value.Bases r) id v = id ≡ id_ce 30 → BasesKeep r v
 ValueKeeps (value.Names r) id v = IsAltNames id → EachOfSequence (PartKeeps (part.Form r)) v

@@ -6,8 +6,9 @@ ghost use Rattle.x509_lint.specs.Checks.{parameters_of, certificate_version_numb
 pub mod attribute;
 pub mod extension;
 pub mod extensions;
+pub mod fields;
 pub mod found;
-mod identifiers;
+pub(crate) mod identifiers;
 mod kinds;
 pub mod list;
 pub mod name;

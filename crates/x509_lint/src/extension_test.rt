@@ -29,4 +29,18 @@ pub enum ExtensionTest {
     PlainPoint,
     /// It is a critical freshestCRL (5.2.6).
     CriticalFreshest,
+    /// It is a freshestCRL (5.2.6).
+    Freshest,
+    /// It is a deltaCRLIndicator (5.2.4).
+    Delta,
+    /// It is a critical authorityInfoAccess (5.2.7).
+    CriticalAccess,
+    /// It is a cRLNumber of more than 20 octets (5.2.3).
+    LongNumber,
+    /// It is an issuingDistributionPoint for more than one kind of certificates (5.2.5).
+    MixedPoint,
+    /// It is an issuingDistributionPoint that is an empty SEQUENCE (5.2.5).
+    EmptyPoint,
+    /// It is an issuingDistributionPoint of an indirect list (5.2.5).
+    IndirectPoint,
 }

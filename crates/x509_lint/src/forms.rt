@@ -3,16 +3,10 @@ ghost use Rattle.std.specs.Prelude.{◌≡◌, ◌↔◌, true};
 ghost use Rattle.der_asn1.specs.ContextSpecific.{context_tag};
 ghost use Rattle.x509_lint.specs.GeneralNameForms.{FormKeeps};
 
-pub mod host;
-pub mod mailbox;
-pub mod scheme;
-
 use crate::elements::is_same_tag;
 use crate::form_rule::FormRule;
 use der::{Tag, TagNumber};
-use host::is_host_name;
-use mailbox::is_mailbox;
-use scheme::has_scheme;
+use name_forms::{has_host, has_scheme, is_address, is_host_name, is_mailbox, is_uri};
 
 /// Whether a general name with this tag and these contents keeps the rule.
 pub fn form_keeps(tag: Tag, contents: &[u8], rule: FormRule) -> bool
@@ -22,9 +16,9 @@ pub fn form_keeps(tag: Tag, contents: &[u8], rule: FormRule) -> bool
         FormRule::Mail => !is_context(tag, false, 1) || is_mailbox(contents),
         FormRule::Host => !is_context(tag, false, 2) || is_host_name(contents),
         FormRule::Scheme => !is_context(tag, false, 6) || has_scheme(contents),
-        FormRule::Address => {
-            !is_context(tag, false, 7) || contents.len() == 4 || contents.len() == 16
-        }
+        FormRule::Uri => !is_context(tag, false, 6) || is_uri(contents),
+        FormRule::Authority => !is_context(tag, false, 6) || has_host(contents),
+        FormRule::Address => { !is_context(tag, false, 7) || is_address(contents) }
         FormRule::Directory => !is_context(tag, true, 4) || contents != [0x30, 0x00].as_slice(),
     }
 }

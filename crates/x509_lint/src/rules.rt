@@ -1,14 +1,17 @@
 //! All rules.
 use crate::attribute_rule::AttributeRule;
+use crate::base_rule::BaseRule;
 use crate::extension_rule::ExtensionRule;
 use crate::form_rule::FormRule;
 use crate::name_rule::NameRule;
 use crate::pair_rule::PairRule;
+use crate::point_rule::PointRule;
+use crate::policy_rule::PolicyRule;
 use crate::rule::Rule;
 use crate::value_rule::ValueRule;
 
 /// All rules, in the order in which [`Lint`](crate::Lint) goes through them.
-pub const RULES: [Rule; 47] = [
+pub const RULES: [Rule; 58] = [
     Rule::VersionFields,
     Rule::SameAlgorithms,
     Rule::SerialNumber,
@@ -46,9 +49,20 @@ pub const RULES: [Rule; 47] = [
     Rule::Extension(ExtensionRule::Value(ValueRule::SubtreesPresent)),
     Rule::Extension(ExtensionRule::Value(ValueRule::Locations)),
     Rule::Extension(ExtensionRule::Value(ValueRule::IssuerAndSerial)),
+    Rule::Extension(ExtensionRule::Value(ValueRule::Policies(PolicyRule::Qualifiers))),
+    Rule::Extension(ExtensionRule::Value(ValueRule::Policies(PolicyRule::TextTypes))),
+    Rule::Extension(ExtensionRule::Value(ValueRule::Policies(PolicyRule::TextLengths))),
+    Rule::Extension(ExtensionRule::Value(ValueRule::Policies(PolicyRule::Pointers))),
+    Rule::Extension(ExtensionRule::Value(ValueRule::PointFields(PointRule::Scheme))),
+    Rule::Extension(ExtensionRule::Value(ValueRule::PointFields(PointRule::IssuerName))),
+    Rule::Extension(ExtensionRule::Value(ValueRule::PointFields(PointRule::OneIssuer))),
+    Rule::Extension(ExtensionRule::Value(ValueRule::Bases(BaseRule::Domain))),
+    Rule::Extension(ExtensionRule::Value(ValueRule::Bases(BaseRule::Range))),
     Rule::Extension(ExtensionRule::Value(ValueRule::Names(FormRule::Mail))),
     Rule::Extension(ExtensionRule::Value(ValueRule::Names(FormRule::Host))),
     Rule::Extension(ExtensionRule::Value(ValueRule::Names(FormRule::Scheme))),
+    Rule::Extension(ExtensionRule::Value(ValueRule::Names(FormRule::Uri))),
+    Rule::Extension(ExtensionRule::Value(ValueRule::Names(FormRule::Authority))),
     Rule::Extension(ExtensionRule::Value(ValueRule::Names(FormRule::Address))),
     Rule::Extension(ExtensionRule::Value(ValueRule::Names(FormRule::Directory))),
     Rule::Pair(PairRule::CertSignOfAuthority),

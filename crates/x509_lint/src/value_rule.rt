@@ -1,5 +1,8 @@
 //! Rules for the values of extensions.
+use crate::base_rule::BaseRule;
 use crate::form_rule::FormRule;
+use crate::point_rule::PointRule;
+use crate::policy_rule::PolicyRule;
 use std::fmt;
 
 /// A rule for the values of extensions (RFC 5280, 4.2.1 and 4.2.2).
@@ -31,6 +34,12 @@ pub enum ValueRule {
     /// An authorityKeyIdentifier has both the name and the serial number of an issuer, or neither
     /// (4.2.1.1).
     IssuerAndSerial,
+    /// The qualifiers of a certificatePolicies keep this rule (4.2.1.4).
+    Policies(PolicyRule),
+    /// The fields of the distribution points keep this rule (4.2.1.13).
+    PointFields(PointRule),
+    /// The bases of the subtrees of a nameConstraints keep this rule (4.2.1.10).
+    Bases(BaseRule),
     /// Each name of a subjectAltName or an issuerAltName keeps this rule (4.2.1.6, 4.2.1.7).
     Names(FormRule),
 }
@@ -60,6 +69,9 @@ impl fmt::Display for ValueRule {
             ValueRule::IssuerAndSerial => {
                 "an issuer is identified without a serial number, or the reverse (RFC 5280, 4.2.1.1)"
             }
+            ValueRule::Policies(rule) => return write!(f, "{rule}"),
+            ValueRule::PointFields(rule) => return write!(f, "{rule}"),
+            ValueRule::Bases(rule) => return write!(f, "{rule}"),
             ValueRule::Names(rule) => return write!(f, "{rule}"),
         })
     }

@@ -1,9 +1,11 @@
 //! What the values of extensions are.
-ghost use Rattle.std.specs.Prelude.{◌≡◌, ◌∷◌, ◌↔◌, ℕ, List, EachIndex, true};
+ghost use Rattle.std.specs.Prelude.{◌≡◌, ◌∷◌, ◌↔◌, ℕ, List, ◌<◌, EachIndex, false, length, true};
+ghost use Rattle.der_asn1.specs.ContextSpecific.{context_tag};
 ghost use Rattle.der_asn1.specs.NamedBits.{has_bit};
-ghost use Rattle.x509_lint.specs.Values.{AreZero, BeginsWithTrue, HasAuthority, HasCertSign, HasPart, HasUsage, IsNotNegative};
+ghost use Rattle.x509_lint.specs.Values.{AreZero, BeginsWithTrue, HasAuthority, HasBoth, HasCertSign, HasMixedKinds, HasPart, HasUsage, IsLongNumber, IsNotNegative};
 
 use crate::elements::{contents_with, each_of_sequence};
+use crate::forms::context;
 use crate::part_test::{PartTest, has_minus_sign};
 use der::Tag;
 use std::alloc::Global;
@@ -82,4 +84,42 @@ pub fn is_not_negative(alloc: Global, octets: &[u8]) -> bool
         Some(contents) => !has_minus_sign(contents),
         None => true,
     }
+}
+
+/// Whether the octets are an INTEGER of more than 20 octets (RFC 5280, 5.2.3).
+pub fn is_long_number(alloc: Global, octets: &[u8]) -> bool
+    ensures { (result ≡ true) ↔ IsLongNumber octets.now }
+{
+    match contents_with(alloc, octets, Tag::Integer) {
+        Some(contents) => is_longer_than_20(contents),
+        None => false,
+    }
+}
+
+fn is_longer_than_20(contents: &[u8]) -> bool
+    ensures { (result ≡ true) ↔ (20 < length contents.now) }
+{
+    contents.len() > 20
+}
+
+/// Whether an issuingDistributionPoint is one for more than one kind of certificates (RFC 5280,
+/// 5.2.5).
+#[tactic(auto, unfolding(crate::specs::Values::HasMixedKinds))]
+pub fn has_mixed_kinds(alloc: Global, octets: &[u8]) -> bool
+    ensures { (result ≡ true) ↔ HasMixedKinds octets.now }
+{
+    has_both(alloc, octets, 1, 2) || has_both(alloc, octets, 1, 5) || has_both(alloc, octets, 2, 5)
+}
+
+// Whether a SEQUENCE has elements with both tags.
+fn has_both(alloc: Global, octets: &[u8], first: u32, second: u32) -> bool
+    ensures { (result ≡ true) ↔ HasBoth first second octets.now }
+{
+    has_field(alloc, octets, first) && has_field(alloc, octets, second)
+}
+
+fn has_field(alloc: Global, octets: &[u8], number: u32) -> bool
+    ensures { (result ≡ true) ↔ HasPart (context_tag false number) octets.now }
+{
+    has_part(alloc, octets, context(false, number))
 }

@@ -131,7 +131,7 @@ fn is_within(bounds: Option<(usize, usize)>, count: usize) -> bool
 }
 
 // The number of characters of a text with this tag.
-fn character_count(tag: Tag, octets: &[u8]) -> usize
+pub(crate) fn character_count(tag: Tag, octets: &[u8]) -> usize
     ensures { result ≡ character_count tag octets.now }
 {
     match tag {

@@ -8,13 +8,14 @@ use crate::checks::identifiers::is;
 use crate::extension_test::ExtensionTest;
 use crate::forms::context;
 use crate::pair_rule::PairRule;
-use crate::values::{has_authority, has_cert_sign, has_part};
+use crate::values::{has_authority, has_cert_sign, has_mixed_kinds, has_part, is_long_number};
 use der::Tag;
 use std::alloc::Global;
 use x509::values::{
     id_ce_authority_key_identifier, id_ce_basic_constraints, id_ce_c_rl_number,
     id_ce_delta_crl_indicator, id_ce_freshest_crl, id_ce_issuing_distribution_point,
     id_ce_key_usage, id_ce_name_constraints, id_ce_subject_alt_name, id_ce_subject_key_identifier,
+    id_pe_authority_info_access,
 };
 use x509::{Extension, Extensions, TbsCertificate};
 
@@ -81,6 +82,21 @@ fn is_found(alloc: Global, extension: &Extension<'_>, test: ExtensionTest) -> bo
         }
         ExtensionTest::CriticalFreshest => {
             is(id, &id_ce_freshest_crl()) && extension.is_critical()
+        }
+        ExtensionTest::Freshest => is(id, &id_ce_freshest_crl()),
+        ExtensionTest::Delta => is(id, &id_ce_delta_crl_indicator()),
+        ExtensionTest::CriticalAccess => {
+            is(id, &id_pe_authority_info_access()) && extension.is_critical()
+        }
+        ExtensionTest::LongNumber => is(id, &id_ce_c_rl_number()) && is_long_number(alloc, value),
+        ExtensionTest::MixedPoint => {
+            is(id, &id_ce_issuing_distribution_point()) && has_mixed_kinds(alloc, value)
+        }
+        ExtensionTest::EmptyPoint => {
+            is(id, &id_ce_issuing_distribution_point()) && value == [0x30, 0x00].as_slice()
+        }
+        ExtensionTest::IndirectPoint => {
+            is(id, &id_ce_issuing_distribution_point()) && has_part(alloc, value, context(false, 4))
         }
     }
 }

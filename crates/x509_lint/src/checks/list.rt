@@ -1,7 +1,7 @@
-//! Checks of revocation lists (RFC 5280, 5.1 and 5.2).
+//! Checks of revocation lists (RFC 5280, 5.1 to 5.3).
 ghost use Rattle.std.specs.Prelude.{◌≡◌, ◌↔◌, true};
 ghost use Rattle.x509_lint.specs.CertificateChecks.{ExtensionsKeep};
-ghost use Rattle.x509_lint.specs.ListRules.{HasInList, HasListExtensionIfPresent, HasListTimes, HasListVersion, HasRevokedIfPresent, HasSingleExtensions, ListKeeps};
+ghost use Rattle.x509_lint.specs.ListRules.{EntriesKeep, HasEntryVersion, HasFreshestOfComplete, HasInList, HasIssuerOfIndirect, HasListExtensionIfPresent, HasListTimes, HasListVersion, HasRemovedInChanges, HasRevokedIfPresent, HasSingleExtensions, ListKeeps};
 
 use crate::checks::extensions::extensions_keep;
 use crate::checks::found::has_extension;
@@ -9,8 +9,10 @@ use crate::checks::name::name_keeps;
 use crate::checks::presence::has_item;
 use crate::checks::times::has_form_of_year;
 use crate::checks::{is_same_algorithm, number_of};
+use crate::entry_test::{EntryTest, entries_keep};
 use crate::extension_rule::ExtensionRule;
 use crate::extension_test::ExtensionTest;
+use crate::identifier::Identifier;
 use crate::list_rule::ListRule;
 use std::alloc::Global;
 use x509::{CertificateList, TbsCertList};
@@ -42,6 +44,66 @@ pub fn list_keeps(alloc: Global, list: &CertificateList<'_>, rule: ListRule) -> 
         ListRule::FreshestNotCritical => {
             !has_in_list(alloc, signed, ExtensionTest::CriticalFreshest)
         }
+        ListRule::EntryTimes => entries_of_keep(alloc, signed, EntryTest::Times),
+        ListRule::EntryVersion => has_entry_version(alloc, signed),
+        ListRule::NumberLength => !has_in_list(alloc, signed, ExtensionTest::LongNumber),
+        ListRule::PointKinds => !has_in_list(alloc, signed, ExtensionTest::MixedPoint),
+        ListRule::PointNotEmpty => !has_in_list(alloc, signed, ExtensionTest::EmptyPoint),
+        ListRule::FreshestOfComplete => has_freshest_of_complete(alloc, signed),
+        ListRule::AccessNotCritical => {
+            !has_in_list(alloc, signed, ExtensionTest::CriticalAccess)
+        }
+        ListRule::ReasonNotCritical => {
+            entries_of_keep(alloc, signed, EntryTest::NotCritical(Identifier::Reason))
+        }
+        ListRule::RemovedInChanges => has_removed_in_changes(alloc, signed),
+        ListRule::DateNotCritical => {
+            entries_of_keep(
+                alloc,
+                signed,
+                EntryTest::NotCritical(Identifier::InvalidityDate),
+            )
+        }
+        ListRule::IssuerCritical => entries_of_keep(alloc, signed, EntryTest::IssuerCritical),
+        ListRule::IssuerOfIndirect => has_issuer_of_indirect(alloc, signed),
+    }
+}
+
+// Whether the version is present, if an entry has extensions.
+fn has_entry_version(alloc: Global, signed: &TbsCertList<'_>) -> bool
+    ensures { (result ≡ true) ↔ HasEntryVersion signed.now }
+{
+    entries_of_keep(alloc, signed, EntryTest::NoExtensions) || signed.version.0.is_some()
+}
+
+fn has_freshest_of_complete(alloc: Global, signed: &TbsCertList<'_>) -> bool
+    ensures { (result ≡ true) ↔ HasFreshestOfComplete signed.now }
+{
+    !has_in_list(alloc, signed, ExtensionTest::Freshest)
+        || !has_in_list(alloc, signed, ExtensionTest::Delta)
+}
+
+fn has_removed_in_changes(alloc: Global, signed: &TbsCertList<'_>) -> bool
+    ensures { (result ≡ true) ↔ HasRemovedInChanges signed.now }
+{
+    has_in_list(alloc, signed, ExtensionTest::Delta)
+        || entries_of_keep(alloc, signed, EntryTest::NotRemoved)
+}
+
+fn has_issuer_of_indirect(alloc: Global, signed: &TbsCertList<'_>) -> bool
+    ensures { (result ≡ true) ↔ HasIssuerOfIndirect signed.now }
+{
+    entries_of_keep(alloc, signed, EntryTest::NoIssuer)
+        || has_in_list(alloc, signed, ExtensionTest::IndirectPoint)
+}
+
+// Whether all entries keep the test.
+fn entries_of_keep(alloc: Global, signed: &TbsCertList<'_>, test: EntryTest) -> bool
+    ensures { (result ≡ true) ↔ EntriesKeep test signed.now }
+{
+    match &signed.revoked_certificates.0 {
+        Some(revoked) => entries_keep(alloc, revoked.octets(), test),
+        None => true,
     }
 }
 

@@ -6,13 +6,16 @@ ghost use Rattle.x509.specs.ExtensionIdentifiers.{id_ce};
 ghost use Rattle.x509_lint.specs.Elements.{EachOfSequence};
 ghost use Rattle.x509_lint.specs.ExtensionChecks.{IsAccess};
 ghost use Rattle.x509_lint.specs.ExtensionKinds.{IsPoints};
+ghost use Rattle.x509_lint.specs.FieldRules.{BasesKeep, PointKeeps, PolicyKeeps};
 ghost use Rattle.x509_lint.specs.Groups.{GroupKeeps};
 ghost use Rattle.x509_lint.specs.Parts.{PartKeeps};
 ghost use Rattle.x509_lint.specs.PolicyChecks.{AreDistinctPolicies};
 ghost use Rattle.x509_lint.specs.ValueRules.{HasDistinctPolicies, HasIssuerAndSerial, ValueKeeps};
 ghost use Rattle.x509_lint.specs.Values.{HasAuthority, HasPart};
 
+use crate::base_rule::BaseRule;
 use crate::checks::extension::is_access;
+use crate::checks::fields::{bases_keep, points_keep, policies_keep};
 use crate::checks::identifiers::is;
 use crate::checks::kinds::{is_alt_names, is_points};
 use crate::checks::policies::has_distinct_policies;
@@ -21,6 +24,8 @@ use crate::elements::{contents_with, each_of_sequence};
 use crate::forms::context;
 use crate::group_test::GroupTest;
 use crate::part_test::PartTest;
+use crate::point_rule::PointRule;
+use crate::policy_rule::PolicyRule;
 use crate::value_rule::ValueRule;
 use crate::values::{has_authority, has_part, is_not_negative};
 use der::Tag;
@@ -58,18 +63,40 @@ pub fn value_keeps(alloc: Global, id: &[u8], value: &[u8], rule: ValueRule) -> b
             !is(id, &id_ce_policy_mappings()) || groups_keep(alloc, value, GroupTest::Mapping)
         }
         ValueRule::Points => has_points(alloc, id, value),
-
         ValueRule::Subtrees => has_subtrees(alloc, id, value),
-
         ValueRule::SubtreesPresent => has_subtrees_present(alloc, id, value),
         ValueRule::Locations => has_locations(alloc, id, value),
         ValueRule::IssuerAndSerial => {
             !is(id, &id_ce_authority_key_identifier()) || has_issuer_and_serial(alloc, value)
         }
+        ValueRule::Policies(rule) => has_policies_of(alloc, id, value, rule),
+        ValueRule::PointFields(rule) => has_points_of(alloc, id, value, rule),
+        ValueRule::Bases(rule) => has_bases_of(alloc, id, value, rule),
         ValueRule::Names(form) => {
             !is_alt_names(id) || each_of_sequence(alloc, value, &PartTest::Form(form))
         }
     }
+}
+
+// Whether the qualifiers of a certificatePolicies keep the rule.
+fn has_policies_of(alloc: Global, id: &[u8], value: &[u8], rule: PolicyRule) -> bool
+    ensures { (result ≡ true) ↔ (id.now ≡ id_ce 32 → PolicyKeeps rule value.now) }
+{
+    !is(id, &id_ce_certificate_policies()) || policies_keep(alloc, value, rule)
+}
+
+// Whether the fields of a list of distribution points keep the rule.
+fn has_points_of(alloc: Global, id: &[u8], value: &[u8], rule: PointRule) -> bool
+    ensures { (result ≡ true) ↔ (IsPoints id.now → PointKeeps rule value.now) }
+{
+    !is_points(id) || points_keep(alloc, value, rule)
+}
+
+// Whether the bases of a nameConstraints keep the rule.
+fn has_bases_of(alloc: Global, id: &[u8], value: &[u8], rule: BaseRule) -> bool
+    ensures { (result ≡ true) ↔ (id.now ≡ id_ce 30 → BasesKeep rule value.now) }
+{
+    !is(id, &id_ce_name_constraints()) || bases_keep(alloc, value, rule)
 }
 
 // Whether no policy occurs twice, if the value is that of a certificatePolicies.

@@ -14,3 +14,12 @@ returns-in-SubtreesPresent c = rw c.in-SubtreesPresent.is c.has_subtrees_present
 
 pub returns-in-Locations : goal.returns-in-Locations
 returns-in-Locations c = rw c.in-Locations.is c.has_locations.ensures
+
+pub returns-in-Policies : goal.returns-in-Policies
+returns-in-Policies c = rw c.in-Policies.is c.has_policies_of.ensures
+
+pub returns-in-PointFields : goal.returns-in-PointFields
+returns-in-PointFields c = rw c.in-PointFields.is c.has_points_of.ensures
+
+pub returns-in-Bases : goal.returns-in-Bases
+returns-in-Bases c = rw c.in-Bases.is c.has_bases_of.ensures

@@ -1,6 +1,0 @@
-use Rattle.std.proofs.Common.{ℕ, ◌<◌}
-use Rattle.x509_lint.specs.HostNames.{FitsHost}
-use Rattle.x509_lint.proofs.forms.host.all_fit.Given as goal
-
-abbrev pub invariant-loop-at : goal.invariant-loop-at
-invariant-loop-at l = (k : ℕ) → k < l.at → FitsHost l.octets k

@@ -1,6 +1,0 @@
-use Rattle.std.proofs.Common.{◌≡◌, ℕ, ◌<◌, true, slice_index}
-use Rattle.x509_lint.specs.Separators.{fits_scheme}
-use Rattle.x509_lint.proofs.forms.scheme.has_scheme.Given as goal
-
-abbrev pub invariant-loop-at : goal.invariant-loop-at
-invariant-loop-at l = (k : ℕ) → k < l.at → fits_scheme k (slice_index l.octets k) ≡ true

@@ -1,0 +1,70 @@
+//! Rules for the bases of subtrees.
+ghost use Rattle.std.specs.Prelude.{◌≡◌, ◌↔◌, drop, true};
+ghost use Rattle.name_forms.specs.Hosts.{begins_with_dot};
+ghost use Rattle.x509_lint.specs.Bases.{BaseKeeps, IsHostOrDomain};
+
+use crate::forms::is_context;
+use der::Tag;
+use name_forms::{is_host, is_range};
+use std::fmt;
+
+/// A rule for the bases of the subtrees of a nameConstraints (RFC 5280, 4.2.1.10).
+#[derive(Clone, Copy, Debug, PartialEq, Eq)]
+pub enum BaseRule {
+    /// The constraint of a URI is a host name or a domain.
+    Domain,
+    /// The constraint of an iPAddress has 8 or 32 octets.
+    Range,
+}
+
+impl fmt::Display for BaseRule {
+    fn fmt<W: fmt::Write>(&self, f: &mut fmt::Formatter<W>) -> fmt::Result {
+        f.write_str(match self {
+            BaseRule::Domain => {
+                "the constraint of a URI is no host name and no domain (RFC 5280, 4.2.1.10)"
+            }
+            BaseRule::Range => {
+                "the constraint of an iPAddress has neither 8 nor 32 octets (RFC 5280, 4.2.1.10)"
+            }
+        })
+    }
+}
+
+/// Whether the base of a subtree with this tag and these contents keeps the rule.
+pub fn base_keeps(tag: Tag, contents: &[u8], rule: BaseRule) -> bool
+    ensures { (result ≡ true) ↔ BaseKeeps rule tag contents.now }
+{
+    match rule {
+        BaseRule::Domain => !is_context(tag, false, 6) || is_host_or_domain(contents),
+        BaseRule::Range => !is_context(tag, false, 7) || is_range(contents),
+    }
+}
+
+fn is_host_or_domain(octets: &[u8]) -> bool
+    ensures { (result ≡ true) ↔ IsHostOrDomain octets.now }
+{
+    if begins_with_dot(octets) {
+        return is_host(without_first(octets));
+    }
+    is_host(octets)
+}
+
+// The octets after the first.
+fn without_first<'a>(octets: &'a [u8]) -> &'a [u8]
+    ensures { result.now ≡ drop 1 octets.now }
+{
+    if 1 <= octets.len() {
+        &octets[1..]
+    } else {
+        &octets[octets.len()..]
+    }
+}
+
+fn begins_with_dot(octets: &[u8]) -> bool
+    ensures { result ≡ begins_with_dot octets.now }
+{
+    match octets {
+        [first, ..] => *first == b'.',
+        [] => false,
+    }
+}

@@ -1,0 +1,135 @@
+//! Tests of the entries of revocation lists.
+ghost use Rattle.std.specs.Prelude.{◌≡◌, ◌↔◌, true};
+ghost use Rattle.x509_lint.specs.Elements.{EachElement};
+ghost use Rattle.x509_lint.specs.EntryTests.{EntryKeeps};
+
+use crate::elements::each_element;
+use crate::identifier::Identifier;
+use crate::inside_test::{EachTest, GuardTest, InsideTest, LackTest};
+use crate::part_test::PartTest;
+use der::Tag;
+use std::alloc::Global;
+
+/// A test of the entries of a revocation list (RFC 5280, 5.1.2.6 and 5.3).
+#[derive(Clone, Copy, Debug, PartialEq, Eq)]
+pub enum EntryTest {
+    /// The time has the form that its year requires.
+    Times,
+    /// There are no extensions.
+    NoExtensions,
+    /// An extension with this identifier is not critical.
+    NotCritical(Identifier),
+    /// A certificateIssuer is critical.
+    IssuerCritical,
+    /// The reason is not removeFromCRL.
+    NotRemoved,
+    /// There is no certificateIssuer.
+    NoIssuer,
+}
+
+/// Whether each of the entries keeps the test. This does not use `alloc`.
+pub fn entries_keep(alloc: Global, entries: &[u8], test: EntryTest) -> bool
+    ensures { (result ≡ true) ↔ EachElement (EntryKeeps test) entries.now }
+{
+    match test {
+        EntryTest::Times => have_times(alloc, entries),
+        EntryTest::NoExtensions => have_no_extensions(alloc, entries),
+        EntryTest::NotCritical(identifier) => are_not_critical(alloc, entries, identifier),
+        EntryTest::IssuerCritical => have_critical_issuers(alloc, entries),
+        EntryTest::NotRemoved => are_not_removed(alloc, entries),
+        EntryTest::NoIssuer => have_no_issuers(alloc, entries),
+    }
+}
+
+fn have_times(alloc: Global, entries: &[u8]) -> bool
+    ensures { (result ≡ true) ↔ EachElement (EntryKeeps EntryTest.Times) entries.now }
+{
+    each_element(
+        alloc,
+        entries,
+        &EachTest {
+            test: PartTest::LateTime,
+        },
+    )
+}
+
+fn have_no_extensions(alloc: Global, entries: &[u8]) -> bool
+    ensures { (result ≡ true) ↔ EachElement (EntryKeeps EntryTest.NoExtensions) entries.now }
+{
+    each_element(
+        alloc,
+        entries,
+        &EachTest {
+            test: PartTest::NotTagged(Tag::Sequence),
+        },
+    )
+}
+
+fn are_not_critical(alloc: Global, entries: &[u8], identifier: Identifier) -> bool
+    ensures { (result ≡ true)
+        ↔ EachElement (EntryKeeps (EntryTest.NotCritical identifier)) entries.now }
+{
+    let extension = GuardTest {
+        guard: PartTest::Other(identifier),
+        test: PartTest::NotTagged(Tag::Boolean),
+    };
+    let entry = InsideTest {
+        tag: Tag::Sequence,
+        test: InsideTest {
+            tag: Tag::Sequence,
+            test: extension,
+        },
+    };
+    each_element(alloc, entries, &entry)
+}
+
+fn have_critical_issuers(alloc: Global, entries: &[u8]) -> bool
+    ensures { (result ≡ true) ↔ EachElement (EntryKeeps EntryTest.IssuerCritical) entries.now }
+{
+    let extension = LackTest {
+        guard: PartTest::Other(Identifier::CertificateIssuer),
+        test: PartTest::NotTagged(Tag::Boolean),
+    };
+    let entry = InsideTest {
+        tag: Tag::Sequence,
+        test: InsideTest {
+            tag: Tag::Sequence,
+            test: extension,
+        },
+    };
+    each_element(alloc, entries, &entry)
+}
+
+fn are_not_removed(alloc: Global, entries: &[u8]) -> bool
+    ensures { (result ≡ true) ↔ EachElement (EntryKeeps EntryTest.NotRemoved) entries.now }
+{
+    let extension = GuardTest {
+        guard: PartTest::Other(Identifier::Reason),
+        test: PartTest::NotRemoved,
+    };
+    let entry = InsideTest {
+        tag: Tag::Sequence,
+        test: InsideTest {
+            tag: Tag::Sequence,
+            test: extension,
+        },
+    };
+    each_element(alloc, entries, &entry)
+}
+
+fn have_no_issuers(alloc: Global, entries: &[u8]) -> bool
+    ensures { (result ≡ true) ↔ EachElement (EntryKeeps EntryTest.NoIssuer) entries.now }
+{
+    let extension = InsideTest {
+        tag: Tag::Sequence,
+        test: PartTest::Other(Identifier::CertificateIssuer),
+    };
+    let entry = InsideTest {
+        tag: Tag::Sequence,
+        test: InsideTest {
+            tag: Tag::Sequence,
+            test: extension,
+        },
+    };
+    each_element(alloc, entries, &entry)
+}

@@ -1,0 +1,43 @@
+//! Identifiers that are looked for inside of values.
+ghost use Rattle.std.specs.Prelude.{◌≡◌, ◌↔◌, true};
+ghost use Rattle.x509_lint.specs.Identifiers.{identifier_octets};
+
+use crate::checks::identifiers::is;
+use der_asn1::ObjectIdentifierRef;
+use x509::values::{
+    id_ce_c_rl_reasons, id_ce_certificate_issuer, id_ce_invalidity_date, id_qt_cps, id_qt_unotice,
+};
+
+/// An identifier that is looked for inside of values.
+#[derive(Clone, Copy, Debug, PartialEq, Eq)]
+pub enum Identifier {
+    /// The qualifier of a policy that is a CPS pointer (RFC 5280, 4.2.1.4).
+    CpsPointer,
+    /// The qualifier of a policy that is a user notice (4.2.1.4).
+    UserNotice,
+    /// The extension reasonCode of an entry (5.3.1).
+    Reason,
+    /// The extension invalidityDate of an entry (5.3.2).
+    InvalidityDate,
+    /// The extension certificateIssuer of an entry (5.3.3).
+    CertificateIssuer,
+}
+
+/// Whether the octets are the contents of the identifier.
+pub fn is_identifier_of(octets: &[u8], identifier: Identifier) -> bool
+    ensures { (result ≡ true) ↔ (octets.now ≡ identifier_octets identifier) }
+{
+    is(octets, &value_of(identifier))
+}
+
+fn value_of(identifier: Identifier) -> ObjectIdentifierRef<'static>
+    ensures { result.octets.now ≡ identifier_octets identifier }
+{
+    match identifier {
+        Identifier::CpsPointer => id_qt_cps(),
+        Identifier::UserNotice => id_qt_unotice(),
+        Identifier::Reason => id_ce_c_rl_reasons(),
+        Identifier::InvalidityDate => id_ce_invalidity_date(),
+        Identifier::CertificateIssuer => id_ce_certificate_issuer(),
+    }
+}

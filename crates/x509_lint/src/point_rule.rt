@@ -1,0 +1,27 @@
+//! Rules for the fields of distribution points.
+use std::fmt;
+
+/// A rule for the fields of distribution points (RFC 5280, 4.2.1.13).
+#[derive(Clone, Copy, Debug, PartialEq, Eq)]
+pub enum PointRule {
+    /// A URI in the name of a distribution point has a scheme.
+    Scheme,
+    /// The names in cRLIssuer are directory names.
+    IssuerName,
+    /// There is one cRLIssuer at most beside a relative name.
+    OneIssuer,
+}
+
+impl fmt::Display for PointRule {
+    fn fmt<W: fmt::Write>(&self, f: &mut fmt::Formatter<W>) -> fmt::Result {
+        f.write_str(match self {
+            PointRule::Scheme => {
+                "the URI of a distribution point has no scheme (RFC 5280, 4.2.1.13)"
+            }
+            PointRule::IssuerName => "a cRLIssuer is no directory name (RFC 5280, 4.2.1.13)",
+            PointRule::OneIssuer => {
+                "a relative name stands beside several cRLIssuers (RFC 5280, 4.2.1.13)"
+            }
+        })
+    }
+}
