@@ -1,4 +1,3 @@
-//! Tests of values under BER that `asn1_der` writes in DER. `tools/ber_oracle` compares more of them with asn1ct, and
-//! `tools/suites` with openssl.
+//! Tests of values under BER that `asn1_der` writes in DER.
 
 mod values;
