@@ -20,7 +20,8 @@ a line are escaped everywhere: on lines as \\ and two digits for each octet in U
 A text may have a byte order mark, be in UTF-16 or be indented. Of mail, the parts application/pkcs7-* in base64 are
 shown. Fingerprints are SHA-256 and SHA-1 of the DER of a certificate, or of its public key.
 
---der writes messages that are BER, and not DER, in DER. Nothing is verified and nothing is decrypted. Secret parts of
+--der writes values that are BER, and not DER, in DER; contents of OCTET STRINGs and elements of unknown types stay
+as they are. Nothing is verified and nothing is decrypted. Secret parts of
 keys are printed by --json, --der, --pem, --tree, --schema and --module. Elements of a file of no known kind are
 printed too, unless a label says that it is a private key; and at a departure up to 16 octets.
 

@@ -1,9 +1,9 @@
 //! Values of known kinds.
 
 use crate::lint::{put_lint, put_list_lint, put_warnings};
-use crate::message::message_der;
 use crate::options::Shown;
 use crate::place::Place;
+use crate::rewritten::rewritten;
 use crate::show::Show;
 use crate::value::{Target, is_only_ber};
 use asn1_cursor::Cursor;
@@ -77,7 +77,7 @@ pub fn take_output(page: &mut Page<'_>) -> Output {
     mem::replace(&mut page.out, Output::new(alloc, Sink::Memory))
 }
 
-/// Prints the octets of a value, or as a PEM block. A message that is BER, and not DER, is written in DER.
+/// Prints the octets of a value, or as a PEM block. A value that is BER, and not DER, is written in DER.
 pub fn put_octets(
     show: &mut Show<'_>,
     place: &Place<'_>,
@@ -89,12 +89,12 @@ pub fn put_octets(
         Target::Kind(kind) => Some(kind.label()),
         Target::Node(_) | Target::Elements => None,
     };
-    if label == Some(Kind::Message.label()) && is_only_ber(departures) {
-        if let Ok(written) = message_der(show.page.alloc, octets) {
-            put_form(show, place, label, written.as_slice());
-            return;
+    if is_only_ber(departures) {
+        let schema = show.page.schema;
+        match rewritten(show.page.alloc, schema, target.node(), octets) {
+            Ok(written) => put_form(show, place, label, written.octets.as_slice()),
+            Err(_) => show.error(place, "the value cannot be written in DER"),
         }
-        show.error(place, "the message cannot be written in DER");
         return;
     }
     put_form(show, place, label, octets);
