@@ -140,6 +140,25 @@ static void see_usages(void)
     must(der_key_usage(NULL, 0, &usage).kind == DER_OK && !usage.present && usage.bits == 0);
 }
 
+/* The keyUsage of two roots that Debian trusts, of which `openssl x509 -noout -ext keyUsage` prints `Certificate Sign,
+ * CRL Sign`; and a basicConstraints that writes cA FALSE, of which it prints `CA:FALSE`. */
+static void see_lenient(void)
+{
+    static const uint8_t zeros[] = {0x30, 0x0F, 6, 3, 0x55, 0x1D, 0x0F, 1, 1, 0xFF, 4, 5, 3, 3, 7, 6, 0};
+    static const uint8_t written[] = {0x30, 0x0F, 6, 3, 0x55, 0x1D, 0x13, 1, 1, 0xFF, 4, 5, 0x30, 3, 1, 1, 0};
+    der_usage usage = DER_USAGE_INIT;
+    der_constraints constraints = DER_CONSTRAINTS_INIT;
+    bool is_der = true;
+    must(der_key_usage(zeros, sizeof zeros, &usage).kind == DER_VALUE);
+    must(der_key_usage_lenient(zeros, sizeof zeros, &usage, &is_der).kind == DER_OK && !is_der);
+    must(usage.present && usage.critical && usage.bits == (DER_KEY_CERT_SIGN | DER_CRL_SIGN));
+    must(der_basic_constraints(written, sizeof written, &constraints).kind != DER_OK);
+    is_der = true;
+    must(der_basic_constraints_lenient(written, sizeof written, &constraints, &is_der).kind == DER_OK && !is_der);
+    must(constraints.present && constraints.critical && !constraints.is_authority && !constraints.has_path_length);
+    must(der_key_usage_lenient(NULL, 0, &usage, &is_der).kind == DER_OK && is_der && !usage.present);
+}
+
 /* The octets as they are, with each octet changed, and cut at each length: what is read is checked,
  * and what is refused changes nothing. */
 static void see_changes(uint8_t *octets, size_t length)
@@ -232,6 +251,7 @@ int main(int argc, char **argv)
 {
     static uint8_t octets[SPACE];
     see_usages();
+    see_lenient();
     see_needed_items();
     for (int i = 1; i < argc; i++) {
         FILE *file = fopen(argv[i], "rb");

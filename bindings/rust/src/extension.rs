@@ -86,6 +86,21 @@ impl<'a> Extensions<'a> {
         }))
     }
 
+    /// The keyUsage extension, if it is there, and whether its contents are DER: they may be BER, as some roots have
+    /// them, with zero bits after the last one. Fails as [`key_usage`](Self::key_usage) does.
+    pub fn key_usage_lenient(&self) -> Result<Option<(KeyUsage, bool)>, Error> {
+        let (mut raw, mut is_der) = (RawUsage::default(), false);
+        // SAFETY: as above.
+        answer(unsafe {
+            sys::der_key_usage_lenient(self.contents.as_ptr(), self.contents.len(), &mut raw, &mut is_der)
+        })?;
+        let usage = KeyUsage {
+            bits: raw.bits,
+            critical: raw.critical,
+        };
+        Ok(raw.present.then_some((usage, is_der)))
+    }
+
     /// The basicConstraints extension, if it is there. Fails as [`key_usage`](Self::key_usage) does.
     pub fn basic_constraints(&self) -> Result<Option<BasicConstraints>, Error> {
         let mut raw = RawConstraints::default();
@@ -96,6 +111,22 @@ impl<'a> Extensions<'a> {
             path_length: raw.has_path_length.then_some(raw.path_length),
             critical: raw.critical,
         }))
+    }
+
+    /// The basicConstraints extension, if it is there, and whether its contents are DER: they may be BER, with a field
+    /// that has its default. Fails as [`key_usage`](Self::key_usage) does.
+    pub fn basic_constraints_lenient(&self) -> Result<Option<(BasicConstraints, bool)>, Error> {
+        let (mut raw, mut is_der) = (RawConstraints::default(), false);
+        // SAFETY: as above.
+        answer(unsafe {
+            sys::der_basic_constraints_lenient(self.contents.as_ptr(), self.contents.len(), &mut raw, &mut is_der)
+        })?;
+        let constraints = BasicConstraints {
+            is_authority: raw.is_authority,
+            path_length: raw.has_path_length.then_some(raw.path_length),
+            critical: raw.critical,
+        };
+        Ok(raw.present.then_some((constraints, is_der)))
     }
 
     /// The names of the subjectAltName extension, if it is there. Fails as

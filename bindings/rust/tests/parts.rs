@@ -154,3 +154,20 @@ fn elements_of_other_octets_are_refused() {
     assert!(reader.open(&element).is_ok() && reader.octets_of(&element).unwrap() == octets);
     assert!(other.skip().is_ok() && other.finish().is_ok());
 }
+
+/// The keyUsage of two roots that Debian trusts, of which `openssl x509 -noout -ext keyUsage` prints `Certificate Sign,
+/// CRL Sign`; and a basicConstraints that writes `cA FALSE`, of which it prints `CA:FALSE`.
+#[test]
+fn extensions_that_are_ber_are_read_on_request() {
+    let octets = [
+        0x30, 0x22, 0x30, 0x0F, 6, 3, 0x55, 0x1D, 0x0F, 1, 1, 0xFF, 4, 5, 3, 3, 7, 6, 0, 0x30, 0x0F, 6, 3, 0x55, 0x1D,
+        0x13, 1, 1, 0xFF, 4, 5, 0x30, 3, 1, 1, 0,
+    ];
+    let extensions = Extensions::from_der(&octets).unwrap();
+    assert!(extensions.key_usage().is_err());
+    let (usage, is_der) = extensions.key_usage_lenient().unwrap().unwrap();
+    assert!(usage.critical && !is_der && usage.bits == 1 << 5 | 1 << 6);
+    assert!(extensions.basic_constraints().is_err());
+    let (constraints, is_der) = extensions.basic_constraints_lenient().unwrap().unwrap();
+    assert!(constraints.critical && !is_der && !constraints.is_authority && constraints.path_length.is_none());
+}
