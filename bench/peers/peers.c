@@ -1,5 +1,6 @@
 /* The library for C beside mbedTLS and OpenSSL, over certificates of files: peers FILE ..
- * Each row is a walk over all elements, a tree of all elements, or a certificate read into a struct.
+ * Each row is a walk over all elements, a tree of all elements, a certificate read into a struct, or a tree with the
+ * types and fields of a certificate, beside the structs of the peers.
  * Prints `row|count|way|ns` for the fastest of the rounds, for each element or certificate. */
 #define _POSIX_C_SOURCE 199309L /* clock_gettime */
 #include <mbedtls/asn1.h>
@@ -10,6 +11,7 @@
 #include <stdlib.h>
 #include <time.h>
 #include <yotremul/der.h>
+#include <yotremul/der_tree.h>
 
 enum { ROUNDS = 40, NODES = 4096, FILES = 4096, LEVELS = 64 };
 
@@ -122,6 +124,25 @@ static size_t library_certificate(const file *it)
     return 1;
 }
 
+/* All elements with their types, their fields and the departures, by the table of the known types. */
+static size_t library_typed_tree(const file *it)
+{
+    static uint8_t types[DER_TYPES_ROOM], buffer[1 << 16];
+    static der_entry entries[NODES];
+    static uint32_t marks[4096];
+    static size_t table;
+    static uint32_t certificate;
+    der_tree_found found = DER_TREE_FOUND_INIT;
+    if (!table) {
+        table = der_known_types(types, sizeof types);
+        certificate = der_type_find(types, table, "Certificate", 11);
+    }
+    if (!der_tree_read(types, table, certificate, it->octets, it->length, entries, NODES, marks, 4096, buffer,
+                       sizeof buffer, NULL, 0, &found))
+        give_up("the library reads no tree of a certificate");
+    return 1;
+}
+
 static size_t mbedtls_certificate(const file *it)
 {
     mbedtls_x509_crt certificate;
@@ -152,7 +173,8 @@ static const way ways[] = {
     {"elements and parts", "OpenSSL", openssl_walk},    {"tree", "library", library_tree},
     {"tree", "mbedTLS", mbedtls_walk},                  {"tree", "OpenSSL", openssl_walk},
     {"certificate", "library", library_certificate},    {"certificate", "mbedTLS", mbedtls_certificate},
-    {"certificate", "OpenSSL", openssl_certificate},
+    {"certificate", "OpenSSL", openssl_certificate},    {"tree with types", "library", library_typed_tree},
+    {"tree with types", "mbedTLS", mbedtls_certificate}, {"tree with types", "OpenSSL", openssl_certificate},
 };
 enum { WAYS = sizeof ways / sizeof *ways };
 
