@@ -3,7 +3,7 @@ use Rattle.der_c_x509.specs.FindCalls.{FindsIn}
 use Rattle.der_c_x509.proofs.lenient.find_in.Goals as goal
 
 pub returns-in-Ok : goal.returns-in-Ok
-returns-in-Ok g c = FindsIn.in_list _ (rw c.in-Ok.ensures.ok.0 at c.answer.ensures) c.c_answer.ensures
+returns-in-Ok g c = FindsIn.in_list _ (rw c.in-Ok.ensures.ok.0 at c.find_lenient-answer.ensures) c.c_answer.ensures
 
 pub returns-in-Err : goal.returns-in-Err
 returns-in-Err g c =
