@@ -28,7 +28,8 @@ impl<'a> Cursor<'a> {
         Cursor::over(octets, schema, tree.entries.as_slice())
     }
 
-    /// The same for the elements that `read_into` put into memory of the caller.
+    /// The root, as by `root`, of a tree whose entries `read_into` wrote into memory of the caller; `None` if
+    /// there are none.
     pub fn over(octets: &'a [u8], schema: &'a Schema<'a>, entries: &'a [Entry]) -> Option<Self>
         ensures some { IfSome result (λ c. IsOf octets.now schema.now entries.now c × (c.index ≡ 0)) }
         ensures none { IfNone result (length entries.now ≡ 0) }

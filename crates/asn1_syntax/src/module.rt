@@ -74,7 +74,7 @@ pub struct Import<'a> {
 pub struct TypeAssignment<'a> {
     /// The name, with the comments in front of it.
     pub name: Item<'a>,
-    /// The index of the type.
+    /// The index of the assigned type among the `nodes` of the module.
     pub of: usize,
     /// The index of the first one of the types that it is made of.
     pub first: usize,
@@ -85,7 +85,7 @@ pub struct TypeAssignment<'a> {
 pub struct ValueAssignment<'a> {
     /// The name, with the comments in front of it.
     pub name: Item<'a>,
-    /// The index of the type.
+    /// The index of the assigned type among the `nodes` of the module.
     pub of: usize,
     /// The index of the first one of the types that this is made of.
     pub first: usize,

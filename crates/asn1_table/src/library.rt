@@ -173,8 +173,8 @@ fn number_at(outlines: &Vec<ModuleOutline<'_>>, offset: usize) -> usize {
     after.saturating_sub(1)
 }
 
-/// The name of an assignment as it is written: without the name of its module, which it has after it if a
-/// module in front has the same name.
+/// The name of an assignment as its module writes it. If an earlier module has the same name, the compiler
+/// appends the name of the module; this removes it.
 pub fn written_name<'a>(outlines: &Vec<ModuleOutline<'a>>, name: Item<'a>) -> &'a str {
     match outlines.get(number_at(outlines, name.offset)) {
         Some(outline) if !outline.definitions.has(name.text) => {

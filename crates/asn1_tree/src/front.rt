@@ -43,7 +43,8 @@ pub fn front_header(octets: &[u8], depth: usize) -> Result<Header, Rule>
     Ok(header)
 }
 
-/// Notes that there is no element at the front, by this rule, and passes what is there.
+/// Notes that, by this rule, no element begins here, and answers the octets after it: none if there is no
+/// header, or no level is left.
 pub(crate) fn pass<'a>(
     notes: &mut Notes<'_>,
     rule: Rule,

@@ -22,7 +22,7 @@ pub struct DerTreeFound {
 }
 
 impl DerTreeFound {
-    /// No tree.
+    /// The value before a read: no element, no departure.
     pub const EMPTY: DerTreeFound = DerTreeFound {
         entries: 0,
         departures: 0,

@@ -3,7 +3,7 @@
 /// A part of a URI, by the octets that it may have (RFC 3986, 3).
 #[derive(Clone, Copy, Debug, PartialEq, Eq)]
 pub enum UriPart {
-    /// The user of an authority.
+    /// The userinfo of an authority (RFC 3986, 3.2.1).
     User,
     /// The name of a host.
     Name,

@@ -4,7 +4,7 @@ use super::definition::Definition;
 use std::alloc::{AllocError, Global};
 use std::collections::HashSet;
 
-/// Definitions that are collected.
+/// The Rust definitions to be written for a module, in the order in which they were added.
 #[derive(Drop)]
 pub struct Definitions {
     list: Vec<Definition>,

@@ -161,8 +161,8 @@ impl<'t> Places for ListText<'t> {
     }
 }
 
-/// The name of the field of the list with this index, if the list is a struct: the one that the
-/// module gives, or `items` for a list that is an item of a list.
+/// The name of the field of the struct for this list: the one that `Rust field:` gives, or `items` if the
+/// list is an item of another list; `None` if the list is not a struct.
 pub fn list_field<'a>(module: &Module<'a>, index: usize) -> Option<&'a str> {
     if let Some(assigned) = module.assignment(index)
         && let Some(field) = directive(assigned.name.comments, FIELD)

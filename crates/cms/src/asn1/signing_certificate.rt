@@ -22,8 +22,8 @@ use x509::PolicyInformation;
 /// from the input: the value of an attribute.
 #[derive(Clone, Copy, Debug, Drop, PartialEq, Eq)]
 pub struct SigningCertificate<'a> {
-    /// The certificate of the signer, and others that limit which ones may be used with it. That
-    /// there is at least one is not checked.
+    /// Identifies by its hash the certificate of the signer, then others that may be used with it.
+    /// An empty list is not refused.
     pub certs: SequenceOf<'a, EssCertId<'a>>,
     /// The policies that are to be used, if they are limited.
     pub policies: Optional<SequenceOf<'a, PolicyInformation<'a>>>,
