@@ -1,2 +1,3 @@
+pub mod GeneralNames
 pub mod Lists
 pub mod NameMatching

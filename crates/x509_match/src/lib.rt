@@ -2,7 +2,8 @@
 //!
 //! [`names_match`] says whether two names are the same, as those of an issuer and of the subject of
 //! the authority above it, and [`is_name_within`] whether a name is within the subtree of another, as
-//! a constraint of names has it (4.2.1.10).
+//! a constraint of names has it (4.2.1.10). [`general_names_match`] and [`is_within_base`] say the
+//! same of general names of all forms.
 //!
 //! Proved: each answer, exactly. Values that are PrintableStrings, UTF8Strings or IA5Strings are
 //! compared after preparation by `name_forms::texts_match`: without the case of ASCII, and with
@@ -12,9 +13,11 @@
 #![tactic(auto)]
 
 mod attribute;
+mod general_name;
 mod level;
 mod name;
 
 pub use attribute::attributes_match;
+pub use general_name::{general_names_match, is_within_base};
 pub use level::levels_match;
 pub use name::{is_name_within, names_match};
