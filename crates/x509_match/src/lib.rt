@@ -11,7 +11,8 @@
 //! compared after preparation by `name_forms::texts_match`: without the case of ASCII, and with
 //! spaces between other characters alone. Values of other types are compared octet by octet. Nothing
 //! is allocated. The time is in proportion to the size of the names, and within one level to the
-//! product of the numbers of attributes.
+//! product of the numbers of attributes. A list of names is compared in time in proportion to the
+//! product of its size and that of the nameConstraints, so a caller should limit both.
 #![tactic(auto)]
 
 mod attribute;
