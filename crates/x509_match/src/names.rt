@@ -8,7 +8,8 @@ use x509::{GeneralNames, NameConstraints};
 
 /// Compares each name of a list with the subtrees of a nameConstraints: [`Verdict::Permitted`] if all
 /// are permitted, otherwise the verdict of the first name that is not (RFC 5280, 6.1.3 (b) and (c)).
-/// The subject of the certificate is no part of the list. This does not use `alloc`.
+/// The subject of the certificate is no part of the list, nor is an emailAddress in it: a caller
+/// compares them too, by [`name_verdict`](crate::name_verdict). This does not use `alloc`.
 pub fn names_verdict(
     alloc: Global,
     constraints: &NameConstraints<'_>,
