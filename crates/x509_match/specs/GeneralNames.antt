@@ -2,7 +2,7 @@
 -- of a nameConstraints (4.2.1.10): `IsWithinBase`.
 use Rattle.std.specs.Prelude.{◌≡◌}
 use Rattle.der_asn1.specs.AnyRef.{any_contents}
-use Rattle.der_asn1.specs.declared.any.AnyRef.{AnyRef}
+use Rattle.der_asn1.specs.declared.elements.any.AnyRef.{AnyRef}
 use Rattle.name_forms.specs.Addresses.{IsAddressWithin}
 use Rattle.name_forms.specs.Hosts.{IsBelowHost, IsSameHost}
 use Rattle.name_forms.specs.Mailboxes.{IsMailWithin, MailboxesMatch}

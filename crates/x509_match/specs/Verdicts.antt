@@ -3,7 +3,7 @@
 use Rattle.std.specs.Prelude.{◌≡◌, ◌⊎◌, ◌&&◌, ◌||◌, ◌++◌, ℕ, not, List, [], ◌∷◌, All, Option, Some, None}
 use Rattle.std.specs.Prelude.{if◌then◌else◌}
 use Rattle.der_asn1.specs.SequenceOf.{IsListOf}
-use Rattle.der_asn1.specs.declared.implicit.Implicit.{Implicit}
+use Rattle.der_asn1.specs.declared.fields.implicit.Implicit.{Implicit}
 use Rattle.x509.specs.contracts.asn1.general_name.GeneralNameItem.TheImpl as general
 use Rattle.x509.specs.declared.asn1.general_name.GeneralName.{GeneralName}
 use Rattle.x509.specs.declared.asn1.general_subtree.GeneralSubtree.{GeneralSubtree}

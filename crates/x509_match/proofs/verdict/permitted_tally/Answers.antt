@@ -1,5 +1,5 @@
 use Rattle.std.proofs.Common.{Option, sym, subst}
-use Rattle.der_asn1.specs.declared.implicit.Implicit.{Implicit}
+use Rattle.der_asn1.specs.declared.fields.implicit.Implicit.{Implicit}
 use Rattle.x509.specs.declared.asn1.general_subtrees.GeneralSubtrees.{GeneralSubtrees}
 use Rattle.x509_match.specs.Constraints.{IsTally}
 use Rattle.x509_match.specs.Verdicts.{subtrees_octets}
