@@ -1,4 +1,6 @@
 //! Tests of the crate `x509_match`.
 
+mod constraints;
+mod general_names;
 mod names;
 mod openssl;

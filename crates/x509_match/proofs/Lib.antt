@@ -1,2 +1,5 @@
 mod WalkLemmas
 mod NameLemmas
+mod TallyLemmas
+mod VerdictLemmas
+mod JudgedLemmas

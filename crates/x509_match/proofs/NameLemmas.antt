@@ -1,5 +1,5 @@
 -- Lemmas on names: attributes and levels with the same encoding match the same ones.
-use Rattle.std.proofs.Common.{◌≡◌, ◌⊎◌, ◌&&◌, ℕ, Bool, false, true, List, [], ◌∷◌, All, inl, inr, refl, sym, ap, subst, ◌∙◌}
+use Rattle.std.proofs.Common.{◌≡◌, ◌⊎◌, ◌&&◌, ℕ, false, true, List, [], ◌∷◌, inl, inr, sym, subst, ◌∙◌}
 use Rattle.der.specs.Prelude.{Tag}
 use Rattle.der_asn1.specs.AnyRef.{any_contents}
 use Rattle.name_forms.specs.PreparedText.{TextsMatch}

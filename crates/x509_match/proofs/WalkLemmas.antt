@@ -1,5 +1,5 @@
 -- Lemmas on walks over lists: what is left of a list after an item.
-use Rattle.std.proofs.Common.{◌≡◌, ◌⊎◌, ◌↔◌, ℕ, Bool, true, false, List, [], ◌∷◌, ◌++◌, All, inl, inr, not, refl, sym, ap, subst, ◌∙◌}
+use Rattle.std.proofs.Common.{◌≡◌, ◌↔◌, ℕ, Bool, true, false, List, [], ◌∷◌, ◌++◌, All, inl, inr, not, refl, sym, ap, subst, ◌∙◌}
 use Rattle.std.proofs.lemmas.Grind.{not_there}
 use Rattle.std.proofs.lemmas.List.Elements.{All-head, All-tail, All-cons, All-nil}
 use Rattle.der_asn1.specs.SequenceOf.{AllValid, IsListOf, joined_encodings}

@@ -1,2 +1,5 @@
+pub mod Constraints
+pub mod GeneralNames
 pub mod Lists
 pub mod NameMatching
+pub mod Verdicts

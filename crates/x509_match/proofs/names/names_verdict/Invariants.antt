@@ -1,0 +1,5 @@
+use Rattle.x509_match.specs.Verdicts.{AreJudged}
+use Rattle.x509_match.proofs.names.names_verdict.Given as goal
+
+abbrev pub invariant-names : goal.invariant-names
+invariant-names l = AreJudged l.constraints l.yielded l.verdict

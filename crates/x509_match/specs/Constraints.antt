@@ -1,0 +1,76 @@
+-- Names and the lists of subtrees of a nameConstraints (RFC 5280, 4.2.1.10): `IsTally` is what one
+-- list says of a name, and `HasVerdict` what both lists say.
+use Rattle.std.specs.Prelude.{◌≡◌, ◌↔◌, ℕ, true, List, IsNone}
+use Rattle.der_asn1.specs.SequenceOf.{IsListOf}
+use Rattle.name_forms.specs.Addresses.{IsAddress, IsRange}
+use Rattle.name_forms.specs.Mailboxes.{HasMailbox}
+use Rattle.name_forms.specs.Uris.{HasDomainName}
+use Rattle.x509.specs.contracts.asn1.general_subtree.GeneralSubtreeItem.TheImpl as subtree
+use Rattle.x509.specs.declared.asn1.general_name.GeneralName.{GeneralName}
+use Rattle.x509.specs.declared.asn1.general_name.GeneralName.TheVariants as name
+use Rattle.x509.specs.declared.asn1.general_subtree.GeneralSubtree.{GeneralSubtree}
+use Rattle.x509_match.specs.GeneralNames.{IsWithinBase}
+use Rattle.x509_match.specs.Lists.{SomeItem}
+use Rattle.x509_match.specs.declared.tally.Tally.{Tally}
+
+-- the number of the form: that of its tag
+abbrev pub form_of : GeneralName → ℕ
+form_of (name.OtherName _) = 0
+form_of (name.Rfc822Name _) = 1
+form_of (name.DnsName _) = 2
+form_of (name.X400Address _) = 3
+form_of (name.DirectoryName _) = 4
+form_of (name.EdiPartyName _) = 5
+form_of (name.UniformResourceIdentifier _) = 6
+form_of (name.IpAddress _) = 7
+form_of (name.RegisteredId _) = 8
+
+-- a name can be compared with constraints of its form: a mailbox has an @, a URI a host name, and an
+-- address 4 or 16 octets. The RFC has no constraints for the other forms
+abbrev pub CanBeCompared : GeneralName → Type 0
+CanBeCompared (name.Rfc822Name n) = HasMailbox n.0.octets.now
+CanBeCompared (name.DnsName n) = Unit {0}
+CanBeCompared (name.DirectoryName n) = Unit {0}
+CanBeCompared (name.UniformResourceIdentifier n) = HasDomainName n.0.octets.now
+CanBeCompared (name.IpAddress n) = IsAddress n.0.octets.now
+CanBeCompared _ = ⊥
+
+-- a base can be compared with names: the constraint of an iPAddress has 8 or 32 octets
+abbrev pub IsBase : GeneralName → Type 0
+IsBase (name.IpAddress b) = IsRange b.0.octets.now
+IsBase _ = Unit {0}
+
+-- the subtrees of a list with these octets
+abbrev pub AreSubtrees : List ℕ → Type 0
+AreSubtrees octets = IsListOf subtree.ghosts.item.valid subtree.ghosts.item.octets octets
+
+-- a subtree has the form of a name
+abbrev pub Concerns : GeneralName → GeneralSubtree → Type 0
+Concerns n s = form_of s.base ≡ form_of n
+
+-- the name is within the subtree
+abbrev pub Contains : GeneralName → GeneralSubtree → Type 0
+Contains n s = IsWithinBase s.base n
+
+-- minimum is 0, and maximum is absent
+abbrev pub HasBaseAlone : GeneralSubtree → Type 0
+HasBaseAlone s = (s.minimum.0.0.value.number ≡ 0) × IsNone s.maximum.0
+
+-- the subtree can be compared with the name
+abbrev pub IsUsable : GeneralName → GeneralSubtree → Type 0
+IsUsable n s = HasBaseAlone s × IsBase s.base × CanBeCompared n
+
+-- the subtree has the form of the name, and cannot be compared with it
+abbrev pub IsUnclear : GeneralName → GeneralSubtree → Type 0
+IsUnclear n s = Concerns n s × (IsUsable n s → ⊥)
+
+-- these answers are those for these subtrees
+pub record Answers (n : GeneralName) (items : List GeneralSubtree) (t : Tally) : Type 0 where
+  pub concerned : (t.concerned ≡ true) ↔ SomeItem (Concerns n) items
+  pub within : (t.within ≡ true) ↔ SomeItem (Contains n) items
+  pub unclear : (t.unclear ≡ true) ↔ SomeItem (IsUnclear n) items
+
+-- what a list of subtrees says of a name
+pub record IsTally (octets : List ℕ) (n : GeneralName) (t : Tally) : Type 0 where
+  pub list : AreSubtrees octets
+  pub answers : Answers n list.items t

@@ -1,0 +1,85 @@
+//! General names compared.
+ghost use Rattle.std.specs.Prelude.{◌≡◌, ◌↔◌, true};
+ghost use Rattle.x509_match.specs.GeneralNames.{GeneralNamesMatch, IsSameElement, IsWithinBase, OtherNamesMatch};
+
+use crate::attribute::is_same_tag;
+use crate::name::{is_name_within, names_match};
+use der_asn1::AnyRef;
+use name_forms::{
+    is_address_within, is_below_host, is_mail_within, is_same_host, is_uri_within, mailboxes_match,
+};
+use std::alloc::Global;
+use x509::{GeneralName, OtherName};
+
+/// Whether two general names have the same form and match (RFC 5280, 7.2 to 7.5): dNSNames without
+/// case, rfc822Names with the case of their local parts alone, directoryNames as
+/// [`names_match`](crate::names_match) says, and the other forms octet by octet. URIs too are
+/// compared octet by octet, and two ediPartyNames do not match. This does not use `alloc`.
+pub fn general_names_match(alloc: Global, first: &GeneralName<'_>, second: &GeneralName<'_>) -> bool
+    ensures { (result ≡ true) ↔ GeneralNamesMatch first.now second.now }
+{
+    match (first, second) {
+        (GeneralName::OtherName(v), GeneralName::OtherName(w)) => other_names_match(&v.0, &w.0),
+        (GeneralName::Rfc822Name(v), GeneralName::Rfc822Name(w)) => {
+            mailboxes_match(v.0.octets(), w.0.octets())
+        }
+        (GeneralName::DnsName(v), GeneralName::DnsName(w)) => {
+            is_same_host(v.0.octets(), w.0.octets())
+        }
+        (GeneralName::X400Address(v), GeneralName::X400Address(w)) => {
+            v.0.octets() == w.0.octets()
+        }
+        (GeneralName::DirectoryName(v), GeneralName::DirectoryName(w)) => {
+            names_match(alloc, &v.0, &w.0)
+        }
+        (GeneralName::UniformResourceIdentifier(v), GeneralName::UniformResourceIdentifier(w)) => v
+            .0
+            .octets()
+            == w.0.octets(),
+        (GeneralName::IpAddress(v), GeneralName::IpAddress(w)) => v.0.octets() == w.0.octets(),
+        (GeneralName::RegisteredId(v), GeneralName::RegisteredId(w)) => {
+            v.0.octets() == w.0.octets()
+        }
+        _ => false,
+    }
+}
+
+fn other_names_match(first: &OtherName<'_>, second: &OtherName<'_>) -> bool
+    ensures { (result ≡ true) ↔ OtherNamesMatch first.now second.now }
+{
+    first.type_id.octets() == second.type_id.octets()
+        && elements_match(&first.value.0, &second.value.0)
+}
+
+fn elements_match(first: &AnyRef<'_>, second: &AnyRef<'_>) -> bool
+    ensures { (result ≡ true) ↔ IsSameElement first.now second.now }
+{
+    is_same_tag(first.tag, second.tag) && first.contents == second.contents
+}
+
+/// Whether a name is within the base of a subtree of its form (RFC 5280, 4.2.1.10). False if the base
+/// has another form, and for otherNames, x400Addresses, ediPartyNames and registeredIDs, for which
+/// the RFC has no constraints. This does not use `alloc`.
+pub fn is_within_base(alloc: Global, base: &GeneralName<'_>, name: &GeneralName<'_>) -> bool
+    ensures { (result ≡ true) ↔ IsWithinBase base.now name.now }
+{
+    match (base, name) {
+        (GeneralName::Rfc822Name(base), GeneralName::Rfc822Name(name)) => {
+            is_mail_within(base.0.octets(), name.0.octets())
+        }
+        (GeneralName::DnsName(base), GeneralName::DnsName(name)) => {
+            is_below_host(base.0.octets(), name.0.octets())
+        }
+        (GeneralName::DirectoryName(base), GeneralName::DirectoryName(name)) => {
+            is_name_within(alloc, &base.0, &name.0)
+        }
+        (
+            GeneralName::UniformResourceIdentifier(base),
+            GeneralName::UniformResourceIdentifier(name),
+        ) => is_uri_within(base.0.octets(), name.0.octets()),
+        (GeneralName::IpAddress(base), GeneralName::IpAddress(name)) => {
+            is_address_within(base.0.octets(), name.0.octets())
+        }
+        _ => false,
+    }
+}
