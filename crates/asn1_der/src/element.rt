@@ -1,5 +1,5 @@
 //! Elements that are written.
-ghost use Rattle.std.specs.Prelude.{◌≡◌, ◌+◌, ◌≤◌, true, IfOk};
+ghost use Rattle.std.specs.Prelude.{◌≡◌, ◌+◌, true, IfOk};
 ghost use Rattle.ber.specs.declared.length.Length.TheVariants.{Definite};
 ghost use Rattle.asn1_der.specs.Same.{IsElementOf};
 
@@ -76,12 +76,12 @@ fn put_identifier(
     constructed: bool,
     number: u32,
 ) -> Result<(), AllocError> {
-    let leading = class_bits(class) + if constructed { 0x20 } else { 0 };
+    let leading = class.bits() | if constructed { 0x20 } else { 0 };
     if number < 31 {
-        out.push(leading + (number % 32) as u8)?;
+        out.push(leading | (number % 32) as u8)?;
         return Ok(());
     }
-    out.push(leading + 31)?;
+    out.push(leading | 31)?;
     for place in [4u32, 3, 2, 1] {
         let above = number >> (7 * place);
         if above > 0 {
@@ -90,17 +90,6 @@ fn put_identifier(
     }
     out.push((number % 128) as u8)?;
     Ok(())
-}
-
-fn class_bits(class: Class) -> u8
-    ensures { result ≤ 192 }
-{
-    match class {
-        Class::Universal => 0,
-        Class::Application => 0x40,
-        Class::ContextSpecific => 0x80,
-        Class::Private => 0xc0,
-    }
 }
 
 // Appends length octets, as few as possible (X.690 10.1).

@@ -11,22 +11,13 @@ pub(crate) fn encoding_order(a: &Vec<u8>, b: &Vec<u8>) -> Ordering {
 
 /// The order of two elements in a SET: that of their tags (X.690 10.3). What is no element comes first.
 pub(crate) fn tag_order(a: &Vec<u8>, b: &Vec<u8>) -> Ordering {
-    tag_rank(a.as_slice()).cmp(&tag_rank(b.as_slice()))
+    tag_of(a.as_slice()).cmp(&tag_of(b.as_slice()))
 }
 
-// The place of the tag of an element in the order of tags (X.680 8.6).
-fn tag_rank(octets: &[u8]) -> u64 {
+// The class and the number of the tag of an element (X.680 8.6).
+fn tag_of(octets: &[u8]) -> Option<(Class, u32)> {
     match read_header(octets) {
-        Ok(header) => ((class_rank(header.class) as u64) << 32) + header.number as u64,
-        Err(_) => 0,
-    }
-}
-
-fn class_rank(class: Class) -> u8 {
-    match class {
-        Class::Universal => 1,
-        Class::Application => 2,
-        Class::ContextSpecific => 3,
-        Class::Private => 4,
+        Ok(header) => Some((header.class, header.number)),
+        Err(_) => None,
     }
 }

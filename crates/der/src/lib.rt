@@ -30,6 +30,6 @@ pub use der_core::{
     der_cmp_tlv, encode_tlv, encode_to_vec_in, encode_value_to_slice, encoded_len_tlv, field_refs,
     iter_cmp, iter_cmp_owned, octets_len, place_before, read_eoc, read_value, to_der_in,
 };
-pub use length::indefinite::read_constructed_vec;
+pub use length::indefinite::{read_constructed_vec, segment_header};
 pub use referenced::{box_to_ref, slice_to_owned};
 pub use string::{StringCow, StringOwned, StringRef};

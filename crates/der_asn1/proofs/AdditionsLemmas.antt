@@ -1,16 +1,16 @@
 -- Lemmas on reading the elements at an extension insertion point.
-use mathlib.Core.Logic.{∥∥₁_elim, ∥∥₁_map}
-use Rattle.std.proofs.Common.{◌≡◌, ℕ, ◌+◌, ◌-◌, ◌^◌, ◌<◌, ◌≤◌, arith, Bool, true, false, inl, inr, Ok, Err, Result, List, [], ◌∷◌, ◌++◌, length, take, refl, sym, ap, subst, ◌∙◌, append_assoc, length-append, nat_le}
+use mathlib.Core.Logic.{∥∥₁_elim}
+use Rattle.std.proofs.Common.{◌≡◌, ℕ, ◌+◌, ◌-◌, ◌^◌, ◌<◌, arith, Bool, true, false, inl, inr, Ok, Err, Result, List, [], ◌∷◌, ◌++◌, length, take, refl, sym, ap, subst, ◌∙◌, append_assoc, length-append}
 use Rattle.std.specs.Coded.{Coded-set, coded_ℕ}
 use Rattle.std.proofs.lemmas.Grind.{not_there}
 use Rattle.std.proofs.lemmas.List.{take_all, take_at}
-use Rattle.der.specs.Prelude.{EncodingRules, Error, Length, ReaderState, Tag, definite_length, number, rest_of}
-use Rattle.der.specs.Decode.{Passes, ReadsOrLacks, SucceedsOrLacks}
+use Rattle.der.specs.Prelude.{Error, Length, ReaderState, definite_length, number, rest_of}
+use Rattle.der.specs.Decode.{Passes, SucceedsOrLacks}
 use Rattle.der.specs.Outcome.{Gives}
 use Rattle.der.specs.Reader.{read_slice_outcome}
 use Rattle.der.specs.ReaderState.{advanced_state, IsSound}
 use Rattle.der.proofs.StateLemmas.{length-rest}
-use Rattle.der_asn1.specs.Additions.{AdditionsNext, AreAdditions, AreUnknown, EndsUnknown, IsUnknown, any_octets, start_next}
+use Rattle.der_asn1.specs.Additions.{AdditionsNext, AreAdditions, EndsUnknown, IsUnknown, any_octets, start_next}
 use Rattle.der_asn1.specs.AnyElement.{AnyElementRead}
 use Rattle.der_asn1.specs.AnyRef.{AnyRead, IsAny, any_contents}
 use Rattle.der_asn1.specs.FollowLemmas.{starts_append}
@@ -19,7 +19,7 @@ use Rattle.der_asn1.specs.ListAnswers.{IsPart, part_state}
 use Rattle.der_asn1.specs.SequenceOf.{AllValid, joined_encodings}
 use Rattle.der_asn1.specs.UnknownWalk.{AdditionsCounted, IsLeft, IsUnknownFront, UnknownCounted}
 use Rattle.der_asn1.specs.declared.elements.any.AnyRef.{AnyRef}
-use Rattle.der_asn1.proofs.ListAnswerLemmas.{IsSliceRead, slice_read}
+use Rattle.der_asn1.proofs.ListAnswerLemmas.{slice_read}
 use Rattle.der_asn1.proofs.SequenceOfLemmas.{same_front}
 use Rattle.der_asn1.proofs.UnknownWalkLemmas.{not_ended}
 

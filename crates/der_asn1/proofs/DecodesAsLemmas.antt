@@ -1,9 +1,9 @@
 -- Lemmas on decoding the contents of an element of any tag.
-use Rattle.std.proofs.Common.{◌≡◌, ℕ, ◌+◌, ◌≤◌, ◌<◌, ◌^◌, ◌||◌, inl, inr, Bool, true, false, Result, Ok, Err, IsOk, IsErrAnd, List, length, refl, sym, ap, ◌∙◌, subst, arith}
+use Rattle.std.proofs.Common.{◌≡◌, ℕ, ◌+◌, ◌≤◌, ◌||◌, inl, inr, Bool, true, false, Result, Ok, List, length, refl, sym, ap, ◌∙◌, subst, arith}
 use Rattle.der.specs.Decode.{SucceedsOrLacks}
-use Rattle.der.specs.DecodeValue.{IsInside, IsAtEnd, ContentsNext, EndsOrLacks}
+use Rattle.der.specs.DecodeValue.{IsInside, ContentsNext, EndsOrLacks}
 use Rattle.der.specs.HeaderGrammar.{head}
-use Rattle.der.specs.Prelude.{EncodingRules, Error, Gives, Head, Length, ReaderState, Tag, definite_length, is_indefinite, number, rest_of}
+use Rattle.der.specs.Prelude.{EncodingRules, Gives, Head, Length, ReaderState, Tag, definite_length, is_indefinite, number, rest_of}
 use Rattle.der.specs.Reader.{enter_nested_outcome, finish_answer}
 use Rattle.der.specs.ReaderState.{initial_state, nested_state}
 use Rattle.der.specs.Tag.{label}

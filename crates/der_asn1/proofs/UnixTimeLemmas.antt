@@ -1,7 +1,6 @@
 -- Lemmas on the days before a year.
-use Rattle.std.proofs.Common.{◌≡◌, ℕ, Bool, true, false, zero, suc, ◌+◌, ◌*◌, ◌/◌, ◌%◌, ◌<◌, ◌≤◌, ◌==◌, ◌&&◌, ◌||◌, not, ◌⊎◌, refl, if◌then◌else◌, ⊎_elim, arith}
+use Rattle.std.proofs.Common.{◌≡◌, ℕ, zero, suc, ◌+◌, ◌*◌, ◌/◌, ◌%◌, ◌⊎◌, refl, ⊎_elim, arith}
 use Rattle.std.proofs.lemmas.Bool.{cases_eq, eq-eqb, ne_eqb}
-use Rattle.der_asn1.specs.Times.{is_leap_year}
 use Rattle.der_asn1.specs.UnixTime.{days_of_year, days_before_year}
 
 -- how many days a year has, by quotients

@@ -1,6 +1,6 @@
 -- Lemmas on reading elements with unknown tags.
-use Rattle.std.proofs.Common.{◌≡◌, ℕ, Bool, true, false, List, [], ◌∷◌, sym, ap, subst, ◌∙◌}
-use Rattle.der.specs.Prelude.{EncodingRules, Error, ReaderState, Tag, kind_of, rest_of}
+use Rattle.std.proofs.Common.{◌≡◌, ℕ, Bool, true, false, List, [], ◌∷◌, sym, subst, ◌∙◌}
+use Rattle.der.specs.Prelude.{EncodingRules, Error, ReaderState, kind_of, rest_of}
 use Rattle.der.specs.Decode.{is_out_of_memory_kind, Passes}
 use Rattle.der.proofs.HeaderLemmas.{one_tag}
 use Rattle.der_asn1.specs.AnyElement.{AnyElementNext}

@@ -1,20 +1,20 @@
 -- Lemmas on passing values that begin with unknown tags.
 use Rattle.std.proofs.Common.{◌≡◌, ℕ, ◌+◌, ◌-◌, arith, ◌^◌, ◌<◌, Bool, true, false, Ok, Err, Result, List, [], ◌∷◌, ◌++◌, length, refl, sym, ap, subst, ◌∙◌, append_assoc}
-use Rattle.der.specs.Prelude.{Der, EncodingRules, Error, Length, ReaderState, Reads, Tag, definite_length, element_octets, length_octets, number, rest_of, tag_octets}
+use Rattle.der.specs.Prelude.{Der, EncodingRules, Error, Length, ReaderState, Reads, Tag, definite_length, length_octets, number, rest_of, tag_octets}
 use Rattle.der.specs.HeaderGrammar.{TagNext}
-use Rattle.der.specs.Tag.{label, IdentifierFault, IsIdentifier, of_tag, of_segments}
-use Rattle.der.specs.Decode.{Peeks, SucceedsOrLacks}
+use Rattle.der.specs.Tag.{label, IsIdentifier, of_tag, of_segments}
+use Rattle.der.specs.Decode.{SucceedsOrLacks}
 use Rattle.der.specs.ReaderState.{IsSound}
 use Rattle.der.proofs.DecodeLemmas.{not_refused}
 use Rattle.der.proofs.StateLemmas.{reads_none, reads_on}
 use Rattle.der.proofs.HeaderLemmas.{IdentifierView, identifier_view_of, identifier_view, one_tag, tag_grammar}
 use Rattle.der_base.proofs.TagLemmas.{tag_front}
 use Rattle.der_asn1.specs.Additions.{AreUnknown, EndsUnknown, IsUnknown, start_next}
-use Rattle.der_asn1.specs.Follow.{NoTagIn, StartsIn, nothing, other}
+use Rattle.der_asn1.specs.Follow.{StartsIn, nothing, other}
 use Rattle.der_asn1.specs.FollowLemmas.{starts_append}
-use Rattle.der_asn1.specs.Item.{IsElement, IsItem, ItemSpec}
+use Rattle.der_asn1.specs.Item.{IsElement}
 use Rattle.der_asn1.specs.ListAnswers.{ItemAnswer}
-use Rattle.der_asn1.specs.SequenceOf.{AllValid, IsAtItem, IsListOf, joined_encodings}
+use Rattle.der_asn1.specs.SequenceOf.{AllValid, IsAtItem, joined_encodings}
 use Rattle.der_asn1.specs.TagSets.{all_but, IsOf, is_among}
 use Rattle.der_asn1.specs.UnknownWalk.{IsUnknownCount, IsUnknownFront, Looks, PassesUnknown, UnknownWalk, at_end, at_known, at_unknown, no_tag, walk_continues}
 use Rattle.der_asn1.proofs.OptionalReadLemmas.{no_tag_in_nothing, peeked, rest_at_end, rest_before_end}

@@ -1,5 +1,5 @@
 -- Fields with a default that is given by its contents octets (`has_contents`, `defaulted_to`).
-use Rattle.std.specs.Prelude.{ℕ, Bool, false, List, [], ◌∷◌, Some, bytes_eq}
+use Rattle.std.specs.Prelude.{ℕ, Bool, false, List, [], ◌∷◌, bytes_eq}
 use Rattle.der.specs.Prelude.{ElementNext, element_levels, element_octets}
 use Rattle.der_asn1.specs.Default.{DefaultNext, IsDefaulted, default_encoding, DefaultPrecedes}
 use Rattle.der_asn1.specs.Follow.{Anything, this_tag}

@@ -1,5 +1,5 @@
 -- The laws of a CHOICE of two types.
-use Rattle.std.proofs.Common.{◌≡◌, inl, inr, ℕ, ◌^◌, ◌<◌, ◌&&◌, Bool, true, List, ◌++◌, length, Option, sym, subst}
+use Rattle.std.proofs.Common.{◌≡◌, inl, inr, ℕ, ◌^◌, ◌<◌, ◌&&◌, Bool, true, List, ◌++◌, length, sym, subst}
 use Rattle.der.specs.Prelude.{Tag, EncodingRules, Der}
 use Rattle.der.specs.Lawful.{EncodingNext}
 use Rattle.der_asn1.specs.Either.{EitherNext, IsEither, either_encoding}

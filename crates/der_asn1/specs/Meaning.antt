@@ -1,7 +1,7 @@
 -- Specifications of the parts of a SEQUENCE, with their laws, so that composed specifications have
 -- their laws too: `FieldSpec`, `AlternativeSpec` and `ElementSpec`, and the functions that compose
 -- them.
-use Rattle.std.proofs.Common.{◌≡◌, ℕ, ◌^◌, ◌<◌, ◌≤◌, ◌&&◌, ◌||◌, Bool, true, false, List, [], ◌∷◌, ◌++◌, Option, Some, None, nat_lt, arith, subst, sym, ltb-true}
+use Rattle.std.proofs.Common.{◌≡◌, ℕ, ◌^◌, ◌<◌, ◌≤◌, ◌&&◌, ◌||◌, Bool, true, false, List, [], ◌∷◌, ◌++◌, nat_lt, arith, subst, sym, ltb-true}
 use Rattle.der.specs.Prelude.{Head, Tag, Sequence as SequenceTag, EncodingRules, Der, ElementNext}
 use Rattle.der.specs.Prelude.{element_octets, element_levels, fields_levels, FieldsNext, IsLawful}
 use Rattle.der.specs.Prelude.{TakesWhole}
@@ -345,23 +345,27 @@ renamed one f =
       holds = λ e b. one.holds e (f b);
     }
 
--- the same contents with a context-specific tag
-abbrev pub implicit : {A B : Type 0} → ℕ → ElementSpec A → (B → A) → ElementSpec B
-implicit n one f =
+-- the same contents with another tag in place of the type's own
+abbrev pub retagged_element : {A B : Type 0} → Tag → ElementSpec A → (B → A) → ElementSpec B
+retagged_element outer one f =
     record {
-      tag = context_tag (label one.tag).constructed n;
+      tag = outer;
       takes = TakesImplicit one.tag one.takes f;
       valid = λ b. one.valid (f b);
       contents = λ b. one.contents (f b);
       levels = one.levels;
-      is_compatible = is_small n && one.is_compatible;
-      lawful = λ e. (let p = both_true (is_small n) one.is_compatible e in
-          implicit_lawful (context_tag (label one.tag).constructed n) f (small n p.0)
-          (one.lawful p.1));
-      holds = λ e b rules h octets taken. one.holds (both_true (is_small n) one.is_compatible e).1
-          (f b) rules
+      is_compatible = is_small (label outer).number && one.is_compatible;
+      lawful = λ e. (let number = (label outer).number in
+          let p = both_true (is_small number) one.is_compatible e in
+          implicit_lawful outer f (small number p.0) (one.lawful p.1));
+      holds = λ e b rules h octets taken. one.holds
+          (both_true (is_small (label outer).number) one.is_compatible e).1 (f b) rules
           (retagged one.tag h) octets taken;
     }
+
+-- the same contents with a context-specific tag
+abbrev pub implicit : {A B : Type 0} → ℕ → ElementSpec A → (B → A) → ElementSpec B
+implicit n one f = retagged_element (context_tag (label one.tag).constructed n) one f
 
 -- an element that is the contents of an element with this tag, such as an OCTET STRING that
 -- contains it (X.682 11)

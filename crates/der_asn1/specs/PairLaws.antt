@@ -1,5 +1,5 @@
 -- The laws of two fields in sequence, from the checks of each (`pair_set`).
-use Rattle.std.proofs.Common.{◌≡◌, ◌⊎◌, inl, inr, ℕ, ◌&&◌, ◌||◌, Bool, true, false, List, [], ◌++◌, Option}
+use Rattle.std.proofs.Common.{◌≡◌, ◌⊎◌, inl, inr, ℕ, ◌&&◌, ◌||◌, Bool, true, false, List, [], ◌++◌}
 use Rattle.std.proofs.Common.{sym, subst, refl}
 use Rattle.der.specs.Prelude.{Tag, EncodingRules, FieldsNext}
 use Rattle.der_asn1.specs.Follow.{Starts, StartsIn, BothPrecede, either_tags}

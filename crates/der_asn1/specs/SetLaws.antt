@@ -1,7 +1,7 @@
 -- The laws of fields whose tags are decidable sets (`SetLaws`, `DecidedByTagLaws`): a computed
 -- check decides whether fields may follow each other.
 use Rattle.std.proofs.Common.{◌≡◌, ◌⊎◌, inl, inr, refl, ℕ, Bool, true, false}
-use Rattle.std.proofs.Common.{if◌then◌else◌, List, [], ◌∷◌, ◌++◌, Option, Some}
+use Rattle.std.proofs.Common.{if◌then◌else◌, List, [], ◌∷◌, ◌++◌, Option}
 use Rattle.der.specs.Prelude.{Head, Tag, EncodingRules, ElementNext, element_octets}
 use Rattle.der.specs.Prelude.{IsLawful}
 use Rattle.der.specs.Element.{head_sans_eoc}

@@ -4,8 +4,8 @@ use Rattle.std.specs.Prelude.{◌≡◌, ℕ, ◌^◌, ◌<◌, Bool, true, fals
 use Rattle.std.proofs.Common.{refl, sym, subst}
 use Rattle.der.specs.Prelude.{Tag, Application, Private, EncodingRules, Head, IsLawful}
 use Rattle.der.specs.Tag.{label, tag_number}
-use Rattle.der_asn1.specs.ContextSpecific.{retagged, TakesImplicit, implicit_lawful}
-use Rattle.der_asn1.specs.Meaning.{ElementSpec}
+use Rattle.der_asn1.specs.ContextSpecific.{TakesImplicit, implicit_lawful}
+use Rattle.der_asn1.specs.Meaning.{ElementSpec, retagged_element}
 
 abbrev pub class_tag : Bool → Bool → ℕ → Tag
 class_tag private constructed n =
@@ -36,14 +36,4 @@ reclassed_lawful {tag = tag} private value laws =
 
 -- the same contents with a tag of another class
 abbrev pub in_class : {A B : Type 0} → Bool → ElementSpec A → (B → A) → ElementSpec B
-in_class private one f =
-    record {
-      tag = reclassed private one.tag;
-      takes = TakesImplicit one.tag one.takes f;
-      valid = λ b. one.valid (f b);
-      contents = λ b. one.contents (f b);
-      levels = one.levels;
-      is_compatible = one.is_compatible;
-      lawful = λ e. reclassed_lawful private f (one.lawful e);
-      holds = λ e b rules h octets taken. one.holds e (f b) rules (retagged one.tag h) octets taken;
-    }
+in_class private one f = retagged_element (reclassed private one.tag) one f

@@ -1,7 +1,7 @@
 -- Elements with a tag that a type with an extension mark does not know (`unknown_element`), their
 -- laws, and the possible results of reading one (`UnknownRead`).
-use Rattle.std.proofs.Common.{◌≡◌, ℕ, true, false, List, [], ◌∷◌, Result, Ok, Err, None, inl, refl, subst, sym, ◌∙◌}
-use Rattle.der.specs.Prelude.{element_levels, element_octets, EncodingRules, Error, ReaderState, Tag, error_at, reader_position}
+use Rattle.std.proofs.Common.{◌≡◌, ℕ, true, false, List, [], ◌∷◌, Result, Ok, Err, None, inl, subst, sym, ◌∙◌}
+use Rattle.der.specs.Prelude.{element_levels, element_octets, EncodingRules, Error, ReaderState, error_at, reader_position}
 use Rattle.der.specs.ErrorKinds.{TagUnexpected}
 use Rattle.der.specs.ReaderState.{stopped_state}
 use Rattle.der_asn1.specs.AnyElement.{AnyElementNext}

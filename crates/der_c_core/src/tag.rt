@@ -1,10 +1,10 @@
 //! Tags as 64-bit words of C.
 ghost use Rattle.std.specs.Prelude.{◌≡◌, IfSome, None, true, false};
-ghost use Rattle.der_base.specs.Tag.{universal_tag};
 ghost use Rattle.der_base.specs.declared.tag.Tag.{Tag as ATag};
 ghost use Rattle.der_c_core.specs.TagWord.{IsTagWord, NoTagWord, said_tag, tag_octet, long_number, tag_word};
 
 use der_base::{Class, Tag, TagNumber};
+use der_core::universal_tag;
 
 /// The tag that [`word_of`] converts to `word`; `None` if there is no such tag.
 #[inline(always)]
@@ -41,7 +41,7 @@ pub(crate) fn tag_of(octet: u8, long: u32) -> Option<Tag>
     ensures { result ≡ said_tag octet long }
 {
     if octet < 0x40 {
-        return universal(octet);
+        return universal_tag(octet);
     }
     let constructed = octet / 32 % 2 == 1;
     let low = octet % 32;
@@ -62,39 +62,6 @@ pub(crate) fn tag_of(octet: u8, long: u32) -> Option<Tag>
             number,
         }
     })
-}
-
-/// The universal tag whose identifier consists of `octet` alone (X.680 8.6); `None` if there is no
-/// such tag.
-#[inline(always)]
-pub(crate) fn universal(octet: u8) -> Option<Tag>
-    ensures { result ≡ universal_tag octet }
-{
-    match octet {
-        0x01 => Some(Tag::Boolean),
-        0x02 => Some(Tag::Integer),
-        0x03 => Some(Tag::BitString),
-        0x04 => Some(Tag::OctetString),
-        0x05 => Some(Tag::Null),
-        0x06 => Some(Tag::ObjectIdentifier),
-        0x09 => Some(Tag::Real),
-        0x0A => Some(Tag::Enumerated),
-        0x0C => Some(Tag::Utf8String),
-        0x0D => Some(Tag::RelativeOid),
-        0x12 => Some(Tag::NumericString),
-        0x13 => Some(Tag::PrintableString),
-        0x14 => Some(Tag::TeletexString),
-        0x15 => Some(Tag::VideotexString),
-        0x16 => Some(Tag::Ia5String),
-        0x17 => Some(Tag::UtcTime),
-        0x18 => Some(Tag::GeneralizedTime),
-        0x1A => Some(Tag::VisibleString),
-        0x1B => Some(Tag::GeneralString),
-        0x1E => Some(Tag::BmpString),
-        0x30 => Some(Tag::Sequence),
-        0x31 => Some(Tag::Set),
-        _ => None,
-    }
 }
 
 /// The first octet of a tag's identifier.

@@ -1,5 +1,6 @@
 //! Elements of a tree, by paths and by numbers.
-ghost use Rattle.std.specs.Prelude.{◌≡◌, ◌≢◌, ◌+◌, ◌<◌, ◌-◌, ◌^◌, ◌⊎◌, length};
+ghost use Rattle.std.specs.Prelude.{◌≡◌, ◌<◌, ◌-◌, ◌^◌, ◌⊎◌, IfSome, length};
+ghost use Rattle.asn1_cursor.specs.Cursor.{IsOf};
 
 use crate::answer::NO_ROOM;
 use asn1_cursor::Cursor;
@@ -21,10 +22,7 @@ pub fn der_tree_find<'a>(
     let Ok(schema) = Schema::new(table) else {
         return NO_ROOM;
     };
-    let Some(root) = Cursor::over(octets, &schema, entries) else {
-        return NO_ROOM;
-    };
-    let Some(element) = root.element(from) else {
+    let Some(element) = element_at(octets, &schema, entries, from) else {
         return NO_ROOM;
     };
     let Ok(path) = std::str::from_utf8(path) else {
@@ -49,14 +47,23 @@ pub fn der_tree_child<'a>(
     let Ok(schema) = Schema::new(table) else {
         return NO_ROOM;
     };
-    let Some(root) = Cursor::over(octets, &schema, entries) else {
-        return NO_ROOM;
-    };
-    let Some(element) = root.element(parent) else {
+    let Some(element) = element_at(octets, &schema, entries, parent) else {
         return NO_ROOM;
     };
     match element.item(number) {
         Some(found) => found.index(),
         None => NO_ROOM,
     }
+}
+
+/// The element with an index, of a tree in memory of the caller; `None` if the tree has none.
+pub(crate) fn element_at<'a>(
+    octets: &'a [u8],
+    schema: &'a Schema<'a>,
+    entries: &'a [Entry],
+    index: usize,
+) -> Option<Cursor<'a>>
+    ensures { IfSome result (λ c. IsOf octets.now schema.now entries.now c × (c.index ≡ index)) }
+{
+    Cursor::over(octets, schema, entries)?.element(index)
 }

@@ -2,9 +2,9 @@
 
 use crate::answer::NO_ROOM;
 use crate::ended::ended;
+use crate::find::element_at;
 use crate::output::printed;
 use crate::value::put_value;
-use asn1_cursor::Cursor;
 use asn1_schema::Schema;
 use asn1_tree::Entry;
 use der_show_print::{Form, Printer};
@@ -70,10 +70,7 @@ fn put<'a>(
     let Ok(schema) = Schema::new(table) else {
         return NO_ROOM;
     };
-    let Some(root) = Cursor::over(octets, &schema, entries) else {
-        return NO_ROOM;
-    };
-    let Some(element) = root.element(index) else {
+    let Some(element) = element_at(octets, &schema, entries, index) else {
         return NO_ROOM;
     };
     let mut printer = Printer::new(Output::to(Space::new(text)), Form::Lines);

@@ -42,7 +42,7 @@ impl Identifier {
         if self.first >= 0x40 {
             return other(self.first, self.number);
         }
-        match universal(self.first) {
+        match universal_tag(self.first) {
             Some(tag) => tag,
             None => Tag::OctetString,
         }
@@ -81,9 +81,10 @@ impl Identifier {
 // the identifier octet of an OCTET STRING that is constructed from segments (X.690 8.7.1)
 const SEGMENTS: u8 = 0x24;
 
-// The universal tag with this single identifier octet (X.680 8.6).
+/// The universal tag whose identifier consists of `octet` alone (X.680 8.6); `None` if there is no
+/// such tag.
 #[inline(always)]
-fn universal(octet: u8) -> Option<Tag>
+pub fn universal_tag(octet: u8) -> Option<Tag>
     ensures { result ≡ universal_tag octet }
 {
     match octet {
@@ -119,7 +120,7 @@ fn universal(octet: u8) -> Option<Tag>
 fn is_universal(octet: u8) -> bool
     ensures { IsTrue result ↔ (universal_tag octet ≢ None) }
 {
-    universal(octet).is_some()
+    universal_tag(octet).is_some()
 }
 
 // Whether this octet is a complete identifier, under any rules.
@@ -179,7 +180,7 @@ pub(crate) fn guess(tag: Tag) -> Option<(u8, Tag)>
     ensures { IsGuess result }
 {
     let octet = first_octet_of(tag, (tag.number().0 % 32) as u8);
-    match universal(octet) {
+    match universal_tag(octet) {
         Some(tag) => Some((octet, tag)),
         None => None,
     }

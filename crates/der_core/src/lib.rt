@@ -34,6 +34,7 @@ pub use encode::{
 pub use encode_ref::{EncodeRef, EncodeValueRef};
 pub use from_fields::{FromFields, decode_fields, decode_sequence, decode_wrapped};
 pub use header::{Header, decode_header};
+pub use identifier::universal_tag;
 pub use length::decode_length;
 pub use length::indefinite::decode_indefinite_length;
 pub use length::turns::Turns;

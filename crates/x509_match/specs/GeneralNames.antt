@@ -1,8 +1,6 @@
 -- General names compared (RFC 5280, 7.2 to 7.5): `GeneralNamesMatch`; and with the base of a subtree
 -- of a nameConstraints (4.2.1.10): `IsWithinBase`.
 use Rattle.std.specs.Prelude.{◌≡◌}
-use Rattle.der_asn1.specs.AnyRef.{any_contents}
-use Rattle.der_asn1.specs.declared.elements.any.AnyRef.{AnyRef}
 use Rattle.name_forms.specs.Addresses.{IsAddressWithin}
 use Rattle.name_forms.specs.Hosts.{IsBelowHost, IsSameHost}
 use Rattle.name_forms.specs.Mailboxes.{IsMailWithin, MailboxesMatch}
@@ -10,11 +8,7 @@ use Rattle.name_forms.specs.Uris.{IsUriWithin}
 use Rattle.x509.specs.declared.asn1.general_name.GeneralName.{GeneralName}
 use Rattle.x509.specs.declared.asn1.general_name.GeneralName.TheVariants as name
 use Rattle.x509.specs.declared.asn1.other_name.OtherName.{OtherName}
-use Rattle.x509_match.specs.NameMatching.{IsNameWithin, NamesMatch}
-
--- the same tag, and the same contents octet by octet
-abbrev pub IsSameElement : AnyRef → AnyRef → Type 0
-IsSameElement v w = (v.tag ≡ w.tag) × (any_contents v ≡ any_contents w)
+use Rattle.x509_match.specs.NameMatching.{IsNameWithin, IsSameElement, NamesMatch}
 
 -- the same type, and the same element
 abbrev pub OtherNamesMatch : OtherName → OtherName → Type 0

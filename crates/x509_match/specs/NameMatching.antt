@@ -20,13 +20,16 @@ is_text_tag Utf8String = true
 is_text_tag Ia5String = true
 is_text_tag _ = false
 
+-- the same tag, and the same contents octet by octet
+abbrev pub IsSameElement : AnyRef → AnyRef → Type 0
+IsSameElement v w = (v.tag ≡ w.tag) × (any_contents v ≡ any_contents w)
+
 -- two texts match after preparation; other values are the same element, octet by octet
 abbrev pub ValuesMatch : AnyRef → AnyRef → Type 0
 ValuesMatch v w =
     (((is_text_tag v.tag && is_text_tag w.tag) ≡ true)
     × TextsMatch (any_contents v) (any_contents w))
-    ⊎ (((is_text_tag v.tag && is_text_tag w.tag) ≡ false) × (v.tag ≡ w.tag)
-    × (any_contents v ≡ any_contents w))
+    ⊎ (((is_text_tag v.tag && is_text_tag w.tag) ≡ false) × IsSameElement v w)
 
 -- the same type, and values that match
 abbrev pub AttributesMatch : AttributeTypeAndValue → AttributeTypeAndValue → Type 0

@@ -1,6 +1,6 @@
 //! Attributes of names compared.
 ghost use Rattle.std.specs.Prelude.{◌≡◌, ◌↔◌, ◌&&◌, true};
-ghost use Rattle.x509_match.specs.NameMatching.{AttributesMatch, ValuesMatch, is_text_tag};
+ghost use Rattle.x509_match.specs.NameMatching.{AttributesMatch, IsSameElement, ValuesMatch, is_text_tag};
 
 use der::Tag;
 use der_asn1::AnyRef;
@@ -25,6 +25,13 @@ fn values_match(first: &AnyRef<'_>, second: &AnyRef<'_>) -> bool
     if are_texts(first.tag, second.tag) {
         return texts_match(first.contents, second.contents);
     }
+    elements_match(first, second)
+}
+
+// Whether two elements have the same tag, and the same contents octet by octet.
+pub(crate) fn elements_match(first: &AnyRef<'_>, second: &AnyRef<'_>) -> bool
+    ensures { (result ≡ true) ↔ IsSameElement first.now second.now }
+{
     is_same_tag(first.tag, second.tag) && first.contents == second.contents
 }
 
@@ -40,7 +47,7 @@ fn is_text_tag(tag: Tag) -> bool
     matches!(tag, Tag::PrintableString | Tag::Utf8String | Tag::Ia5String)
 }
 
-pub(crate) fn is_same_tag(first: Tag, second: Tag) -> bool
+fn is_same_tag(first: Tag, second: Tag) -> bool
     ensures { (result ≡ true) ↔ (first ≡ second) }
 {
     first == second

@@ -1,10 +1,9 @@
 //! General names compared.
 ghost use Rattle.std.specs.Prelude.{◌≡◌, ◌↔◌, true};
-ghost use Rattle.x509_match.specs.GeneralNames.{GeneralNamesMatch, IsSameElement, IsWithinBase, OtherNamesMatch};
+ghost use Rattle.x509_match.specs.GeneralNames.{GeneralNamesMatch, IsWithinBase, OtherNamesMatch};
 
-use crate::attribute::is_same_tag;
+use crate::attribute::elements_match;
 use crate::name::{is_name_within, names_match};
-use der_asn1::AnyRef;
 use name_forms::{
     is_address_within, is_below_host, is_mail_within, is_same_host, is_uri_within, mailboxes_match,
 };
@@ -49,12 +48,6 @@ fn other_names_match(first: &OtherName<'_>, second: &OtherName<'_>) -> bool
 {
     first.type_id.octets() == second.type_id.octets()
         && elements_match(&first.value.0, &second.value.0)
-}
-
-fn elements_match(first: &AnyRef<'_>, second: &AnyRef<'_>) -> bool
-    ensures { (result ≡ true) ↔ IsSameElement first.now second.now }
-{
-    is_same_tag(first.tag, second.tag) && first.contents == second.contents
 }
 
 /// Whether a name is within the base of a subtree of its form (RFC 5280, 4.2.1.10). False if the base

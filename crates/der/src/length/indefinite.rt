@@ -116,8 +116,15 @@ fn append_segments<R: Reader>(
     Ok(())
 }
 
-// Reads the header of the next segment, which under DER must not be constructed.
-fn segment_header<R: Reader>(reader: &mut R, inner_tag: Tag) -> Result<Header, Error>
+/// Reads the header of the next segment of a constructed string (X.690 8.7.3). Its tag must be
+/// `inner_tag`. Under DER a segment must not be constructed.
+///
+/// # Errors
+///
+/// - The errors of [`decode_header`].
+/// - `TagUnexpected`, with `inner_tag` as the expected tag, if the header has another tag.
+/// - `Noncanonical`, one octet before the reader's position, if the segment is constructed under DER.
+pub fn segment_header<R: Reader>(reader: &mut R, inner_tag: Tag) -> Result<Header, Error>
     ensures same { Same (R.state reader.old) (R.state reader.new) }
     ensures ok { IfOk result (λ h. PassesSegmentHeader inner_tag h (R.state reader.old)
         (R.state reader.new)) }

@@ -1,4 +1,4 @@
-use Rattle.std.proofs.Common.{rules, arith, inl, inr, Ok, Err, length, refl, sym, ap, subst, ◌∙◌, ◌≡◌, ◌^◌, ◌<◌, ◌≤◌}
+use Rattle.std.proofs.Common.{rules, inl, inr, Ok, Err, length, refl, sym, ap, subst, ◌∙◌, ◌≡◌, ◌^◌, ◌<◌}
 use Rattle.std.proofs.lemmas.Result.{err_from_is_err_and}
 use Rattle.der.specs.Error.{unexpected_tag}
 use Rattle.der.specs.Prelude.{ReaderState, definite_length, slice_state}

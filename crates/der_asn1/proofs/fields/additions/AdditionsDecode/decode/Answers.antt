@@ -1,7 +1,6 @@
 use Rattle.std.proofs.Common.{Ok, Err, List, ℕ, ◌<◌, ◌^◌, length, refl, sym, ap, subst, ◌∙◌, inl}
 use Rattle.std.proofs.lemmas.Result.{err_from_is_err_and}
 use Rattle.der.specs.Outcome.{Gives}
-use Rattle.der.specs.Prelude.{number, rest_of}
 use Rattle.der.specs.Reader.{read_slice_outcome}
 use Rattle.der_asn1.specs.Additions.{AreAdditions, any_octets}
 use Rattle.der_asn1.specs.AnyRef.{IsAny}
