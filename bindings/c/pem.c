@@ -62,7 +62,8 @@ static void see_vectors(void)
 static void see_labels(void)
 {
     static const char *const right[] = {"", "A", "X509 CRL", "A-B", "a!~", "A B-C"};
-    static const char *const wrong[] = {" ", "-", " A", "A ", "-A", "A-", "A  B", "A--B", "A- B", "A\tB", "A\n", "\xC3\xA4", "\x7F"};
+    static const char *const wrong[] = {" ",    "-",    " A",   "A ",   "-A",       "A-",  "A  B",
+                                        "A--B", "A- B", "A\tB", "A\n", "\xC3\xA4", "\x7F"};
     char text[128], front[64];
     for (size_t i = 0; i < sizeof right / sizeof *right; i++) {
         size_t length = strlen(right[i]), room = DER_PEM_ROOM(length, 1);
@@ -101,7 +102,8 @@ static void see_block(size_t length)
             HOLDS(columns <= 64), columns = SIZE_MAX;
     HOLDS(der_pem_next(text, sizeof text, back, sizeof back, &block) == DER_PEM_BLOCK);
     HOLDS(block.line == 2 && block.length == length && memcmp(back, octets, length) == 0);
-    HOLDS(block.label == 18 && block.label_length == strlen(label) && memcmp(text + block.label, label, strlen(label)) == 0);
+    HOLDS(block.label == 18 && block.label_length == strlen(label));
+    HOLDS(memcmp(text + block.label, label, strlen(label)) == 0);
     HOLDS(memcmp(text + block.end, "-----END CERTIFICATE-----\n", 26) == 0 && block.end + 26 == 7 + room);
 }
 
@@ -119,8 +121,11 @@ static void see_refusals(void)
     HOLDS(der_base64_decode("Zm-_", 4, octets, sizeof octets) == DER_NONE);
     HOLDS(der_pem_next("Zm9v", 4, octets, sizeof octets, &block) == DER_PEM_NONE);
     HOLDS(der_pem_next(encrypted, strlen(encrypted), octets, sizeof octets, &block) == DER_PEM_ENCRYPTED);
+    HOLDS(block.line == 1 && block.label == 11 && block.end == strlen(encrypted) - 16);
+    block = (der_pem_block)DER_PEM_BLOCK_INIT;
+    HOLDS(der_pem_next(wrong, strlen(wrong) - 20, octets, sizeof octets, &block) == DER_PEM_ERROR && block.end == 0);
     HOLDS(der_pem_next(wrong, strlen(wrong), octets, sizeof octets, &block) == DER_PEM_ERROR && block.line == 4);
-    HOLDS(der_pem_next(wrong, strlen(wrong) - 20, octets, sizeof octets, &block) == DER_PEM_ERROR);
+    HOLDS(block.label == 12 && block.label_length == 1 && block.end == strlen(wrong) - 16);
 }
 
 static void write_text(const char *word, const char *path)

@@ -185,11 +185,12 @@ enum {
 };
 
 /* der_pem_next decodes the first block of |text| into |octets|. Base64 of n octets is decoded to less
- * than n octets. */
+ * than n octets. No room for them is an error. An error in the base64 of a block leaves |label| and |end|
+ * as those of the block; any other leaves them unchanged. */
 uint32_t der_pem_next(const char *text, size_t length, uint8_t *octets, size_t capacity, der_pem_block *block);
 
 /* der_base64_decode decodes base64, with white space in it, and returns how many octets it is; DER_NONE
- * if |text| is none, and if there is no room. */
+ * if |text| is none, and if there is no room. Some of |octets| may have been written then. */
 size_t der_base64_decode(const char *text, size_t length, uint8_t *octets, size_t capacity);
 
 /* How many octets der_base64_encode and der_pem_write write, of |length| octets and a label of
