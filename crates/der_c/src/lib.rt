@@ -9,6 +9,7 @@ mod blocks;
 mod certificates;
 mod counting;
 mod errors;
+mod names;
 mod reading;
 mod trees;
 mod values;
