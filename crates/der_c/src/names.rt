@@ -2,7 +2,7 @@
 //!
 //! Written by tools/c_interface: change the crates that der_c uses instead.
 ghost use Rattle.der_asn1.specs.SequenceOf.{IsListOf};
-ghost use Rattle.std.specs.Prelude.{length, slice_index, ◌<◌, ◌≡◌, ◌≢◌};
+ghost use Rattle.std.specs.Prelude.{length, slice_index, ◌<◌, ◌^◌, ◌≡◌, ◌≢◌, ◌⊎◌};
 
 use der_asn1::Item;
 use der_c_core::DerError;
@@ -32,6 +32,10 @@ pub extern "C" fn der_name_text<'a>(
     ensures named { result.kind ≡ 0 →
         IsListOf ⟦<RelativeDistinguishedName<'a> as Item>⟧.item.valid
         ⟦<RelativeDistinguishedName<'a> as Item>⟧.item.octets name.now }
+    ensures complete { length name.now < 2 ^ 32 →
+        IsListOf ⟦<RelativeDistinguishedName<'a> as Item>⟧.item.valid
+        ⟦<RelativeDistinguishedName<'a> as Item>⟧.item.octets name.now →
+        (result.kind ≡ 0) ⊎ (result.kind ≡ 13) }
     ensures fits { result.kind ≡ 0 → count.new < length text.new }
     ensures ended { result.kind ≡ 0 → slice_index text.new count.new ≡ 0 }
     ensures same { result.kind ≢ 0 → count.new ≡ count.old }

@@ -1,5 +1,5 @@
 //! Names as text, in C.
-ghost use Rattle.std.specs.Prelude.{◌≡◌, ◌≢◌, ◌<◌, IfSome, length, slice_index};
+ghost use Rattle.std.specs.Prelude.{◌≡◌, ◌≢◌, ◌⊎◌, ◌^◌, ◌<◌, IfSome, length, slice_index};
 ghost use Rattle.der_asn1.specs.SequenceOf.{IsListOf};
 
 use crate::length::TextLength;
@@ -38,6 +38,10 @@ pub fn der_name_text<'a>(
     ensures named { result.kind ≡ 0 →
         IsListOf ⟦<RelativeDistinguishedName<'a> as Item>⟧.item.valid
         ⟦<RelativeDistinguishedName<'a> as Item>⟧.item.octets name.now }
+    ensures complete { length name.now < 2 ^ 32 →
+        IsListOf ⟦<RelativeDistinguishedName<'a> as Item>⟧.item.valid
+        ⟦<RelativeDistinguishedName<'a> as Item>⟧.item.octets name.now →
+        (result.kind ≡ 0) ⊎ (result.kind ≡ 13) }
     ensures fits { result.kind ≡ 0 → count.new < length text.new }
     ensures ended { result.kind ≡ 0 → slice_index text.new count.new ≡ 0 }
     ensures same { result.kind ≢ 0 → count.new ≡ count.old }
