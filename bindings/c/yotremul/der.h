@@ -775,6 +775,11 @@ der_error der_write_header(der_writer *writer, der_tag tag, uint32_t length);
 DER_NONNULL(1)
 der_error der_write_element(der_writer *writer, der_tag tag, const uint8_t *contents, size_t length);
 
+/* der_write_parts writes a header, and then the octets of |count| spans, one after another, which are
+ * the contents. Fails like |der_write_element| with all of them. */
+DER_NONNULL(1)
+der_error der_write_parts(der_writer *writer, der_tag tag, const der_span *parts, size_t count);
+
 /* To write an element with others inside, either compute the lengths first, or begin and end it.
  *
  * der_element_length sets |*count| to the number of octets of an element of |tag| with |length|
@@ -874,6 +879,118 @@ der_error der_write_time(der_writer *writer, der_tag tag, der_tag type, const de
 DER_NONNULL(1)
 der_error der_write_time_seconds(der_writer *writer, der_tag tag, der_tag type, int64_t seconds);
 
+/* Names, extensions, requests and certificates that are written from parts.
+ *
+ * OBJECT IDENTIFIERs are passed as contents octets. Each DER_ID_.. below stands for both arguments, the
+ * octets and their number; |der_oid_from_text| makes the octets of others. A part that is called an
+ * element is the whole encoding of a value, which is written as it is and not checked: to see that what
+ * was written is a request or a certificate, read it with |der_request_read| or |der_certificate_read|.
+ * No call signs.
+ *
+ * The calls fail like |der_write_element|, and with DER_VALUE if an argument that is checked is no value.
+ * The writer has failed then. */
+
+#ifdef __cplusplus
+#define DER_OCTETS(text) (reinterpret_cast<const uint8_t *>("" text)), (sizeof(text) - 1)
+#else
+#define DER_OCTETS(text) ((const uint8_t *)("" text)), (sizeof(text) - 1)
+#endif
+
+/* Types of attributes of names (RFC 5280, appendix A.1; RFC 4519). */
+#define DER_ID_COMMON_NAME DER_OCTETS("\x55\x04\x03") /* 2.5.4.3 */
+#define DER_ID_SERIAL_NUMBER DER_OCTETS("\x55\x04\x05") /* 2.5.4.5 */
+#define DER_ID_COUNTRY_NAME DER_OCTETS("\x55\x04\x06") /* 2.5.4.6 */
+#define DER_ID_LOCALITY_NAME DER_OCTETS("\x55\x04\x07") /* 2.5.4.7 */
+#define DER_ID_STATE_OR_PROVINCE_NAME DER_OCTETS("\x55\x04\x08") /* 2.5.4.8 */
+#define DER_ID_ORGANIZATION_NAME DER_OCTETS("\x55\x04\x0A") /* 2.5.4.10 */
+#define DER_ID_ORGANIZATIONAL_UNIT_NAME DER_OCTETS("\x55\x04\x0B") /* 2.5.4.11 */
+#define DER_ID_EMAIL_ADDRESS DER_OCTETS("\x2A\x86\x48\x86\xF7\x0D\x01\x09\x01") /* 1.2.840.113549.1.9.1 */
+#define DER_ID_DOMAIN_COMPONENT DER_OCTETS("\x09\x92\x26\x89\x93\xF2\x2C\x64\x01\x19") /* 0.9.2342.19200300.100.1.25 */
+
+/* Extensions (RFC 5280, 4.2). */
+#define DER_ID_SUBJECT_KEY_IDENTIFIER DER_OCTETS("\x55\x1D\x0E") /* 2.5.29.14 */
+#define DER_ID_KEY_USAGE DER_OCTETS("\x55\x1D\x0F") /* 2.5.29.15 */
+#define DER_ID_SUBJECT_ALTERNATIVE_NAME DER_OCTETS("\x55\x1D\x11") /* 2.5.29.17 */
+#define DER_ID_BASIC_CONSTRAINTS DER_OCTETS("\x55\x1D\x13") /* 2.5.29.19 */
+#define DER_ID_CRL_DISTRIBUTION_POINTS DER_OCTETS("\x55\x1D\x1F") /* 2.5.29.31 */
+#define DER_ID_CERTIFICATE_POLICIES DER_OCTETS("\x55\x1D\x20") /* 2.5.29.32 */
+#define DER_ID_AUTHORITY_KEY_IDENTIFIER DER_OCTETS("\x55\x1D\x23") /* 2.5.29.35 */
+#define DER_ID_EXTENDED_KEY_USAGE DER_OCTETS("\x55\x1D\x25") /* 2.5.29.37 */
+#define DER_ID_AUTHORITY_INFORMATION_ACCESS DER_OCTETS("\x2B\x06\x01\x05\x05\x07\x01\x01") /* 1.3.6.1.5.5.7.1.1 */
+
+/* Algorithms of keys and of signatures (RFC 4055, 5758 and 8410). Those with RSA in their name have NULL
+ * parameters, and the others have none. An id-ecPublicKey has a curve as its parameters. */
+#define DER_ID_RSA_ENCRYPTION DER_OCTETS("\x2A\x86\x48\x86\xF7\x0D\x01\x01\x01") /* 1.2.840.113549.1.1.1 */
+#define DER_ID_SHA256_WITH_RSA DER_OCTETS("\x2A\x86\x48\x86\xF7\x0D\x01\x01\x0B") /* 1.2.840.113549.1.1.11 */
+#define DER_ID_SHA384_WITH_RSA DER_OCTETS("\x2A\x86\x48\x86\xF7\x0D\x01\x01\x0C") /* 1.2.840.113549.1.1.12 */
+#define DER_ID_SHA512_WITH_RSA DER_OCTETS("\x2A\x86\x48\x86\xF7\x0D\x01\x01\x0D") /* 1.2.840.113549.1.1.13 */
+#define DER_ID_EC_PUBLIC_KEY DER_OCTETS("\x2A\x86\x48\xCE\x3D\x02\x01") /* 1.2.840.10045.2.1 */
+#define DER_ID_ECDSA_WITH_SHA256 DER_OCTETS("\x2A\x86\x48\xCE\x3D\x04\x03\x02") /* 1.2.840.10045.4.3.2 */
+#define DER_ID_ECDSA_WITH_SHA384 DER_OCTETS("\x2A\x86\x48\xCE\x3D\x04\x03\x03") /* 1.2.840.10045.4.3.3 */
+#define DER_ID_ECDSA_WITH_SHA512 DER_OCTETS("\x2A\x86\x48\xCE\x3D\x04\x03\x04") /* 1.2.840.10045.4.3.4 */
+#define DER_ID_ED25519 DER_OCTETS("\x2B\x65\x70") /* 1.3.101.112 */
+
+/* Key purposes, for an extKeyUsage (RFC 5280, 4.2.1.12). */
+#define DER_ID_SERVER_AUTH DER_OCTETS("\x2B\x06\x01\x05\x05\x07\x03\x01") /* 1.3.6.1.5.5.7.3.1 */
+#define DER_ID_CLIENT_AUTH DER_OCTETS("\x2B\x06\x01\x05\x05\x07\x03\x02") /* 1.3.6.1.5.5.7.3.2 */
+#define DER_ID_CODE_SIGNING DER_OCTETS("\x2B\x06\x01\x05\x05\x07\x03\x03") /* 1.3.6.1.5.5.7.3.3 */
+#define DER_ID_EMAIL_PROTECTION DER_OCTETS("\x2B\x06\x01\x05\x05\x07\x03\x04") /* 1.3.6.1.5.5.7.3.4 */
+#define DER_ID_TIME_STAMPING DER_OCTETS("\x2B\x06\x01\x05\x05\x07\x03\x08") /* 1.3.6.1.5.5.7.3.8 */
+#define DER_ID_OCSP_SIGNING DER_OCTETS("\x2B\x06\x01\x05\x05\x07\x03\x09") /* 1.3.6.1.5.5.7.3.9 */
+
+/* der_write_name_attribute writes one level of a name with one attribute: its type, and the characters of a
+ * string of |type|, which is one that |der_read_text| takes. A name is a SEQUENCE of levels: begin and end it.
+ * RFC 5280 (4.1.2.4) wants DER_UTF8_STRING or DER_PRINTABLE_STRING, the latter for DER_ID_COUNTRY_NAME and
+ * DER_ID_SERIAL_NUMBER, and DER_IA5_STRING for DER_ID_EMAIL_ADDRESS and DER_ID_DOMAIN_COMPONENT. */
+DER_NONNULL(1)
+der_error der_write_name_attribute(der_writer *writer, const uint8_t *identifier, size_t length, der_tag type,
+                                   const uint8_t *text, size_t text_length);
+
+/* der_write_extension writes an extension; |value| is an element. Extensions are a SEQUENCE of them. */
+DER_NONNULL(1)
+der_error der_write_extension(der_writer *writer, const uint8_t *identifier, size_t length, bool critical,
+                              const uint8_t *value, size_t value_length);
+
+/* der_write_algorithm writes an algorithm, with NULL parameters or with none. */
+DER_NONNULL(1)
+der_error der_write_algorithm(der_writer *writer, const uint8_t *identifier, size_t length, bool null_parameters);
+
+/* der_write_request_part writes the part of a certification request (RFC 2986, 4.1) that is signed. The
+ * subject is a name, the key a SubjectPublicKeyInfo, and |extensions|, if it has octets, are requested. All
+ * are elements. */
+DER_NONNULL(1)
+der_error der_write_request_part(der_writer *writer, const uint8_t *subject, size_t subject_length,
+                                 const uint8_t *public_key, size_t key_length, const uint8_t *extensions,
+                                 size_t extensions_length);
+
+/* der_write_validity writes the validity of a certificate, from seconds since 1970-01-01T00:00:00Z. Times
+ * from 1950 to 2049 are UTCTimes, and others GeneralizedTimes. */
+DER_NONNULL(1)
+der_error der_write_validity(der_writer *writer, int64_t not_before, int64_t not_after);
+
+/* The parts of a certificate that is written: elements, but for the serial number. */
+typedef struct der_certificate_parts {
+    der_span serial_number; /* the contents octets of an INTEGER */
+    der_span signature_algorithm;
+    der_span issuer;
+    der_span validity;
+    der_span subject;
+    der_span public_key;
+    der_span extensions; /* no octets: there are no extensions */
+} der_certificate_parts;
+#define DER_CERTIFICATE_PARTS_INIT \
+    {DER_SPAN_INIT, DER_SPAN_INIT, DER_SPAN_INIT, DER_SPAN_INIT, DER_SPAN_INIT, DER_SPAN_INIT, DER_SPAN_INIT}
+
+/* der_write_certificate_part writes the part of a certificate (RFC 5280, 4.1) of version 3 that is signed. */
+DER_NONNULL(1, 2)
+der_error der_write_certificate_part(der_writer *writer, const der_certificate_parts *parts);
+
+/* der_write_signed writes a certificate, a revocation list or a request: the part that is signed and the
+ * algorithm, which are elements, and the octets of the signature as a BIT STRING. */
+DER_NONNULL(1)
+der_error der_write_signed(der_writer *writer, const uint8_t *part, size_t part_length, const uint8_t *algorithm,
+                           size_t algorithm_length, const uint8_t *signature, size_t signature_length);
+
 /* The layouts that the library was compiled for. */
 DER_STATIC_ASSERT(words, sizeof(void *) == 8 && sizeof(size_t) == 8 && sizeof(bool) == 1);
 DER_STATIC_ASSERT(error, sizeof(der_error) == 16 && offsetof(der_error, has_position) == 1 &&
@@ -963,6 +1080,13 @@ DER_STATIC_ASSERT(writer, sizeof(der_writer) == 40 && offsetof(der_writer, lengt
 DER_STATIC_ASSERT(mark, sizeof(der_mark) == 16 && offsetof(der_mark, outer) == 8);
 DER_STATIC_ASSERT(counter, sizeof(der_counter) == 16 && offsetof(der_counter, count) == 8 &&
                                offsetof(der_counter, failed) == 12);
+DER_STATIC_ASSERT(certificate_parts, sizeof(der_certificate_parts) == 112 &&
+                                         offsetof(der_certificate_parts, signature_algorithm) == 16 &&
+                                         offsetof(der_certificate_parts, issuer) == 32 &&
+                                         offsetof(der_certificate_parts, validity) == 48 &&
+                                         offsetof(der_certificate_parts, subject) == 64 &&
+                                         offsetof(der_certificate_parts, public_key) == 80 &&
+                                         offsetof(der_certificate_parts, extensions) == 96);
 
 #ifdef __cplusplus
 }

@@ -5,6 +5,7 @@
 //! and that each struct was made by the functions here.
 #![tactic(auto)]
 
+mod assembly;
 mod blocks;
 mod certificates;
 mod counting;

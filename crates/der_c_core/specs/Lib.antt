@@ -8,6 +8,7 @@ pub mod Octets
 pub mod ErrorCode
 pub mod Failure
 pub mod HeaderCall
+pub mod JoinedSpans
 pub mod Located
 pub mod Part
 pub mod CReader

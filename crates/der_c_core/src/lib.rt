@@ -53,3 +53,4 @@ pub use writer::calls::{
     der_written,
 };
 pub use writer::part::{der_begin, der_end, der_writer_fail, der_writer_finish};
+pub use writer::parts::der_write_parts;

@@ -1,8 +1,8 @@
 //! The calls of `der.h`. Written by tools/c_interface: change the crates that der_c uses instead.
 use super::{
-    Node, RawAttribute, RawBits, RawCertificate, RawConstraints, RawCounter, RawElement, RawEntry, RawError,
-    RawExtension, RawGeneralName, RawHeader, RawMark, RawNames, RawPemBlock, RawPrivateKey, RawPublicKey, RawReader,
-    RawRequest, RawRevocationList, RawRevoked, RawSpan, RawText, RawTime, RawTreeFound, RawUsage, RawWriter,
+    Node, RawAttribute, RawBits, RawCertificate, RawCertificateParts, RawConstraints, RawCounter, RawElement, RawEntry,
+    RawError, RawExtension, RawGeneralName, RawHeader, RawMark, RawNames, RawPemBlock, RawPrivateKey, RawPublicKey,
+    RawReader, RawRequest, RawRevocationList, RawRevoked, RawSpan, RawText, RawTime, RawTreeFound, RawUsage, RawWriter,
 };
 
 unsafe extern "C" {
@@ -114,6 +114,7 @@ unsafe extern "C" {
     pub fn der_write(writer: &mut RawWriter<'_>, octets: *const u8, length: usize) -> RawError;
     pub safe fn der_write_header(writer: &mut RawWriter<'_>, tag: u64, length: u32) -> RawError;
     pub fn der_write_element(writer: &mut RawWriter<'_>, tag: u64, contents: *const u8, length: usize) -> RawError;
+    pub fn der_write_parts(writer: &mut RawWriter<'_>, tag: u64, parts: *const RawSpan<'_>, count: usize) -> RawError;
     pub safe fn der_element_length(tag: u64, length: u32, count: &mut u32) -> RawError;
     pub safe fn der_begin(writer: &mut RawWriter<'_>, tag: u64, mark: &mut RawMark) -> RawError;
     pub safe fn der_end(writer: &mut RawWriter<'_>, mark: &RawMark) -> RawError;
@@ -148,6 +149,48 @@ unsafe extern "C" {
     ) -> RawError;
     pub safe fn der_write_time(writer: &mut RawWriter<'_>, tag: u64, time_type: u64, time: &RawTime) -> RawError;
     pub safe fn der_write_time_seconds(writer: &mut RawWriter<'_>, tag: u64, time_type: u64, seconds: i64) -> RawError;
+    pub fn der_write_name_attribute(
+        writer: &mut RawWriter<'_>,
+        identifier: *const u8,
+        length: usize,
+        string_type: u64,
+        text: *const u8,
+        text_length: usize,
+    ) -> RawError;
+    pub fn der_write_extension(
+        writer: &mut RawWriter<'_>,
+        identifier: *const u8,
+        length: usize,
+        critical: bool,
+        value: *const u8,
+        value_length: usize,
+    ) -> RawError;
+    pub fn der_write_algorithm(
+        writer: &mut RawWriter<'_>,
+        identifier: *const u8,
+        length: usize,
+        null_parameters: bool,
+    ) -> RawError;
+    pub fn der_write_request_part(
+        writer: &mut RawWriter<'_>,
+        subject: *const u8,
+        subject_length: usize,
+        public_key: *const u8,
+        key_length: usize,
+        extensions: *const u8,
+        extensions_length: usize,
+    ) -> RawError;
+    pub safe fn der_write_validity(writer: &mut RawWriter<'_>, not_before: i64, not_after: i64) -> RawError;
+    pub safe fn der_write_certificate_part(writer: &mut RawWriter<'_>, parts: &RawCertificateParts<'_>) -> RawError;
+    pub fn der_write_signed(
+        writer: &mut RawWriter<'_>,
+        part: *const u8,
+        part_length: usize,
+        algorithm: *const u8,
+        algorithm_length: usize,
+        signature: *const u8,
+        signature_length: usize,
+    ) -> RawError;
     pub safe fn der_known_types_room() -> usize;
     pub fn der_known_types(table: *mut u8, capacity: usize) -> usize;
     pub fn der_type_find(table: *const u8, table_length: usize, name: *const u8, length: usize) -> u32;

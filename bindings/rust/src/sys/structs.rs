@@ -23,6 +23,30 @@ pub struct RawPemBlock {
 
 #[repr(C)]
 #[derive(Clone, Copy)]
+pub struct RawCertificateParts<'a> {
+    pub serial_number: RawSpan<'a>,
+    pub signature_algorithm: RawSpan<'a>,
+    pub issuer: RawSpan<'a>,
+    pub validity: RawSpan<'a>,
+    pub subject: RawSpan<'a>,
+    pub public_key: RawSpan<'a>,
+    pub extensions: RawSpan<'a>,
+}
+
+impl RawCertificateParts<'_> {
+    pub const EMPTY: Self = RawCertificateParts {
+        serial_number: RawSpan::EMPTY,
+        signature_algorithm: RawSpan::EMPTY,
+        issuer: RawSpan::EMPTY,
+        validity: RawSpan::EMPTY,
+        subject: RawSpan::EMPTY,
+        public_key: RawSpan::EMPTY,
+        extensions: RawSpan::EMPTY,
+    };
+}
+
+#[repr(C)]
+#[derive(Clone, Copy)]
 pub struct RawAlgorithm<'a> {
     pub identifier: RawSpan<'a>,
     pub parameters: RawAny<'a>,
@@ -498,6 +522,13 @@ const _: () = {
     assert!(offset_of!(RawPemBlock, line) == 16);
     assert!(offset_of!(RawPemBlock, length) == 24);
     assert!(offset_of!(RawPemBlock, end) == 32);
+    assert!(size_of::<RawCertificateParts>() == 112);
+    assert!(offset_of!(RawCertificateParts, signature_algorithm) == 16);
+    assert!(offset_of!(RawCertificateParts, issuer) == 32);
+    assert!(offset_of!(RawCertificateParts, validity) == 48);
+    assert!(offset_of!(RawCertificateParts, subject) == 64);
+    assert!(offset_of!(RawCertificateParts, public_key) == 80);
+    assert!(offset_of!(RawCertificateParts, extensions) == 96);
     assert!(size_of::<RawAlgorithm>() == 40);
     assert!(offset_of!(RawAlgorithm, parameters) == 16);
     assert!(size_of::<RawAny>() == 24);
