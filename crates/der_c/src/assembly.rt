@@ -25,11 +25,11 @@ use der_c_core::{DerError, DerWriter};
 ///   type;
 /// - the errors of `der_write_element`.
 #[unsafe(no_mangle)]
-pub extern "C" fn der_write_name_attribute(
+pub extern "C" fn der_write_name_attribute<'a>(
     writer: &mut DerWriter<'_>,
-    identifier: &[u8],
+    identifier: &'a [u8],
     string_type: u64,
-    text: &[u8],
+    text: &'a [u8],
 ) -> DerError
     ensures writes { WritesValue (oid_form identifier.now && string_form string_type text.now)
         (attribute_octets identifier.now (string_tag string_type) text.now) 0x31
@@ -49,11 +49,11 @@ pub extern "C" fn der_write_name_attribute(
 ///   IDENTIFIER;
 /// - the errors of `der_write_element`.
 #[unsafe(no_mangle)]
-pub extern "C" fn der_write_extension(
+pub extern "C" fn der_write_extension<'a>(
     writer: &mut DerWriter<'_>,
-    identifier: &[u8],
+    identifier: &'a [u8],
     critical: bool,
-    value: &[u8],
+    value: &'a [u8],
 ) -> DerError
     ensures writes { WritesValue (oid_form identifier.now)
         (extension_contents identifier.now critical value.now) 0x30 (writer_state writer.old) result
@@ -93,11 +93,11 @@ pub extern "C" fn der_write_algorithm(
 ///
 /// Fails with the errors of `der_write_element`; `writer` has failed then.
 #[unsafe(no_mangle)]
-pub extern "C" fn der_write_request_part(
+pub extern "C" fn der_write_request_part<'a>(
     writer: &mut DerWriter<'_>,
-    subject: &[u8],
-    public_key: &[u8],
-    extensions: &[u8],
+    subject: &'a [u8],
+    public_key: &'a [u8],
+    extensions: &'a [u8],
 ) -> DerError
     ensures writes { WritesElement 0x30
         (request_contents subject.now public_key.now extensions.now) (writer_state writer.old) result
@@ -154,11 +154,11 @@ pub extern "C" fn der_write_certificate_part(
 ///
 /// Fails with the errors of `der_write_element`; `writer` has failed then.
 #[unsafe(no_mangle)]
-pub extern "C" fn der_write_signed(
+pub extern "C" fn der_write_signed<'a>(
     writer: &mut DerWriter<'_>,
-    part: &[u8],
-    algorithm: &[u8],
-    signature: &[u8],
+    part: &'a [u8],
+    algorithm: &'a [u8],
+    signature: &'a [u8],
 ) -> DerError
     ensures writes { WritesElement 0x30 (signed_contents part.now algorithm.now signature.now)
         (writer_state writer.old) result (writer_state writer.new) }

@@ -149,7 +149,7 @@ unsafe extern "C" {
     ) -> RawError;
     pub safe fn der_write_time(writer: &mut RawWriter<'_>, tag: u64, time_type: u64, time: &RawTime) -> RawError;
     pub safe fn der_write_time_seconds(writer: &mut RawWriter<'_>, tag: u64, time_type: u64, seconds: i64) -> RawError;
-    pub fn der_write_name_attribute(
+    pub fn der_write_name_attribute<'a>(
         writer: &mut RawWriter<'_>,
         identifier: *const u8,
         length: usize,
@@ -157,7 +157,7 @@ unsafe extern "C" {
         text: *const u8,
         text_length: usize,
     ) -> RawError;
-    pub fn der_write_extension(
+    pub fn der_write_extension<'a>(
         writer: &mut RawWriter<'_>,
         identifier: *const u8,
         length: usize,
@@ -171,7 +171,7 @@ unsafe extern "C" {
         length: usize,
         null_parameters: bool,
     ) -> RawError;
-    pub fn der_write_request_part(
+    pub fn der_write_request_part<'a>(
         writer: &mut RawWriter<'_>,
         subject: *const u8,
         subject_length: usize,
@@ -182,7 +182,7 @@ unsafe extern "C" {
     ) -> RawError;
     pub safe fn der_write_validity(writer: &mut RawWriter<'_>, not_before: i64, not_after: i64) -> RawError;
     pub safe fn der_write_certificate_part(writer: &mut RawWriter<'_>, parts: &RawCertificateParts<'_>) -> RawError;
-    pub fn der_write_signed(
+    pub fn der_write_signed<'a>(
         writer: &mut RawWriter<'_>,
         part: *const u8,
         part_length: usize,
