@@ -9,11 +9,13 @@
 //! necessary, and no other constructed strings.
 #![no_std]
 
+mod assembly;
 mod certificate;
 mod counter;
 mod element;
 mod error;
 mod extension;
+pub mod id;
 mod items;
 mod name;
 mod octets;
@@ -27,6 +29,7 @@ mod tag;
 mod value;
 mod writer;
 
+pub use assembly::CertificateParts;
 pub use certificate::{Algorithm, Any, Certificate, PublicKey};
 use core::cmp::Ordering;
 pub use counter::Counter;
