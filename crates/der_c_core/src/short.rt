@@ -5,8 +5,7 @@ ghost use Rattle.der_c_core.specs.CReader.{reader_state};
 ghost use Rattle.der_c_core.specs.Short.{IsPlain, IsShortHeader, IsShortElement};
 
 use crate::reader::DerReader;
-use crate::tag::universal;
-use der_core::Reader;
+use der_core::{Reader, universal_tag};
 
 /// An element that is there as a whole, with a tag of one octet and a definite length.
 #[derive(Clone, Copy)]
@@ -105,7 +104,7 @@ pub(crate) fn is_identifier(octet: u8) -> bool
     ensures { result ≡ true → IsPlain octet }
 {
     if octet < 0x40 {
-        return universal(octet).is_some();
+        return universal_tag(octet).is_some();
     }
     octet % 32 < 31
 }
