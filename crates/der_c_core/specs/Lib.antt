@@ -10,6 +10,7 @@ pub mod Failure
 pub mod HeaderCall
 pub mod Located
 pub mod Part
+pub mod PeekCalls
 pub mod CReader
 pub mod ScanCall
 pub mod SetOrder
