@@ -205,6 +205,44 @@ static void see_oid_texts(void)
           count == 99);
 }
 
+/* A dotted notation is too large only if it is one. An arc under 2.25 is a UUID, a number of 128 bits (X.667). */
+static void see_large_oid_texts(void)
+{
+    static const char *const large[] = {
+        "2.25.340282366920938463463374607431768211456", "2.25.340282366920938463463374607431768211456.1",
+        "2.340282366920938463463374607431768211376", "1.2.99999999999999999999999999999999999999999999"};
+    static const char *const malformed[] = {
+        "2.25.0340282366920938463463374607431768211456", "2.25.340282366920938463463374607431768211456.",
+        "2.25.340282366920938463463374607431768211456..1", "2.25.340282366920938463463374607431768211456x",
+        "2.25.340282366920938463463374607431768211456.01", "340282366920938463463374607431768211456.1",
+        "3.340282366920938463463374607431768211456", "1.340282366920938463463374607431768211456",
+        "340282366920938463463374607431768211456", "0.40.340282366920938463463374607431768211456"};
+    uint8_t oid[257] = {9};
+    char text[1024] = "2.5";
+    size_t count = 99;
+    for (size_t i = 0; i < sizeof large / sizeof *large; i++) {
+        HOLDS(der_oid_from_text(large[i], strlen(large[i]), oid, sizeof oid, &count).kind == DER_OVERFLOW);
+        HOLDS(count == 99 && oid[0] == 9);
+    }
+    for (size_t i = 0; i < sizeof malformed / sizeof *malformed; i++) {
+        HOLDS(der_oid_from_text(malformed[i], strlen(malformed[i]), oid, sizeof oid, &count).kind == DER_OID_MALFORMED);
+        HOLDS(count == 99 && oid[0] == 9);
+    }
+    /* 256 contents octets, and 257 */
+    for (int i = 0; i < 255; i++)
+        strcat(text, ".1");
+    HOLDS(der_oid_from_text(text, strlen(text), oid, sizeof oid, &count).kind == DER_OK && count == 256);
+    HOLDS(oid[0] == 0x55 && oid[1] == 1 && oid[255] == 1);
+    strcat(text, ".1");
+    HOLDS(der_oid_from_text(text, strlen(text), oid, sizeof oid, &count).kind == DER_OVERFLOW && count == 256);
+    strcat(text, ".");
+    HOLDS(der_oid_from_text(text, strlen(text), oid, sizeof oid, &count).kind == DER_OID_MALFORMED && count == 256);
+    /* 80 + 2^128 - 81 is the largest subidentifier of the first two arcs */
+    see_oid(OCTETS(6, 19, 0x83, 0xFF, 0xFF, 0xFF, 0xFF, 0xFF, 0xFF, 0xFF, 0xFF, 0xFF, 0xFF, 0xFF, 0xFF, 0xFF, 0xFF, 0xFF,
+                   0xFF, 0xFF, 0x7F),
+            "2.340282366920938463463374607431768211375");
+}
+
 /* The next tag, of which the identifier alone is read. */
 static void see_next_tag(const uint8_t *octets, size_t length, bool ber, der_tag wanted)
 {
@@ -456,6 +494,7 @@ int main(void)
     see_optional_values();
     see_oids();
     see_oid_texts();
+    see_large_oid_texts();
     see_texts();
     see_times();
     see_writing();

@@ -475,9 +475,9 @@ DER_MUST_USE DER_NONNULL(5)
 der_error der_oid_arcs(const uint8_t *oid, size_t length, uint64_t *arcs, size_t capacity, size_t *count);
 
 /* der_oid_from_text writes the contents octets of an OBJECT IDENTIFIER in dotted notation into |oid|,
- * and sets |*count| to their number. Fails with DER_OID_MALFORMED if |text| is none, with DER_OVERFLOW
- * if a subidentifier needs more than 128 bits or all of them more than 256 octets, and with
- * DER_OVERLENGTH if |capacity| is too small. */
+ * and sets |*count| to their number. Fails with DER_OID_MALFORMED if |text| is none, however large its
+ * numbers are; with DER_OVERFLOW if it is one, and a subidentifier needs more than 128 bits or all of
+ * them more than 256 octets; and with DER_OVERLENGTH if |capacity| is too small. */
 DER_MUST_USE DER_NONNULL(5)
 der_error der_oid_from_text(const char *text, size_t length, uint8_t *oid, size_t capacity, size_t *count);
 
