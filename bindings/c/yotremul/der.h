@@ -13,6 +13,8 @@
  *     with |DER_FAILED|. Two errors of readers leave the reader where it was: |DER_TAG_UNEXPECTED|,
  *     after which the caller may ask for another tag, and |DER_READER|, which |der_open| and
  *     |der_element_octets| report for an element of another reader.
+ *   - A call to which the reader or the writer is |const|, as to |der_peek| and |der_finish|, leaves it
+ *     as it is, whatever the result.
  *   - No out-parameter changes in a call that fails, except those of |der_read_tree|, which reports
  *     the elements that come before the error.
  *   - |DER_INCOMPLETE| says that octets are missing: |first| is needed, |second| are there, both in
@@ -272,6 +274,24 @@ der_error der_read_element(der_reader *reader, der_element *element);
 DER_MUST_USE DER_NONNULL(1)
 der_error der_skip(der_reader *reader);
 
+/* der_peek sets |*tag| to the tag of the next element, which is not consumed. Only the identifier is
+ * read, so the call that reads the element may still fail. Fails with DER_FAILED, with DER_INCOMPLETE
+ * or DER_OVERFLOW if the identifier is cut or no octets are left, with DER_TAG_UNKNOWN and with
+ * DER_TAG_NUMBER_INVALID. */
+DER_MUST_USE DER_NONNULL(1, 2)
+der_error der_peek(const der_reader *reader, uint64_t *tag);
+
+/* der_next_is returns whether the next element has this tag. It is false if no octets are left, if the
+ * reader has failed, and if the next octets are no identifier. A value with OPTIONAL or DEFAULT is read
+ * if it is next:
+ *
+ *     uint64_t version = 0;
+ *     if (der_next_is(&reader, DER_INTEGER) && der_read_uint64(&reader, DER_INTEGER, &version).kind)
+ *         return false;
+ */
+DER_MUST_USE DER_NONNULL(1)
+bool der_next_is(const der_reader *reader, der_tag tag);
+
 /* der_expect reads an element that has this tag. Fails like |der_read_element|; with
  * DER_TAG_UNEXPECTED, at the start of the next element, if that has another tag; and with
  * DER_TAG_NUMBER_INVALID if |tag| is no tag. */
@@ -455,9 +475,9 @@ DER_MUST_USE DER_NONNULL(5)
 der_error der_oid_arcs(const uint8_t *oid, size_t length, uint64_t *arcs, size_t capacity, size_t *count);
 
 /* der_oid_from_text writes the contents octets of an OBJECT IDENTIFIER in dotted notation into |oid|,
- * and sets |*count| to their number. Fails with DER_OID_MALFORMED if |text| is none, with DER_OVERFLOW
- * if a subidentifier needs more than 128 bits or all of them more than 256 octets, and with
- * DER_OVERLENGTH if |capacity| is too small. */
+ * and sets |*count| to their number. Fails with DER_OID_MALFORMED if |text| is none, however large its
+ * numbers are; with DER_OVERFLOW if it is one, and a subidentifier needs more than 128 bits or all of
+ * them more than 256 octets; and with DER_OVERLENGTH if |capacity| is too small. */
 DER_MUST_USE DER_NONNULL(5)
 der_error der_oid_from_text(const char *text, size_t length, uint8_t *oid, size_t capacity, size_t *count);
 

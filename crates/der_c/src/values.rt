@@ -5,8 +5,9 @@ ghost use Rattle.der_asn1.specs.Forms.{bits_form, boolean_form, integer_form, nu
 ghost use Rattle.der_asn1.specs.Integer.{integer_octets, signed_form, signed_octets, unsigned_form};
 ghost use Rattle.der_c_core.specs.CReader.{reader_state};
 ghost use Rattle.der_c_values.specs.Characters.{TakesCharacter};
-ghost use Rattle.der_c_values.specs.Dotted.{ComparesOid, EncodesText, GivesOidText};
+ghost use Rattle.der_c_values.specs.Dotted.{ComparesOid, GivesOidText};
 ghost use Rattle.der_c_values.specs.OidArcs.{GivesArcs};
+ghost use Rattle.der_c_values.specs.OidFromText.{EncodesText};
 ghost use Rattle.der_c_values.specs.StringTypes.{IsTextOf, is_string_type, string_form};
 ghost use Rattle.der_c_values.specs.TimeValues.{IsTimeOf, is_time_type, time_form};
 ghost use Rattle.der_c_values.specs.ValueCalls.{IsValueOf, ReadsTyped, ReadsValue};
@@ -261,8 +262,9 @@ pub extern "C" fn der_oid_arcs(oid: &[u8], arcs: &mut [u64], count: &mut usize) 
 ///
 /// A call that fails leaves `oid` and `count` unchanged. Fails without a position with:
 ///
-/// - `OidMalformed`, if `text` is not the dotted notation of an OBJECT IDENTIFIER;
-/// - `Overflow`, if a subidentifier does not fit in 128 bits, or if there are more than 256
+/// - `OidMalformed`, if `text` is not the dotted notation of an OBJECT IDENTIFIER, whatever the size
+///   of its numbers;
+/// - `Overflow`, if it is, and a subidentifier does not fit in 128 bits, or there are more than 256
 ///   contents octets;
 /// - `Overlength`, if there is no space in `oid`.
 #[unsafe(no_mangle)]

@@ -11,6 +11,7 @@ pub mod HeaderCall
 pub mod JoinedSpans
 pub mod Located
 pub mod Part
+pub mod PeekCalls
 pub mod CReader
 pub mod ScanCall
 pub mod SetOrder

@@ -7,3 +7,6 @@ pub mod OidTextLemmas
 pub mod TimeLemmas
 pub mod WriteLemmas
 pub mod DecimalLemmas
+pub mod DottedArcLemmas
+pub mod OidContentsLemmas
+pub mod OidFromTextLemmas

@@ -1,6 +1,8 @@
 pub mod Characters
 pub mod Dotted
 pub mod OidArcs
+pub mod OidContents
+pub mod OidFromText
 pub mod StringTypes
 pub mod TimeValues
 pub mod ValueCalls

@@ -10,6 +10,7 @@ mod boolean;
 mod character;
 mod contents;
 mod decimal;
+mod dotted_arc;
 mod integer;
 mod null;
 mod oid;

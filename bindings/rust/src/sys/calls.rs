@@ -15,6 +15,8 @@ unsafe extern "C" {
     pub safe fn der_read_header(reader: &mut RawReader<'_>, header: &mut RawHeader) -> RawError;
     pub safe fn der_read_element<'a>(reader: &mut RawReader<'a>, element: &mut RawElement<'a>) -> RawError;
     pub safe fn der_skip(reader: &mut RawReader<'_>) -> RawError;
+    pub safe fn der_peek(reader: &RawReader<'_>, tag: &mut u64) -> RawError;
+    pub safe fn der_next_is(reader: &RawReader<'_>, tag: u64) -> bool;
     pub safe fn der_expect<'a>(reader: &mut RawReader<'a>, tag: u64, element: &mut RawElement<'a>) -> RawError;
     pub safe fn der_optional<'a>(
         reader: &mut RawReader<'a>,
