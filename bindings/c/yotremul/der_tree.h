@@ -11,7 +11,8 @@
  * octet more than the input.
  *
  * Texts. A call that writes text writes a zero octet after it, and returns how many octets the text
- * has; |DER_NONE| if there is no room, and if there is no such element.
+ * has; |DER_NONE| if there is no room, and if there is no such element. Base64 and PEM have no zero
+ * octet.
  *
  * The caller ensures what the head of der.h says. */
 #ifndef YOTREMUL_DER_TREE_H
@@ -184,12 +185,29 @@ enum {
 };
 
 /* der_pem_next decodes the first block of |text| into |octets|. Base64 of n octets is decoded to less
- * than n octets. */
+ * than n octets. No room for them is an error. An error in the base64 of a block leaves |label| and |end|
+ * as those of the block; any other leaves them unchanged. */
 uint32_t der_pem_next(const char *text, size_t length, uint8_t *octets, size_t capacity, der_pem_block *block);
 
 /* der_base64_decode decodes base64, with white space in it, and returns how many octets it is; DER_NONE
- * if |text| is none, and if there is no room. */
+ * if |text| is none, and if there is no room. Some of |octets| may have been written then. */
 size_t der_base64_decode(const char *text, size_t length, uint8_t *octets, size_t capacity);
+
+/* How many octets der_base64_encode and der_pem_write write, of |length| octets and a label of
+ * |label_length| octets: constants, if these are constants. */
+#define DER_BASE64_ROOM(length) (((length) + 2) / 3 * 4)
+#define DER_PEM_ROOM(label_length, length)                                                                         \
+    (2 * (label_length) + DER_BASE64_ROOM(length) + (DER_BASE64_ROOM(length) + 63) / 64 + 32)
+
+/* der_base64_encode writes base64 with padding and without white space (RFC 4648, 4), and der_pem_write
+ * a block: the line -----BEGIN label-----, base64 in lines of 64 characters, and the line
+ * -----END label-----, each of which ends in LF (RFC 7468, 2). They write no zero octet, return how many
+ * octets they wrote, and change no others of |text|. They return DER_NONE and write nothing if there is no
+ * room, and if |label| is none: printable ASCII characters, where each - and each space stands between
+ * two others (RFC 7468, 3). */
+size_t der_base64_encode(const uint8_t *octets, size_t length, char *text, size_t capacity);
+size_t der_pem_write(const char *label, size_t label_length, const uint8_t *octets, size_t length, char *text,
+                     size_t capacity);
 
 /* The layouts that the library was compiled for. */
 DER_STATIC_ASSERT(entry, sizeof(der_entry) == 40 && offsetof(der_entry, parent) == 16 &&

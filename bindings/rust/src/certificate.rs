@@ -7,6 +7,7 @@ use crate::sys::{self, RawAlgorithm, RawAny, RawCertificate, RawPublicKey};
 use crate::tag::Tag;
 use crate::value::Bits;
 use core::fmt;
+use core::hash::{Hash, Hasher};
 
 /// An element of any tag, without its header. Its contents are not checked.
 #[derive(Clone, Copy, PartialEq, Eq, Hash, Debug)]
@@ -186,6 +187,12 @@ impl PartialEq for Certificate<'_> {
 }
 
 impl Eq for Certificate<'_> {}
+
+impl Hash for Certificate<'_> {
+    fn hash<H: Hasher>(&self, state: &mut H) {
+        (self.signed_part(), self.signature_algorithm(), self.signature()).hash(state);
+    }
+}
 
 impl fmt::Debug for Certificate<'_> {
     fn fmt(&self, f: &mut fmt::Formatter<'_>) -> fmt::Result {

@@ -3,6 +3,7 @@ use crate::octets::Hex;
 use crate::sys::{RawElement, RawHeader};
 use crate::tag::Tag;
 use core::fmt;
+use core::hash::{Hash, Hasher};
 
 /// The header of an element.
 #[derive(Clone, Copy, PartialEq, Eq, Hash, Debug)]
@@ -96,6 +97,12 @@ impl PartialEq for Element<'_> {
 }
 
 impl Eq for Element<'_> {}
+
+impl Hash for Element<'_> {
+    fn hash<H: Hasher>(&self, state: &mut H) {
+        (self.tag(), self.start(), self.contents()).hash(state);
+    }
+}
 
 impl fmt::Debug for Element<'_> {
     fn fmt(&self, f: &mut fmt::Formatter<'_>) -> fmt::Result {

@@ -12,6 +12,8 @@ pub struct Error(pub(crate) RawError);
 #[derive(Clone, Copy, PartialEq, Eq, Hash, Debug)]
 #[non_exhaustive]
 pub enum ErrorKind {
+    /// A value is no date or time.
+    DateTime,
     /// The call does not work under the encoding rules of the reader.
     EncodingRules,
     /// The reader or writer had failed before.
@@ -84,6 +86,7 @@ impl Error {
         let expected = Tag(u64::from(self.0.expected) + 256 * u64::from(first));
         let actual = Tag(u64::from(self.0.actual) + 256 * u64::from(second));
         match self.0.kind {
+            sys::DATE_TIME => ErrorKind::DateTime,
             2 => ErrorKind::EncodingRules,
             3 => ErrorKind::Failed,
             4 => ErrorKind::Incomplete {

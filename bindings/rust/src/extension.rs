@@ -30,7 +30,7 @@ impl fmt::Debug for Extension<'_> {
 }
 
 /// What keyUsage says (RFC 5280, 4.2.1.3).
-#[derive(Clone, Copy, PartialEq, Eq, Debug)]
+#[derive(Clone, Copy, PartialEq, Eq, Hash, Debug)]
 pub struct KeyUsage {
     /// Bit n of the extension as `1 << n`: digitalSignature is 1, keyCertSign is 32.
     pub bits: u16,
@@ -39,7 +39,7 @@ pub struct KeyUsage {
 }
 
 /// What basicConstraints says (RFC 5280, 4.2.1.9).
-#[derive(Clone, Copy, PartialEq, Eq, Debug)]
+#[derive(Clone, Copy, PartialEq, Eq, Hash, Debug)]
 pub struct BasicConstraints {
     /// Whether the subject may issue certificates.
     pub is_authority: bool,
@@ -147,6 +147,22 @@ impl fmt::Debug for Extensions<'_> {
     }
 }
 
+impl<'a> Extensions<'a> {
+    /// The items, in order.
+    pub fn iter(&self) -> ExtensionIter<'a> {
+        self.into_iter()
+    }
+}
+
+impl<'a> IntoIterator for &Extensions<'a> {
+    type Item = Result<Extension<'a>, Error>;
+    type IntoIter = ExtensionIter<'a>;
+
+    fn into_iter(self) -> ExtensionIter<'a> {
+        (*self).into_iter()
+    }
+}
+
 impl<'a> IntoIterator for Extensions<'a> {
     type Item = Result<Extension<'a>, Error>;
     type IntoIter = ExtensionIter<'a>;
@@ -166,6 +182,10 @@ pub struct ExtensionIter<'a> {
 
 impl<'a> Iterator for ExtensionIter<'a> {
     type Item = Result<Extension<'a>, Error>;
+
+    fn size_hint(&self) -> (usize, Option<usize>) {
+        crate::items::size_hint(&self.reader)
+    }
 
     fn next(&mut self) -> Option<Self::Item> {
         crate::items::next(&mut self.reader, next_extension)

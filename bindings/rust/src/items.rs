@@ -11,6 +11,14 @@ pub(crate) fn list(octets: &[u8]) -> Result<Reader<'_>, Error> {
     Ok(items)
 }
 
+/// How many items are left: each has two octets at least, except one that is refused.
+pub(crate) fn size_hint(reader: &Result<Reader<'_>, Error>) -> (usize, Option<usize>) {
+    match reader {
+        Ok(reader) => reader.size_hint(),
+        Err(_) => (1, Some(1)),
+    }
+}
+
 /// The next item of a list. After an error there is no other item.
 pub(crate) fn next<'a, T>(
     reader: &mut Result<Reader<'a>, Error>,

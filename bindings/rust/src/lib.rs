@@ -1,13 +1,24 @@
 //! A safe reader and writer of DER (ITU-T X.690), and a reader of BER, over the proved library
-//! `libder_c.a`: elements, values, certificates and keys. No function allocates. Lengths and positions
-//! are in octets.
+//! `libder_c.a`: elements, values, certificates, keys and PEM. Only the iterator over PEM blocks and
+//! [`pem::to_string`] allocate. Lengths and positions are in octets.
 //!
 //! Nothing is validated: no signature, no chain of certificates, no date against a clock.
 //!
 //! Two errors of a [`Reader`] leave it where it was; after any other, every later call on it fails.
 //! It reads BER with indefinite lengths, and an OCTET STRING in segments; not longer lengths than
 //! necessary, and no other constructed strings.
+//!
+//! # Features
+//!
+//! `std`, which is a default, converts a [`Time`] from and to `SystemTime`. `alloc`, which `std` includes,
+//! iterates over the blocks of a PEM text ([`pem`]) and writes one as a `String`. Without them nothing
+//! needs an allocator.
 #![no_std]
+
+#[cfg(feature = "alloc")]
+extern crate alloc;
+#[cfg(feature = "std")]
+extern crate std;
 
 mod assembly;
 mod certificate;
@@ -18,14 +29,17 @@ mod extension;
 pub mod id;
 mod items;
 mod name;
+mod object_identifier;
 mod octets;
 mod oid;
+pub mod pem;
 mod private_key;
 mod reader;
 mod request;
 mod revocation_list;
 mod sys;
 mod tag;
+mod time;
 mod value;
 mod writer;
 
@@ -38,6 +52,7 @@ use error::answer;
 pub use error::{Error, ErrorKind};
 pub use extension::{BasicConstraints, Extension, ExtensionIter, Extensions, KeyUsage};
 pub use name::{Attribute, Attributes, GeneralName, GeneralNameIter, GeneralNames, Name};
+pub use object_identifier::ObjectIdentifier;
 pub use oid::Oid;
 pub use private_key::PrivateKey;
 pub use reader::{Elements, Reader};
@@ -45,7 +60,8 @@ pub use request::Request;
 pub use revocation_list::{Entries, EntryIter, RevocationList, Revoked};
 pub use sys::Node;
 pub use tag::Tag;
-pub use value::{Bits, Characters, Text, Time};
+pub use time::Time;
+pub use value::{Bits, Characters, Text};
 pub use writer::{Writer, element_length};
 
 /// The order of two whole elements in a SET OF (X.690 11.6).
@@ -66,7 +82,7 @@ pub fn version() -> u32 {
     sys::der_version()
 }
 
-/// The example of the page is compiled and run as a test.
-#[cfg(doctest)]
+/// The examples of the page are compiled and run as tests.
+#[cfg(all(doctest, feature = "std"))]
 #[doc = include_str!("../README.md")]
 pub struct Readme;

@@ -59,6 +59,16 @@ impl<'a> Name<'a> {
     }
 }
 
+/// All attributes, level by level.
+impl<'a> IntoIterator for Name<'a> {
+    type Item = Result<Attribute<'a>, Error>;
+    type IntoIter = Attributes<'a>;
+
+    fn into_iter(self) -> Attributes<'a> {
+        self.attributes()
+    }
+}
+
 /// How many parts the levels of a name are divided into, to be printed from the last to the first.
 const PARTS: usize = 32;
 
@@ -278,6 +288,22 @@ impl fmt::Debug for GeneralNames<'_> {
     }
 }
 
+impl<'a> GeneralNames<'a> {
+    /// The items, in order.
+    pub fn iter(&self) -> GeneralNameIter<'a> {
+        self.into_iter()
+    }
+}
+
+impl<'a> IntoIterator for &GeneralNames<'a> {
+    type Item = Result<GeneralName<'a>, Error>;
+    type IntoIter = GeneralNameIter<'a>;
+
+    fn into_iter(self) -> GeneralNameIter<'a> {
+        (*self).into_iter()
+    }
+}
+
 impl<'a> IntoIterator for GeneralNames<'a> {
     type Item = Result<GeneralName<'a>, Error>;
     type IntoIter = GeneralNameIter<'a>;
@@ -297,6 +323,10 @@ pub struct GeneralNameIter<'a> {
 
 impl<'a> Iterator for GeneralNameIter<'a> {
     type Item = Result<GeneralName<'a>, Error>;
+
+    fn size_hint(&self) -> (usize, Option<usize>) {
+        crate::items::size_hint(&self.reader)
+    }
 
     fn next(&mut self) -> Option<Self::Item> {
         crate::items::next(&mut self.reader, next_general_name)

@@ -4,6 +4,7 @@ use crate::error::{Error, answer};
 use crate::sys::{self, Node, RawElement, RawHeader, RawReader, RawSpan};
 use crate::tag::Tag;
 use core::fmt;
+use core::hash::{Hash, Hasher};
 use core::iter::FusedIterator;
 
 /// A reader of octets. It is a small value: a copy reads on independently.
@@ -207,6 +208,12 @@ impl<'a> Reader<'a> {
         }
     }
 
+    /// How many elements are left: each has two octets at least, except one that is refused.
+    pub(crate) fn size_hint(&self) -> (usize, Option<usize>) {
+        let count = self.rest().len();
+        (count.min(1), Some(count.div_ceil(2)))
+    }
+
     /// Where the reader is, in octets from the start of the input.
     #[inline]
     pub fn position(&self) -> usize {
@@ -252,6 +259,12 @@ impl PartialEq for Reader<'_> {
 
 impl Eq for Reader<'_> {}
 
+impl Hash for Reader<'_> {
+    fn hash<H: Hasher>(&self, state: &mut H) {
+        (self.0.octets, self.0.position, self.0.end).hash(state);
+    }
+}
+
 impl fmt::Debug for Reader<'_> {
     fn fmt(&self, f: &mut fmt::Formatter<'_>) -> fmt::Result {
         f.debug_struct("Reader")
@@ -294,6 +307,14 @@ impl<'a> IntoIterator for Reader<'a> {
 
 impl<'a> Iterator for Elements<'a> {
     type Item = Result<Element<'a>, Error>;
+
+    fn size_hint(&self) -> (usize, Option<usize>) {
+        if self.is_refused {
+            (0, Some(0))
+        } else {
+            self.reader.size_hint()
+        }
+    }
 
     #[inline]
     fn next(&mut self) -> Option<Self::Item> {

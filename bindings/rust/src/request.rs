@@ -12,7 +12,7 @@ use core::fmt;
 
 /// A certificate request (PKCS #10; RFC 2986, 4), borrowed from its octets. Its signature is not
 /// verified.
-#[derive(Clone, Copy, PartialEq, Eq)]
+#[derive(Clone, Copy, PartialEq, Eq, Hash)]
 pub struct Request<'a> {
     /// All octets of the part that the signature covers.
     pub signed_part: &'a [u8],

@@ -12,7 +12,7 @@ use core::iter::FusedIterator;
 
 /// A certificate revocation list (RFC 5280, 5.1), borrowed from its octets. Nothing about it is
 /// validated.
-#[derive(Clone, Copy, PartialEq, Eq, Debug)]
+#[derive(Clone, Copy, PartialEq, Eq, Hash, Debug)]
 pub struct RevocationList<'a> {
     /// The version: 1, 2 or 3; 1 if it is absent.
     pub version: u8,
@@ -69,7 +69,7 @@ impl<'a> RevocationList<'a> {
 }
 
 /// An entry of a revocation list (RFC 5280, 5.1.2.6).
-#[derive(Clone, Copy, PartialEq, Eq)]
+#[derive(Clone, Copy, PartialEq, Eq, Hash)]
 pub struct Revoked<'a> {
     /// The serial number of the certificate, as the octets of an INTEGER.
     pub serial_number: &'a [u8],
@@ -90,7 +90,7 @@ impl fmt::Debug for Revoked<'_> {
 }
 
 /// The entries of a revocation list, which are iterated.
-#[derive(Clone, Copy, PartialEq, Eq)]
+#[derive(Clone, Copy, PartialEq, Eq, Hash)]
 pub struct Entries<'a> {
     contents: &'a [u8],
 }
@@ -98,6 +98,22 @@ pub struct Entries<'a> {
 impl fmt::Debug for Entries<'_> {
     fn fmt(&self, f: &mut fmt::Formatter<'_>) -> fmt::Result {
         f.debug_list().entries(*self).finish()
+    }
+}
+
+impl<'a> Entries<'a> {
+    /// The items, in order.
+    pub fn iter(&self) -> EntryIter<'a> {
+        self.into_iter()
+    }
+}
+
+impl<'a> IntoIterator for &Entries<'a> {
+    type Item = Result<Revoked<'a>, Error>;
+    type IntoIter = EntryIter<'a>;
+
+    fn into_iter(self) -> EntryIter<'a> {
+        (*self).into_iter()
     }
 }
 
@@ -120,6 +136,10 @@ pub struct EntryIter<'a> {
 
 impl<'a> Iterator for EntryIter<'a> {
     type Item = Result<Revoked<'a>, Error>;
+
+    fn size_hint(&self) -> (usize, Option<usize>) {
+        crate::items::size_hint(&self.reader)
+    }
 
     fn next(&mut self) -> Option<Self::Item> {
         crate::items::next(&mut self.reader, |reader| {

@@ -13,11 +13,17 @@ pub use calls::*;
 pub use structs::*;
 pub use trees::*;
 
+/// The number of the kind for what is no date or time.
+pub const DATE_TIME: u8 = 1;
+
 /// The number of the kind for an element of another reader.
 pub const READER: u8 = 14;
 
 /// The number of the kind for what may occur once and occurs again.
 pub const DUPLICATE: u8 = 10;
+
+/// The number of the kind for too little space.
+pub const OVERLENGTH: u8 = 13;
 
 /// The number of the kind that has two tags.
 pub const TAG_UNEXPECTED: u8 = 17;

@@ -1,10 +1,11 @@
-//! Values: bits, texts and times, and the calls that read and write values.
+//! Values: bits and texts, and the calls that read and write values.
 use crate::error::{Error, answer};
 use crate::octets::Hex;
 use crate::oid::Oid;
 use crate::reader::Reader;
 use crate::sys::{self, RawBits, RawSpan, RawText, RawTime};
 use crate::tag::Tag;
+use crate::time::Time;
 use crate::writer::Writer;
 use core::fmt;
 use core::iter::FusedIterator;
@@ -111,6 +112,15 @@ pub struct Characters<'a>(RawText<'a>);
 impl Iterator for Characters<'_> {
     type Item = char;
 
+    // a character has one octet to four in UTF-8, two in a BMPString, and one in the other types
+    fn size_hint(&self) -> (usize, Option<usize>) {
+        match (Tag(self.0.string_type), self.0.length) {
+            (Tag::UTF8_STRING, length) => (length.div_ceil(4), Some(length)),
+            (Tag::BMP_STRING, length) => (length / 2, Some(length / 2)),
+            (_, length) => (length, Some(length)),
+        }
+    }
+
     fn next(&mut self) -> Option<char> {
         let mut number = 0;
         let is_there = sys::der_next_character(&mut self.0, &mut number);
@@ -119,52 +129,6 @@ impl Iterator for Characters<'_> {
 }
 
 impl FusedIterator for Characters<'_> {}
-
-/// A time in UTC, in the years 0 to 9999.
-#[derive(Clone, Copy, PartialEq, Eq, PartialOrd, Ord, Hash, Debug)]
-pub struct Time {
-    /// The year.
-    pub year: u16,
-    /// The month, from 1 to 12.
-    pub month: u8,
-    /// The day of the month, from 1 to 31.
-    pub day: u8,
-    /// The hour, from 0 to 23.
-    pub hour: u8,
-    /// The minute, from 0 to 59.
-    pub minute: u8,
-    /// The second, from 0 to 59.
-    pub second: u8,
-}
-
-impl Time {
-    /// The time that is so many seconds after 1970-01-01T00:00:00Z, or before it for a negative number, as
-    /// [`not_after`](crate::Certificate::not_after) has them; `None` if its year is not from 0 to 9999.
-    pub fn from_unix_seconds(seconds: i64) -> Option<Self> {
-        let mut octets = [0; 17];
-        let mut writer = Writer::new(&mut octets);
-        writer
-            .time_seconds(Tag::GENERALIZED_TIME, Tag::GENERALIZED_TIME, seconds)
-            .ok()?;
-        let mut reader = Reader::der(writer.finish().ok()?).ok()?;
-        Some(reader.time(Tag::GENERALIZED_TIME, Tag::GENERALIZED_TIME).ok()?.0)
-    }
-}
-
-/// Prints the time as RFC 3339 does: `2026-11-26T23:05:00Z`.
-impl fmt::Display for Time {
-    fn fmt(&self, f: &mut fmt::Formatter<'_>) -> fmt::Result {
-        let Time {
-            year,
-            month,
-            day,
-            hour,
-            minute,
-            second,
-        } = self;
-        write!(f, "{year:04}-{month:02}-{day:02}T{hour:02}:{minute:02}:{second:02}Z")
-    }
-}
 
 /// Values. Each call reads the next element, which must have `tag`, and checks its contents by X.690.
 /// Another tag than the type's own is that of a value with an IMPLICIT tag. They fail as
@@ -241,15 +205,7 @@ impl<'a> Reader<'a> {
     pub fn time(&mut self, tag: Tag, time_type: Tag) -> Result<(Time, i64), Error> {
         let mut raw = RawTime::default();
         answer(sys::der_read_time(&mut self.0, tag.0, time_type.0, &mut raw))?;
-        let time = Time {
-            year: raw.year,
-            month: raw.month,
-            day: raw.day,
-            hour: raw.hour,
-            minute: raw.minute,
-            second: raw.second,
-        };
-        Ok((time, raw.seconds))
+        Ok((Time::from(raw), raw.seconds))
     }
 }
 
@@ -310,16 +266,12 @@ impl Writer<'_> {
 
     /// Writes a time of the type that this universal tag names, UTCTime or GeneralizedTime.
     pub fn time(&mut self, tag: Tag, time_type: Tag, time: Time) -> Result<(), Error> {
-        let raw = RawTime {
-            seconds: 0,
-            year: time.year,
-            month: time.month,
-            day: time.day,
-            hour: time.hour,
-            minute: time.minute,
-            second: time.second,
-        };
-        answer(sys::der_write_time(&mut self.0, tag.0, time_type.0, &raw))
+        answer(sys::der_write_time(
+            &mut self.0,
+            tag.0,
+            time_type.0,
+            &RawTime::from(time),
+        ))
     }
 
     /// Writes a time that is given in seconds since 1970-01-01T00:00:00Z.

@@ -77,4 +77,5 @@ fn the_attributes_of_a_name_are_in_order() {
         .iter()
         .map(|(identifier, text)| (identifier.to_string(), text.to_string()));
     assert!(attributes.eq(wanted));
+    assert!(name.into_iter().eq(name.attributes()));
 }

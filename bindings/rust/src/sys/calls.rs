@@ -305,4 +305,13 @@ unsafe extern "C" {
         block: &mut RawPemBlock,
     ) -> u32;
     pub fn der_base64_decode(text: *const u8, length: usize, octets: *mut u8, capacity: usize) -> usize;
+    pub fn der_base64_encode(octets: *const u8, length: usize, text: *mut u8, capacity: usize) -> usize;
+    pub fn der_pem_write(
+        label: *const u8,
+        label_length: usize,
+        octets: *const u8,
+        length: usize,
+        text: *mut u8,
+        capacity: usize,
+    ) -> usize;
 }
