@@ -13,7 +13,7 @@ use Rattle.der_c_core.specs.WriterCalls.{WritesElement}
 use Rattle.der_c_core.specs.declared.error.DerError.{DerError}
 use Rattle.der_c_values.specs.StringTypes.{string_form}
 use Rattle.der_c_assembly.specs.declared.certificate.DerCertificateParts.{DerCertificateParts}
-use Rattle.der_c_assembly.specs.Assembly.{certificate_contents, string_tag, attribute_octets, signed_contents, request_contents, request_attributes, extension_request, extensions_field, context_octets}
+use Rattle.der_c_assembly.specs.Assembly.{AreExtensionsHeader, certificate_contents, string_tag, attribute_octets, signed_contents, request_contents, request_attributes, extension_request, extensions_field, context_octets}
 
 pub written_as : {word : ℕ} {xs ys : List ℕ} {s t : WriterState} {r : DerError} → WritesElement word xs s r t → xs ≡ ys → WritesElement word ys s r t
 written_as {word} {s = s} {t = t} {r = r} written same = subst (λ x. WritesElement word x s r t) same written
@@ -65,7 +65,7 @@ attribute_joined t o id text l m n tag is last all =
 
 -- the attributes of a request with extensions
 requested_joined : (o : ℕ) (more v a : List ℕ) → v ≡ length_octets (length (o ∷ more)) → a ≡ length_octets (11 + 1 + length v + length (o ∷ more))
-    → 48 ∷ (a ++ (6 ∷ 9 ∷ (extension_request ++ (49 ∷ (v ++ (o ∷ (more ++ [])))))))  ≡ request_attributes (o ∷ more)
+    → 48 ∷ (a ++ (6 ∷ 9 ∷ (extension_request ++ (49 ∷ (v ++ (o ∷ (more ++ []))))))) ≡ request_attributes (o ∷ more)
 requested_joined o more v a is last =
     let values : 49 ∷ (v ++ ((o ∷ more) ++ [])) ≡ element_octets Set (o ∷ more) = element_last Set 49 v (o ∷ more) refl is in
     let inner : 6 ∷ 9 ∷ (extension_request ++ (49 ∷ (v ++ ((o ∷ more) ++ [])))) ≡ element_octets ObjectIdentifier extension_request ++ element_octets Set (o ∷ more) =
@@ -91,9 +91,14 @@ pub serial_joined : (serial rest l : List ℕ) → l ≡ length_octets (length s
     → 160 ∷ 3 ∷ 2 ∷ 1 ∷ 2 ∷ 2 ∷ (l ++ (serial ++ rest)) ≡ context_octets 0 (element_octets Integer (2 ∷ [])) ++ (element_octets Integer serial ++ rest)
 serial_joined serial rest l is = ap (λ x. 160 ∷ 3 ∷ 2 ∷ 1 ∷ 2 ∷ x) (element_before Integer 2 l serial rest refl is)
 
-pub extensions_joined : (extensions m : List ℕ) → 1 ≤ length extensions → m ≡ length_octets (length extensions) → 163 ∷ (m ++ (extensions ++ [])) ≡ extensions_field extensions
-extensions_joined [] m some is = absurd (omega (arith, some))
-extensions_joined (o ∷ more) m some is = element_last (ContextSpecific true (tag_number 3)) 163 m (o ∷ more) refl is
+-- extensions after their tag and length, and none after no octets
+pub extensions_after : (n : ℕ) (m : List ℕ) → 1 ≤ n → m ≡ length_octets n → AreExtensionsHeader (163 ∷ []) m n
+extensions_after n m some is [] count = absurd (omega (arith, some, count))
+extensions_after n m some is (o ∷ more) count = element_whole (ContextSpecific true (tag_number 3)) 163 m (o ∷ more) refl (is ∙ ap length_octets (sym count))
+
+pub none_after : AreExtensionsHeader [] [] 0
+none_after [] count = refl
+none_after (o ∷ more) count = absurd (omega (arith, count))
 
 pub second_fails : (a : Bool) {b : Bool} → b ≡ false → (a && b) ≡ false
 second_fails true is = is

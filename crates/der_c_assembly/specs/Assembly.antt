@@ -1,6 +1,6 @@
 -- The contents of what certificates and requests are made of: a level of a name, an extension, an
 -- algorithm, a signed structure, and the parts of a request and of a certificate that are signed.
-use Rattle.std.specs.Prelude.{ℕ, ◌==◌, Bool, true, List, [], ◌∷◌, ◌++◌, if◌then◌else◌}
+use Rattle.std.specs.Prelude.{◌≡◌, ℕ, ◌==◌, Bool, true, List, [], ◌∷◌, ◌++◌, length, if◌then◌else◌}
 use Rattle.der_base.specs.Tag.{tag_number}
 use Rattle.der_base.specs.declared.tag.Tag.{Tag}
 use Rattle.der_base.specs.declared.tag.Tag.TheVariants.{BitString, BmpString, Boolean, ContextSpecific, Ia5String, Integer, Null, NumericString, ObjectIdentifier, OctetString, PrintableString, Sequence, Set, TeletexString, Utf8String, VisibleString}
@@ -66,6 +66,11 @@ request_contents subject key extensions =
 abbrev pub extensions_field : List ℕ → List ℕ
 extensions_field [] = []
 extensions_field (o ∷ more) = context_octets 3 (o ∷ more)
+
+-- octets that make the field of extensions, if extensions of so many octets follow them
+abbrev pub AreExtensionsHeader : List ℕ → List ℕ → ℕ → Type 0
+AreExtensionsHeader tag count n =
+    (xs : List ℕ) → length xs ≡ n → tag ++ (count ++ xs) ≡ extensions_field xs
 
 -- TBSCertificate (RFC 5280, 4.1) of version 3, which is written as 2
 abbrev pub certificate_contents : DerCertificateParts → List ℕ

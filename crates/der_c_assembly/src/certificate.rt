@@ -1,6 +1,7 @@
 //! The part of a certificate that is signed.
+ghost use Rattle.std.specs.Prelude.{◌≡◌, ◌^◌, ◌≤◌, None, IfSome};
 ghost use Rattle.der_asn1.specs.Forms.{integer_form};
-ghost use Rattle.der_c_assembly.specs.Assembly.{certificate_contents};
+ghost use Rattle.der_c_assembly.specs.Assembly.{AreExtensionsHeader, certificate_contents};
 ghost use Rattle.der_c_core.specs.CWriter.{KeepsOpen, writer_state};
 ghost use Rattle.der_c_values.specs.WriteCalls.{WritesValue};
 
@@ -69,20 +70,7 @@ pub fn der_write_certificate_part(
     let Some(number_length) = length_span(number.len(), &mut first) else {
         return refuse_length(writer);
     };
-    if extensions.is_empty() {
-        let all = [
-            span(&VERSION),
-            number_length,
-            parts.serial_number,
-            parts.signature_algorithm,
-            parts.issuer,
-            parts.validity,
-            parts.subject,
-            parts.public_key,
-        ];
-        return der_write_parts(writer, 0x30, &all);
-    }
-    let Some(length) = length_span(extensions.len(), &mut second) else {
+    let Some((tag, length)) = extensions_header(extensions.len(), &mut second) else {
         return refuse_length(writer);
     };
     let all = [
@@ -94,11 +82,24 @@ pub fn der_write_certificate_part(
         parts.validity,
         parts.subject,
         parts.public_key,
-        span(&[0xA3]),
+        tag,
         length,
         parts.extensions,
     ];
     der_write_parts(writer, 0x30, &all)
+}
+
+// The tag and the length octets before extensions of so many octets, or no octets if these are none;
+// `None` if a length cannot count them.
+fn extensions_header<'b>(count: usize, space: &'b mut [u8; 5]) -> Option<(DerSpan<'b>, DerSpan<'b>)>
+    ensures some { IfSome result (λ h. AreExtensionsHeader h.0.octets.now h.1.octets.now count) }
+    ensures none { result ≡ None → 2 ^ 32 ≤ count }
+{
+    if count == 0 {
+        return Some((DerSpan::EMPTY, DerSpan::EMPTY));
+    }
+    let length = length_span(count, space)?;
+    Some((span(&[0xA3]), length))
 }
 
 // The version with its tag, an INTEGER 2, and the tag of the serial number.
