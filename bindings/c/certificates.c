@@ -159,6 +159,72 @@ static void see_lenient(void)
     must(der_key_usage_lenient(NULL, 0, &usage, &is_der).kind == DER_OK && is_der && !usage.present);
 }
 
+static bool is_oid(der_span span, const char *text)
+{
+    return der_oid_is(span.octets, span.length, text, strlen(text));
+}
+
+/* A reader of the list that a lookup has found. */
+static der_reader list_of(der_error error, const der_found *found, bool critical)
+{
+    der_reader reader = DER_READER_INIT;
+    must(error.kind == DER_OK && found->present && found->critical == critical);
+    must(der_reader_init(found->contents.octets, found->contents.length, false, &reader).kind == DER_OK);
+    return reader;
+}
+
+/* web.der was made by openssl 3.0.19 with the extensions of web.cnf:
+ *     openssl req -x509 -newkey ec -pkeyopt ec_paramgen_curve:P-256 -nodes -keyout ca.pem -out ca.crt \
+ *         -subj /O=Authority -set_serial 0x1234
+ *     openssl req -new -newkey ec -pkeyopt ec_paramgen_curve:P-256 -nodes -keyout web.pem -out web.csr \
+ *         -subj /CN=example.org
+ *     openssl x509 -req -in web.csr -CA ca.crt -CAkey ca.pem -set_serial 0x4321 -extfile web.cnf \
+ *         -extensions web -days 30 -outform DER -out web.der
+ * The comments below are what `openssl x509 -inform DER -in web.der -noout -ext ..` prints of each. */
+
+/* extendedKeyUsage: `critical`, `TLS Web Server Authentication, TLS Web Client Authentication, Microsoft Smartcard
+ * Login`, whose identifiers are those of RFC 5280, 4.2.1.12, and 1.3.6.1.4.1.311.20.2.2. */
+static void see_purposes_of_web(der_span extensions)
+{
+    static const char *const wanted[] = {"1.3.6.1.5.5.7.3.1", "1.3.6.1.5.5.7.3.2", "1.3.6.1.4.1.311.20.2.2"};
+    der_found found = DER_FOUND_INIT;
+    der_span purpose = DER_SPAN_INIT;
+    der_error error = der_extended_key_usage(extensions.octets, extensions.length, &found);
+    der_reader purposes = list_of(error, &found, true);
+    for (size_t i = 0; i < 3; i++)
+        must(der_next_key_purpose(&purposes, &purpose).kind == DER_OK && is_oid(purpose, wanted[i]));
+    must(der_is_finished(&purposes) && der_next_key_purpose(&purposes, &purpose).kind == DER_INCOMPLETE);
+    must(is_oid(purpose, wanted[2]));
+}
+
+static void see_web(const uint8_t *octets, size_t length)
+{
+    der_certificate certificate = DER_CERTIFICATE_INIT;
+    must(der_certificate_read(octets, length, &certificate).kind == DER_OK && certificate.has_extensions);
+    see_purposes_of_web(certificate.extensions);
+}
+
+/* An extKeyUsage that is wrong, one that is there twice, and one that is absent. */
+static void see_wrong_purposes(void)
+{
+    static const uint8_t wrong[] = {0x30, 0x0F, 6, 3, 0x55, 0x1D, 0x25, 4, 8, 0x30, 6, 6, 1, 0x55, 6, 1, 0x80};
+    uint8_t twice[2 * sizeof wrong];
+    der_found found = DER_FOUND_INIT;
+    der_span purpose = DER_SPAN_INIT;
+    der_reader reader = DER_READER_INIT;
+    found.critical = true;
+    der_error error = der_extended_key_usage(wrong, sizeof wrong, &found);
+    must(error.kind == DER_VALUE && error.position == 8 && found.critical);
+    memcpy(twice, wrong, sizeof wrong);
+    memcpy(twice + sizeof wrong, wrong, sizeof wrong);
+    must(der_extended_key_usage(twice, sizeof twice, &found).kind == DER_SET_DUPLICATE && found.critical);
+    must(der_extended_key_usage(NULL, 0, &found).kind == DER_OK && !found.present && !found.critical);
+    /* an INTEGER in the place of an OBJECT IDENTIFIER leaves the reader */
+    must(der_reader_init((const uint8_t *)"\2\1\5", 3, false, &reader).kind == DER_OK);
+    must(der_next_key_purpose(&reader, &purpose).kind == DER_TAG_UNEXPECTED && purpose.length == 0);
+    must(der_position(&reader) == 0 && der_skip(&reader).kind == DER_OK && der_finish(&reader).kind == DER_OK);
+}
+
 /* The octets as they are, with each octet changed, and cut at each length: what is read is checked,
  * and what is refused changes nothing. */
 static void see_changes(uint8_t *octets, size_t length)
@@ -252,6 +318,7 @@ int main(int argc, char **argv)
     static uint8_t octets[SPACE];
     see_usages();
     see_lenient();
+    see_wrong_purposes();
     see_needed_items();
     for (int i = 1; i < argc; i++) {
         FILE *file = fopen(argv[i], "rb");
@@ -262,6 +329,11 @@ int main(int argc, char **argv)
             see_certificate(octets, length);
             LLVMFuzzerTestOneInput(octets, length);
             see_changes(octets, length);
+        } else if (ends_with(argv[i], "web.der")) {
+            see_web(octets, length);
+            LLVMFuzzerTestOneInput(octets, length);
+            see_changes(octets, length);
+            continue;
         } else if (ends_with(argv[i], "-public.der")) {
             der_public_key key = DER_PUBLIC_KEY_INIT;
             must(der_public_key_read(octets, length, &key).kind == DER_OK && key.key.unused == 0);

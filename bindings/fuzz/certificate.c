@@ -142,6 +142,32 @@ static void see_name(der_span name)
     }
 }
 
+/* Makes |reader| a reader of the list that a lookup has found; false if it has found none. */
+static bool is_list(der_error error, const der_found *found, der_reader *reader)
+{
+    if (error.kind) {
+        must(!found->present && !found->critical && found->contents.length == 0);
+        return false;
+    }
+    must(found->present || (!found->critical && found->contents.length == 0));
+    must(der_reader_init(found->contents.octets, found->contents.length, false, reader).kind == DER_OK);
+    return found->present;
+}
+
+static void see_purposes(der_span extensions)
+{
+    der_found found = DER_FOUND_INIT;
+    der_reader reader = DER_READER_INIT;
+    der_error error = der_extended_key_usage(extensions.octets, extensions.length, &found);
+    if (!is_list(error, &found, &reader))
+        return;
+    while (!der_is_finished(&reader)) {
+        der_span purpose = DER_SPAN_INIT;
+        must(der_next_key_purpose(&reader, &purpose).kind == DER_OK && purpose.length > 0);
+        see_inside(purpose.octets, purpose.length);
+    }
+}
+
 static void see_extensions(der_span extensions)
 {
     der_reader reader = DER_READER_INIT;
@@ -155,6 +181,7 @@ static void see_extensions(der_span extensions)
     der_usage usage = DER_USAGE_INIT;
     der_constraints constraints = DER_CONSTRAINTS_INIT;
     der_names names = DER_NAMES_INIT;
+    see_purposes(extensions);
     if (der_key_usage(extensions.octets, extensions.length, &usage).kind)
         must(!usage.present && usage.bits == 0);
     if (der_basic_constraints(extensions.octets, extensions.length, &constraints).kind)

@@ -721,6 +721,24 @@ typedef struct der_names {
 DER_MUST_USE DER_NONNULL(3)
 der_error der_subject_alternative_name(const uint8_t *extensions, size_t length, der_names *names);
 
+/* The contents of an extension whose value is a list or octets. */
+typedef struct der_found {
+    der_span contents; /* none if the extension is absent */
+    bool present;
+    bool critical;
+} der_found;
+#define DER_FOUND_INIT {DER_SPAN_INIT, false, false}
+
+/* der_extended_key_usage finds extKeyUsage (RFC 5280, 4.2.1.12): the purposes of the key, for
+ * |der_next_key_purpose|. There may be none. */
+DER_MUST_USE DER_NONNULL(3)
+der_error der_extended_key_usage(const uint8_t *extensions, size_t length, der_found *purposes);
+
+/* der_next_key_purpose reads the next purpose of a list of them, an OBJECT IDENTIFIER: compare it with
+ * |der_oid_is|, as with 1.3.6.1.5.5.7.3.1 for the server of TLS. */
+DER_MUST_USE DER_NONNULL(1, 2)
+der_error der_next_key_purpose(der_reader *reader, der_span *purpose);
+
 /* Writing. */
 
 /* A der_writer writes into a buffer that it does not own. Its fields are private. */
@@ -957,6 +975,8 @@ DER_STATIC_ASSERT(constraints, sizeof(der_constraints) == 16 && offsetof(der_con
                                    offsetof(der_constraints, has_path_length) == 11);
 DER_STATIC_ASSERT(names, sizeof(der_names) == 24 && offsetof(der_names, present) == 16 &&
                              offsetof(der_names, critical) == 17);
+DER_STATIC_ASSERT(found, sizeof(der_found) == 24 && offsetof(der_found, present) == 16 &&
+                             offsetof(der_found, critical) == 17);
 DER_STATIC_ASSERT(writer, sizeof(der_writer) == 40 && offsetof(der_writer, length) == 8 &&
                               offsetof(der_writer, position) == 16 && offsetof(der_writer, innermost) == 24 &&
                               offsetof(der_writer, failed) == 32);

@@ -1,10 +1,11 @@
 //! Extensions.
 use crate::error::{Error, answer};
+use crate::list::Items;
 use crate::name::GeneralNames;
 use crate::octets::Hex;
 use crate::oid::Oid;
 use crate::reader::Reader;
-use crate::sys::{self, RawConstraints, RawExtension, RawNames, RawUsage};
+use crate::sys::{self, RawConstraints, RawError, RawExtension, RawFound, RawNames, RawUsage};
 use core::fmt;
 use core::iter::FusedIterator;
 
@@ -139,7 +140,23 @@ impl<'a> Extensions<'a> {
             contents: raw.names.octets(),
         }))
     }
+
+    /// The purposes of the extKeyUsage extension, if it is there. Fails as [`key_usage`](Self::key_usage) does.
+    pub fn extended_key_usage(&self) -> Result<Option<Items<'a, Oid<'a>>>, Error> {
+        Ok(self.find(sys::der_extended_key_usage)?.map(Items::of))
+    }
+
+    /// The contents of the extension that a call finds.
+    fn find(&self, call: Find) -> Result<Option<RawFound<'a>>, Error> {
+        let mut raw = RawFound::EMPTY;
+        // SAFETY: pointer and length describe a slice, which the contents borrow for 'a.
+        answer(unsafe { call(self.contents.as_ptr(), self.contents.len(), &mut raw) })?;
+        Ok(raw.present.then_some(raw))
+    }
 }
+
+/// A call that looks an extension up in a list, which a pointer and a length describe.
+type Find = unsafe extern "C" fn(*const u8, usize, &mut RawFound<'_>) -> RawError;
 
 impl fmt::Debug for Extensions<'_> {
     fn fmt(&self, f: &mut fmt::Formatter<'_>) -> fmt::Result {

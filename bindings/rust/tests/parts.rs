@@ -1,6 +1,7 @@
 //! Names, extensions and general names from octets, requests with extensions, counters and times.
 use der_c::{
-    Counter, Error, ErrorKind, Extensions, GeneralName, GeneralNames, Name, Reader, Request, Tag, Time, Writer,
+    Certificate, Counter, Error, ErrorKind, Extensions, GeneralName, GeneralNames, Name, Reader, Request, Tag, Time,
+    Writer,
 };
 use std::time::{Duration, Instant};
 
@@ -79,6 +80,32 @@ fn extensions_are_read_from_octets() {
     let extension = extensions.into_iter().next().unwrap().unwrap();
     assert!(extension.critical && extension.identifier == *"2.5.29.19");
     assert!(Extensions::from_der(&octets[2..]).is_err());
+}
+
+/// The extensions of a certificate of openssl; `certificates.c` has the commands that made it.
+fn web() -> Extensions<'static> {
+    Certificate::from_der(include_bytes!("web.der")).unwrap().extensions()
+}
+
+/// `openssl x509 -ext extendedKeyUsage` prints `TLS Web Server Authentication, TLS Web Client Authentication, Microsoft
+/// Smartcard Login`, which is critical.
+#[test]
+fn purposes_are_found() {
+    let purposes = web().extended_key_usage().unwrap().unwrap();
+    let texts: Vec<String> = purposes.into_iter().map(|it| it.unwrap().to_string()).collect();
+    assert_eq!(
+        texts,
+        ["1.3.6.1.5.5.7.3.1", "1.3.6.1.5.5.7.3.2", "1.3.6.1.4.1.311.20.2.2"]
+    );
+    assert!(purposes.critical);
+    let octets = [&[0x30, 16], &CONSTRAINTS[..]].concat();
+    assert!(
+        Extensions::from_der(&octets)
+            .unwrap()
+            .extended_key_usage()
+            .unwrap()
+            .is_none()
+    );
 }
 
 /// The request of openssl that `bindings/test` makes, if it is there, asks for names.

@@ -1,6 +1,8 @@
 -- Items of lists as structs of C: extensions (`IsExtensionOf`), attributes of names
--- (`IsAttributeOf`) and general names (`IsGeneralNameOf`).
+-- (`IsAttributeOf`), general names (`IsGeneralNameOf`) and those that are contents octets
+-- (`IsSpanOf`).
 use Rattle.std.specs.Prelude.{◌≡◌, ◌↔◌, ℕ, true, List, [], ◌∷◌}
+use Rattle.der_c_core.specs.declared.span.DerSpan.{DerSpan}
 use Rattle.der_c_x509.specs.Fields.{IsAnyOf, IsNoAny}
 use Rattle.der_c_x509.specs.declared.attribute.DerAttribute.{DerAttribute}
 use Rattle.der_c_x509.specs.declared.extension.DerExtension.{DerExtension}
@@ -47,3 +49,7 @@ IsGeneralNameOf (name.EdiPartyName v) = IsPlainName 5 []
 IsGeneralNameOf (name.UniformResourceIdentifier v) = IsPlainName 6 v.0.octets.now
 IsGeneralNameOf (name.IpAddress v) = IsPlainName 7 v.0.octets.now
 IsGeneralNameOf (name.RegisteredId v) = IsPlainName 8 v.0.octets.now
+
+-- a value as its contents octets, such as the purpose of a key (4.2.1.12)
+abbrev pub IsSpanOf : {A : Type 0} → (A → List ℕ) → A → DerSpan → Type 0
+IsSpanOf octets_of v s = s.octets.now ≡ octets_of v

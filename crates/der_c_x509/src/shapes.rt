@@ -5,6 +5,7 @@ use crate::attribute::DerAttribute;
 use crate::basic_constraints::DerBasicConstraints;
 use crate::certificate::DerCertificate;
 use crate::extension::DerExtension;
+use crate::found::DerFound;
 use crate::general_name::DerGeneralName;
 use crate::key_usage::DerKeyUsage;
 use crate::private_key::DerPrivateKey;
@@ -69,3 +70,7 @@ const _: () = prove!(align_of::<DerRevocationList<'static>>() == 8);
 const _: () = prove!(size_of::<DerRevoked<'static>>() == 48);
 
 const _: () = prove!(align_of::<DerRevoked<'static>>() == 8);
+
+const _: () = prove!(size_of::<DerFound<'static>>() == 24);
+
+const _: () = prove!(align_of::<DerFound<'static>>() == 8);

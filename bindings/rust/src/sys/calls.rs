@@ -1,8 +1,8 @@
 //! The calls of `der.h`. Written by tools/c_interface: change the crates that der_c uses instead.
 use super::{
     Node, RawAttribute, RawBits, RawCertificate, RawConstraints, RawCounter, RawElement, RawEntry, RawError,
-    RawExtension, RawGeneralName, RawHeader, RawMark, RawNames, RawPemBlock, RawPrivateKey, RawPublicKey, RawReader,
-    RawRequest, RawRevocationList, RawRevoked, RawSpan, RawText, RawTime, RawTreeFound, RawUsage, RawWriter,
+    RawExtension, RawFound, RawGeneralName, RawHeader, RawMark, RawNames, RawPemBlock, RawPrivateKey, RawPublicKey,
+    RawReader, RawRequest, RawRevocationList, RawRevoked, RawSpan, RawText, RawTime, RawTreeFound, RawUsage, RawWriter,
 };
 
 unsafe extern "C" {
@@ -107,6 +107,8 @@ unsafe extern "C" {
         length: usize,
         names: &mut RawNames<'a>,
     ) -> RawError;
+    pub fn der_extended_key_usage<'a>(extensions: *const u8, length: usize, purposes: &mut RawFound<'a>) -> RawError;
+    pub safe fn der_next_key_purpose<'a>(reader: &mut RawReader<'a>, purpose: &mut RawSpan<'a>) -> RawError;
     pub fn der_writer_init<'a>(octets: *mut u8, length: usize, writer: &mut RawWriter<'a>);
     pub safe fn der_written(writer: &RawWriter<'_>) -> usize;
     pub safe fn der_writer_finish(writer: &RawWriter<'_>) -> RawError;

@@ -135,6 +135,22 @@ impl RawExtension<'_> {
 
 #[repr(C)]
 #[derive(Clone, Copy)]
+pub struct RawFound<'a> {
+    pub contents: RawSpan<'a>,
+    pub present: bool,
+    pub critical: bool,
+}
+
+impl RawFound<'_> {
+    pub const EMPTY: Self = RawFound {
+        contents: RawSpan::EMPTY,
+        present: false,
+        critical: false,
+    };
+}
+
+#[repr(C)]
+#[derive(Clone, Copy)]
 pub struct RawGeneralName<'a> {
     pub contents: RawSpan<'a>,
     pub identifier: RawSpan<'a>,
@@ -529,6 +545,9 @@ const _: () = {
     assert!(size_of::<RawExtension>() == 40);
     assert!(offset_of!(RawExtension, value) == 16);
     assert!(offset_of!(RawExtension, critical) == 32);
+    assert!(size_of::<RawFound>() == 24);
+    assert!(offset_of!(RawFound, present) == 16);
+    assert!(offset_of!(RawFound, critical) == 17);
     assert!(size_of::<RawGeneralName>() == 64);
     assert!(offset_of!(RawGeneralName, identifier) == 16);
     assert!(offset_of!(RawGeneralName, value) == 32);

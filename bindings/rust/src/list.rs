@@ -1,0 +1,78 @@
+//! Extensions whose value is a list.
+use crate::error::{Error, answer};
+use crate::oid::Oid;
+use crate::reader::Reader;
+use crate::sys::{self, RawFound, RawSpan};
+use core::fmt;
+use core::iter::FusedIterator;
+use core::marker::PhantomData;
+
+/// What an extension lists. The trait is in a private module: no other crate implements it.
+pub trait Listed<'a>: Sized {
+    /// Reads the next item of a list.
+    fn read(reader: &mut Reader<'a>) -> Result<Self, Error>;
+}
+
+/// The items of an extension whose value is a list. That there is at least one is not checked.
+#[derive(Clone, Copy, PartialEq, Eq, Hash)]
+pub struct Items<'a, T> {
+    contents: &'a [u8],
+    /// Whether the extension is critical.
+    pub critical: bool,
+    items: PhantomData<T>,
+}
+
+impl<'a, T> Items<'a, T> {
+    /// The items of a list that a call has found.
+    pub(crate) fn of(raw: RawFound<'a>) -> Self {
+        Items {
+            contents: raw.contents.octets(),
+            critical: raw.critical,
+            items: PhantomData,
+        }
+    }
+}
+
+impl<'a, T: Listed<'a> + fmt::Debug + Copy> fmt::Debug for Items<'a, T> {
+    fn fmt(&self, f: &mut fmt::Formatter<'_>) -> fmt::Result {
+        f.debug_list().entries(*self).finish()
+    }
+}
+
+impl<'a, T: Listed<'a>> IntoIterator for Items<'a, T> {
+    type Item = Result<T, Error>;
+    type IntoIter = ItemIter<'a, T>;
+
+    fn into_iter(self) -> ItemIter<'a, T> {
+        ItemIter {
+            reader: Reader::der(self.contents),
+            items: PhantomData,
+        }
+    }
+}
+
+/// The items of a list, in order; the iterator ends after an error.
+#[derive(Clone, Debug)]
+pub struct ItemIter<'a, T> {
+    reader: Result<Reader<'a>, Error>,
+    items: PhantomData<T>,
+}
+
+impl<'a, T: Listed<'a>> Iterator for ItemIter<'a, T> {
+    type Item = Result<T, Error>;
+
+    fn next(&mut self) -> Option<Self::Item> {
+        crate::items::next(&mut self.reader, T::read)
+    }
+}
+
+impl<'a, T: Listed<'a>> FusedIterator for ItemIter<'a, T> {}
+
+/// A purpose of a key.
+impl<'a> Listed<'a> for Oid<'a> {
+    fn read(reader: &mut Reader<'a>) -> Result<Self, Error> {
+        let mut raw = RawSpan::EMPTY;
+        answer(sys::der_next_key_purpose(&mut reader.0, &mut raw))?;
+        Ok(Oid { contents: raw.octets() })
+    }
+}
