@@ -197,11 +197,67 @@ static void see_purposes_of_web(der_span extensions)
     must(is_oid(purpose, wanted[2]));
 }
 
+static bool has_octets(der_span span, const char *octets, size_t length)
+{
+    return span.length == length && memcmp(span.octets, octets, length) == 0;
+}
+
+/* subjectKeyIdentifier: `7C:51:9F:98:5C:77:F7:86:D0:F9:80:D3:60:6D:61:AB:10:74:16:42`. */
+static void see_subject_key_of_web(der_span extensions)
+{
+    der_found found = DER_FOUND_INIT;
+    must(der_subject_key_identifier(extensions.octets, extensions.length, &found).kind == DER_OK);
+    must(found.present && !found.critical);
+    must(has_octets(found.contents, "\x7C\x51\x9F\x98\x5C\x77\xF7\x86\xD0\xF9\x80\xD3\x60\x6D\x61\xAB\x10\x74\x16\x42",
+                    20));
+    must(der_subject_key_identifier(NULL, 0, &found).kind == DER_OK && !found.present && found.contents.length == 0);
+}
+
+/* authorityKeyIdentifier: `keyid:3F:3D:BD:E7:3A:BC:44:AB:CD:1F:67:41:0C:A7:63:E4:8C:32:77:7F`,
+ * `DirName:/O=Authority`, `serial:12:34`. */
+static void see_authority_key_of_web(der_span extensions)
+{
+    der_authority_key key = DER_AUTHORITY_KEY_INIT;
+    der_reader names = DER_READER_INIT, levels = DER_READER_INIT, level = DER_READER_INIT;
+    der_general_name name = DER_GENERAL_NAME_INIT;
+    der_attribute attribute = DER_ATTRIBUTE_INIT;
+    must(der_authority_key_identifier(extensions.octets, extensions.length, &key).kind == DER_OK);
+    must(key.present && !key.critical && key.has_key_identifier && key.has_issuer && key.has_serial_number);
+    must(has_octets(key.key_identifier,
+                    "\x3F\x3D\xBD\xE7\x3A\xBC\x44\xAB\xCD\x1F\x67\x41\x0C\xA7\x63\xE4\x8C\x32\x77\x7F", 20));
+    must(has_octets(key.serial_number, "\x12\x34", 2));
+    must(der_reader_init(key.issuer.octets, key.issuer.length, false, &names).kind == DER_OK);
+    must(der_next_general_name(&names, &name).kind == DER_OK && der_finish(&names).kind == DER_OK);
+    must(name.kind == DER_DIRECTORY_NAME);
+    must(der_reader_init(name.contents.octets, name.contents.length, false, &levels).kind == DER_OK);
+    must(der_enter(&levels, DER_SET, &level).kind == DER_OK && der_finish(&levels).kind == DER_OK);
+    must(der_next_attribute(&level, &attribute).kind == DER_OK && der_finish(&level).kind == DER_OK);
+    must(is_oid(attribute.identifier, "2.5.4.10") && is_text(attribute.value.contents, "Authority"));
+}
+
+/* An authorityKeyIdentifier without fields, one with an empty list of names, and one whose fields are in the wrong
+ * order. */
+static void see_authority_keys(void)
+{
+    static const uint8_t none[] = {0x30, 9, 6, 3, 0x55, 0x1D, 0x23, 4, 2, 0x30, 0};
+    static const uint8_t no_names[] = {0x30, 11, 6, 3, 0x55, 0x1D, 0x23, 4, 4, 0x30, 2, 0xA1, 0};
+    static const uint8_t wrong[] = {0x30, 14, 6, 3, 0x55, 0x1D, 0x23, 4, 7, 0x30, 5, 0x82, 1, 5, 0x80, 0};
+    der_authority_key key = DER_AUTHORITY_KEY_INIT;
+    must(der_authority_key_identifier(none, sizeof none, &key).kind == DER_OK && key.present);
+    must(!key.has_key_identifier && !key.has_issuer && !key.has_serial_number);
+    must(der_authority_key_identifier(no_names, sizeof no_names, &key).kind == DER_OK);
+    must(!key.has_key_identifier && key.has_issuer && key.issuer.length == 0 && !key.has_serial_number);
+    must(der_authority_key_identifier(wrong, sizeof wrong, &key).kind != DER_OK && key.has_issuer);
+    must(der_authority_key_identifier(NULL, 0, &key).kind == DER_OK && !key.present && !key.has_issuer);
+}
+
 static void see_web(const uint8_t *octets, size_t length)
 {
     der_certificate certificate = DER_CERTIFICATE_INIT;
     must(der_certificate_read(octets, length, &certificate).kind == DER_OK && certificate.has_extensions);
     see_purposes_of_web(certificate.extensions);
+    see_subject_key_of_web(certificate.extensions);
+    see_authority_key_of_web(certificate.extensions);
 }
 
 /* An extKeyUsage that is wrong, one that is there twice, and one that is absent. */
@@ -319,6 +375,7 @@ int main(int argc, char **argv)
     see_usages();
     see_lenient();
     see_wrong_purposes();
+    see_authority_keys();
     see_needed_items();
     for (int i = 1; i < argc; i++) {
         FILE *file = fopen(argv[i], "rb");

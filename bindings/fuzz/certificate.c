@@ -168,6 +168,33 @@ static void see_purposes(der_span extensions)
     }
 }
 
+static void see_general_names(der_span names)
+{
+    der_reader reader = DER_READER_INIT;
+    must(der_reader_init(names.octets, names.length, false, &reader).kind == DER_OK);
+    while (!der_is_finished(&reader)) {
+        der_general_name name = DER_GENERAL_NAME_INIT;
+        must(der_next_general_name(&reader, &name).kind == DER_OK);
+        see_inside(name.contents.octets, name.contents.length);
+    }
+}
+
+static void see_key_identifiers(der_span extensions)
+{
+    der_found found = DER_FOUND_INIT;
+    der_authority_key key = DER_AUTHORITY_KEY_INIT;
+    if (der_subject_key_identifier(extensions.octets, extensions.length, &found).kind)
+        must(!found.present && found.contents.length == 0);
+    see_inside(found.contents.octets, found.contents.length);
+    if (der_authority_key_identifier(extensions.octets, extensions.length, &key).kind)
+        must(!key.present);
+    must(key.present || (!key.critical && !key.has_key_identifier && !key.has_issuer && !key.has_serial_number));
+    must(key.has_key_identifier || key.key_identifier.length == 0);
+    must(key.has_serial_number == (key.serial_number.length > 0) && (key.has_issuer || key.issuer.length == 0));
+    see_inside(key.key_identifier.octets, key.key_identifier.length);
+    see_general_names(key.issuer);
+}
+
 static void see_extensions(der_span extensions)
 {
     der_reader reader = DER_READER_INIT;
@@ -182,18 +209,14 @@ static void see_extensions(der_span extensions)
     der_constraints constraints = DER_CONSTRAINTS_INIT;
     der_names names = DER_NAMES_INIT;
     see_purposes(extensions);
+    see_key_identifiers(extensions);
     if (der_key_usage(extensions.octets, extensions.length, &usage).kind)
         must(!usage.present && usage.bits == 0);
     if (der_basic_constraints(extensions.octets, extensions.length, &constraints).kind)
         must(!constraints.present && constraints.path_length == 0);
     if (der_subject_alternative_name(extensions.octets, extensions.length, &names).kind || !names.present)
         return;
-    must(der_reader_init(names.names.octets, names.names.length, false, &reader).kind == DER_OK);
-    while (!der_is_finished(&reader)) {
-        der_general_name name = DER_GENERAL_NAME_INIT;
-        must(der_next_general_name(&reader, &name).kind == DER_OK);
-        see_inside(name.contents.octets, name.contents.length);
-    }
+    see_general_names(names.names);
 }
 
 int LLVMFuzzerTestOneInput(const uint8_t *octets, size_t count);

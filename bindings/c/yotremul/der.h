@@ -739,6 +739,27 @@ der_error der_extended_key_usage(const uint8_t *extensions, size_t length, der_f
 DER_MUST_USE DER_NONNULL(1, 2)
 der_error der_next_key_purpose(der_reader *reader, der_span *purpose);
 
+/* der_subject_key_identifier finds subjectKeyIdentifier (RFC 5280, 4.2.1.2): the octets of the identifier,
+ * which is compared with no key. */
+DER_MUST_USE DER_NONNULL(3)
+der_error der_subject_key_identifier(const uint8_t *extensions, size_t length, der_found *identifier);
+
+/* What authorityKeyIdentifier says (RFC 5280, 4.2.1.1): which key of the issuer signed the certificate. */
+typedef struct der_authority_key {
+    der_span key_identifier; /* octets; none if they are absent */
+    der_span issuer;         /* of the issuer's certificate, for |der_next_general_name|; none if it is absent */
+    der_span serial_number;  /* of that certificate, the octets of an INTEGER; none if it is absent */
+    bool present;
+    bool critical;
+    bool has_key_identifier;
+    bool has_issuer;         /* one of issuer and serial number without the other is no error */
+    bool has_serial_number;
+} der_authority_key;
+#define DER_AUTHORITY_KEY_INIT {DER_SPAN_INIT, DER_SPAN_INIT, DER_SPAN_INIT, false, false, false, false, false}
+
+DER_MUST_USE DER_NONNULL(3)
+der_error der_authority_key_identifier(const uint8_t *extensions, size_t length, der_authority_key *key);
+
 /* Writing. */
 
 /* A der_writer writes into a buffer that it does not own. Its fields are private. */
@@ -977,6 +998,13 @@ DER_STATIC_ASSERT(names, sizeof(der_names) == 24 && offsetof(der_names, present)
                              offsetof(der_names, critical) == 17);
 DER_STATIC_ASSERT(found, sizeof(der_found) == 24 && offsetof(der_found, present) == 16 &&
                              offsetof(der_found, critical) == 17);
+DER_STATIC_ASSERT(authority_key, sizeof(der_authority_key) == 56 && offsetof(der_authority_key, issuer) == 16 &&
+                                     offsetof(der_authority_key, serial_number) == 32 &&
+                                     offsetof(der_authority_key, present) == 48 &&
+                                     offsetof(der_authority_key, critical) == 49 &&
+                                     offsetof(der_authority_key, has_key_identifier) == 50 &&
+                                     offsetof(der_authority_key, has_issuer) == 51 &&
+                                     offsetof(der_authority_key, has_serial_number) == 52);
 DER_STATIC_ASSERT(writer, sizeof(der_writer) == 40 && offsetof(der_writer, length) == 8 &&
                               offsetof(der_writer, position) == 16 && offsetof(der_writer, innermost) == 24 &&
                               offsetof(der_writer, failed) == 32);

@@ -5,7 +5,7 @@ use crate::name::GeneralNames;
 use crate::octets::Hex;
 use crate::oid::Oid;
 use crate::reader::Reader;
-use crate::sys::{self, RawConstraints, RawError, RawExtension, RawFound, RawNames, RawUsage};
+use crate::sys::{self, RawAuthorityKey, RawConstraints, RawError, RawExtension, RawFound, RawNames, RawUsage};
 use core::fmt;
 use core::iter::FusedIterator;
 
@@ -48,6 +48,31 @@ pub struct BasicConstraints {
     pub path_length: Option<u64>,
     /// Whether the extension is critical.
     pub critical: bool,
+}
+
+/// What authorityKeyIdentifier says (RFC 5280, 4.2.1.1): which key of the issuer signed the certificate. That the
+/// issuer and the serial number come together is not checked.
+#[derive(Clone, Copy, PartialEq, Eq)]
+pub struct AuthorityKeyIdentifier<'a> {
+    /// The identifier of the issuer's key.
+    pub key_identifier: Option<&'a [u8]>,
+    /// The names of the issuer of the issuer's certificate.
+    pub issuer: Option<GeneralNames<'a>>,
+    /// The serial number of the issuer's certificate, as the octets of an INTEGER.
+    pub serial_number: Option<&'a [u8]>,
+    /// Whether the extension is critical.
+    pub critical: bool,
+}
+
+impl fmt::Debug for AuthorityKeyIdentifier<'_> {
+    fn fmt(&self, f: &mut fmt::Formatter<'_>) -> fmt::Result {
+        f.debug_struct("AuthorityKeyIdentifier")
+            .field("key_identifier", &self.key_identifier.map(Hex))
+            .field("issuer", &self.issuer)
+            .field("serial_number", &self.serial_number.map(Hex))
+            .field("critical", &self.critical)
+            .finish()
+    }
 }
 
 /// The extensions of a certificate, a list that is iterated.
@@ -144,6 +169,29 @@ impl<'a> Extensions<'a> {
     /// The purposes of the extKeyUsage extension, if it is there. Fails as [`key_usage`](Self::key_usage) does.
     pub fn extended_key_usage(&self) -> Result<Option<Items<'a, Oid<'a>>>, Error> {
         Ok(self.find(sys::der_extended_key_usage)?.map(Items::of))
+    }
+
+    /// The octets of the subjectKeyIdentifier extension, if it is there. They are compared with no key. Fails as
+    /// [`key_usage`](Self::key_usage) does.
+    pub fn subject_key_identifier(&self) -> Result<Option<&'a [u8]>, Error> {
+        Ok(self
+            .find(sys::der_subject_key_identifier)?
+            .map(|raw| raw.contents.octets()))
+    }
+
+    /// The authorityKeyIdentifier extension, if it is there. Fails as [`key_usage`](Self::key_usage) does.
+    pub fn authority_key_identifier(&self) -> Result<Option<AuthorityKeyIdentifier<'a>>, Error> {
+        let mut raw = RawAuthorityKey::EMPTY;
+        // SAFETY: pointer and length describe a slice, which the fields borrow for 'a.
+        answer(unsafe { sys::der_authority_key_identifier(self.contents.as_ptr(), self.contents.len(), &mut raw) })?;
+        Ok(raw.present.then(|| AuthorityKeyIdentifier {
+            key_identifier: raw.has_key_identifier.then(|| raw.key_identifier.octets()),
+            issuer: raw.has_issuer.then(|| GeneralNames {
+                contents: raw.issuer.octets(),
+            }),
+            serial_number: raw.has_serial_number.then(|| raw.serial_number.octets()),
+            critical: raw.critical,
+        }))
     }
 
     /// The contents of the extension that a call finds.

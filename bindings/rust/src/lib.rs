@@ -34,7 +34,7 @@ pub use counter::Counter;
 pub use element::{Element, Header};
 use error::answer;
 pub use error::{Error, ErrorKind};
-pub use extension::{BasicConstraints, Extension, ExtensionIter, Extensions, KeyUsage};
+pub use extension::{AuthorityKeyIdentifier, BasicConstraints, Extension, ExtensionIter, Extensions, KeyUsage};
 pub use list::{ItemIter, Items};
 pub use name::{Attribute, Attributes, GeneralName, GeneralNameIter, GeneralNames, Name};
 pub use oid::Oid;

@@ -108,6 +108,25 @@ fn purposes_are_found() {
     );
 }
 
+/// `openssl x509 -ext subjectKeyIdentifier,authorityKeyIdentifier` prints `7C:51:..:42`, `keyid:3F:3D:..:7F`,
+/// `DirName:/O=Authority` and `serial:12:34`.
+#[test]
+fn keys_are_identified() {
+    let subject = web().subject_key_identifier().unwrap().unwrap();
+    assert!(subject.len() == 20 && subject.starts_with(&[0x7C, 0x51]) && subject.ends_with(&[0x42]));
+    let key = web().authority_key_identifier().unwrap().unwrap();
+    let identifier = key.key_identifier.unwrap();
+    assert!(identifier.len() == 20 && identifier.starts_with(&[0x3F, 0x3D]) && identifier.ends_with(&[0x7F]));
+    assert_eq!(key.serial_number, Some(&[0x12, 0x34][..]));
+    let names: Vec<_> = key.issuer.unwrap().into_iter().map(Result::unwrap).collect();
+    assert!(matches!(names[..], [GeneralName::Directory(name)] if name.to_string() == "O=Authority"));
+    assert!(!key.critical);
+    let octets = [&[0x30, 16], &CONSTRAINTS[..]].concat();
+    let others = Extensions::from_der(&octets).unwrap();
+    assert!(others.subject_key_identifier().unwrap().is_none());
+    assert!(others.authority_key_identifier().unwrap().is_none());
+}
+
 /// The request of openssl that `bindings/test` makes, if it is there, asks for names.
 #[test]
 fn requests_have_extensions() {

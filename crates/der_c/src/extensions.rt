@@ -4,6 +4,7 @@
 ghost use Rattle.der.specs.Prelude.{Same};
 ghost use Rattle.der_asn1.specs.ListAnswers.{ItemAnswer};
 ghost use Rattle.der_c_core.specs.CReader.{reader_state};
+ghost use Rattle.der_c_x509.specs.AuthorityKey.{IsAuthorityKeyOf};
 ghost use Rattle.der_c_x509.specs.Calls.{ReadsItem, ReadsNext};
 ghost use Rattle.der_c_x509.specs.Constraints.{ReadsConstraints};
 ghost use Rattle.der_c_x509.specs.FindCalls.{FindsIn, ReadsKnown, RefusesList};
@@ -16,11 +17,11 @@ ghost use Rattle.x509.specs.Find.{FindsExtension, WholeRead};
 ghost use Rattle.x509_lenient.specs.Lenient.{BerRead, FindsLenient, IsDerOf, SaysDerOf};
 
 use der::{Decode, DecodeValue, FixedTag, ReadValue, SliceReader, WrittenValue};
-use der_asn1::{BitStringRef, Item, NamedBitsRef, ObjectIdentifierRef, SequenceOf};
+use der_asn1::{BitStringRef, Item, NamedBitsRef, ObjectIdentifierRef, OctetStringRef, SequenceOf};
 use der_c_core::{DerError, DerReader, DerSpan};
-use der_c_x509::{DerBasicConstraints, DerFound, DerGeneralNames, DerKeyUsage};
+use der_c_x509::{DerAuthorityKey, DerBasicConstraints, DerFound, DerGeneralNames, DerKeyUsage};
 use std::alloc::Global;
-use x509::{BasicConstraints, Extension, GeneralName};
+use x509::{AuthorityKeyIdentifier, BasicConstraints, Extension, GeneralName};
 
 /// Finds keyUsage in the contents of a list of extensions, and reads it into `usage`. It is not an
 /// error if the extension is absent.
@@ -217,4 +218,63 @@ pub extern "C" fn der_next_key_purpose<'a>(
         (reader_state reader.old) result (reader_state reader.new) }
 {
     der_c_x509::der_next_key_purpose(alloc, reader, purpose)
+}
+
+/// Finds subjectKeyIdentifier (RFC 5280, 4.2.1.2) in the contents of a list of extensions, and
+/// stores the octets of the identifier in `identifier`. It is not an error if the extension is
+/// absent. That the identifier is that of the certificate's key is not checked.
+///
+/// A call that fails leaves `identifier` unchanged. Fails with:
+///
+/// - the error of the first extension of the list that cannot be decoded; there is none in the
+///   contents that `der_certificate_read` returns;
+/// - `SetDuplicate` without a position, if the list has the extension more than once;
+/// - the error of decoding the value of the extension, whose position counts from the start of this
+///   value.
+#[unsafe(no_mangle)]
+pub extern "C" fn der_subject_key_identifier<'a>(
+    alloc: Global,
+    extensions: &'a [u8],
+    identifier: &mut DerFound<'a>,
+) -> DerError
+    ensures { ReadsKnown (FindsIn
+        (RefusesList ⟦<Extension<'a> as Decode<SliceReader<'a>>>⟧.decode_answers)
+        (FindsExtension ⟦<Extension<'a> as Item>⟧.item.valid ⟦<Extension<'a> as Item>⟧.item.octets
+        (WholeRead ⟦<OctetStringRef<'a> as FixedTag>⟧.tag_is
+        ⟦<OctetStringRef<'a> as ReadValue>⟧.valid ⟦<OctetStringRef<'a> as WrittenValue>⟧.contents
+        ⟦<OctetStringRef<'a> as ReadValue>⟧.allocates
+        ⟦<OctetStringRef<'a> as DecodeValue<SliceReader<'a>>>⟧.decode_value_answers) (id_ce 14))
+        extensions.now) (IsFoundOf (λ v. v.octets.now)) result identifier.old identifier.new }
+{
+    der_c_x509::der_subject_key_identifier(alloc, extensions, identifier)
+}
+
+/// Finds authorityKeyIdentifier in the contents of a list of extensions, and reads it into `key`.
+/// It is not an error if the extension is absent, nor if it has names without a serial number, or a
+/// serial number without names. Each name is checked, as `der_next_general_name` does.
+///
+/// A call that fails leaves `key` unchanged. Fails with:
+///
+/// - the error of the first extension of the list that cannot be decoded; there is none in the
+///   contents that `der_certificate_read` returns;
+/// - `SetDuplicate` without a position, if the list has the extension more than once;
+/// - the error of decoding the value of the extension, whose position counts from the start of this
+///   value.
+#[unsafe(no_mangle)]
+pub extern "C" fn der_authority_key_identifier<'a>(
+    alloc: Global,
+    extensions: &'a [u8],
+    key: &mut DerAuthorityKey<'a>,
+) -> DerError
+    ensures { ReadsKnown (FindsIn
+        (RefusesList ⟦<Extension<'a> as Decode<SliceReader<'a>>>⟧.decode_answers)
+        (FindsExtension ⟦<Extension<'a> as Item>⟧.item.valid ⟦<Extension<'a> as Item>⟧.item.octets
+        (WholeRead ⟦<AuthorityKeyIdentifier<'a> as FixedTag>⟧.tag_is
+        ⟦<AuthorityKeyIdentifier<'a> as ReadValue>⟧.valid
+        ⟦<AuthorityKeyIdentifier<'a> as WrittenValue>⟧.contents
+        ⟦<AuthorityKeyIdentifier<'a> as ReadValue>⟧.allocates
+        ⟦<AuthorityKeyIdentifier<'a> as DecodeValue<SliceReader<'a>>>⟧.decode_value_answers)
+        (id_ce 35)) extensions.now) IsAuthorityKeyOf result key.old key.new }
+{
+    der_c_x509::der_authority_key_identifier(alloc, extensions, key)
 }

@@ -1,3 +1,4 @@
+pub mod AuthorityKey
 pub mod Calls
 pub mod Certificate
 pub mod Constraints

@@ -1,7 +1,8 @@
 //! Extensions whose value is a list or octets.
 ghost use Rattle.der_c_x509.specs.Known.{IsFoundOf};
 
-use der_asn1::{Item, SequenceOf};
+use crate::strings::span_of;
+use der_asn1::{Checked, ContentsGrammar, Item, SequenceOf};
 use der_c_core::DerSpan;
 use x509::Known;
 
@@ -35,6 +36,22 @@ pub(crate) fn found_list<'a, T: Item>(found: &Option<Known<SequenceOf<'a, T>>>) 
             contents: DerSpan {
                 octets: known.value.octets(),
             },
+            present: true,
+            critical: known.critical,
+        },
+        None => DerFound::EMPTY,
+    }
+}
+
+// An extension whose value is a string.
+pub(crate) fn found_string<'a, F: ContentsGrammar>(
+    found: &Option<Known<Checked<'a, F>>>,
+) -> DerFound<'a>
+    ensures { IsFoundOf (λ v. v.octets.now) found.now result }
+{
+    match found {
+        Some(known) => DerFound {
+            contents: span_of(&known.value),
             present: true,
             critical: known.critical,
         },

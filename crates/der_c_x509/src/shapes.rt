@@ -2,6 +2,7 @@
 use crate::algorithm::DerAlgorithm;
 use crate::any::DerAny;
 use crate::attribute::DerAttribute;
+use crate::authority_key::DerAuthorityKey;
 use crate::basic_constraints::DerBasicConstraints;
 use crate::certificate::DerCertificate;
 use crate::extension::DerExtension;
@@ -74,3 +75,7 @@ const _: () = prove!(align_of::<DerRevoked<'static>>() == 8);
 const _: () = prove!(size_of::<DerFound<'static>>() == 24);
 
 const _: () = prove!(align_of::<DerFound<'static>>() == 8);
+
+const _: () = prove!(size_of::<DerAuthorityKey<'static>>() == 56);
+
+const _: () = prove!(align_of::<DerAuthorityKey<'static>>() == 8);

@@ -64,6 +64,32 @@ impl RawAttribute<'_> {
 }
 
 #[repr(C)]
+#[derive(Clone, Copy)]
+pub struct RawAuthorityKey<'a> {
+    pub key_identifier: RawSpan<'a>,
+    pub issuer: RawSpan<'a>,
+    pub serial_number: RawSpan<'a>,
+    pub present: bool,
+    pub critical: bool,
+    pub has_key_identifier: bool,
+    pub has_issuer: bool,
+    pub has_serial_number: bool,
+}
+
+impl RawAuthorityKey<'_> {
+    pub const EMPTY: Self = RawAuthorityKey {
+        key_identifier: RawSpan::EMPTY,
+        issuer: RawSpan::EMPTY,
+        serial_number: RawSpan::EMPTY,
+        present: false,
+        critical: false,
+        has_key_identifier: false,
+        has_issuer: false,
+        has_serial_number: false,
+    };
+}
+
+#[repr(C)]
 #[derive(Clone, Copy, Default, PartialEq, Eq, Hash, Debug)]
 pub struct RawConstraints {
     pub path_length: u64,
@@ -520,6 +546,14 @@ const _: () = {
     assert!(offset_of!(RawAny, tag) == 16);
     assert!(size_of::<RawAttribute>() == 40);
     assert!(offset_of!(RawAttribute, value) == 16);
+    assert!(size_of::<RawAuthorityKey>() == 56);
+    assert!(offset_of!(RawAuthorityKey, issuer) == 16);
+    assert!(offset_of!(RawAuthorityKey, serial_number) == 32);
+    assert!(offset_of!(RawAuthorityKey, present) == 48);
+    assert!(offset_of!(RawAuthorityKey, critical) == 49);
+    assert!(offset_of!(RawAuthorityKey, has_key_identifier) == 50);
+    assert!(offset_of!(RawAuthorityKey, has_issuer) == 51);
+    assert!(offset_of!(RawAuthorityKey, has_serial_number) == 52);
     assert!(size_of::<RawConstraints>() == 16);
     assert!(offset_of!(RawConstraints, present) == 8);
     assert!(offset_of!(RawConstraints, critical) == 9);
