@@ -251,6 +251,28 @@ static void see_authority_keys(void)
     must(der_authority_key_identifier(NULL, 0, &key).kind == DER_OK && !key.present && !key.has_issuer);
 }
 
+/* authorityInfoAccess: `OCSP - URI:http://ocsp.example.org/`, `CA Issuers - URI:http://example.org/ca.crt`,
+ * `CA Issuers - DNS:example.org`. The identifiers of OCSP and CA Issuers are those of RFC 5280, 4.2.2.1. */
+static void see_access_of_web(der_span extensions)
+{
+    static const char *const methods[] = {"1.3.6.1.5.5.7.48.1", "1.3.6.1.5.5.7.48.2", "1.3.6.1.5.5.7.48.2"};
+    static const char *const places[] = {"http://ocsp.example.org/", "http://example.org/ca.crt", "example.org"};
+    static const uint8_t kinds[] = {DER_URI, DER_URI, DER_DNS_NAME};
+    der_found found = DER_FOUND_INIT;
+    der_access_description description = DER_ACCESS_DESCRIPTION_INIT;
+    der_error error = der_authority_information_access(extensions.octets, extensions.length, &found);
+    der_reader descriptions = list_of(error, &found, false);
+    for (size_t i = 0; i < 3; i++) {
+        must(der_next_access_description(&descriptions, &description).kind == DER_OK);
+        must(is_oid(description.method, methods[i]) && description.location.kind == kinds[i]);
+        must(is_text(description.location.contents, places[i]));
+    }
+    must(der_is_finished(&descriptions));
+    must(der_next_access_description(&descriptions, &description).kind == DER_INCOMPLETE);
+    must(is_oid(description.method, methods[2]) && is_text(description.location.contents, places[2]));
+    must(der_authority_information_access(NULL, 0, &found).kind == DER_OK && !found.present);
+}
+
 static void see_web(const uint8_t *octets, size_t length)
 {
     der_certificate certificate = DER_CERTIFICATE_INIT;
@@ -258,6 +280,7 @@ static void see_web(const uint8_t *octets, size_t length)
     see_purposes_of_web(certificate.extensions);
     see_subject_key_of_web(certificate.extensions);
     see_authority_key_of_web(certificate.extensions);
+    see_access_of_web(certificate.extensions);
 }
 
 /* An extKeyUsage that is wrong, one that is there twice, and one that is absent. */

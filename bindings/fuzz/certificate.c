@@ -195,6 +195,21 @@ static void see_key_identifiers(der_span extensions)
     see_general_names(key.issuer);
 }
 
+static void see_access(der_span extensions)
+{
+    der_found found = DER_FOUND_INIT;
+    der_reader reader = DER_READER_INIT;
+    der_error error = der_authority_information_access(extensions.octets, extensions.length, &found);
+    if (!is_list(error, &found, &reader))
+        return;
+    while (!der_is_finished(&reader)) {
+        der_access_description description = DER_ACCESS_DESCRIPTION_INIT;
+        must(der_next_access_description(&reader, &description).kind == DER_OK && description.method.length > 0);
+        see_inside(description.method.octets, description.method.length);
+        see_inside(description.location.contents.octets, description.location.contents.length);
+    }
+}
+
 static void see_extensions(der_span extensions)
 {
     der_reader reader = DER_READER_INIT;
@@ -210,6 +225,7 @@ static void see_extensions(der_span extensions)
     der_names names = DER_NAMES_INIT;
     see_purposes(extensions);
     see_key_identifiers(extensions);
+    see_access(extensions);
     if (der_key_usage(extensions.octets, extensions.length, &usage).kind)
         must(!usage.present && usage.bits == 0);
     if (der_basic_constraints(extensions.octets, extensions.length, &constraints).kind)

@@ -760,6 +760,22 @@ typedef struct der_authority_key {
 DER_MUST_USE DER_NONNULL(3)
 der_error der_authority_key_identifier(const uint8_t *extensions, size_t length, der_authority_key *key);
 
+/* der_authority_information_access finds authorityInfoAccess (RFC 5280, 4.2.2.1): where more about the issuer
+ * is found, for |der_next_access_description|. There may be no place. */
+DER_MUST_USE DER_NONNULL(3)
+der_error der_authority_information_access(const uint8_t *extensions, size_t length, der_found *descriptions);
+
+/* Which information is found, and where (AccessDescription). */
+typedef struct der_access_description {
+    der_span method; /* an OBJECT IDENTIFIER: 1.3.6.1.5.5.7.48.1 for OCSP, 1.3.6.1.5.5.7.48.2 for certificates */
+    der_general_name location;
+} der_access_description;
+#define DER_ACCESS_DESCRIPTION_INIT {DER_SPAN_INIT, DER_GENERAL_NAME_INIT}
+
+/* der_next_access_description reads the next access description of a list of them. */
+DER_MUST_USE DER_NONNULL(1, 2)
+der_error der_next_access_description(der_reader *reader, der_access_description *description);
+
 /* Writing. */
 
 /* A der_writer writes into a buffer that it does not own. Its fields are private. */
@@ -1005,6 +1021,8 @@ DER_STATIC_ASSERT(authority_key, sizeof(der_authority_key) == 56 && offsetof(der
                                      offsetof(der_authority_key, has_key_identifier) == 50 &&
                                      offsetof(der_authority_key, has_issuer) == 51 &&
                                      offsetof(der_authority_key, has_serial_number) == 52);
+DER_STATIC_ASSERT(access_description, sizeof(der_access_description) == 80 &&
+                                          offsetof(der_access_description, location) == 16);
 DER_STATIC_ASSERT(writer, sizeof(der_writer) == 40 && offsetof(der_writer, length) == 8 &&
                               offsetof(der_writer, position) == 16 && offsetof(der_writer, innermost) == 24 &&
                               offsetof(der_writer, failed) == 32);

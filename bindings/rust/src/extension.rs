@@ -1,6 +1,6 @@
 //! Extensions.
 use crate::error::{Error, answer};
-use crate::list::Items;
+use crate::list::{AccessDescription, Items};
 use crate::name::GeneralNames;
 use crate::octets::Hex;
 use crate::oid::Oid;
@@ -192,6 +192,12 @@ impl<'a> Extensions<'a> {
             serial_number: raw.has_serial_number.then(|| raw.serial_number.octets()),
             critical: raw.critical,
         }))
+    }
+
+    /// The authorityInfoAccess extension, if it is there: where more about the issuer is found. Fails as
+    /// [`key_usage`](Self::key_usage) does.
+    pub fn authority_information_access(&self) -> Result<Option<Items<'a, AccessDescription<'a>>>, Error> {
+        Ok(self.find(sys::der_authority_information_access)?.map(Items::of))
     }
 
     /// The contents of the extension that a call finds.

@@ -35,7 +35,7 @@ pub use element::{Element, Header};
 use error::answer;
 pub use error::{Error, ErrorKind};
 pub use extension::{AuthorityKeyIdentifier, BasicConstraints, Extension, ExtensionIter, Extensions, KeyUsage};
-pub use list::{ItemIter, Items};
+pub use list::{AccessDescription, ItemIter, Items};
 pub use name::{Attribute, Attributes, GeneralName, GeneralNameIter, GeneralNames, Name};
 pub use oid::Oid;
 pub use private_key::PrivateKey;

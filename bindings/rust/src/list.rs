@@ -1,8 +1,9 @@
 //! Extensions whose value is a list.
 use crate::error::{Error, answer};
+use crate::name::GeneralName;
 use crate::oid::Oid;
 use crate::reader::Reader;
-use crate::sys::{self, RawFound, RawSpan};
+use crate::sys::{self, RawAccessDescription, RawFound, RawSpan};
 use core::fmt;
 use core::iter::FusedIterator;
 use core::marker::PhantomData;
@@ -74,5 +75,27 @@ impl<'a> Listed<'a> for Oid<'a> {
         let mut raw = RawSpan::EMPTY;
         answer(sys::der_next_key_purpose(&mut reader.0, &mut raw))?;
         Ok(Oid { contents: raw.octets() })
+    }
+}
+
+/// Which information is found, and where (RFC 5280, 4.2.2.1).
+#[derive(Clone, Copy, PartialEq, Eq, Hash, Debug)]
+pub struct AccessDescription<'a> {
+    /// Which information: `1.3.6.1.5.5.7.48.1` for OCSP, `1.3.6.1.5.5.7.48.2` for certificates of the issuer.
+    pub method: Oid<'a>,
+    /// Where it is found.
+    pub location: GeneralName<'a>,
+}
+
+impl<'a> Listed<'a> for AccessDescription<'a> {
+    fn read(reader: &mut Reader<'a>) -> Result<Self, Error> {
+        let mut raw = RawAccessDescription::EMPTY;
+        answer(sys::der_next_access_description(&mut reader.0, &mut raw))?;
+        Ok(AccessDescription {
+            method: Oid {
+                contents: raw.method.octets(),
+            },
+            location: GeneralName::of(&raw.location),
+        })
     }
 }

@@ -312,7 +312,7 @@ fn next_general_name<'a>(reader: &mut Reader<'a>) -> Result<GeneralName<'a>, Err
 impl FusedIterator for GeneralNameIter<'_> {}
 
 impl<'a> GeneralName<'a> {
-    fn of(raw: &RawGeneralName<'a>) -> Self {
+    pub(crate) fn of(raw: &RawGeneralName<'a>) -> Self {
         let contents = raw.contents.octets();
         // the call has seen that these are characters of 7 bits
         let text = core::str::from_utf8(contents).unwrap_or_default();

@@ -127,6 +127,25 @@ fn keys_are_identified() {
     assert!(others.authority_key_identifier().unwrap().is_none());
 }
 
+/// `openssl x509 -ext authorityInfoAccess` prints `OCSP - URI:http://ocsp.example.org/`, `CA Issuers -
+/// URI:http://example.org/ca.crt` and `CA Issuers - DNS:example.org`.
+#[test]
+fn information_is_accessed() {
+    let descriptions = web().authority_information_access().unwrap().unwrap();
+    let texts: Vec<_> = descriptions
+        .into_iter()
+        .map(Result::unwrap)
+        .map(|it| (it.method.to_string(), it.location))
+        .collect();
+    let wanted = [
+        ("1.3.6.1.5.5.7.48.1", GeneralName::Uri("http://ocsp.example.org/")),
+        ("1.3.6.1.5.5.7.48.2", GeneralName::Uri("http://example.org/ca.crt")),
+        ("1.3.6.1.5.5.7.48.2", GeneralName::Dns("example.org")),
+    ];
+    assert_eq!(texts, wanted.map(|(method, location)| (method.to_string(), location)));
+    assert!(!descriptions.critical);
+}
+
 /// The request of openssl that `bindings/test` makes, if it is there, asks for names.
 #[test]
 fn requests_have_extensions() {

@@ -8,20 +8,23 @@ ghost use Rattle.der_c_x509.specs.AuthorityKey.{IsAuthorityKeyOf};
 ghost use Rattle.der_c_x509.specs.Calls.{ReadsItem, ReadsNext};
 ghost use Rattle.der_c_x509.specs.Constraints.{ReadsConstraints};
 ghost use Rattle.der_c_x509.specs.FindCalls.{FindsIn, ReadsKnown, RefusesList};
-ghost use Rattle.der_c_x509.specs.Items.{IsSpanOf};
+ghost use Rattle.der_c_x509.specs.Items.{IsAccessDescriptionOf, IsSpanOf};
 ghost use Rattle.der_c_x509.specs.Known.{IsFoundOf, IsKeyUsageOf, IsNamesOf};
 ghost use Rattle.der_c_x509.specs.LenientCalls.{ReadsLenientConstraints, ReadsLenientUsage};
 ghost use Rattle.std.specs.Prelude.{◌<◌, ◌≡◌};
-ghost use Rattle.x509.specs.ExtensionIdentifiers.{id_ce};
+ghost use Rattle.x509.specs.ExtensionIdentifiers.{id_ce, id_pe};
 ghost use Rattle.x509.specs.Find.{FindsExtension, WholeRead};
 ghost use Rattle.x509_lenient.specs.Lenient.{BerRead, FindsLenient, IsDerOf, SaysDerOf};
 
 use der::{Decode, DecodeValue, FixedTag, ReadValue, SliceReader, WrittenValue};
 use der_asn1::{BitStringRef, Item, NamedBitsRef, ObjectIdentifierRef, OctetStringRef, SequenceOf};
 use der_c_core::{DerError, DerReader, DerSpan};
-use der_c_x509::{DerAuthorityKey, DerBasicConstraints, DerFound, DerGeneralNames, DerKeyUsage};
+use der_c_x509::{
+    DerAccessDescription, DerAuthorityKey, DerBasicConstraints, DerFound, DerGeneralNames,
+    DerKeyUsage,
+};
 use std::alloc::Global;
-use x509::{AuthorityKeyIdentifier, BasicConstraints, Extension, GeneralName};
+use x509::{AccessDescription, AuthorityKeyIdentifier, BasicConstraints, Extension, GeneralName};
 
 /// Finds keyUsage in the contents of a list of extensions, and reads it into `usage`. It is not an
 /// error if the extension is absent.
@@ -277,4 +280,60 @@ pub extern "C" fn der_authority_key_identifier<'a>(
         (id_ce 35)) extensions.now) IsAuthorityKeyOf result key.old key.new }
 {
     der_c_x509::der_authority_key_identifier(alloc, extensions, key)
+}
+
+/// Finds authorityInfoAccess (RFC 5280, 4.2.2.1) in the contents of a list of extensions, and
+/// stores its list in `descriptions`, for `der_next_access_description`. It is not an error if the
+/// extension is absent. Each access description is checked, as `der_next_access_description` does.
+/// That there is at least one is not checked.
+///
+/// A call that fails leaves `descriptions` unchanged. Fails with:
+///
+/// - the error of the first extension of the list that cannot be decoded; there is none in the
+///   contents that `der_certificate_read` returns;
+/// - `SetDuplicate` without a position, if the list has the extension more than once;
+/// - the error of decoding the value of the extension, whose position counts from the start of this
+///   value.
+#[unsafe(no_mangle)]
+pub extern "C" fn der_authority_information_access<'a>(
+    alloc: Global,
+    extensions: &'a [u8],
+    descriptions: &mut DerFound<'a>,
+) -> DerError
+    ensures { ReadsKnown (FindsIn
+        (RefusesList ⟦<Extension<'a> as Decode<SliceReader<'a>>>⟧.decode_answers)
+        (FindsExtension ⟦<Extension<'a> as Item>⟧.item.valid ⟦<Extension<'a> as Item>⟧.item.octets
+        (WholeRead ⟦<SequenceOf<'a, AccessDescription<'a>> as FixedTag>⟧.tag_is
+        ⟦<SequenceOf<'a, AccessDescription<'a>> as ReadValue>⟧.valid
+        ⟦<SequenceOf<'a, AccessDescription<'a>> as WrittenValue>⟧.contents
+        ⟦<SequenceOf<'a, AccessDescription<'a>> as ReadValue>⟧.allocates
+        ⟦<SequenceOf<'a, AccessDescription<'a>> as DecodeValue<SliceReader<'a>>>⟧.decode_value_answers)
+        (id_pe 1)) extensions.now) (IsFoundOf (λ v. v.octets.now)) result descriptions.old
+        descriptions.new }
+{
+    der_c_x509::der_authority_information_access(alloc, extensions, descriptions)
+}
+
+/// Reads the next access description of a list into `description`. `reader` reads the list, as
+/// `der_authority_information_access` returns it.
+///
+/// Every error makes the reader fail, except `TagUnexpected`, which leaves it unchanged. A call
+/// that fails leaves `description` unchanged. At the end of the list the error is `Incomplete`.
+#[unsafe(no_mangle)]
+pub extern "C" fn der_next_access_description<'a>(
+    alloc: Global,
+    reader: &mut DerReader<'a>,
+    description: &mut DerAccessDescription<'a>,
+) -> DerError
+    ensures same { Same (reader_state reader.old) (reader_state reader.new) }
+    ensures reads { ReadsItem ⟦<AccessDescription<'a> as Decode<SliceReader<'a>>>⟧.is_next
+        (ItemAnswer (λ e f. f ≡ e)
+        ⟦<AccessDescription<'a> as Decode<SliceReader<'a>>>⟧.decode_answers) IsAccessDescriptionOf
+        (reader_state reader.old) result description.old description.new
+        (reader_state reader.new) }
+    ensures complete { ReadsNext ⟦<AccessDescription<'a> as Decode<SliceReader<'a>>>⟧.is_next
+        ⟦<AccessDescription<'a> as Decode<SliceReader<'a>>>⟧.decode_levels
+        (reader_state reader.old) result (reader_state reader.new) }
+{
+    der_c_x509::der_next_access_description(alloc, reader, description)
 }

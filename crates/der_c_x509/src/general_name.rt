@@ -72,7 +72,7 @@ fn other_name<'a>(value: &OtherName<'a>) -> DerGeneralName<'a>
 }
 
 // A name as a struct of C.
-fn general_name_of<'a>(value: &GeneralName<'a>) -> DerGeneralName<'a>
+pub(crate) fn general_name_of<'a>(value: &GeneralName<'a>) -> DerGeneralName<'a>
     ensures { IsGeneralNameOf value.now result }
 {
     match value {

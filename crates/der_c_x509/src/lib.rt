@@ -4,6 +4,7 @@
 //! Nothing is validated: no signature, no chain of certificates, no time. No function allocates.
 #![tactic(auto)]
 
+mod access;
 mod algorithm;
 mod any;
 mod attribute;
@@ -29,6 +30,9 @@ mod strings;
 mod subject_names;
 mod time;
 
+pub use access::{
+    DerAccessDescription, der_authority_information_access, der_next_access_description,
+};
 pub use algorithm::DerAlgorithm;
 pub use any::DerAny;
 pub use attribute::{DerAttribute, der_next_attribute};

@@ -1,4 +1,5 @@
 //! The sizes and alignments that `bindings/c/der.h` promises to programs in C.
+use crate::access::DerAccessDescription;
 use crate::algorithm::DerAlgorithm;
 use crate::any::DerAny;
 use crate::attribute::DerAttribute;
@@ -79,3 +80,7 @@ const _: () = prove!(align_of::<DerFound<'static>>() == 8);
 const _: () = prove!(size_of::<DerAuthorityKey<'static>>() == 56);
 
 const _: () = prove!(align_of::<DerAuthorityKey<'static>>() == 8);
+
+const _: () = prove!(size_of::<DerAccessDescription<'static>>() == 80);
+
+const _: () = prove!(align_of::<DerAccessDescription<'static>>() == 8);

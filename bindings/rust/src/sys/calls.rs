@@ -1,9 +1,9 @@
 //! The calls of `der.h`. Written by tools/c_interface: change the crates that der_c uses instead.
 use super::{
-    Node, RawAttribute, RawAuthorityKey, RawBits, RawCertificate, RawConstraints, RawCounter, RawElement, RawEntry,
-    RawError, RawExtension, RawFound, RawGeneralName, RawHeader, RawMark, RawNames, RawPemBlock, RawPrivateKey,
-    RawPublicKey, RawReader, RawRequest, RawRevocationList, RawRevoked, RawSpan, RawText, RawTime, RawTreeFound,
-    RawUsage, RawWriter,
+    Node, RawAccessDescription, RawAttribute, RawAuthorityKey, RawBits, RawCertificate, RawConstraints, RawCounter,
+    RawElement, RawEntry, RawError, RawExtension, RawFound, RawGeneralName, RawHeader, RawMark, RawNames, RawPemBlock,
+    RawPrivateKey, RawPublicKey, RawReader, RawRequest, RawRevocationList, RawRevoked, RawSpan, RawText, RawTime,
+    RawTreeFound, RawUsage, RawWriter,
 };
 
 unsafe extern "C" {
@@ -119,6 +119,15 @@ unsafe extern "C" {
         extensions: *const u8,
         length: usize,
         key: &mut RawAuthorityKey<'a>,
+    ) -> RawError;
+    pub fn der_authority_information_access<'a>(
+        extensions: *const u8,
+        length: usize,
+        descriptions: &mut RawFound<'a>,
+    ) -> RawError;
+    pub safe fn der_next_access_description<'a>(
+        reader: &mut RawReader<'a>,
+        description: &mut RawAccessDescription<'a>,
     ) -> RawError;
     pub fn der_writer_init<'a>(octets: *mut u8, length: usize, writer: &mut RawWriter<'a>);
     pub safe fn der_written(writer: &RawWriter<'_>) -> usize;

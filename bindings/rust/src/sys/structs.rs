@@ -23,6 +23,20 @@ pub struct RawPemBlock {
 
 #[repr(C)]
 #[derive(Clone, Copy)]
+pub struct RawAccessDescription<'a> {
+    pub method: RawSpan<'a>,
+    pub location: RawGeneralName<'a>,
+}
+
+impl RawAccessDescription<'_> {
+    pub const EMPTY: Self = RawAccessDescription {
+        method: RawSpan::EMPTY,
+        location: RawGeneralName::EMPTY,
+    };
+}
+
+#[repr(C)]
+#[derive(Clone, Copy)]
 pub struct RawAlgorithm<'a> {
     pub identifier: RawSpan<'a>,
     pub parameters: RawAny<'a>,
@@ -540,6 +554,8 @@ const _: () = {
     assert!(offset_of!(RawPemBlock, line) == 16);
     assert!(offset_of!(RawPemBlock, length) == 24);
     assert!(offset_of!(RawPemBlock, end) == 32);
+    assert!(size_of::<RawAccessDescription>() == 80);
+    assert!(offset_of!(RawAccessDescription, location) == 16);
     assert!(size_of::<RawAlgorithm>() == 40);
     assert!(offset_of!(RawAlgorithm, parameters) == 16);
     assert!(size_of::<RawAny>() == 24);
