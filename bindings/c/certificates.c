@@ -273,6 +273,64 @@ static void see_access_of_web(der_span extensions)
     must(der_authority_information_access(NULL, 0, &found).kind == DER_OK && !found.present);
 }
 
+static der_reader names_of(der_span names)
+{
+    der_reader reader = DER_READER_INIT;
+    must(der_reader_init(names.octets, names.length, false, &reader).kind == DER_OK);
+    return reader;
+}
+
+/* The next name is this URI. */
+static void see_uri(der_reader *names, const char *uri)
+{
+    der_general_name name = DER_GENERAL_NAME_INIT;
+    must(der_next_general_name(names, &name).kind == DER_OK && name.kind == DER_URI && is_text(name.contents, uri));
+}
+
+/* The second of the points below: `Relative Name: CN = lists`, `Reasons: Key Compromise, CA Compromise`,
+ * `CRL Issuer: DirName:O = Lists`. */
+static void see_relative_point(const der_distribution_point *point)
+{
+    der_reader level = names_of(point->relative_name), names = names_of(point->list_issuer);
+    der_attribute attribute = DER_ATTRIBUTE_INIT;
+    der_general_name name = DER_GENERAL_NAME_INIT;
+    must(!point->has_full_name && point->full_name.length == 0 && point->has_relative_name);
+    must(der_next_attribute(&level, &attribute).kind == DER_OK && der_finish(&level).kind == DER_OK);
+    must(is_oid(attribute.identifier, "2.5.4.3") && is_text(attribute.value.contents, "lists"));
+    must(point->has_reasons && point->reasons == (DER_KEY_COMPROMISE | DER_CA_COMPROMISE) && point->has_list_issuer);
+    must(der_next_general_name(&names, &name).kind == DER_OK && der_finish(&names).kind == DER_OK);
+    must(name.kind == DER_DIRECTORY_NAME);
+    der_reader levels = names_of(name.contents);
+    must(der_enter(&levels, DER_SET, &level).kind == DER_OK && der_finish(&levels).kind == DER_OK);
+    must(der_next_attribute(&level, &attribute).kind == DER_OK && der_finish(&level).kind == DER_OK);
+    must(is_oid(attribute.identifier, "2.5.4.10") && is_text(attribute.value.contents, "Lists"));
+}
+
+/* crlDistributionPoints: `Full Name: URI:http://example.org/a.crl URI:ldap://example.org/b`; the point above; `Full
+ * Name: URI:http://example.org/c.crl Reasons: Superseded`. */
+static void see_points_of_web(der_span extensions)
+{
+    der_found found = DER_FOUND_INIT;
+    der_distribution_point point = DER_DISTRIBUTION_POINT_INIT;
+    der_error error = der_distribution_points(extensions.octets, extensions.length, &found);
+    der_reader points = list_of(error, &found, false);
+    must(der_next_distribution_point(&points, &point).kind == DER_OK && point.has_full_name);
+    der_reader names = names_of(point.full_name);
+    see_uri(&names, "http://example.org/a.crl");
+    see_uri(&names, "ldap://example.org/b");
+    must(der_finish(&names).kind == DER_OK && !point.has_relative_name && !point.has_reasons && !point.has_list_issuer);
+    must(point.relative_name.length == 0 && point.list_issuer.length == 0 && point.reasons == 0);
+    must(der_next_distribution_point(&points, &point).kind == DER_OK);
+    see_relative_point(&point);
+    must(der_next_distribution_point(&points, &point).kind == DER_OK && point.has_full_name);
+    names = names_of(point.full_name);
+    see_uri(&names, "http://example.org/c.crl");
+    must(der_finish(&names).kind == DER_OK && !point.has_relative_name && !point.has_list_issuer);
+    must(point.has_reasons && point.reasons == DER_SUPERSEDED && der_is_finished(&points));
+    must(der_next_distribution_point(&points, &point).kind == DER_INCOMPLETE && point.reasons == DER_SUPERSEDED);
+    must(der_distribution_points(NULL, 0, &found).kind == DER_OK && !found.present);
+}
+
 static void see_web(const uint8_t *octets, size_t length)
 {
     der_certificate certificate = DER_CERTIFICATE_INIT;
@@ -281,6 +339,7 @@ static void see_web(const uint8_t *octets, size_t length)
     see_subject_key_of_web(certificate.extensions);
     see_authority_key_of_web(certificate.extensions);
     see_access_of_web(certificate.extensions);
+    see_points_of_web(certificate.extensions);
 }
 
 /* An extKeyUsage that is wrong, one that is there twice, and one that is absent. */

@@ -210,6 +210,31 @@ static void see_access(der_span extensions)
     }
 }
 
+static void see_distribution_points(der_span extensions)
+{
+    der_found found = DER_FOUND_INIT;
+    der_reader reader = DER_READER_INIT, level = DER_READER_INIT;
+    der_error error = der_distribution_points(extensions.octets, extensions.length, &found);
+    if (!is_list(error, &found, &reader))
+        return;
+    while (!der_is_finished(&reader)) {
+        der_distribution_point point = DER_DISTRIBUTION_POINT_INIT;
+        must(der_next_distribution_point(&reader, &point).kind == DER_OK);
+        must(!point.has_full_name || !point.has_relative_name);
+        must(point.has_full_name || point.full_name.length == 0);
+        must(point.has_relative_name || point.relative_name.length == 0);
+        must(point.has_list_issuer || point.list_issuer.length == 0);
+        must(point.has_reasons || point.reasons == 0);
+        see_general_names(point.full_name);
+        see_general_names(point.list_issuer);
+        must(der_reader_init(point.relative_name.octets, point.relative_name.length, false, &level).kind == DER_OK);
+        while (!der_is_finished(&level)) {
+            der_attribute attribute = DER_ATTRIBUTE_INIT;
+            must(der_next_attribute(&level, &attribute).kind == DER_OK);
+        }
+    }
+}
+
 static void see_extensions(der_span extensions)
 {
     der_reader reader = DER_READER_INIT;
@@ -226,6 +251,7 @@ static void see_extensions(der_span extensions)
     see_purposes(extensions);
     see_key_identifiers(extensions);
     see_access(extensions);
+    see_distribution_points(extensions);
     if (der_key_usage(extensions.octets, extensions.length, &usage).kind)
         must(!usage.present && usage.bits == 0);
     if (der_basic_constraints(extensions.octets, extensions.length, &constraints).kind)

@@ -776,6 +776,41 @@ typedef struct der_access_description {
 DER_MUST_USE DER_NONNULL(1, 2)
 der_error der_next_access_description(der_reader *reader, der_access_description *description);
 
+/* der_distribution_points finds cRLDistributionPoints (RFC 5280, 4.2.1.13): where revocation lists are found, for
+ * |der_next_distribution_point|. There may be no place. */
+DER_MUST_USE DER_NONNULL(3)
+der_error der_distribution_points(const uint8_t *extensions, size_t length, der_found *points);
+
+/* Bits of the reasons for a revocation (RFC 5280, 4.2.1.13). */
+enum {
+    DER_KEY_COMPROMISE = 1 << 1,
+    DER_CA_COMPROMISE = 1 << 2,
+    DER_AFFILIATION_CHANGED = 1 << 3,
+    DER_SUPERSEDED = 1 << 4,
+    DER_CESSATION_OF_OPERATION = 1 << 5,
+    DER_CERTIFICATE_HOLD = 1 << 6,
+    DER_PRIVILEGE_WITHDRAWN = 1 << 7,
+    DER_AA_COMPROMISE = 1 << 8
+};
+
+/* Where a revocation list is found (DistributionPoint). The place has a full name or a relative name; it may be
+ * absent. */
+typedef struct der_distribution_point {
+    der_span full_name;     /* the names of the place, for |der_next_general_name|; most are URIs */
+    der_span relative_name; /* a level below the name of the issuer of the list, for |der_next_attribute| */
+    der_span list_issuer;   /* for |der_next_general_name|; if it is absent, the issuer of the certificate */
+    uint16_t reasons;       /* bit n is 1 << n; if they are absent, the list covers all reasons */
+    bool has_full_name;
+    bool has_relative_name;
+    bool has_reasons;
+    bool has_list_issuer;
+} der_distribution_point;
+#define DER_DISTRIBUTION_POINT_INIT {DER_SPAN_INIT, DER_SPAN_INIT, DER_SPAN_INIT, 0, false, false, false, false}
+
+/* der_next_distribution_point reads the next distribution point of a list of them. */
+DER_MUST_USE DER_NONNULL(1, 2)
+der_error der_next_distribution_point(der_reader *reader, der_distribution_point *point);
+
 /* Writing. */
 
 /* A der_writer writes into a buffer that it does not own. Its fields are private. */
@@ -1023,6 +1058,14 @@ DER_STATIC_ASSERT(authority_key, sizeof(der_authority_key) == 56 && offsetof(der
                                      offsetof(der_authority_key, has_serial_number) == 52);
 DER_STATIC_ASSERT(access_description, sizeof(der_access_description) == 80 &&
                                           offsetof(der_access_description, location) == 16);
+DER_STATIC_ASSERT(distribution_point, sizeof(der_distribution_point) == 56 &&
+                                          offsetof(der_distribution_point, relative_name) == 16 &&
+                                          offsetof(der_distribution_point, list_issuer) == 32 &&
+                                          offsetof(der_distribution_point, reasons) == 48 &&
+                                          offsetof(der_distribution_point, has_full_name) == 50 &&
+                                          offsetof(der_distribution_point, has_relative_name) == 51 &&
+                                          offsetof(der_distribution_point, has_reasons) == 52 &&
+                                          offsetof(der_distribution_point, has_list_issuer) == 53);
 DER_STATIC_ASSERT(writer, sizeof(der_writer) == 40 && offsetof(der_writer, length) == 8 &&
                               offsetof(der_writer, position) == 16 && offsetof(der_writer, innermost) == 24 &&
                               offsetof(der_writer, failed) == 32);

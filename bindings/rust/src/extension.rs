@@ -1,6 +1,6 @@
 //! Extensions.
 use crate::error::{Error, answer};
-use crate::list::{AccessDescription, Items};
+use crate::list::{AccessDescription, DistributionPoint, Items};
 use crate::name::GeneralNames;
 use crate::octets::Hex;
 use crate::oid::Oid;
@@ -198,6 +198,12 @@ impl<'a> Extensions<'a> {
     /// [`key_usage`](Self::key_usage) does.
     pub fn authority_information_access(&self) -> Result<Option<Items<'a, AccessDescription<'a>>>, Error> {
         Ok(self.find(sys::der_authority_information_access)?.map(Items::of))
+    }
+
+    /// The cRLDistributionPoints extension, if it is there: where revocation lists are found. Fails as
+    /// [`key_usage`](Self::key_usage) does.
+    pub fn distribution_points(&self) -> Result<Option<Items<'a, DistributionPoint<'a>>>, Error> {
+        Ok(self.find(sys::der_distribution_points)?.map(Items::of))
     }
 
     /// The contents of the extension that a call finds.

@@ -1,9 +1,9 @@
 //! Extensions whose value is a list.
 use crate::error::{Error, answer};
-use crate::name::GeneralName;
+use crate::name::{GeneralName, GeneralNames, RelativeName};
 use crate::oid::Oid;
 use crate::reader::Reader;
-use crate::sys::{self, RawAccessDescription, RawFound, RawSpan};
+use crate::sys::{self, RawAccessDescription, RawDistributionPoint, RawFound, RawSpan};
 use core::fmt;
 use core::iter::FusedIterator;
 use core::marker::PhantomData;
@@ -96,6 +96,38 @@ impl<'a> Listed<'a> for AccessDescription<'a> {
                 contents: raw.method.octets(),
             },
             location: GeneralName::of(&raw.location),
+        })
+    }
+}
+
+/// Where a revocation list is found (RFC 5280, 4.2.1.13). The place is a list of names or a level, or it is absent.
+#[derive(Clone, Copy, PartialEq, Eq, Hash, Debug)]
+pub struct DistributionPoint<'a> {
+    /// The names of the place; most are URIs.
+    pub full_name: Option<GeneralNames<'a>>,
+    /// The level of the place below the name of the issuer of the list.
+    pub relative_name: Option<RelativeName<'a>>,
+    /// The reasons that the list covers, if it does not cover all: bit n as `1 << n`; keyCompromise is 2.
+    pub reasons: Option<u16>,
+    /// The names of the issuer of the list, if it is not the issuer of the certificate.
+    pub list_issuer: Option<GeneralNames<'a>>,
+}
+
+impl<'a> Listed<'a> for DistributionPoint<'a> {
+    fn read(reader: &mut Reader<'a>) -> Result<Self, Error> {
+        let mut raw = RawDistributionPoint::EMPTY;
+        answer(sys::der_next_distribution_point(&mut reader.0, &mut raw))?;
+        Ok(DistributionPoint {
+            full_name: raw.has_full_name.then(|| GeneralNames {
+                contents: raw.full_name.octets(),
+            }),
+            relative_name: raw.has_relative_name.then(|| RelativeName {
+                contents: raw.relative_name.octets(),
+            }),
+            reasons: raw.has_reasons.then_some(raw.reasons),
+            list_issuer: raw.has_list_issuer.then(|| GeneralNames {
+                contents: raw.list_issuer.octets(),
+            }),
         })
     }
 }

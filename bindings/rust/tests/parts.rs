@@ -146,6 +146,36 @@ fn information_is_accessed() {
     assert!(!descriptions.critical);
 }
 
+/// `openssl x509 -ext crlDistributionPoints` prints `Full Name: URI:http://example.org/a.crl URI:ldap://example.org/b`;
+/// `Relative Name: CN = lists`, `Reasons: Key Compromise, CA Compromise`, `CRL Issuer: DirName:O = Lists`; `Full Name:
+/// URI:http://example.org/c.crl`, `Reasons: Superseded`.
+#[test]
+fn revocation_lists_are_distributed() {
+    let points = web().distribution_points().unwrap().unwrap();
+    let points: Vec<_> = points.into_iter().map(Result::unwrap).collect();
+    let [first, second, third] = points[..] else {
+        panic!("{points:?}");
+    };
+    let names = |names: GeneralNames<'static>| names.into_iter().map(Result::unwrap).collect::<Vec<_>>();
+    let wanted = [
+        GeneralName::Uri("http://example.org/a.crl"),
+        GeneralName::Uri("ldap://example.org/b"),
+    ];
+    assert_eq!(names(first.full_name.unwrap()), wanted);
+    assert!(first.relative_name.is_none() && first.reasons.is_none() && first.list_issuer.is_none());
+    let attributes: Vec<_> = second.relative_name.unwrap().attributes().map(Result::unwrap).collect();
+    assert!(attributes.len() == 1 && attributes[0].identifier == *"2.5.4.3");
+    assert_eq!(attributes[0].text().unwrap().to_string(), "lists");
+    assert_eq!((second.full_name, second.reasons), (None, Some(1 << 1 | 1 << 2)));
+    let issuer = names(second.list_issuer.unwrap());
+    assert!(matches!(issuer[..], [GeneralName::Directory(name)] if name.to_string() == "O=Lists"));
+    assert_eq!(
+        names(third.full_name.unwrap()),
+        [GeneralName::Uri("http://example.org/c.crl")]
+    );
+    assert_eq!(third.reasons, Some(1 << 4));
+}
+
 /// The request of openssl that `bindings/test` makes, if it is there, asks for names.
 #[test]
 fn requests_have_extensions() {

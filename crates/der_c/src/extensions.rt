@@ -7,6 +7,7 @@ ghost use Rattle.der_c_core.specs.CReader.{reader_state};
 ghost use Rattle.der_c_x509.specs.AuthorityKey.{IsAuthorityKeyOf};
 ghost use Rattle.der_c_x509.specs.Calls.{ReadsItem, ReadsNext};
 ghost use Rattle.der_c_x509.specs.Constraints.{ReadsConstraints};
+ghost use Rattle.der_c_x509.specs.DistributionPoint.{IsDistributionPointOf};
 ghost use Rattle.der_c_x509.specs.FindCalls.{FindsIn, ReadsKnown, RefusesList};
 ghost use Rattle.der_c_x509.specs.Items.{IsAccessDescriptionOf, IsSpanOf};
 ghost use Rattle.der_c_x509.specs.Known.{IsFoundOf, IsKeyUsageOf, IsNamesOf};
@@ -20,11 +21,14 @@ use der::{Decode, DecodeValue, FixedTag, ReadValue, SliceReader, WrittenValue};
 use der_asn1::{BitStringRef, Item, NamedBitsRef, ObjectIdentifierRef, OctetStringRef, SequenceOf};
 use der_c_core::{DerError, DerReader, DerSpan};
 use der_c_x509::{
-    DerAccessDescription, DerAuthorityKey, DerBasicConstraints, DerFound, DerGeneralNames,
-    DerKeyUsage,
+    DerAccessDescription, DerAuthorityKey, DerBasicConstraints, DerDistributionPoint, DerFound,
+    DerGeneralNames, DerKeyUsage,
 };
 use std::alloc::Global;
-use x509::{AccessDescription, AuthorityKeyIdentifier, BasicConstraints, Extension, GeneralName};
+use x509::{
+    AccessDescription, AuthorityKeyIdentifier, BasicConstraints, DistributionPoint, Extension,
+    GeneralName,
+};
 
 /// Finds keyUsage in the contents of a list of extensions, and reads it into `usage`. It is not an
 /// error if the extension is absent.
@@ -336,4 +340,59 @@ pub extern "C" fn der_next_access_description<'a>(
         (reader_state reader.old) result (reader_state reader.new) }
 {
     der_c_x509::der_next_access_description(alloc, reader, description)
+}
+
+/// Finds cRLDistributionPoints (RFC 5280, 4.2.1.13) in the contents of a list of extensions, and
+/// stores its list in `points`, for `der_next_distribution_point`. It is not an error if the
+/// extension is absent. Each point is checked, as `der_next_distribution_point` does. That there is
+/// at least one is not checked.
+///
+/// A call that fails leaves `points` unchanged. Fails with:
+///
+/// - the error of the first extension of the list that cannot be decoded; there is none in the
+///   contents that `der_certificate_read` returns;
+/// - `SetDuplicate` without a position, if the list has the extension more than once;
+/// - the error of decoding the value of the extension, whose position counts from the start of this
+///   value.
+#[unsafe(no_mangle)]
+pub extern "C" fn der_distribution_points<'a>(
+    alloc: Global,
+    extensions: &'a [u8],
+    points: &mut DerFound<'a>,
+) -> DerError
+    ensures { ReadsKnown (FindsIn
+        (RefusesList ⟦<Extension<'a> as Decode<SliceReader<'a>>>⟧.decode_answers)
+        (FindsExtension ⟦<Extension<'a> as Item>⟧.item.valid ⟦<Extension<'a> as Item>⟧.item.octets
+        (WholeRead ⟦<SequenceOf<'a, DistributionPoint<'a>> as FixedTag>⟧.tag_is
+        ⟦<SequenceOf<'a, DistributionPoint<'a>> as ReadValue>⟧.valid
+        ⟦<SequenceOf<'a, DistributionPoint<'a>> as WrittenValue>⟧.contents
+        ⟦<SequenceOf<'a, DistributionPoint<'a>> as ReadValue>⟧.allocates
+        ⟦<SequenceOf<'a, DistributionPoint<'a>> as DecodeValue<SliceReader<'a>>>⟧.decode_value_answers)
+        (id_ce 31)) extensions.now) (IsFoundOf (λ v. v.octets.now)) result points.old points.new }
+{
+    der_c_x509::der_distribution_points(alloc, extensions, points)
+}
+
+/// Reads the next distribution point of a list into `point`. `reader` reads the list, as
+/// `der_distribution_points` returns it. It is not an error if the point has neither a place nor an
+/// issuer.
+///
+/// Every error makes the reader fail, except `TagUnexpected`, which leaves it unchanged. A call
+/// that fails leaves `point` unchanged. At the end of the list the error is `Incomplete`.
+#[unsafe(no_mangle)]
+pub extern "C" fn der_next_distribution_point<'a>(
+    alloc: Global,
+    reader: &mut DerReader<'a>,
+    point: &mut DerDistributionPoint<'a>,
+) -> DerError
+    ensures same { Same (reader_state reader.old) (reader_state reader.new) }
+    ensures reads { ReadsItem ⟦<DistributionPoint<'a> as Decode<SliceReader<'a>>>⟧.is_next
+        (ItemAnswer (λ e f. f ≡ e)
+        ⟦<DistributionPoint<'a> as Decode<SliceReader<'a>>>⟧.decode_answers) IsDistributionPointOf
+        (reader_state reader.old) result point.old point.new (reader_state reader.new) }
+    ensures complete { ReadsNext ⟦<DistributionPoint<'a> as Decode<SliceReader<'a>>>⟧.is_next
+        ⟦<DistributionPoint<'a> as Decode<SliceReader<'a>>>⟧.decode_levels
+        (reader_state reader.old) result (reader_state reader.new) }
+{
+    der_c_x509::der_next_distribution_point(alloc, reader, point)
 }

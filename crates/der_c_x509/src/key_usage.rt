@@ -36,7 +36,7 @@ impl DerKeyUsage {
 }
 
 // The bits 0 to 15 as a number.
-fn bits_of_usage(usage: &NamedBitsRef<'_>) -> u16
+pub(crate) fn named_bits_of(usage: &NamedBitsRef<'_>) -> u16
     ensures { result ≡ first_bits 16 usage.now.octets.now }
 {
     let mut bits: u16 = 0;
@@ -54,7 +54,7 @@ fn key_usage_of<'a>(found: &Option<Known<NamedBitsRef<'a>>>) -> DerKeyUsage
 {
     match found {
         Some(known) => DerKeyUsage {
-            bits: bits_of_usage(&known.value),
+            bits: named_bits_of(&known.value),
             present: true,
             critical: known.critical,
         },

@@ -11,6 +11,7 @@ mod attribute;
 mod authority_key;
 mod basic_constraints;
 mod certificate;
+mod distribution_point;
 mod extension;
 mod find;
 mod found;
@@ -39,6 +40,9 @@ pub use attribute::{DerAttribute, der_next_attribute};
 pub use authority_key::{DerAuthorityKey, der_authority_key_identifier};
 pub use basic_constraints::{DerBasicConstraints, der_basic_constraints};
 pub use certificate::{DerCertificate, der_certificate_read};
+pub use distribution_point::{
+    DerDistributionPoint, der_distribution_points, der_next_distribution_point,
+};
 pub use extension::{DerExtension, der_next_extension};
 pub use found::DerFound;
 pub use general_name::{DerGeneralName, der_next_general_name};

@@ -6,6 +6,7 @@ use crate::attribute::DerAttribute;
 use crate::authority_key::DerAuthorityKey;
 use crate::basic_constraints::DerBasicConstraints;
 use crate::certificate::DerCertificate;
+use crate::distribution_point::DerDistributionPoint;
 use crate::extension::DerExtension;
 use crate::found::DerFound;
 use crate::general_name::DerGeneralName;
@@ -84,3 +85,7 @@ const _: () = prove!(align_of::<DerAuthorityKey<'static>>() == 8);
 const _: () = prove!(size_of::<DerAccessDescription<'static>>() == 80);
 
 const _: () = prove!(align_of::<DerAccessDescription<'static>>() == 8);
+
+const _: () = prove!(size_of::<DerDistributionPoint<'static>>() == 56);
+
+const _: () = prove!(align_of::<DerDistributionPoint<'static>>() == 8);

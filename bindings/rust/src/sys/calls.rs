@@ -1,9 +1,9 @@
 //! The calls of `der.h`. Written by tools/c_interface: change the crates that der_c uses instead.
 use super::{
     Node, RawAccessDescription, RawAttribute, RawAuthorityKey, RawBits, RawCertificate, RawConstraints, RawCounter,
-    RawElement, RawEntry, RawError, RawExtension, RawFound, RawGeneralName, RawHeader, RawMark, RawNames, RawPemBlock,
-    RawPrivateKey, RawPublicKey, RawReader, RawRequest, RawRevocationList, RawRevoked, RawSpan, RawText, RawTime,
-    RawTreeFound, RawUsage, RawWriter,
+    RawDistributionPoint, RawElement, RawEntry, RawError, RawExtension, RawFound, RawGeneralName, RawHeader, RawMark,
+    RawNames, RawPemBlock, RawPrivateKey, RawPublicKey, RawReader, RawRequest, RawRevocationList, RawRevoked, RawSpan,
+    RawText, RawTime, RawTreeFound, RawUsage, RawWriter,
 };
 
 unsafe extern "C" {
@@ -128,6 +128,11 @@ unsafe extern "C" {
     pub safe fn der_next_access_description<'a>(
         reader: &mut RawReader<'a>,
         description: &mut RawAccessDescription<'a>,
+    ) -> RawError;
+    pub fn der_distribution_points<'a>(extensions: *const u8, length: usize, points: &mut RawFound<'a>) -> RawError;
+    pub safe fn der_next_distribution_point<'a>(
+        reader: &mut RawReader<'a>,
+        point: &mut RawDistributionPoint<'a>,
     ) -> RawError;
     pub fn der_writer_init<'a>(octets: *mut u8, length: usize, writer: &mut RawWriter<'a>);
     pub safe fn der_written(writer: &RawWriter<'_>) -> usize;

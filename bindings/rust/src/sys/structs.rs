@@ -159,6 +159,32 @@ impl RawCertificate<'_> {
 
 #[repr(C)]
 #[derive(Clone, Copy)]
+pub struct RawDistributionPoint<'a> {
+    pub full_name: RawSpan<'a>,
+    pub relative_name: RawSpan<'a>,
+    pub list_issuer: RawSpan<'a>,
+    pub reasons: u16,
+    pub has_full_name: bool,
+    pub has_relative_name: bool,
+    pub has_reasons: bool,
+    pub has_list_issuer: bool,
+}
+
+impl RawDistributionPoint<'_> {
+    pub const EMPTY: Self = RawDistributionPoint {
+        full_name: RawSpan::EMPTY,
+        relative_name: RawSpan::EMPTY,
+        list_issuer: RawSpan::EMPTY,
+        reasons: 0,
+        has_full_name: false,
+        has_relative_name: false,
+        has_reasons: false,
+        has_list_issuer: false,
+    };
+}
+
+#[repr(C)]
+#[derive(Clone, Copy)]
 pub struct RawExtension<'a> {
     pub identifier: RawSpan<'a>,
     pub value: RawSpan<'a>,
@@ -592,6 +618,14 @@ const _: () = {
     assert!(offset_of!(RawCertificate, has_issuer_unique_id) == 329);
     assert!(offset_of!(RawCertificate, has_subject_unique_id) == 330);
     assert!(offset_of!(RawCertificate, has_extensions) == 331);
+    assert!(size_of::<RawDistributionPoint>() == 56);
+    assert!(offset_of!(RawDistributionPoint, relative_name) == 16);
+    assert!(offset_of!(RawDistributionPoint, list_issuer) == 32);
+    assert!(offset_of!(RawDistributionPoint, reasons) == 48);
+    assert!(offset_of!(RawDistributionPoint, has_full_name) == 50);
+    assert!(offset_of!(RawDistributionPoint, has_relative_name) == 51);
+    assert!(offset_of!(RawDistributionPoint, has_reasons) == 52);
+    assert!(offset_of!(RawDistributionPoint, has_list_issuer) == 53);
     assert!(size_of::<RawExtension>() == 40);
     assert!(offset_of!(RawExtension, value) == 16);
     assert!(offset_of!(RawExtension, critical) == 32);
