@@ -82,7 +82,7 @@ fn extensions_are_read_from_octets() {
     assert!(Extensions::from_der(&octets[2..]).is_err());
 }
 
-/// The extensions of a certificate of openssl; `certificates.c` has the commands that made it.
+/// The extensions of a certificate of openssl; `extensions.c` has the commands that made it.
 fn web() -> Extensions<'static> {
     Certificate::from_der(include_bytes!("web.der")).unwrap().extensions()
 }
