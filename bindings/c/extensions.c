@@ -260,6 +260,34 @@ static void see_lenient(void)
     must(der_key_usage_lenient(NULL, 0, &usage, &is_der).kind == DER_OK && is_der && !usage.present);
 }
 
+/* Octets that are missing in the value of an extension: as every call on elements says it, of the value. */
+static void see_needed(der_error error, uint32_t first, uint32_t second, uint32_t position)
+{
+    must(error.kind == DER_INCOMPLETE && error.first == first && error.second == second && error.position == position);
+}
+
+static void see_cut_values(void)
+{
+    static const uint8_t usages[] = {0x30, 0x0E, 6, 3, 0x55, 0x1D, 0x0F, 1, 1, 0xFF, 4, 4, 3, 5, 5, 0xA0};
+    static const uint8_t header[] = {0x30, 0x0B, 6, 3, 0x55, 0x1D, 0x0F, 1, 1, 0xFF, 4, 1, 3};
+    static const uint8_t limits[] = {0x30, 0x0C, 6, 3, 0x55, 0x1D, 0x13, 4, 5, 0x30, 6, 1, 1, 0xFF};
+    static const uint8_t named[] = {0x30, 0x0D, 6, 3, 0x55, 0x1D, 0x11, 4, 6, 0x30, 9, 0x82, 2, 'a', 'b'};
+    static const uint8_t inner[] = {0x30, 0x0C, 6, 3, 0x55, 0x1D, 0x11, 4, 5, 0x30, 3, 0x82, 2, 'a'};
+    static const uint8_t purposes[] = {0x30, 0x0B, 6, 3, 0x55, 0x1D, 0x25, 4, 4, 0x30, 4, 6, 1};
+    static const uint8_t key[] = {0x30, 0x0B, 6, 3, 0x55, 0x1D, 0x0E, 4, 4, 4, 8, 1, 2};
+    der_usage usage = DER_USAGE_INIT;
+    der_constraints constraints = DER_CONSTRAINTS_INIT;
+    der_names names = DER_NAMES_INIT;
+    der_found found = DER_FOUND_INIT;
+    see_needed(der_key_usage(usages, sizeof usages, &usage), 7, 4, 2);
+    see_needed(der_key_usage(header, sizeof header, &usage), 2, 1, 1);
+    see_needed(der_basic_constraints(limits, sizeof limits, &constraints), 8, 5, 2);
+    see_needed(der_subject_alternative_name(named, sizeof named, &names), 11, 6, 2);
+    see_needed(der_subject_alternative_name(inner, sizeof inner, &names), 6, 5, 5);
+    see_needed(der_extended_key_usage(purposes, sizeof purposes, &found), 6, 4, 2);
+    see_needed(der_subject_key_identifier(key, sizeof key, &found), 10, 4, 2);
+}
+
 int main(int argc, char **argv)
 {
     static uint8_t octets[SPACE];
@@ -267,6 +295,7 @@ int main(int argc, char **argv)
     see_lenient();
     see_wrong_purposes();
     see_authority_keys();
+    see_cut_values();
     for (int i = 1; i < argc; i++) {
         size_t length = strlen(argv[i]);
         if (length < 8 || strcmp(argv[i] + length - 8, "/web.der") != 0)

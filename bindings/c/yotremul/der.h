@@ -19,8 +19,10 @@
  *     octets from the start of the input. If a header was read and its contents are cut, |first| is
  *     where the element would end. If the header itself is cut, |first| is one octet more than there
  *     is: how long the element would be is not known. So it is for an element inside a certificate, a
- *     request, a key, a list or an item that passes the end of the one around it, which more octets
- *     do not mend, and for those inside the extensions that |der_key_usage| and its kin read.
+ *     request, a key, a list, an item or the value of an extension that passes the end of the one
+ *     around it, which more octets do not mend. |der_key_usage| and its kin say it of the value of the
+ *     extension, in octets from its start; of a list that is cut they need one octet more than there
+ *     is, and so do |der_key_usage_lenient| and |der_basic_constraints_lenient| of a value.
  *
  * What is read. Under DER each element is a header and contents, with the fewest octets for the tag
  * number and for the length (X.690 10.1). Under BER, lengths of the indefinite form are read too, at

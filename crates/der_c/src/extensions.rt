@@ -8,13 +8,13 @@ ghost use Rattle.der_c_x509.specs.AuthorityKey.{IsAuthorityKeyOf};
 ghost use Rattle.der_c_x509.specs.Calls.{ReadsItem, ReadsNext};
 ghost use Rattle.der_c_x509.specs.Constraints.{ReadsConstraints};
 ghost use Rattle.der_c_x509.specs.DistributionPoint.{IsDistributionPointOf};
-ghost use Rattle.der_c_x509.specs.FindCalls.{FindsIn, ReadsKnown, RefusesList};
+ghost use Rattle.der_c_x509.specs.FindCalls.{FindsIn, FindsType, ReadsKnown, RefusesList};
 ghost use Rattle.der_c_x509.specs.Items.{IsAccessDescriptionOf, IsSpanOf};
 ghost use Rattle.der_c_x509.specs.Known.{IsFoundOf, IsKeyUsageOf, IsNamesOf};
 ghost use Rattle.der_c_x509.specs.LenientCalls.{ReadsLenientConstraints, ReadsLenientUsage};
 ghost use Rattle.std.specs.Prelude.{◌<◌, ◌≡◌};
 ghost use Rattle.x509.specs.ExtensionIdentifiers.{id_ce, id_pe};
-ghost use Rattle.x509.specs.Find.{FindsExtension, WholeRead};
+ghost use Rattle.x509.specs.Find.{WholeRead};
 ghost use Rattle.x509_lenient.specs.Lenient.{BerRead, FindsLenient, IsDerOf, SaysDerOf};
 
 use der::{Decode, DecodeValue, FixedTag, ReadValue, SliceReader, WrittenValue};
@@ -39,19 +39,19 @@ use x509::{
 ///   contents that `der_certificate_read` returns;
 /// - `SetDuplicate` without a position, if the list has the extension more than once;
 /// - the error of decoding the value of the extension, whose position counts from the start of this
-///   value.
+///   value; `Incomplete` says where the value would end, if its contents are cut.
 #[unsafe(no_mangle)]
 pub extern "C" fn der_key_usage<'a>(
     alloc: Global,
     extensions: &'a [u8],
     usage: &mut DerKeyUsage,
 ) -> DerError
-    ensures { ReadsKnown (FindsIn
-        (RefusesList ⟦<Extension<'a> as Decode<SliceReader<'a>>>⟧.decode_answers)
-        (FindsExtension ⟦<Extension<'a> as Item>⟧.item.valid ⟦<Extension<'a> as Item>⟧.item.octets
-        (WholeRead ⟦<NamedBitsRef<'a> as FixedTag>⟧.tag_is ⟦<NamedBitsRef<'a> as ReadValue>⟧.valid
+    ensures { ReadsKnown (FindsType (RefusesList
+        ⟦<Extension<'a> as Decode<SliceReader<'a>>>⟧.decode_answers)
+        ⟦<Extension<'a> as Item>⟧.item.valid ⟦<Extension<'a> as Item>⟧.item.octets (WholeRead
+        ⟦<NamedBitsRef<'a> as FixedTag>⟧.tag_is ⟦<NamedBitsRef<'a> as ReadValue>⟧.valid
         ⟦<NamedBitsRef<'a> as WrittenValue>⟧.contents ⟦<NamedBitsRef<'a> as ReadValue>⟧.allocates
-        ⟦<NamedBitsRef<'a> as DecodeValue<SliceReader<'a>>>⟧.decode_value_answers) (id_ce 15))
+        ⟦<NamedBitsRef<'a> as DecodeValue<SliceReader<'a>>>⟧.decode_value_answers) (id_ce 15)
         extensions.now) (IsKeyUsageOf (λ v. v.octets.now)) result usage.old usage.new }
 {
     der_c_x509::der_key_usage(alloc, extensions, usage)
@@ -92,7 +92,7 @@ pub extern "C" fn der_key_usage_lenient<'a>(
 ///   contents that `der_certificate_read` returns;
 /// - `SetDuplicate` without a position, if the list has the extension more than once;
 /// - the error of decoding the value of the extension, whose position counts from the start of this
-///   value;
+///   value; `Incomplete` says where the value would end, if its contents are cut;
 /// - `Value` with the tag INTEGER, without a position, if the limit is negative or above 2^64 - 1.
 #[unsafe(no_mangle)]
 pub extern "C" fn der_basic_constraints<'a>(
@@ -100,14 +100,13 @@ pub extern "C" fn der_basic_constraints<'a>(
     extensions: &'a [u8],
     constraints: &mut DerBasicConstraints,
 ) -> DerError
-    ensures { ReadsConstraints (FindsIn
-        (RefusesList ⟦<Extension<'a> as Decode<SliceReader<'a>>>⟧.decode_answers)
-        (FindsExtension ⟦<Extension<'a> as Item>⟧.item.valid ⟦<Extension<'a> as Item>⟧.item.octets
-        (WholeRead ⟦<BasicConstraints<'a> as FixedTag>⟧.tag_is
-        ⟦<BasicConstraints<'a> as ReadValue>⟧.valid
+    ensures { ReadsConstraints (FindsType (RefusesList
+        ⟦<Extension<'a> as Decode<SliceReader<'a>>>⟧.decode_answers)
+        ⟦<Extension<'a> as Item>⟧.item.valid ⟦<Extension<'a> as Item>⟧.item.octets (WholeRead
+        ⟦<BasicConstraints<'a> as FixedTag>⟧.tag_is ⟦<BasicConstraints<'a> as ReadValue>⟧.valid
         ⟦<BasicConstraints<'a> as WrittenValue>⟧.contents
         ⟦<BasicConstraints<'a> as ReadValue>⟧.allocates
-        ⟦<BasicConstraints<'a> as DecodeValue<SliceReader<'a>>>⟧.decode_value_answers) (id_ce 19))
+        ⟦<BasicConstraints<'a> as DecodeValue<SliceReader<'a>>>⟧.decode_value_answers) (id_ce 19)
         extensions.now) result constraints.old constraints.new }
 {
     der_c_x509::der_basic_constraints(alloc, extensions, constraints)
@@ -150,22 +149,22 @@ pub extern "C" fn der_basic_constraints_lenient<'a>(
 ///   contents that `der_certificate_read` returns;
 /// - `SetDuplicate` without a position, if the list has the extension more than once;
 /// - the error of decoding the value of the extension, whose position counts from the start of this
-///   value.
+///   value; `Incomplete` says where the value would end, if its contents are cut.
 #[unsafe(no_mangle)]
 pub extern "C" fn der_subject_alternative_name<'a>(
     alloc: Global,
     extensions: &'a [u8],
     names: &mut DerGeneralNames<'a>,
 ) -> DerError
-    ensures { ReadsKnown (FindsIn
-        (RefusesList ⟦<Extension<'a> as Decode<SliceReader<'a>>>⟧.decode_answers)
-        (FindsExtension ⟦<Extension<'a> as Item>⟧.item.valid ⟦<Extension<'a> as Item>⟧.item.octets
-        (WholeRead ⟦<SequenceOf<'a, GeneralName<'a>> as FixedTag>⟧.tag_is
+    ensures { ReadsKnown (FindsType (RefusesList
+        ⟦<Extension<'a> as Decode<SliceReader<'a>>>⟧.decode_answers)
+        ⟦<Extension<'a> as Item>⟧.item.valid ⟦<Extension<'a> as Item>⟧.item.octets (WholeRead
+        ⟦<SequenceOf<'a, GeneralName<'a>> as FixedTag>⟧.tag_is
         ⟦<SequenceOf<'a, GeneralName<'a>> as ReadValue>⟧.valid
         ⟦<SequenceOf<'a, GeneralName<'a>> as WrittenValue>⟧.contents
         ⟦<SequenceOf<'a, GeneralName<'a>> as ReadValue>⟧.allocates
         ⟦<SequenceOf<'a, GeneralName<'a>> as DecodeValue<SliceReader<'a>>>⟧.decode_value_answers)
-        (id_ce 17)) extensions.now) (IsNamesOf (λ v. v.octets.now)) result names.old names.new }
+        (id_ce 17) extensions.now) (IsNamesOf (λ v. v.octets.now)) result names.old names.new }
 {
     der_c_x509::der_subject_alternative_name(alloc, extensions, names)
 }
@@ -181,23 +180,22 @@ pub extern "C" fn der_subject_alternative_name<'a>(
 ///   contents that `der_certificate_read` returns;
 /// - `SetDuplicate` without a position, if the list has the extension more than once;
 /// - the error of decoding the value of the extension, whose position counts from the start of this
-///   value.
+///   value; `Incomplete` says where the value would end, if its contents are cut.
 #[unsafe(no_mangle)]
 pub extern "C" fn der_extended_key_usage<'a>(
     alloc: Global,
     extensions: &'a [u8],
     purposes: &mut DerFound<'a>,
 ) -> DerError
-    ensures { ReadsKnown (FindsIn
-        (RefusesList ⟦<Extension<'a> as Decode<SliceReader<'a>>>⟧.decode_answers)
-        (FindsExtension ⟦<Extension<'a> as Item>⟧.item.valid ⟦<Extension<'a> as Item>⟧.item.octets
-        (WholeRead ⟦<SequenceOf<'a, ObjectIdentifierRef<'a>> as FixedTag>⟧.tag_is
+    ensures { ReadsKnown (FindsType (RefusesList
+        ⟦<Extension<'a> as Decode<SliceReader<'a>>>⟧.decode_answers)
+        ⟦<Extension<'a> as Item>⟧.item.valid ⟦<Extension<'a> as Item>⟧.item.octets (WholeRead
+        ⟦<SequenceOf<'a, ObjectIdentifierRef<'a>> as FixedTag>⟧.tag_is
         ⟦<SequenceOf<'a, ObjectIdentifierRef<'a>> as ReadValue>⟧.valid
         ⟦<SequenceOf<'a, ObjectIdentifierRef<'a>> as WrittenValue>⟧.contents
         ⟦<SequenceOf<'a, ObjectIdentifierRef<'a>> as ReadValue>⟧.allocates
         ⟦<SequenceOf<'a, ObjectIdentifierRef<'a>> as DecodeValue<SliceReader<'a>>>⟧.decode_value_answers)
-        (id_ce 37)) extensions.now) (IsFoundOf (λ v. v.octets.now)) result purposes.old
-        purposes.new }
+        (id_ce 37) extensions.now) (IsFoundOf (λ v. v.octets.now)) result purposes.old purposes.new }
 {
     der_c_x509::der_extended_key_usage(alloc, extensions, purposes)
 }
@@ -237,20 +235,20 @@ pub extern "C" fn der_next_key_purpose<'a>(
 ///   contents that `der_certificate_read` returns;
 /// - `SetDuplicate` without a position, if the list has the extension more than once;
 /// - the error of decoding the value of the extension, whose position counts from the start of this
-///   value.
+///   value; `Incomplete` says where the value would end, if its contents are cut.
 #[unsafe(no_mangle)]
 pub extern "C" fn der_subject_key_identifier<'a>(
     alloc: Global,
     extensions: &'a [u8],
     identifier: &mut DerFound<'a>,
 ) -> DerError
-    ensures { ReadsKnown (FindsIn
-        (RefusesList ⟦<Extension<'a> as Decode<SliceReader<'a>>>⟧.decode_answers)
-        (FindsExtension ⟦<Extension<'a> as Item>⟧.item.valid ⟦<Extension<'a> as Item>⟧.item.octets
-        (WholeRead ⟦<OctetStringRef<'a> as FixedTag>⟧.tag_is
-        ⟦<OctetStringRef<'a> as ReadValue>⟧.valid ⟦<OctetStringRef<'a> as WrittenValue>⟧.contents
+    ensures { ReadsKnown (FindsType (RefusesList
+        ⟦<Extension<'a> as Decode<SliceReader<'a>>>⟧.decode_answers)
+        ⟦<Extension<'a> as Item>⟧.item.valid ⟦<Extension<'a> as Item>⟧.item.octets (WholeRead
+        ⟦<OctetStringRef<'a> as FixedTag>⟧.tag_is ⟦<OctetStringRef<'a> as ReadValue>⟧.valid
+        ⟦<OctetStringRef<'a> as WrittenValue>⟧.contents
         ⟦<OctetStringRef<'a> as ReadValue>⟧.allocates
-        ⟦<OctetStringRef<'a> as DecodeValue<SliceReader<'a>>>⟧.decode_value_answers) (id_ce 14))
+        ⟦<OctetStringRef<'a> as DecodeValue<SliceReader<'a>>>⟧.decode_value_answers) (id_ce 14)
         extensions.now) (IsFoundOf (λ v. v.octets.now)) result identifier.old identifier.new }
 {
     der_c_x509::der_subject_key_identifier(alloc, extensions, identifier)
@@ -266,22 +264,22 @@ pub extern "C" fn der_subject_key_identifier<'a>(
 ///   contents that `der_certificate_read` returns;
 /// - `SetDuplicate` without a position, if the list has the extension more than once;
 /// - the error of decoding the value of the extension, whose position counts from the start of this
-///   value.
+///   value; `Incomplete` says where the value would end, if its contents are cut.
 #[unsafe(no_mangle)]
 pub extern "C" fn der_authority_key_identifier<'a>(
     alloc: Global,
     extensions: &'a [u8],
     key: &mut DerAuthorityKey<'a>,
 ) -> DerError
-    ensures { ReadsKnown (FindsIn
-        (RefusesList ⟦<Extension<'a> as Decode<SliceReader<'a>>>⟧.decode_answers)
-        (FindsExtension ⟦<Extension<'a> as Item>⟧.item.valid ⟦<Extension<'a> as Item>⟧.item.octets
-        (WholeRead ⟦<AuthorityKeyIdentifier<'a> as FixedTag>⟧.tag_is
+    ensures { ReadsKnown (FindsType (RefusesList
+        ⟦<Extension<'a> as Decode<SliceReader<'a>>>⟧.decode_answers)
+        ⟦<Extension<'a> as Item>⟧.item.valid ⟦<Extension<'a> as Item>⟧.item.octets (WholeRead
+        ⟦<AuthorityKeyIdentifier<'a> as FixedTag>⟧.tag_is
         ⟦<AuthorityKeyIdentifier<'a> as ReadValue>⟧.valid
         ⟦<AuthorityKeyIdentifier<'a> as WrittenValue>⟧.contents
         ⟦<AuthorityKeyIdentifier<'a> as ReadValue>⟧.allocates
-        ⟦<AuthorityKeyIdentifier<'a> as DecodeValue<SliceReader<'a>>>⟧.decode_value_answers)
-        (id_ce 35)) extensions.now) IsAuthorityKeyOf result key.old key.new }
+        ⟦<AuthorityKeyIdentifier<'a> as DecodeValue<SliceReader<'a>>>⟧.decode_value_answers) (id_ce
+        35) extensions.now) IsAuthorityKeyOf result key.old key.new }
 {
     der_c_x509::der_authority_key_identifier(alloc, extensions, key)
 }
@@ -297,22 +295,22 @@ pub extern "C" fn der_authority_key_identifier<'a>(
 ///   contents that `der_certificate_read` returns;
 /// - `SetDuplicate` without a position, if the list has the extension more than once;
 /// - the error of decoding the value of the extension, whose position counts from the start of this
-///   value.
+///   value; `Incomplete` says where the value would end, if its contents are cut.
 #[unsafe(no_mangle)]
 pub extern "C" fn der_authority_information_access<'a>(
     alloc: Global,
     extensions: &'a [u8],
     descriptions: &mut DerFound<'a>,
 ) -> DerError
-    ensures { ReadsKnown (FindsIn
-        (RefusesList ⟦<Extension<'a> as Decode<SliceReader<'a>>>⟧.decode_answers)
-        (FindsExtension ⟦<Extension<'a> as Item>⟧.item.valid ⟦<Extension<'a> as Item>⟧.item.octets
-        (WholeRead ⟦<SequenceOf<'a, AccessDescription<'a>> as FixedTag>⟧.tag_is
+    ensures { ReadsKnown (FindsType (RefusesList
+        ⟦<Extension<'a> as Decode<SliceReader<'a>>>⟧.decode_answers)
+        ⟦<Extension<'a> as Item>⟧.item.valid ⟦<Extension<'a> as Item>⟧.item.octets (WholeRead
+        ⟦<SequenceOf<'a, AccessDescription<'a>> as FixedTag>⟧.tag_is
         ⟦<SequenceOf<'a, AccessDescription<'a>> as ReadValue>⟧.valid
         ⟦<SequenceOf<'a, AccessDescription<'a>> as WrittenValue>⟧.contents
         ⟦<SequenceOf<'a, AccessDescription<'a>> as ReadValue>⟧.allocates
         ⟦<SequenceOf<'a, AccessDescription<'a>> as DecodeValue<SliceReader<'a>>>⟧.decode_value_answers)
-        (id_pe 1)) extensions.now) (IsFoundOf (λ v. v.octets.now)) result descriptions.old
+        (id_pe 1) extensions.now) (IsFoundOf (λ v. v.octets.now)) result descriptions.old
         descriptions.new }
 {
     der_c_x509::der_authority_information_access(alloc, extensions, descriptions)
@@ -353,22 +351,22 @@ pub extern "C" fn der_next_access_description<'a>(
 ///   contents that `der_certificate_read` returns;
 /// - `SetDuplicate` without a position, if the list has the extension more than once;
 /// - the error of decoding the value of the extension, whose position counts from the start of this
-///   value.
+///   value; `Incomplete` says where the value would end, if its contents are cut.
 #[unsafe(no_mangle)]
 pub extern "C" fn der_distribution_points<'a>(
     alloc: Global,
     extensions: &'a [u8],
     points: &mut DerFound<'a>,
 ) -> DerError
-    ensures { ReadsKnown (FindsIn
-        (RefusesList ⟦<Extension<'a> as Decode<SliceReader<'a>>>⟧.decode_answers)
-        (FindsExtension ⟦<Extension<'a> as Item>⟧.item.valid ⟦<Extension<'a> as Item>⟧.item.octets
-        (WholeRead ⟦<SequenceOf<'a, DistributionPoint<'a>> as FixedTag>⟧.tag_is
+    ensures { ReadsKnown (FindsType (RefusesList
+        ⟦<Extension<'a> as Decode<SliceReader<'a>>>⟧.decode_answers)
+        ⟦<Extension<'a> as Item>⟧.item.valid ⟦<Extension<'a> as Item>⟧.item.octets (WholeRead
+        ⟦<SequenceOf<'a, DistributionPoint<'a>> as FixedTag>⟧.tag_is
         ⟦<SequenceOf<'a, DistributionPoint<'a>> as ReadValue>⟧.valid
         ⟦<SequenceOf<'a, DistributionPoint<'a>> as WrittenValue>⟧.contents
         ⟦<SequenceOf<'a, DistributionPoint<'a>> as ReadValue>⟧.allocates
         ⟦<SequenceOf<'a, DistributionPoint<'a>> as DecodeValue<SliceReader<'a>>>⟧.decode_value_answers)
-        (id_ce 31)) extensions.now) (IsFoundOf (λ v. v.octets.now)) result points.old points.new }
+        (id_ce 31) extensions.now) (IsFoundOf (λ v. v.octets.now)) result points.old points.new }
 {
     der_c_x509::der_distribution_points(alloc, extensions, points)
 }

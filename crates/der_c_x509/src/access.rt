@@ -4,9 +4,9 @@ ghost use Rattle.der.specs.Prelude.{Same};
 ghost use Rattle.der_asn1.specs.ListAnswers.{ItemAnswer};
 ghost use Rattle.der_c_core.specs.CReader.{reader_state};
 ghost use Rattle.x509.specs.ExtensionIdentifiers.{id_pe};
-ghost use Rattle.x509.specs.Find.{FindsExtension, WholeRead};
+ghost use Rattle.x509.specs.Find.{WholeRead};
 ghost use Rattle.der_c_x509.specs.Calls.{ReadsItem, ReadsNext};
-ghost use Rattle.der_c_x509.specs.FindCalls.{FindsIn, ReadsKnown, RefusesList};
+ghost use Rattle.der_c_x509.specs.FindCalls.{FindsType, ReadsKnown, RefusesList};
 ghost use Rattle.der_c_x509.specs.Items.{IsAccessDescriptionOf};
 ghost use Rattle.der_c_x509.specs.Known.{IsFoundOf};
 
@@ -63,21 +63,21 @@ fn access_description_of<'a>(value: &AccessDescription<'a>) -> DerAccessDescript
 ///   contents that `der_certificate_read` returns;
 /// - `SetDuplicate` without a position, if the list has the extension more than once;
 /// - the error of decoding the value of the extension, whose position counts from the start of this
-///   value.
+///   value; `Incomplete` says where the value would end, if its contents are cut.
 pub fn der_authority_information_access<'a>(
     alloc: Global,
     extensions: &'a [u8],
     descriptions: &mut DerFound<'a>,
 ) -> DerError
-    ensures { ReadsKnown (FindsIn
-        (RefusesList ⟦<Extension<'a> as Decode<SliceReader<'a>>>⟧.decode_answers)
-        (FindsExtension ⟦<Extension<'a> as Item>⟧.item.valid ⟦<Extension<'a> as Item>⟧.item.octets
-        (WholeRead ⟦<SequenceOf<'a, AccessDescription<'a>> as FixedTag>⟧.tag_is
+    ensures { ReadsKnown (FindsType (RefusesList
+        ⟦<Extension<'a> as Decode<SliceReader<'a>>>⟧.decode_answers)
+        ⟦<Extension<'a> as Item>⟧.item.valid ⟦<Extension<'a> as Item>⟧.item.octets (WholeRead
+        ⟦<SequenceOf<'a, AccessDescription<'a>> as FixedTag>⟧.tag_is
         ⟦<SequenceOf<'a, AccessDescription<'a>> as ReadValue>⟧.valid
         ⟦<SequenceOf<'a, AccessDescription<'a>> as WrittenValue>⟧.contents
         ⟦<SequenceOf<'a, AccessDescription<'a>> as ReadValue>⟧.allocates
         ⟦<SequenceOf<'a, AccessDescription<'a>> as DecodeValue<SliceReader<'a>>>⟧.decode_value_answers)
-        (id_pe 1)) extensions.now) (IsFoundOf (λ v. v.octets.now)) result descriptions.old
+        (id_pe 1) extensions.now) (IsFoundOf (λ v. v.octets.now)) result descriptions.old
         descriptions.new }
 {
     match find_known::<ext::AuthorityInfoAccess>(alloc, extensions) {

@@ -1,8 +1,8 @@
 //! Which key of the issuer signed the certificate.
 ghost use Rattle.x509.specs.ExtensionIdentifiers.{id_ce};
-ghost use Rattle.x509.specs.Find.{FindsExtension, WholeRead};
+ghost use Rattle.x509.specs.Find.{WholeRead};
 ghost use Rattle.der_c_x509.specs.AuthorityKey.{IsAuthorityKeyOf};
-ghost use Rattle.der_c_x509.specs.FindCalls.{FindsIn, ReadsKnown, RefusesList};
+ghost use Rattle.der_c_x509.specs.FindCalls.{FindsType, ReadsKnown, RefusesList};
 
 use crate::find::find_known;
 use crate::strings::{optional_names_of, optional_span_of};
@@ -80,21 +80,21 @@ fn authority_key_of<'a>(found: &Option<Known<AuthorityKeyIdentifier<'a>>>) -> De
 ///   contents that `der_certificate_read` returns;
 /// - `SetDuplicate` without a position, if the list has the extension more than once;
 /// - the error of decoding the value of the extension, whose position counts from the start of this
-///   value.
+///   value; `Incomplete` says where the value would end, if its contents are cut.
 pub fn der_authority_key_identifier<'a>(
     alloc: Global,
     extensions: &'a [u8],
     key: &mut DerAuthorityKey<'a>,
 ) -> DerError
-    ensures { ReadsKnown (FindsIn
-        (RefusesList ⟦<Extension<'a> as Decode<SliceReader<'a>>>⟧.decode_answers)
-        (FindsExtension ⟦<Extension<'a> as Item>⟧.item.valid ⟦<Extension<'a> as Item>⟧.item.octets
-        (WholeRead ⟦<AuthorityKeyIdentifier<'a> as FixedTag>⟧.tag_is
+    ensures { ReadsKnown (FindsType (RefusesList
+        ⟦<Extension<'a> as Decode<SliceReader<'a>>>⟧.decode_answers)
+        ⟦<Extension<'a> as Item>⟧.item.valid ⟦<Extension<'a> as Item>⟧.item.octets (WholeRead
+        ⟦<AuthorityKeyIdentifier<'a> as FixedTag>⟧.tag_is
         ⟦<AuthorityKeyIdentifier<'a> as ReadValue>⟧.valid
         ⟦<AuthorityKeyIdentifier<'a> as WrittenValue>⟧.contents
         ⟦<AuthorityKeyIdentifier<'a> as ReadValue>⟧.allocates
-        ⟦<AuthorityKeyIdentifier<'a> as DecodeValue<SliceReader<'a>>>⟧.decode_value_answers)
-        (id_ce 35)) extensions.now) IsAuthorityKeyOf result key.old key.new }
+        ⟦<AuthorityKeyIdentifier<'a> as DecodeValue<SliceReader<'a>>>⟧.decode_value_answers) (id_ce
+        35) extensions.now) IsAuthorityKeyOf result key.old key.new }
 {
     match find_known::<ext::AuthorityKeyIdentifier>(alloc, extensions) {
         Ok(found) => {

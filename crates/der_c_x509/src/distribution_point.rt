@@ -4,11 +4,11 @@ ghost use Rattle.der.specs.Prelude.{Same};
 ghost use Rattle.der_asn1.specs.ListAnswers.{ItemAnswer};
 ghost use Rattle.der_c_core.specs.CReader.{reader_state};
 ghost use Rattle.x509.specs.ExtensionIdentifiers.{id_ce};
-ghost use Rattle.x509.specs.Find.{FindsExtension, WholeRead};
+ghost use Rattle.x509.specs.Find.{WholeRead};
 ghost use Rattle.der_c_x509.specs.Calls.{ReadsItem, ReadsNext};
 ghost use Rattle.der_c_x509.specs.DistributionPoint.{IsDistributionPointOf, IsNoPlace, IsPlaceOf};
 ghost use Rattle.der_c_x509.specs.DistributionPoint.{IsReasonsOf};
-ghost use Rattle.der_c_x509.specs.FindCalls.{FindsIn, ReadsKnown, RefusesList};
+ghost use Rattle.der_c_x509.specs.FindCalls.{FindsType, ReadsKnown, RefusesList};
 ghost use Rattle.der_c_x509.specs.Known.{IsFoundOf};
 
 use crate::find::find_known;
@@ -131,21 +131,21 @@ fn distribution_point_of<'a>(value: &DistributionPoint<'a>) -> DerDistributionPo
 ///   contents that `der_certificate_read` returns;
 /// - `SetDuplicate` without a position, if the list has the extension more than once;
 /// - the error of decoding the value of the extension, whose position counts from the start of this
-///   value.
+///   value; `Incomplete` says where the value would end, if its contents are cut.
 pub fn der_distribution_points<'a>(
     alloc: Global,
     extensions: &'a [u8],
     points: &mut DerFound<'a>,
 ) -> DerError
-    ensures { ReadsKnown (FindsIn
-        (RefusesList ⟦<Extension<'a> as Decode<SliceReader<'a>>>⟧.decode_answers)
-        (FindsExtension ⟦<Extension<'a> as Item>⟧.item.valid ⟦<Extension<'a> as Item>⟧.item.octets
-        (WholeRead ⟦<SequenceOf<'a, DistributionPoint<'a>> as FixedTag>⟧.tag_is
+    ensures { ReadsKnown (FindsType (RefusesList
+        ⟦<Extension<'a> as Decode<SliceReader<'a>>>⟧.decode_answers)
+        ⟦<Extension<'a> as Item>⟧.item.valid ⟦<Extension<'a> as Item>⟧.item.octets (WholeRead
+        ⟦<SequenceOf<'a, DistributionPoint<'a>> as FixedTag>⟧.tag_is
         ⟦<SequenceOf<'a, DistributionPoint<'a>> as ReadValue>⟧.valid
         ⟦<SequenceOf<'a, DistributionPoint<'a>> as WrittenValue>⟧.contents
         ⟦<SequenceOf<'a, DistributionPoint<'a>> as ReadValue>⟧.allocates
         ⟦<SequenceOf<'a, DistributionPoint<'a>> as DecodeValue<SliceReader<'a>>>⟧.decode_value_answers)
-        (id_ce 31)) extensions.now) (IsFoundOf (λ v. v.octets.now)) result points.old points.new }
+        (id_ce 31) extensions.now) (IsFoundOf (λ v. v.octets.now)) result points.old points.new }
 {
     match find_known::<ext::CrlDistributionPoints>(alloc, extensions) {
         Ok(found) => {

@@ -1,7 +1,7 @@
 //! The identifier of the subject's key.
 ghost use Rattle.x509.specs.ExtensionIdentifiers.{id_ce};
-ghost use Rattle.x509.specs.Find.{FindsExtension, WholeRead};
-ghost use Rattle.der_c_x509.specs.FindCalls.{FindsIn, ReadsKnown, RefusesList};
+ghost use Rattle.x509.specs.Find.{WholeRead};
+ghost use Rattle.der_c_x509.specs.FindCalls.{FindsType, ReadsKnown, RefusesList};
 ghost use Rattle.der_c_x509.specs.Known.{IsFoundOf};
 
 use crate::find::find_known;
@@ -22,19 +22,19 @@ use x509::{Extension, ext};
 ///   contents that `der_certificate_read` returns;
 /// - `SetDuplicate` without a position, if the list has the extension more than once;
 /// - the error of decoding the value of the extension, whose position counts from the start of this
-///   value.
+///   value; `Incomplete` says where the value would end, if its contents are cut.
 pub fn der_subject_key_identifier<'a>(
     alloc: Global,
     extensions: &'a [u8],
     identifier: &mut DerFound<'a>,
 ) -> DerError
-    ensures { ReadsKnown (FindsIn
-        (RefusesList ⟦<Extension<'a> as Decode<SliceReader<'a>>>⟧.decode_answers)
-        (FindsExtension ⟦<Extension<'a> as Item>⟧.item.valid ⟦<Extension<'a> as Item>⟧.item.octets
-        (WholeRead ⟦<OctetStringRef<'a> as FixedTag>⟧.tag_is
-        ⟦<OctetStringRef<'a> as ReadValue>⟧.valid ⟦<OctetStringRef<'a> as WrittenValue>⟧.contents
+    ensures { ReadsKnown (FindsType (RefusesList
+        ⟦<Extension<'a> as Decode<SliceReader<'a>>>⟧.decode_answers)
+        ⟦<Extension<'a> as Item>⟧.item.valid ⟦<Extension<'a> as Item>⟧.item.octets (WholeRead
+        ⟦<OctetStringRef<'a> as FixedTag>⟧.tag_is ⟦<OctetStringRef<'a> as ReadValue>⟧.valid
+        ⟦<OctetStringRef<'a> as WrittenValue>⟧.contents
         ⟦<OctetStringRef<'a> as ReadValue>⟧.allocates
-        ⟦<OctetStringRef<'a> as DecodeValue<SliceReader<'a>>>⟧.decode_value_answers) (id_ce 14))
+        ⟦<OctetStringRef<'a> as DecodeValue<SliceReader<'a>>>⟧.decode_value_answers) (id_ce 14)
         extensions.now) (IsFoundOf (λ v. v.octets.now)) result identifier.old identifier.new }
 {
     match find_known::<ext::SubjectKeyIdentifier>(alloc, extensions) {

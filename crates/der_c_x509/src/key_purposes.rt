@@ -4,9 +4,9 @@ ghost use Rattle.der.specs.Prelude.{Same};
 ghost use Rattle.der_asn1.specs.ListAnswers.{ItemAnswer};
 ghost use Rattle.der_c_core.specs.CReader.{reader_state};
 ghost use Rattle.x509.specs.ExtensionIdentifiers.{id_ce};
-ghost use Rattle.x509.specs.Find.{FindsExtension, WholeRead};
+ghost use Rattle.x509.specs.Find.{WholeRead};
 ghost use Rattle.der_c_x509.specs.Calls.{ReadsItem, ReadsNext};
-ghost use Rattle.der_c_x509.specs.FindCalls.{FindsIn, ReadsKnown, RefusesList};
+ghost use Rattle.der_c_x509.specs.FindCalls.{FindsType, ReadsKnown, RefusesList};
 ghost use Rattle.der_c_x509.specs.Items.{IsSpanOf};
 ghost use Rattle.der_c_x509.specs.Known.{IsFoundOf};
 
@@ -31,22 +31,21 @@ use x509::{Extension, ext};
 ///   contents that `der_certificate_read` returns;
 /// - `SetDuplicate` without a position, if the list has the extension more than once;
 /// - the error of decoding the value of the extension, whose position counts from the start of this
-///   value.
+///   value; `Incomplete` says where the value would end, if its contents are cut.
 pub fn der_extended_key_usage<'a>(
     alloc: Global,
     extensions: &'a [u8],
     purposes: &mut DerFound<'a>,
 ) -> DerError
-    ensures { ReadsKnown (FindsIn
-        (RefusesList ⟦<Extension<'a> as Decode<SliceReader<'a>>>⟧.decode_answers)
-        (FindsExtension ⟦<Extension<'a> as Item>⟧.item.valid ⟦<Extension<'a> as Item>⟧.item.octets
-        (WholeRead ⟦<SequenceOf<'a, ObjectIdentifierRef<'a>> as FixedTag>⟧.tag_is
+    ensures { ReadsKnown (FindsType (RefusesList
+        ⟦<Extension<'a> as Decode<SliceReader<'a>>>⟧.decode_answers)
+        ⟦<Extension<'a> as Item>⟧.item.valid ⟦<Extension<'a> as Item>⟧.item.octets (WholeRead
+        ⟦<SequenceOf<'a, ObjectIdentifierRef<'a>> as FixedTag>⟧.tag_is
         ⟦<SequenceOf<'a, ObjectIdentifierRef<'a>> as ReadValue>⟧.valid
         ⟦<SequenceOf<'a, ObjectIdentifierRef<'a>> as WrittenValue>⟧.contents
         ⟦<SequenceOf<'a, ObjectIdentifierRef<'a>> as ReadValue>⟧.allocates
         ⟦<SequenceOf<'a, ObjectIdentifierRef<'a>> as DecodeValue<SliceReader<'a>>>⟧.decode_value_answers)
-        (id_ce 37)) extensions.now) (IsFoundOf (λ v. v.octets.now)) result purposes.old
-        purposes.new }
+        (id_ce 37) extensions.now) (IsFoundOf (λ v. v.octets.now)) result purposes.old purposes.new }
 {
     match find_known::<ext::ExtKeyUsage>(alloc, extensions) {
         Ok(found) => {
