@@ -21,8 +21,10 @@
  *     octets from the start of the input. If a header was read and its contents are cut, |first| is
  *     where the element would end. If the header itself is cut, |first| is one octet more than there
  *     is: how long the element would be is not known. So it is for an element inside a certificate, a
- *     request, a key, a list or an item that passes the end of the one around it, which more octets
- *     do not mend, and for those inside the extensions that |der_key_usage| and its kin read.
+ *     request, a key, a list, an item or the value of an extension that passes the end of the one
+ *     around it, which more octets do not mend. |der_key_usage| and its kin say it of the value of the
+ *     extension, in octets from its start; of a list that is cut they need one octet more than there
+ *     is, and so do |der_key_usage_lenient| and |der_basic_constraints_lenient| of a value.
  *
  * What is read. Under DER each element is a header and contents, with the fewest octets for the tag
  * number and for the length (X.690 10.1). Under BER, lengths of the indefinite form are read too, at
@@ -741,6 +743,96 @@ typedef struct der_names {
 DER_MUST_USE DER_NONNULL(3)
 der_error der_subject_alternative_name(const uint8_t *extensions, size_t length, der_names *names);
 
+/* The contents of an extension whose value is a list or octets. */
+typedef struct der_found {
+    der_span contents; /* none if the extension is absent */
+    bool present;
+    bool critical;
+} der_found;
+#define DER_FOUND_INIT {DER_SPAN_INIT, false, false}
+
+/* der_extended_key_usage finds extKeyUsage (RFC 5280, 4.2.1.12): the purposes of the key, for
+ * |der_next_key_purpose|. There may be none. */
+DER_MUST_USE DER_NONNULL(3)
+der_error der_extended_key_usage(const uint8_t *extensions, size_t length, der_found *purposes);
+
+/* der_next_key_purpose reads the next purpose of a list of them, an OBJECT IDENTIFIER: compare it with
+ * |der_oid_is|, as with 1.3.6.1.5.5.7.3.1 for the server of TLS. */
+DER_MUST_USE DER_NONNULL(1, 2)
+der_error der_next_key_purpose(der_reader *reader, der_span *purpose);
+
+/* der_subject_key_identifier finds subjectKeyIdentifier (RFC 5280, 4.2.1.2): the octets of the identifier,
+ * which is compared with no key. */
+DER_MUST_USE DER_NONNULL(3)
+der_error der_subject_key_identifier(const uint8_t *extensions, size_t length, der_found *identifier);
+
+/* What authorityKeyIdentifier says (RFC 5280, 4.2.1.1): which key of the issuer signed the certificate. */
+typedef struct der_authority_key {
+    der_span key_identifier; /* octets; none if they are absent */
+    der_span issuer;         /* of the issuer's certificate, for |der_next_general_name|; none if it is absent */
+    der_span serial_number;  /* of that certificate, the octets of an INTEGER; none if it is absent */
+    bool present;
+    bool critical;
+    bool has_key_identifier;
+    bool has_issuer;         /* one of issuer and serial number without the other is no error */
+    bool has_serial_number;
+} der_authority_key;
+#define DER_AUTHORITY_KEY_INIT {DER_SPAN_INIT, DER_SPAN_INIT, DER_SPAN_INIT, false, false, false, false, false}
+
+DER_MUST_USE DER_NONNULL(3)
+der_error der_authority_key_identifier(const uint8_t *extensions, size_t length, der_authority_key *key);
+
+/* der_authority_information_access finds authorityInfoAccess (RFC 5280, 4.2.2.1): where more about the issuer
+ * is found, for |der_next_access_description|. There may be no place. */
+DER_MUST_USE DER_NONNULL(3)
+der_error der_authority_information_access(const uint8_t *extensions, size_t length, der_found *descriptions);
+
+/* Which information is found, and where (AccessDescription). */
+typedef struct der_access_description {
+    der_span method; /* an OBJECT IDENTIFIER: 1.3.6.1.5.5.7.48.1 for OCSP, 1.3.6.1.5.5.7.48.2 for certificates */
+    der_general_name location;
+} der_access_description;
+#define DER_ACCESS_DESCRIPTION_INIT {DER_SPAN_INIT, DER_GENERAL_NAME_INIT}
+
+/* der_next_access_description reads the next access description of a list of them. */
+DER_MUST_USE DER_NONNULL(1, 2)
+der_error der_next_access_description(der_reader *reader, der_access_description *description);
+
+/* der_distribution_points finds cRLDistributionPoints (RFC 5280, 4.2.1.13): where revocation lists are found, for
+ * |der_next_distribution_point|. There may be no place. */
+DER_MUST_USE DER_NONNULL(3)
+der_error der_distribution_points(const uint8_t *extensions, size_t length, der_found *points);
+
+/* Bits of the reasons for a revocation (RFC 5280, 4.2.1.13). */
+enum {
+    DER_KEY_COMPROMISE = 1 << 1,
+    DER_CA_COMPROMISE = 1 << 2,
+    DER_AFFILIATION_CHANGED = 1 << 3,
+    DER_SUPERSEDED = 1 << 4,
+    DER_CESSATION_OF_OPERATION = 1 << 5,
+    DER_CERTIFICATE_HOLD = 1 << 6,
+    DER_PRIVILEGE_WITHDRAWN = 1 << 7,
+    DER_AA_COMPROMISE = 1 << 8
+};
+
+/* Where a revocation list is found (DistributionPoint). The place has a full name or a relative name; it may be
+ * absent. */
+typedef struct der_distribution_point {
+    der_span full_name;     /* the names of the place, for |der_next_general_name|; most are URIs */
+    der_span relative_name; /* a level below the name of the issuer of the list, for |der_next_attribute| */
+    der_span list_issuer;   /* for |der_next_general_name|; if it is absent, the issuer of the certificate */
+    uint16_t reasons;       /* bit n is 1 << n; if they are absent, the list covers all reasons */
+    bool has_full_name;
+    bool has_relative_name;
+    bool has_reasons;
+    bool has_list_issuer;
+} der_distribution_point;
+#define DER_DISTRIBUTION_POINT_INIT {DER_SPAN_INIT, DER_SPAN_INIT, DER_SPAN_INIT, 0, false, false, false, false}
+
+/* der_next_distribution_point reads the next distribution point of a list of them. */
+DER_MUST_USE DER_NONNULL(1, 2)
+der_error der_next_distribution_point(der_reader *reader, der_distribution_point *point);
+
 /* Writing. */
 
 /* A der_writer writes into a buffer that it does not own. Its fields are private. */
@@ -1094,6 +1186,25 @@ DER_STATIC_ASSERT(constraints, sizeof(der_constraints) == 16 && offsetof(der_con
                                    offsetof(der_constraints, has_path_length) == 11);
 DER_STATIC_ASSERT(names, sizeof(der_names) == 24 && offsetof(der_names, present) == 16 &&
                              offsetof(der_names, critical) == 17);
+DER_STATIC_ASSERT(found, sizeof(der_found) == 24 && offsetof(der_found, present) == 16 &&
+                             offsetof(der_found, critical) == 17);
+DER_STATIC_ASSERT(authority_key, sizeof(der_authority_key) == 56 && offsetof(der_authority_key, issuer) == 16 &&
+                                     offsetof(der_authority_key, serial_number) == 32 &&
+                                     offsetof(der_authority_key, present) == 48 &&
+                                     offsetof(der_authority_key, critical) == 49 &&
+                                     offsetof(der_authority_key, has_key_identifier) == 50 &&
+                                     offsetof(der_authority_key, has_issuer) == 51 &&
+                                     offsetof(der_authority_key, has_serial_number) == 52);
+DER_STATIC_ASSERT(access_description, sizeof(der_access_description) == 80 &&
+                                          offsetof(der_access_description, location) == 16);
+DER_STATIC_ASSERT(distribution_point, sizeof(der_distribution_point) == 56 &&
+                                          offsetof(der_distribution_point, relative_name) == 16 &&
+                                          offsetof(der_distribution_point, list_issuer) == 32 &&
+                                          offsetof(der_distribution_point, reasons) == 48 &&
+                                          offsetof(der_distribution_point, has_full_name) == 50 &&
+                                          offsetof(der_distribution_point, has_relative_name) == 51 &&
+                                          offsetof(der_distribution_point, has_reasons) == 52 &&
+                                          offsetof(der_distribution_point, has_list_issuer) == 53);
 DER_STATIC_ASSERT(writer, sizeof(der_writer) == 40 && offsetof(der_writer, length) == 8 &&
                               offsetof(der_writer, position) == 16 && offsetof(der_writer, innermost) == 24 &&
                               offsetof(der_writer, failed) == 32);

@@ -10,6 +10,7 @@ mod blocks;
 mod certificates;
 mod counting;
 mod errors;
+mod extensions;
 mod reading;
 mod trees;
 mod values;

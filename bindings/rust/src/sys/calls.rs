@@ -1,8 +1,9 @@
 //! The calls of `der.h`. Written by tools/c_interface: change the crates that der_c uses instead.
 use super::{
-    Node, RawAttribute, RawBits, RawCertificate, RawCertificateParts, RawConstraints, RawCounter, RawElement, RawEntry,
-    RawError, RawExtension, RawGeneralName, RawHeader, RawMark, RawNames, RawPemBlock, RawPrivateKey, RawPublicKey,
-    RawReader, RawRequest, RawRevocationList, RawRevoked, RawSpan, RawText, RawTime, RawTreeFound, RawUsage, RawWriter,
+    Node, RawAccessDescription, RawAttribute, RawAuthorityKey, RawBits, RawCertificate, RawCertificateParts,
+    RawConstraints, RawCounter, RawDistributionPoint, RawElement, RawEntry, RawError, RawExtension, RawFound,
+    RawGeneralName, RawHeader, RawMark, RawNames, RawPemBlock, RawPrivateKey, RawPublicKey, RawReader, RawRequest,
+    RawRevocationList, RawRevoked, RawSpan, RawText, RawTime, RawTreeFound, RawUsage, RawWriter,
 };
 
 unsafe extern "C" {
@@ -108,6 +109,32 @@ unsafe extern "C" {
         extensions: *const u8,
         length: usize,
         names: &mut RawNames<'a>,
+    ) -> RawError;
+    pub fn der_extended_key_usage<'a>(extensions: *const u8, length: usize, purposes: &mut RawFound<'a>) -> RawError;
+    pub safe fn der_next_key_purpose<'a>(reader: &mut RawReader<'a>, purpose: &mut RawSpan<'a>) -> RawError;
+    pub fn der_subject_key_identifier<'a>(
+        extensions: *const u8,
+        length: usize,
+        identifier: &mut RawFound<'a>,
+    ) -> RawError;
+    pub fn der_authority_key_identifier<'a>(
+        extensions: *const u8,
+        length: usize,
+        key: &mut RawAuthorityKey<'a>,
+    ) -> RawError;
+    pub fn der_authority_information_access<'a>(
+        extensions: *const u8,
+        length: usize,
+        descriptions: &mut RawFound<'a>,
+    ) -> RawError;
+    pub safe fn der_next_access_description<'a>(
+        reader: &mut RawReader<'a>,
+        description: &mut RawAccessDescription<'a>,
+    ) -> RawError;
+    pub fn der_distribution_points<'a>(extensions: *const u8, length: usize, points: &mut RawFound<'a>) -> RawError;
+    pub safe fn der_next_distribution_point<'a>(
+        reader: &mut RawReader<'a>,
+        point: &mut RawDistributionPoint<'a>,
     ) -> RawError;
     pub fn der_writer_init<'a>(octets: *mut u8, length: usize, writer: &mut RawWriter<'a>);
     pub safe fn der_written(writer: &RawWriter<'_>) -> usize;
