@@ -458,6 +458,12 @@ typedef struct der_time {
 DER_MUST_USE DER_NONNULL(1, 4)
 der_error der_read_time(der_reader *reader, der_tag tag, der_tag type, der_time *time);
 
+/* der_time_text writes a time as RFC 3339 does, as "2026-11-29T11:24:00Z", and a zero octet into |text|,
+ * and sets |*count| to 20, the number of octets without the zero octet. It ignores |seconds|. Fails
+ * with DER_DATE_TIME if there is no such time, and with DER_OVERLENGTH if |capacity| is below 21. */
+DER_MUST_USE DER_NONNULL(1, 4)
+der_error der_time_text(const der_time *time, char *text, size_t capacity, size_t *count);
+
 /* OBJECT IDENTIFIERs, as contents octets. */
 
 /* der_oid_text writes an OBJECT IDENTIFIER in dotted notation, as "2.5.4.3", and a zero octet into
