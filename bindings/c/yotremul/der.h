@@ -23,6 +23,8 @@
  *     is: how long the element would be is not known. So it is for an element inside a certificate, a
  *     request, a key, a list or an item that passes the end of the one around it, which more octets
  *     do not mend, and for those inside the extensions that |der_key_usage| and its kin read.
+ *     Under BER so it may be for a primitive element of an indefinite length, as 04 80, too: the end of
+ *     its contents is looked for before its form is refused.
  *
  * What is read. Under DER each element is a header and contents, with the fewest octets for the tag
  * number and for the length (X.690 10.1). Under BER, lengths of the indefinite form are read too, at
