@@ -360,6 +360,39 @@ static void see_texts(void)
     HOLDS(der_finish(&reader).kind == DER_FAILED);
 }
 
+/* A time as text; without a text there is no such time. */
+static void see_time_text(der_time time, const char *wanted)
+{
+    char text[24] = "#######################";
+    size_t count = 99;
+    if (!wanted) {
+        der_error error = der_time_text(&time, text, sizeof text, &count);
+        HOLDS(error.kind == DER_DATE_TIME && !error.has_position && count == 99 && text[0] == '#');
+        return;
+    }
+    HOLDS(der_time_text(&time, text, 20, &count).kind == DER_OVERLENGTH && count == 99 && text[0] == '#');
+    HOLDS(der_time_text(&time, text, 21, &count).kind == DER_OK && count == 20);
+    HOLDS(strcmp(text, wanted) == 0 && text[21] == '#');
+}
+
+/* By RFC 3339 5.6, and its examples in 5.8: 1996-12-19T16:39:57-08:00 is 1996-12-20T00:39:57Z. A leap second
+ * is no time of X.690 here. */
+static void see_time_texts(void)
+{
+    see_time_text((der_time){0, 1985, 4, 12, 23, 20, 50}, "1985-04-12T23:20:50Z");
+    see_time_text((der_time){0, 1996, 12, 20, 0, 39, 57}, "1996-12-20T00:39:57Z");
+    see_time_text((der_time){0, 0, 2, 29, 0, 0, 0}, "0000-02-29T00:00:00Z");
+    see_time_text((der_time){0, 9999, 12, 31, 23, 59, 59}, "9999-12-31T23:59:59Z");
+    see_time_text((der_time){0, 2026, 11, 29, 11, 24, 0}, "2026-11-29T11:24:00Z");
+    see_time_text((der_time){0, 10000, 1, 1, 0, 0, 0}, NULL);
+    see_time_text((der_time){0, 2026, 0, 1, 0, 0, 0}, NULL);
+    see_time_text((der_time){0, 2026, 2, 29, 0, 0, 0}, NULL);
+    see_time_text((der_time){0, 2026, 1, 0, 0, 0, 0}, NULL);
+    see_time_text((der_time){0, 2026, 1, 1, 24, 0, 0}, NULL);
+    see_time_text((der_time){0, 2026, 1, 1, 0, 60, 0}, NULL);
+    see_time_text((der_time){0, 1990, 12, 31, 23, 59, 60}, NULL);
+}
+
 static void see_time(const char *octets, bool is_valid, uint16_t year, int64_t seconds)
 {
     const uint8_t *at = (const uint8_t *)octets;
@@ -497,6 +530,7 @@ int main(void)
     see_large_oid_texts();
     see_texts();
     see_times();
+    see_time_texts();
     see_writing();
     see_sets();
     printf("%d cases hold\n", cases);

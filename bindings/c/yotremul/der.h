@@ -25,6 +25,8 @@
  *     around it, which more octets do not mend. |der_key_usage| and its kin say it of the value of the
  *     extension, in octets from its start; of a list that is cut they need one octet more than there
  *     is, and so do |der_key_usage_lenient| and |der_basic_constraints_lenient| of a value.
+ *     Under BER so it may be for a primitive element of an indefinite length, as 04 80, too: the end of
+ *     its contents is looked for before its form is refused.
  *
  * What is read. Under DER each element is a header and contents, with the fewest octets for the tag
  * number and for the length (X.690 10.1). Under BER, lengths of the indefinite form are read too, at
@@ -459,6 +461,12 @@ typedef struct der_time {
  * of a second are refused. */
 DER_MUST_USE DER_NONNULL(1, 4)
 der_error der_read_time(der_reader *reader, der_tag tag, der_tag type, der_time *time);
+
+/* der_time_text writes a time as RFC 3339 does, as "2026-11-29T11:24:00Z", and a zero octet into |text|,
+ * and sets |*count| to 20, the number of octets without the zero octet. It ignores |seconds|. Fails
+ * with DER_DATE_TIME if there is no such time, and with DER_OVERLENGTH if |capacity| is below 21. */
+DER_MUST_USE DER_NONNULL(1, 4)
+der_error der_time_text(const der_time *time, char *text, size_t capacity, size_t *count);
 
 /* OBJECT IDENTIFIERs, as contents octets. */
 

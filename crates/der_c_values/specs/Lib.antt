@@ -4,6 +4,7 @@ pub mod OidArcs
 pub mod OidContents
 pub mod OidFromText
 pub mod StringTypes
+pub mod TimeText
 pub mod TimeValues
 pub mod ValueCalls
 pub mod ValueContents

@@ -60,6 +60,7 @@ unsafe extern "C" {
     ) -> RawError;
     pub safe fn der_next_character(text: &mut RawText<'_>, character: &mut u32) -> bool;
     pub safe fn der_read_time(reader: &mut RawReader<'_>, tag: u64, time_type: u64, time: &mut RawTime) -> RawError;
+    pub fn der_time_text(time: &RawTime, text: *mut u8, capacity: usize, count: &mut usize) -> RawError;
     pub fn der_oid_text(oid: *const u8, length: usize, text: *mut u8, capacity: usize, count: &mut usize) -> RawError;
     pub fn der_oid_arcs(oid: *const u8, length: usize, arcs: *mut u64, capacity: usize, count: &mut usize) -> RawError;
     pub fn der_oid_from_text(
