@@ -1,6 +1,6 @@
 /* The library for C beside mbedTLS and OpenSSL, over certificates of files: peers FILE ..
- * Each row is a walk over all elements, a tree of all elements, a certificate read into a struct, or a tree with the
- * types and fields of a certificate, beside the structs of the peers.
+ * Each row is a walk over all elements, a tree of all elements, a certificate read into a struct, a tree with the
+ * types and fields of a certificate, beside the structs of the peers, or a name that is written.
  * Prints `row|count|way|ns` for the fastest of the rounds, for each element or certificate. */
 #define _POSIX_C_SOURCE 199309L /* clock_gettime */
 #include <mbedtls/asn1.h>
@@ -13,7 +13,7 @@
 #include <yotremul/der.h>
 #include <yotremul/der_tree.h>
 
-enum { ROUNDS = 40, NODES = 4096, FILES = 4096, LEVELS = 64 };
+enum { ROUNDS = 40, NODES = 4096, FILES = 4096, LEVELS = 64, NAME = 59 };
 
 typedef struct {
     const uint8_t *octets;
@@ -163,6 +163,52 @@ static size_t openssl_certificate(const file *it)
     return 1;
 }
 
+/* A name of a country, an organization and a common name, written: 1 for each certificate. */
+
+static uint8_t written[512];
+
+static size_t library_name(const file *it)
+{
+    der_writer writer = DER_WRITER_INIT;
+    der_mark mark;
+    (void)it;
+    der_writer_init(written, sizeof written, &writer);
+    der_begin(&writer, DER_SEQUENCE, &mark);
+    der_write_name_attribute(&writer, DER_ID_COUNTRY_NAME, DER_PRINTABLE_STRING, (const uint8_t *)"DE", 2);
+    der_write_name_attribute(&writer, DER_ID_ORGANIZATION_NAME, DER_UTF8_STRING, (const uint8_t *)"Example", 7);
+    der_write_name_attribute(&writer, DER_ID_COMMON_NAME, DER_UTF8_STRING, (const uint8_t *)"www.example.org", 15);
+    der_end(&writer, &mark);
+    if (der_writer_finish(&writer).kind || der_written(&writer) != NAME)
+        give_up("the library writes no name");
+    return 1;
+}
+
+static size_t mbedtls_name(const file *it)
+{
+    mbedtls_asn1_named_data *name = NULL;
+    unsigned char *at = written + sizeof written;
+    (void)it;
+    if (mbedtls_x509_string_to_names(&name, "C=DE,O=Example,CN=www.example.org") ||
+        mbedtls_x509_write_names(&at, written, name) != NAME)
+        give_up("mbedTLS writes no name");
+    mbedtls_asn1_free_named_data_list(&name);
+    return 1;
+}
+
+static size_t openssl_name(const file *it)
+{
+    X509_NAME *name = X509_NAME_new();
+    unsigned char *at = written;
+    (void)it;
+    if (!X509_NAME_add_entry_by_NID(name, NID_countryName, MBSTRING_UTF8, (const unsigned char *)"DE", 2, -1, 0) ||
+        !X509_NAME_add_entry_by_NID(name, NID_organizationName, MBSTRING_UTF8, (const unsigned char *)"Example", 7, -1, 0) ||
+        !X509_NAME_add_entry_by_NID(name, NID_commonName, MBSTRING_UTF8, (const unsigned char *)"www.example.org", 15, -1, 0) ||
+        i2d_X509_NAME(name, &at) != NAME)
+        give_up("OpenSSL writes no name");
+    X509_NAME_free(name);
+    return 1;
+}
+
 typedef struct {
     const char *row, *name;
     size_t (*run)(const file *);
@@ -175,6 +221,8 @@ static const way ways[] = {
     {"certificate", "library", library_certificate},    {"certificate", "mbedTLS", mbedtls_certificate},
     {"certificate", "OpenSSL", openssl_certificate},    {"tree with types", "library", library_typed_tree},
     {"tree with types", "mbedTLS", mbedtls_certificate}, {"tree with types", "OpenSSL", openssl_certificate},
+    {"name written", "library", library_name},          {"name written", "mbedTLS", mbedtls_name},
+    {"name written", "OpenSSL", openssl_name},
 };
 enum { WAYS = sizeof ways / sizeof *ways };
 

@@ -149,44 +149,6 @@ static void see_revocation_list(const uint8_t *octets, size_t length)
     must(der_oid_is(reason.identifier.octets, reason.identifier.length, "2.5.29.21", 9) && !reason.critical);
 }
 
-/* keyUsage with digitalSignature and keyEncipherment, critical, and other octets that are none. */
-static void see_usages(void)
-{
-    static const uint8_t usages[] = {0x30, 0x0E, 6, 3, 0x55, 0x1D, 0x0F, 1, 1, 0xFF, 4, 4, 3, 2, 5, 0xA0};
-    uint8_t twice[2 * sizeof usages], wrong[sizeof usages];
-    der_usage usage = DER_USAGE_INIT;
-    must(der_key_usage(usages, sizeof usages, &usage).kind == DER_OK);
-    must(usage.present && usage.critical && usage.bits == (DER_DIGITAL_SIGNATURE | DER_KEY_ENCIPHERMENT));
-    memcpy(twice, usages, sizeof usages);
-    memcpy(twice + sizeof usages, usages, sizeof usages);
-    usage.bits = 99;
-    must(der_key_usage(twice, sizeof twice, &usage).kind == DER_SET_DUPLICATE && usage.bits == 99);
-    memcpy(wrong, usages, sizeof usages);
-    wrong[14] = 9; /* nine unused bits */
-    der_error error = der_key_usage(wrong, sizeof wrong, &usage);
-    must(error.kind == DER_VALUE && error.position == 4 && usage.bits == 99);
-    must(der_key_usage(NULL, 0, &usage).kind == DER_OK && !usage.present && usage.bits == 0);
-}
-
-/* The keyUsage of two roots that Debian trusts, of which `openssl x509 -noout -ext keyUsage` prints `Certificate Sign,
- * CRL Sign`; and a basicConstraints that writes cA FALSE, of which it prints `CA:FALSE`. */
-static void see_lenient(void)
-{
-    static const uint8_t zeros[] = {0x30, 0x0F, 6, 3, 0x55, 0x1D, 0x0F, 1, 1, 0xFF, 4, 5, 3, 3, 7, 6, 0};
-    static const uint8_t written[] = {0x30, 0x0F, 6, 3, 0x55, 0x1D, 0x13, 1, 1, 0xFF, 4, 5, 0x30, 3, 1, 1, 0};
-    der_usage usage = DER_USAGE_INIT;
-    der_constraints constraints = DER_CONSTRAINTS_INIT;
-    bool is_der = true;
-    must(der_key_usage(zeros, sizeof zeros, &usage).kind == DER_VALUE);
-    must(der_key_usage_lenient(zeros, sizeof zeros, &usage, &is_der).kind == DER_OK && !is_der);
-    must(usage.present && usage.critical && usage.bits == (DER_KEY_CERT_SIGN | DER_CRL_SIGN));
-    must(der_basic_constraints(written, sizeof written, &constraints).kind != DER_OK);
-    is_der = true;
-    must(der_basic_constraints_lenient(written, sizeof written, &constraints, &is_der).kind == DER_OK && !is_der);
-    must(constraints.present && constraints.critical && !constraints.is_authority && !constraints.has_path_length);
-    must(der_key_usage_lenient(NULL, 0, &usage, &is_der).kind == DER_OK && is_der && !usage.present);
-}
-
 /* The octets as they are, with each octet changed, and cut at each length: what is read is checked,
  * and what is refused changes nothing. */
 static void see_changes(uint8_t *octets, size_t length)
@@ -278,8 +240,6 @@ static void see_needed_items(void)
 int main(int argc, char **argv)
 {
     static uint8_t octets[SPACE];
-    see_usages();
-    see_lenient();
     see_needed_items();
     for (int i = 1; i < argc; i++) {
         FILE *file = fopen(argv[i], "rb");
@@ -290,6 +250,10 @@ int main(int argc, char **argv)
             see_certificate(octets, length);
             LLVMFuzzerTestOneInput(octets, length);
             see_changes(octets, length);
+        } else if (ends_with(argv[i], "web.der")) {
+            LLVMFuzzerTestOneInput(octets, length);
+            see_changes(octets, length);
+            continue;
         } else if (ends_with(argv[i], "-public.der")) {
             der_public_key key = DER_PUBLIC_KEY_INIT;
             must(der_public_key_read(octets, length, &key).kind == DER_OK && key.key.unused == 0);

@@ -205,6 +205,116 @@ static void see_oid_texts(void)
           count == 99);
 }
 
+/* A dotted notation is too large only if it is one. An arc under 2.25 is a UUID, a number of 128 bits (X.667). */
+static void see_large_oid_texts(void)
+{
+    static const char *const large[] = {
+        "2.25.340282366920938463463374607431768211456", "2.25.340282366920938463463374607431768211456.1",
+        "2.340282366920938463463374607431768211376", "1.2.99999999999999999999999999999999999999999999"};
+    static const char *const malformed[] = {
+        "2.25.0340282366920938463463374607431768211456", "2.25.340282366920938463463374607431768211456.",
+        "2.25.340282366920938463463374607431768211456..1", "2.25.340282366920938463463374607431768211456x",
+        "2.25.340282366920938463463374607431768211456.01", "340282366920938463463374607431768211456.1",
+        "3.340282366920938463463374607431768211456", "1.340282366920938463463374607431768211456",
+        "340282366920938463463374607431768211456", "0.40.340282366920938463463374607431768211456"};
+    uint8_t oid[257] = {9};
+    char text[1024] = "2.5";
+    size_t count = 99;
+    for (size_t i = 0; i < sizeof large / sizeof *large; i++) {
+        HOLDS(der_oid_from_text(large[i], strlen(large[i]), oid, sizeof oid, &count).kind == DER_OVERFLOW);
+        HOLDS(count == 99 && oid[0] == 9);
+    }
+    for (size_t i = 0; i < sizeof malformed / sizeof *malformed; i++) {
+        HOLDS(der_oid_from_text(malformed[i], strlen(malformed[i]), oid, sizeof oid, &count).kind == DER_OID_MALFORMED);
+        HOLDS(count == 99 && oid[0] == 9);
+    }
+    /* 256 contents octets, and 257 */
+    for (int i = 0; i < 255; i++)
+        strcat(text, ".1");
+    HOLDS(der_oid_from_text(text, strlen(text), oid, sizeof oid, &count).kind == DER_OK && count == 256);
+    HOLDS(oid[0] == 0x55 && oid[1] == 1 && oid[255] == 1);
+    strcat(text, ".1");
+    HOLDS(der_oid_from_text(text, strlen(text), oid, sizeof oid, &count).kind == DER_OVERFLOW && count == 256);
+    strcat(text, ".");
+    HOLDS(der_oid_from_text(text, strlen(text), oid, sizeof oid, &count).kind == DER_OID_MALFORMED && count == 256);
+    /* 80 + 2^128 - 81 is the largest subidentifier of the first two arcs */
+    see_oid(OCTETS(6, 19, 0x83, 0xFF, 0xFF, 0xFF, 0xFF, 0xFF, 0xFF, 0xFF, 0xFF, 0xFF, 0xFF, 0xFF, 0xFF, 0xFF, 0xFF, 0xFF,
+                   0xFF, 0xFF, 0x7F),
+            "2.340282366920938463463374607431768211375");
+}
+
+/* The next tag, of which the identifier alone is read. */
+static void see_next_tag(const uint8_t *octets, size_t length, bool ber, der_tag wanted)
+{
+    der_reader reader = DER_READER_INIT;
+    der_tag tag = 99;
+    HOLDS(der_reader_init(octets, length, ber, &reader).kind == DER_OK);
+    HOLDS(der_peek(&reader, &tag).kind == DER_OK && tag == wanted && der_next_is(&reader, wanted));
+    HOLDS(!der_next_is(&reader, wanted + 1) && !der_next_is(&reader, wanted + 256) && !der_next_is(&reader, 0));
+    HOLDS(der_position(&reader) == 0 && der_finish(&reader).kind == DER_TRAILING_DATA);
+}
+
+/* No tag is next; the reader stays where it is, and has not failed. */
+static void see_no_next_tag(const uint8_t *octets, size_t length, bool ber, uint8_t kind, uint32_t position)
+{
+    der_reader reader = DER_READER_INIT;
+    der_tag tag = 99;
+    HOLDS(der_reader_init(octets, length, ber, &reader).kind == DER_OK);
+    der_error error = der_peek(&reader, &tag);
+    HOLDS(error.kind == kind && error.has_position && error.position == position && tag == 99);
+    HOLDS(!der_next_is(&reader, length ? octets[0] : 0) && der_position(&reader) == 0);
+    HOLDS(der_finish(&reader).kind == (length ? DER_TRAILING_DATA : DER_OK));
+}
+
+/* Identifiers by X.690 8.1.2. */
+static void see_next_tags(void)
+{
+    see_next_tag(OCTETS(2, 1, 7), false, DER_INTEGER);
+    see_next_tag(OCTETS(0x30), false, DER_SEQUENCE);
+    see_next_tag(OCTETS(4, 0x80), true, DER_OCTET_STRING);
+    see_next_tag(OCTETS(0x24, 0x80), true, DER_OCTET_STRING); /* of segments (8.7.1) */
+    see_next_tag(OCTETS(0xA3, 0), false, DER_CONTEXT(3) | DER_CONSTRUCTED);
+    see_next_tag(OCTETS(0x9F, 0x1F), false, DER_CONTEXT(31));
+    see_next_tag(OCTETS(0x7F, 0x87, 0x68, 0), false, DER_APPLICATION(1000) | DER_CONSTRUCTED);
+    see_next_tag(OCTETS(0xDF, 0x8F, 0xFF, 0xFF, 0xFF, 0x7F), false, DER_PRIVATE(UINT64_C(4294967295)));
+    see_no_next_tag(NULL, 0, false, DER_INCOMPLETE, 0);
+    see_no_next_tag(OCTETS(0x9F), false, DER_INCOMPLETE, 1);
+    see_no_next_tag(OCTETS(0x9F, 0x87), true, DER_INCOMPLETE, 2);
+    see_no_next_tag(OCTETS(0, 0), true, DER_TAG_UNKNOWN, 1);
+    see_no_next_tag(OCTETS(0x24, 0), false, DER_TAG_UNKNOWN, 1);
+    see_no_next_tag(OCTETS(0x1F, 0x1F), false, DER_TAG_NUMBER_INVALID, 1);
+    see_no_next_tag(OCTETS(0x9F, 0x1E, 0), false, DER_TAG_NUMBER_INVALID, 2); /* 8.1.2.2: 30 has the short form */
+    see_no_next_tag(OCTETS(0x9F, 0x80, 0x1F), false, DER_TAG_NUMBER_INVALID, 2);
+    der_reader reader = reader_of(OCTETS(2, 2, 7));
+    der_tag tag = 99;
+    HOLDS(der_skip(&reader).kind == DER_INCOMPLETE && !der_next_is(&reader, DER_INTEGER));
+    HOLDS(der_peek(&reader, &tag).kind == DER_FAILED && tag == 99);
+}
+
+/* SEQUENCE { BOOLEAN DEFAULT FALSE, INTEGER OPTIONAL }: both may be missing, and nothing else may be there. */
+static void see_fields(const uint8_t *octets, size_t length, bool is_valid, bool is_set, uint64_t wanted)
+{
+    der_reader reader = reader_of(octets, length), inside = DER_READER_INIT;
+    bool value = false;
+    uint64_t number = 99;
+    HOLDS(der_enter(&reader, DER_SEQUENCE, &inside).kind == DER_OK);
+    bool is_read = !(der_next_is(&inside, DER_BOOLEAN) && der_read_boolean(&inside, DER_BOOLEAN, &value).kind) &&
+                   !(der_next_is(&inside, DER_INTEGER) && der_read_uint64(&inside, DER_INTEGER, &number).kind);
+    HOLDS(is_valid == (is_read && der_finish(&inside).kind == DER_OK) && value == is_set && number == wanted);
+}
+
+static void see_optional_values(void)
+{
+    see_fields(OCTETS(0x30, 0), true, false, 99);
+    see_fields(OCTETS(0x30, 3, 1, 1, 0xFF), true, true, 99);
+    see_fields(OCTETS(0x30, 3, 2, 1, 5), true, false, 5);
+    see_fields(OCTETS(0x30, 6, 1, 1, 0xFF, 2, 1, 0), true, true, 0);
+    see_fields(OCTETS(0x30, 6, 2, 1, 5, 1, 1, 0xFF), false, false, 5);
+    see_fields(OCTETS(0x30, 6, 1, 1, 0xFF, 2, 1, 0x80), false, true, 99);
+    see_fields(OCTETS(0x30, 2, 5, 0), false, false, 99);
+    see_fields(OCTETS(0x30, 1, 2), false, false, 99);
+}
+
 /* The characters of a string, as numbers; none where the contents are refused. */
 static void see_text(const uint8_t *octets, size_t length, const uint32_t *characters, size_t count)
 {
@@ -248,6 +358,39 @@ static void see_texts(void)
     reader = reader_of(OCTETS(5, 0));
     HOLDS(der_read_text(&reader, DER_NULL, DER_NULL, &text).kind == DER_TAG_NUMBER_INVALID && text.length == 1);
     HOLDS(der_finish(&reader).kind == DER_FAILED);
+}
+
+/* A time as text; without a text there is no such time. */
+static void see_time_text(der_time time, const char *wanted)
+{
+    char text[24] = "#######################";
+    size_t count = 99;
+    if (!wanted) {
+        der_error error = der_time_text(&time, text, sizeof text, &count);
+        HOLDS(error.kind == DER_DATE_TIME && !error.has_position && count == 99 && text[0] == '#');
+        return;
+    }
+    HOLDS(der_time_text(&time, text, 20, &count).kind == DER_OVERLENGTH && count == 99 && text[0] == '#');
+    HOLDS(der_time_text(&time, text, 21, &count).kind == DER_OK && count == 20);
+    HOLDS(strcmp(text, wanted) == 0 && text[21] == '#');
+}
+
+/* By RFC 3339 5.6, and its examples in 5.8: 1996-12-19T16:39:57-08:00 is 1996-12-20T00:39:57Z. A leap second
+ * is no time of X.690 here. */
+static void see_time_texts(void)
+{
+    see_time_text((der_time){0, 1985, 4, 12, 23, 20, 50}, "1985-04-12T23:20:50Z");
+    see_time_text((der_time){0, 1996, 12, 20, 0, 39, 57}, "1996-12-20T00:39:57Z");
+    see_time_text((der_time){0, 0, 2, 29, 0, 0, 0}, "0000-02-29T00:00:00Z");
+    see_time_text((der_time){0, 9999, 12, 31, 23, 59, 59}, "9999-12-31T23:59:59Z");
+    see_time_text((der_time){0, 2026, 11, 29, 11, 24, 0}, "2026-11-29T11:24:00Z");
+    see_time_text((der_time){0, 10000, 1, 1, 0, 0, 0}, NULL);
+    see_time_text((der_time){0, 2026, 0, 1, 0, 0, 0}, NULL);
+    see_time_text((der_time){0, 2026, 2, 29, 0, 0, 0}, NULL);
+    see_time_text((der_time){0, 2026, 1, 0, 0, 0, 0}, NULL);
+    see_time_text((der_time){0, 2026, 1, 1, 24, 0, 0}, NULL);
+    see_time_text((der_time){0, 2026, 1, 1, 0, 60, 0}, NULL);
+    see_time_text((der_time){0, 1990, 12, 31, 23, 59, 60}, NULL);
 }
 
 static void see_time(const char *octets, bool is_valid, uint16_t year, int64_t seconds)
@@ -380,10 +523,14 @@ int main(void)
     see_bit_strings();
     see_null();
     see_tags();
+    see_next_tags();
+    see_optional_values();
     see_oids();
     see_oid_texts();
+    see_large_oid_texts();
     see_texts();
     see_times();
+    see_time_texts();
     see_writing();
     see_sets();
     printf("%d cases hold\n", cases);

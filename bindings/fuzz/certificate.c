@@ -142,6 +142,99 @@ static void see_name(der_span name)
     }
 }
 
+/* Makes |reader| a reader of the list that a lookup has found; false if it has found none. */
+static bool is_list(der_error error, const der_found *found, der_reader *reader)
+{
+    if (error.kind) {
+        must(!found->present && !found->critical && found->contents.length == 0);
+        return false;
+    }
+    must(found->present || (!found->critical && found->contents.length == 0));
+    must(der_reader_init(found->contents.octets, found->contents.length, false, reader).kind == DER_OK);
+    return found->present;
+}
+
+static void see_purposes(der_span extensions)
+{
+    der_found found = DER_FOUND_INIT;
+    der_reader reader = DER_READER_INIT;
+    der_error error = der_extended_key_usage(extensions.octets, extensions.length, &found);
+    if (!is_list(error, &found, &reader))
+        return;
+    while (!der_is_finished(&reader)) {
+        der_span purpose = DER_SPAN_INIT;
+        must(der_next_key_purpose(&reader, &purpose).kind == DER_OK && purpose.length > 0);
+        see_inside(purpose.octets, purpose.length);
+    }
+}
+
+static void see_general_names(der_span names)
+{
+    der_reader reader = DER_READER_INIT;
+    must(der_reader_init(names.octets, names.length, false, &reader).kind == DER_OK);
+    while (!der_is_finished(&reader)) {
+        der_general_name name = DER_GENERAL_NAME_INIT;
+        must(der_next_general_name(&reader, &name).kind == DER_OK);
+        see_inside(name.contents.octets, name.contents.length);
+    }
+}
+
+static void see_key_identifiers(der_span extensions)
+{
+    der_found found = DER_FOUND_INIT;
+    der_authority_key key = DER_AUTHORITY_KEY_INIT;
+    if (der_subject_key_identifier(extensions.octets, extensions.length, &found).kind)
+        must(!found.present && found.contents.length == 0);
+    see_inside(found.contents.octets, found.contents.length);
+    if (der_authority_key_identifier(extensions.octets, extensions.length, &key).kind)
+        must(!key.present);
+    must(key.present || (!key.critical && !key.has_key_identifier && !key.has_issuer && !key.has_serial_number));
+    must(key.has_key_identifier || key.key_identifier.length == 0);
+    must(key.has_serial_number == (key.serial_number.length > 0) && (key.has_issuer || key.issuer.length == 0));
+    see_inside(key.key_identifier.octets, key.key_identifier.length);
+    see_general_names(key.issuer);
+}
+
+static void see_access(der_span extensions)
+{
+    der_found found = DER_FOUND_INIT;
+    der_reader reader = DER_READER_INIT;
+    der_error error = der_authority_information_access(extensions.octets, extensions.length, &found);
+    if (!is_list(error, &found, &reader))
+        return;
+    while (!der_is_finished(&reader)) {
+        der_access_description description = DER_ACCESS_DESCRIPTION_INIT;
+        must(der_next_access_description(&reader, &description).kind == DER_OK && description.method.length > 0);
+        see_inside(description.method.octets, description.method.length);
+        see_inside(description.location.contents.octets, description.location.contents.length);
+    }
+}
+
+static void see_distribution_points(der_span extensions)
+{
+    der_found found = DER_FOUND_INIT;
+    der_reader reader = DER_READER_INIT, level = DER_READER_INIT;
+    der_error error = der_distribution_points(extensions.octets, extensions.length, &found);
+    if (!is_list(error, &found, &reader))
+        return;
+    while (!der_is_finished(&reader)) {
+        der_distribution_point point = DER_DISTRIBUTION_POINT_INIT;
+        must(der_next_distribution_point(&reader, &point).kind == DER_OK);
+        must(!point.has_full_name || !point.has_relative_name);
+        must(point.has_full_name || point.full_name.length == 0);
+        must(point.has_relative_name || point.relative_name.length == 0);
+        must(point.has_list_issuer || point.list_issuer.length == 0);
+        must(point.has_reasons || point.reasons == 0);
+        see_general_names(point.full_name);
+        see_general_names(point.list_issuer);
+        must(der_reader_init(point.relative_name.octets, point.relative_name.length, false, &level).kind == DER_OK);
+        while (!der_is_finished(&level)) {
+            der_attribute attribute = DER_ATTRIBUTE_INIT;
+            must(der_next_attribute(&level, &attribute).kind == DER_OK);
+        }
+    }
+}
+
 static void see_extensions(der_span extensions)
 {
     der_reader reader = DER_READER_INIT;
@@ -155,18 +248,17 @@ static void see_extensions(der_span extensions)
     der_usage usage = DER_USAGE_INIT;
     der_constraints constraints = DER_CONSTRAINTS_INIT;
     der_names names = DER_NAMES_INIT;
+    see_purposes(extensions);
+    see_key_identifiers(extensions);
+    see_access(extensions);
+    see_distribution_points(extensions);
     if (der_key_usage(extensions.octets, extensions.length, &usage).kind)
         must(!usage.present && usage.bits == 0);
     if (der_basic_constraints(extensions.octets, extensions.length, &constraints).kind)
         must(!constraints.present && constraints.path_length == 0);
     if (der_subject_alternative_name(extensions.octets, extensions.length, &names).kind || !names.present)
         return;
-    must(der_reader_init(names.names.octets, names.names.length, false, &reader).kind == DER_OK);
-    while (!der_is_finished(&reader)) {
-        der_general_name name = DER_GENERAL_NAME_INIT;
-        must(der_next_general_name(&reader, &name).kind == DER_OK);
-        see_inside(name.contents.octets, name.contents.length);
-    }
+    see_general_names(names.names);
 }
 
 int LLVMFuzzerTestOneInput(const uint8_t *octets, size_t count);

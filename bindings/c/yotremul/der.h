@@ -13,14 +13,20 @@
  *     with |DER_FAILED|. Two errors of readers leave the reader where it was: |DER_TAG_UNEXPECTED|,
  *     after which the caller may ask for another tag, and |DER_READER|, which |der_open| and
  *     |der_element_octets| report for an element of another reader.
+ *   - A call to which the reader or the writer is |const|, as to |der_peek| and |der_finish|, leaves it
+ *     as it is, whatever the result.
  *   - No out-parameter changes in a call that fails, except those of |der_read_tree|, which reports
  *     the elements that come before the error.
  *   - |DER_INCOMPLETE| says that octets are missing: |first| is needed, |second| are there, both in
  *     octets from the start of the input. If a header was read and its contents are cut, |first| is
  *     where the element would end. If the header itself is cut, |first| is one octet more than there
  *     is: how long the element would be is not known. So it is for an element inside a certificate, a
- *     request, a key, a list or an item that passes the end of the one around it, which more octets
- *     do not mend, and for those inside the extensions that |der_key_usage| and its kin read.
+ *     request, a key, a list, an item or the value of an extension that passes the end of the one
+ *     around it, which more octets do not mend. |der_key_usage| and its kin say it of the value of the
+ *     extension, in octets from its start; of a list that is cut they need one octet more than there
+ *     is, and so do |der_key_usage_lenient| and |der_basic_constraints_lenient| of a value.
+ *     Under BER so it may be for a primitive element of an indefinite length, as 04 80, too: the end of
+ *     its contents is looked for before its form is refused.
  *
  * What is read. Under DER each element is a header and contents, with the fewest octets for the tag
  * number and for the length (X.690 10.1). Under BER, lengths of the indefinite form are read too, at
@@ -272,6 +278,24 @@ der_error der_read_element(der_reader *reader, der_element *element);
 DER_MUST_USE DER_NONNULL(1)
 der_error der_skip(der_reader *reader);
 
+/* der_peek sets |*tag| to the tag of the next element, which is not consumed. Only the identifier is
+ * read, so the call that reads the element may still fail. Fails with DER_FAILED, with DER_INCOMPLETE
+ * or DER_OVERFLOW if the identifier is cut or no octets are left, with DER_TAG_UNKNOWN and with
+ * DER_TAG_NUMBER_INVALID. */
+DER_MUST_USE DER_NONNULL(1, 2)
+der_error der_peek(const der_reader *reader, uint64_t *tag);
+
+/* der_next_is returns whether the next element has this tag. It is false if no octets are left, if the
+ * reader has failed, and if the next octets are no identifier. A value with OPTIONAL or DEFAULT is read
+ * if it is next:
+ *
+ *     uint64_t version = 0;
+ *     if (der_next_is(&reader, DER_INTEGER) && der_read_uint64(&reader, DER_INTEGER, &version).kind)
+ *         return false;
+ */
+DER_MUST_USE DER_NONNULL(1)
+bool der_next_is(const der_reader *reader, der_tag tag);
+
 /* der_expect reads an element that has this tag. Fails like |der_read_element|; with
  * DER_TAG_UNEXPECTED, at the start of the next element, if that has another tag; and with
  * DER_TAG_NUMBER_INVALID if |tag| is no tag. */
@@ -438,6 +462,12 @@ typedef struct der_time {
 DER_MUST_USE DER_NONNULL(1, 4)
 der_error der_read_time(der_reader *reader, der_tag tag, der_tag type, der_time *time);
 
+/* der_time_text writes a time as RFC 3339 does, as "2026-11-29T11:24:00Z", and a zero octet into |text|,
+ * and sets |*count| to 20, the number of octets without the zero octet. It ignores |seconds|. Fails
+ * with DER_DATE_TIME if there is no such time, and with DER_OVERLENGTH if |capacity| is below 21. */
+DER_MUST_USE DER_NONNULL(1, 4)
+der_error der_time_text(const der_time *time, char *text, size_t capacity, size_t *count);
+
 /* OBJECT IDENTIFIERs, as contents octets. */
 
 /* der_oid_text writes an OBJECT IDENTIFIER in dotted notation, as "2.5.4.3", and a zero octet into
@@ -455,9 +485,9 @@ DER_MUST_USE DER_NONNULL(5)
 der_error der_oid_arcs(const uint8_t *oid, size_t length, uint64_t *arcs, size_t capacity, size_t *count);
 
 /* der_oid_from_text writes the contents octets of an OBJECT IDENTIFIER in dotted notation into |oid|,
- * and sets |*count| to their number. Fails with DER_OID_MALFORMED if |text| is none, with DER_OVERFLOW
- * if a subidentifier needs more than 128 bits or all of them more than 256 octets, and with
- * DER_OVERLENGTH if |capacity| is too small. */
+ * and sets |*count| to their number. Fails with DER_OID_MALFORMED if |text| is none, however large its
+ * numbers are; with DER_OVERFLOW if it is one, and a subidentifier needs more than 128 bits or all of
+ * them more than 256 octets; and with DER_OVERLENGTH if |capacity| is too small. */
 DER_MUST_USE DER_NONNULL(5)
 der_error der_oid_from_text(const char *text, size_t length, uint8_t *oid, size_t capacity, size_t *count);
 
@@ -730,6 +760,96 @@ typedef struct der_names {
 DER_MUST_USE DER_NONNULL(3)
 der_error der_subject_alternative_name(const uint8_t *extensions, size_t length, der_names *names);
 
+/* The contents of an extension whose value is a list or octets. */
+typedef struct der_found {
+    der_span contents; /* none if the extension is absent */
+    bool present;
+    bool critical;
+} der_found;
+#define DER_FOUND_INIT {DER_SPAN_INIT, false, false}
+
+/* der_extended_key_usage finds extKeyUsage (RFC 5280, 4.2.1.12): the purposes of the key, for
+ * |der_next_key_purpose|. There may be none. */
+DER_MUST_USE DER_NONNULL(3)
+der_error der_extended_key_usage(const uint8_t *extensions, size_t length, der_found *purposes);
+
+/* der_next_key_purpose reads the next purpose of a list of them, an OBJECT IDENTIFIER: compare it with
+ * |der_oid_is|, as with 1.3.6.1.5.5.7.3.1 for the server of TLS. */
+DER_MUST_USE DER_NONNULL(1, 2)
+der_error der_next_key_purpose(der_reader *reader, der_span *purpose);
+
+/* der_subject_key_identifier finds subjectKeyIdentifier (RFC 5280, 4.2.1.2): the octets of the identifier,
+ * which is compared with no key. */
+DER_MUST_USE DER_NONNULL(3)
+der_error der_subject_key_identifier(const uint8_t *extensions, size_t length, der_found *identifier);
+
+/* What authorityKeyIdentifier says (RFC 5280, 4.2.1.1): which key of the issuer signed the certificate. */
+typedef struct der_authority_key {
+    der_span key_identifier; /* octets; none if they are absent */
+    der_span issuer;         /* of the issuer's certificate, for |der_next_general_name|; none if it is absent */
+    der_span serial_number;  /* of that certificate, the octets of an INTEGER; none if it is absent */
+    bool present;
+    bool critical;
+    bool has_key_identifier;
+    bool has_issuer;         /* one of issuer and serial number without the other is no error */
+    bool has_serial_number;
+} der_authority_key;
+#define DER_AUTHORITY_KEY_INIT {DER_SPAN_INIT, DER_SPAN_INIT, DER_SPAN_INIT, false, false, false, false, false}
+
+DER_MUST_USE DER_NONNULL(3)
+der_error der_authority_key_identifier(const uint8_t *extensions, size_t length, der_authority_key *key);
+
+/* der_authority_information_access finds authorityInfoAccess (RFC 5280, 4.2.2.1): where more about the issuer
+ * is found, for |der_next_access_description|. There may be no place. */
+DER_MUST_USE DER_NONNULL(3)
+der_error der_authority_information_access(const uint8_t *extensions, size_t length, der_found *descriptions);
+
+/* Which information is found, and where (AccessDescription). */
+typedef struct der_access_description {
+    der_span method; /* an OBJECT IDENTIFIER: 1.3.6.1.5.5.7.48.1 for OCSP, 1.3.6.1.5.5.7.48.2 for certificates */
+    der_general_name location;
+} der_access_description;
+#define DER_ACCESS_DESCRIPTION_INIT {DER_SPAN_INIT, DER_GENERAL_NAME_INIT}
+
+/* der_next_access_description reads the next access description of a list of them. */
+DER_MUST_USE DER_NONNULL(1, 2)
+der_error der_next_access_description(der_reader *reader, der_access_description *description);
+
+/* der_distribution_points finds cRLDistributionPoints (RFC 5280, 4.2.1.13): where revocation lists are found, for
+ * |der_next_distribution_point|. There may be no place. */
+DER_MUST_USE DER_NONNULL(3)
+der_error der_distribution_points(const uint8_t *extensions, size_t length, der_found *points);
+
+/* Bits of the reasons for a revocation (RFC 5280, 4.2.1.13). */
+enum {
+    DER_KEY_COMPROMISE = 1 << 1,
+    DER_CA_COMPROMISE = 1 << 2,
+    DER_AFFILIATION_CHANGED = 1 << 3,
+    DER_SUPERSEDED = 1 << 4,
+    DER_CESSATION_OF_OPERATION = 1 << 5,
+    DER_CERTIFICATE_HOLD = 1 << 6,
+    DER_PRIVILEGE_WITHDRAWN = 1 << 7,
+    DER_AA_COMPROMISE = 1 << 8
+};
+
+/* Where a revocation list is found (DistributionPoint). The place has a full name or a relative name; it may be
+ * absent. */
+typedef struct der_distribution_point {
+    der_span full_name;     /* the names of the place, for |der_next_general_name|; most are URIs */
+    der_span relative_name; /* a level below the name of the issuer of the list, for |der_next_attribute| */
+    der_span list_issuer;   /* for |der_next_general_name|; if it is absent, the issuer of the certificate */
+    uint16_t reasons;       /* bit n is 1 << n; if they are absent, the list covers all reasons */
+    bool has_full_name;
+    bool has_relative_name;
+    bool has_reasons;
+    bool has_list_issuer;
+} der_distribution_point;
+#define DER_DISTRIBUTION_POINT_INIT {DER_SPAN_INIT, DER_SPAN_INIT, DER_SPAN_INIT, 0, false, false, false, false}
+
+/* der_next_distribution_point reads the next distribution point of a list of them. */
+DER_MUST_USE DER_NONNULL(1, 2)
+der_error der_next_distribution_point(der_reader *reader, der_distribution_point *point);
+
 /* Writing. */
 
 /* A der_writer writes into a buffer that it does not own. Its fields are private. */
@@ -783,6 +903,11 @@ der_error der_write_header(der_writer *writer, der_tag tag, uint32_t length);
  * DER_OVERFLOW if |length| exceeds 4294967295. */
 DER_NONNULL(1)
 der_error der_write_element(der_writer *writer, der_tag tag, const uint8_t *contents, size_t length);
+
+/* der_write_parts writes a header, and then the octets of |count| spans, one after another, which are
+ * the contents. Fails like |der_write_element| with all of them. */
+DER_NONNULL(1)
+der_error der_write_parts(der_writer *writer, der_tag tag, const der_span *parts, size_t count);
 
 /* To write an element with others inside, either compute the lengths first, or begin and end it.
  *
@@ -883,6 +1008,118 @@ der_error der_write_time(der_writer *writer, der_tag tag, der_tag type, const de
 DER_NONNULL(1)
 der_error der_write_time_seconds(der_writer *writer, der_tag tag, der_tag type, int64_t seconds);
 
+/* Names, extensions, requests and certificates that are written from parts.
+ *
+ * OBJECT IDENTIFIERs are passed as contents octets. Each DER_ID_.. below stands for both arguments, the
+ * octets and their number; |der_oid_from_text| makes the octets of others. A part that is called an
+ * element is the whole encoding of a value, which is written as it is and not checked: to see that what
+ * was written is a request or a certificate, read it with |der_request_read| or |der_certificate_read|.
+ * No call signs.
+ *
+ * The calls fail like |der_write_element|, and with DER_VALUE if an argument that is checked is no value.
+ * The writer has failed then. */
+
+#ifdef __cplusplus
+#define DER_OCTETS(text) (reinterpret_cast<const uint8_t *>("" text)), (sizeof(text) - 1)
+#else
+#define DER_OCTETS(text) ((const uint8_t *)("" text)), (sizeof(text) - 1)
+#endif
+
+/* Types of attributes of names (RFC 5280, appendix A.1; RFC 4519). */
+#define DER_ID_COMMON_NAME DER_OCTETS("\x55\x04\x03") /* 2.5.4.3 */
+#define DER_ID_SERIAL_NUMBER DER_OCTETS("\x55\x04\x05") /* 2.5.4.5 */
+#define DER_ID_COUNTRY_NAME DER_OCTETS("\x55\x04\x06") /* 2.5.4.6 */
+#define DER_ID_LOCALITY_NAME DER_OCTETS("\x55\x04\x07") /* 2.5.4.7 */
+#define DER_ID_STATE_OR_PROVINCE_NAME DER_OCTETS("\x55\x04\x08") /* 2.5.4.8 */
+#define DER_ID_ORGANIZATION_NAME DER_OCTETS("\x55\x04\x0A") /* 2.5.4.10 */
+#define DER_ID_ORGANIZATIONAL_UNIT_NAME DER_OCTETS("\x55\x04\x0B") /* 2.5.4.11 */
+#define DER_ID_EMAIL_ADDRESS DER_OCTETS("\x2A\x86\x48\x86\xF7\x0D\x01\x09\x01") /* 1.2.840.113549.1.9.1 */
+#define DER_ID_DOMAIN_COMPONENT DER_OCTETS("\x09\x92\x26\x89\x93\xF2\x2C\x64\x01\x19") /* 0.9.2342.19200300.100.1.25 */
+
+/* Extensions (RFC 5280, 4.2). */
+#define DER_ID_SUBJECT_KEY_IDENTIFIER DER_OCTETS("\x55\x1D\x0E") /* 2.5.29.14 */
+#define DER_ID_KEY_USAGE DER_OCTETS("\x55\x1D\x0F") /* 2.5.29.15 */
+#define DER_ID_SUBJECT_ALTERNATIVE_NAME DER_OCTETS("\x55\x1D\x11") /* 2.5.29.17 */
+#define DER_ID_BASIC_CONSTRAINTS DER_OCTETS("\x55\x1D\x13") /* 2.5.29.19 */
+#define DER_ID_CRL_DISTRIBUTION_POINTS DER_OCTETS("\x55\x1D\x1F") /* 2.5.29.31 */
+#define DER_ID_CERTIFICATE_POLICIES DER_OCTETS("\x55\x1D\x20") /* 2.5.29.32 */
+#define DER_ID_AUTHORITY_KEY_IDENTIFIER DER_OCTETS("\x55\x1D\x23") /* 2.5.29.35 */
+#define DER_ID_EXTENDED_KEY_USAGE DER_OCTETS("\x55\x1D\x25") /* 2.5.29.37 */
+#define DER_ID_AUTHORITY_INFORMATION_ACCESS DER_OCTETS("\x2B\x06\x01\x05\x05\x07\x01\x01") /* 1.3.6.1.5.5.7.1.1 */
+
+/* Algorithms of keys and of signatures (RFC 4055, 5758 and 8410). Those with RSA in their name have NULL
+ * parameters, and the others have none. An id-ecPublicKey has a curve as its parameters. */
+#define DER_ID_RSA_ENCRYPTION DER_OCTETS("\x2A\x86\x48\x86\xF7\x0D\x01\x01\x01") /* 1.2.840.113549.1.1.1 */
+#define DER_ID_SHA256_WITH_RSA DER_OCTETS("\x2A\x86\x48\x86\xF7\x0D\x01\x01\x0B") /* 1.2.840.113549.1.1.11 */
+#define DER_ID_SHA384_WITH_RSA DER_OCTETS("\x2A\x86\x48\x86\xF7\x0D\x01\x01\x0C") /* 1.2.840.113549.1.1.12 */
+#define DER_ID_SHA512_WITH_RSA DER_OCTETS("\x2A\x86\x48\x86\xF7\x0D\x01\x01\x0D") /* 1.2.840.113549.1.1.13 */
+#define DER_ID_EC_PUBLIC_KEY DER_OCTETS("\x2A\x86\x48\xCE\x3D\x02\x01") /* 1.2.840.10045.2.1 */
+#define DER_ID_ECDSA_WITH_SHA256 DER_OCTETS("\x2A\x86\x48\xCE\x3D\x04\x03\x02") /* 1.2.840.10045.4.3.2 */
+#define DER_ID_ECDSA_WITH_SHA384 DER_OCTETS("\x2A\x86\x48\xCE\x3D\x04\x03\x03") /* 1.2.840.10045.4.3.3 */
+#define DER_ID_ECDSA_WITH_SHA512 DER_OCTETS("\x2A\x86\x48\xCE\x3D\x04\x03\x04") /* 1.2.840.10045.4.3.4 */
+#define DER_ID_ED25519 DER_OCTETS("\x2B\x65\x70") /* 1.3.101.112 */
+
+/* Key purposes, for an extKeyUsage (RFC 5280, 4.2.1.12). */
+#define DER_ID_SERVER_AUTH DER_OCTETS("\x2B\x06\x01\x05\x05\x07\x03\x01") /* 1.3.6.1.5.5.7.3.1 */
+#define DER_ID_CLIENT_AUTH DER_OCTETS("\x2B\x06\x01\x05\x05\x07\x03\x02") /* 1.3.6.1.5.5.7.3.2 */
+#define DER_ID_CODE_SIGNING DER_OCTETS("\x2B\x06\x01\x05\x05\x07\x03\x03") /* 1.3.6.1.5.5.7.3.3 */
+#define DER_ID_EMAIL_PROTECTION DER_OCTETS("\x2B\x06\x01\x05\x05\x07\x03\x04") /* 1.3.6.1.5.5.7.3.4 */
+#define DER_ID_TIME_STAMPING DER_OCTETS("\x2B\x06\x01\x05\x05\x07\x03\x08") /* 1.3.6.1.5.5.7.3.8 */
+#define DER_ID_OCSP_SIGNING DER_OCTETS("\x2B\x06\x01\x05\x05\x07\x03\x09") /* 1.3.6.1.5.5.7.3.9 */
+
+/* der_write_name_attribute writes one level of a name with one attribute: its type, and the characters of a
+ * string of |type|, which is one that |der_read_text| takes. A name is a SEQUENCE of levels: begin and end it.
+ * RFC 5280 (4.1.2.4) wants DER_UTF8_STRING or DER_PRINTABLE_STRING, the latter for DER_ID_COUNTRY_NAME and
+ * DER_ID_SERIAL_NUMBER, and DER_IA5_STRING for DER_ID_EMAIL_ADDRESS and DER_ID_DOMAIN_COMPONENT. */
+DER_NONNULL(1)
+der_error der_write_name_attribute(der_writer *writer, const uint8_t *identifier, size_t length, der_tag type,
+                                   const uint8_t *text, size_t text_length);
+
+/* der_write_extension writes an extension; |value| is an element. Extensions are a SEQUENCE of them. */
+DER_NONNULL(1)
+der_error der_write_extension(der_writer *writer, const uint8_t *identifier, size_t length, bool critical,
+                              const uint8_t *value, size_t value_length);
+
+/* der_write_algorithm writes an algorithm, with NULL parameters or with none. */
+DER_NONNULL(1)
+der_error der_write_algorithm(der_writer *writer, const uint8_t *identifier, size_t length, bool null_parameters);
+
+/* der_write_request_part writes the part of a certification request (RFC 2986, 4.1) that is signed. The
+ * subject is a name, the key a SubjectPublicKeyInfo, and |extensions|, if it has octets, are requested. All
+ * are elements. */
+DER_NONNULL(1)
+der_error der_write_request_part(der_writer *writer, const uint8_t *subject, size_t subject_length,
+                                 const uint8_t *public_key, size_t key_length, const uint8_t *extensions,
+                                 size_t extensions_length);
+
+/* der_write_validity writes the validity of a certificate, from seconds since 1970-01-01T00:00:00Z. Times
+ * from 1950 to 2049 are UTCTimes, and others GeneralizedTimes. */
+DER_NONNULL(1)
+der_error der_write_validity(der_writer *writer, int64_t not_before, int64_t not_after);
+
+/* The parts of a certificate that is written: elements, but for the serial number. */
+typedef struct der_certificate_parts {
+    der_span serial_number; /* the contents octets of an INTEGER */
+    der_span signature_algorithm;
+    der_span issuer;
+    der_span validity;
+    der_span subject;
+    der_span public_key;
+    der_span extensions; /* no octets: there are no extensions */
+} der_certificate_parts;
+#define DER_CERTIFICATE_PARTS_INIT \
+    {DER_SPAN_INIT, DER_SPAN_INIT, DER_SPAN_INIT, DER_SPAN_INIT, DER_SPAN_INIT, DER_SPAN_INIT, DER_SPAN_INIT}
+
+/* der_write_certificate_part writes the part of a certificate (RFC 5280, 4.1) of version 3 that is signed. */
+DER_NONNULL(1, 2)
+der_error der_write_certificate_part(der_writer *writer, const der_certificate_parts *parts);
+
+/* der_write_signed writes a certificate, a revocation list or a request: the part that is signed and the
+ * algorithm, which are elements, and the octets of the signature as a BIT STRING. */
+DER_NONNULL(1)
+der_error der_write_signed(der_writer *writer, const uint8_t *part, size_t part_length, const uint8_t *algorithm,
+                           size_t algorithm_length, const uint8_t *signature, size_t signature_length);
+
 /* The layouts that the library was compiled for. */
 DER_STATIC_ASSERT(words, sizeof(void *) == 8 && sizeof(size_t) == 8 && sizeof(bool) == 1);
 DER_STATIC_ASSERT(error, sizeof(der_error) == 16 && offsetof(der_error, has_position) == 1 &&
@@ -966,12 +1203,38 @@ DER_STATIC_ASSERT(constraints, sizeof(der_constraints) == 16 && offsetof(der_con
                                    offsetof(der_constraints, has_path_length) == 11);
 DER_STATIC_ASSERT(names, sizeof(der_names) == 24 && offsetof(der_names, present) == 16 &&
                              offsetof(der_names, critical) == 17);
+DER_STATIC_ASSERT(found, sizeof(der_found) == 24 && offsetof(der_found, present) == 16 &&
+                             offsetof(der_found, critical) == 17);
+DER_STATIC_ASSERT(authority_key, sizeof(der_authority_key) == 56 && offsetof(der_authority_key, issuer) == 16 &&
+                                     offsetof(der_authority_key, serial_number) == 32 &&
+                                     offsetof(der_authority_key, present) == 48 &&
+                                     offsetof(der_authority_key, critical) == 49 &&
+                                     offsetof(der_authority_key, has_key_identifier) == 50 &&
+                                     offsetof(der_authority_key, has_issuer) == 51 &&
+                                     offsetof(der_authority_key, has_serial_number) == 52);
+DER_STATIC_ASSERT(access_description, sizeof(der_access_description) == 80 &&
+                                          offsetof(der_access_description, location) == 16);
+DER_STATIC_ASSERT(distribution_point, sizeof(der_distribution_point) == 56 &&
+                                          offsetof(der_distribution_point, relative_name) == 16 &&
+                                          offsetof(der_distribution_point, list_issuer) == 32 &&
+                                          offsetof(der_distribution_point, reasons) == 48 &&
+                                          offsetof(der_distribution_point, has_full_name) == 50 &&
+                                          offsetof(der_distribution_point, has_relative_name) == 51 &&
+                                          offsetof(der_distribution_point, has_reasons) == 52 &&
+                                          offsetof(der_distribution_point, has_list_issuer) == 53);
 DER_STATIC_ASSERT(writer, sizeof(der_writer) == 40 && offsetof(der_writer, length) == 8 &&
                               offsetof(der_writer, position) == 16 && offsetof(der_writer, innermost) == 24 &&
                               offsetof(der_writer, failed) == 32);
 DER_STATIC_ASSERT(mark, sizeof(der_mark) == 16 && offsetof(der_mark, outer) == 8);
 DER_STATIC_ASSERT(counter, sizeof(der_counter) == 16 && offsetof(der_counter, count) == 8 &&
                                offsetof(der_counter, failed) == 12);
+DER_STATIC_ASSERT(certificate_parts, sizeof(der_certificate_parts) == 112 &&
+                                         offsetof(der_certificate_parts, signature_algorithm) == 16 &&
+                                         offsetof(der_certificate_parts, issuer) == 32 &&
+                                         offsetof(der_certificate_parts, validity) == 48 &&
+                                         offsetof(der_certificate_parts, subject) == 64 &&
+                                         offsetof(der_certificate_parts, public_key) == 80 &&
+                                         offsetof(der_certificate_parts, extensions) == 96);
 
 #ifdef __cplusplus
 }

@@ -6,98 +6,59 @@
 //!
 //! KEY is a public key in DER (`openssl pkey -pubout -outform DER`), of RSA or of an elliptic curve.
 //! The signature is not verified.
-use der_c::{Bits, Error, PublicKey, Tag, Writer};
+use der_c::{Error, PublicKey, Tag, Writer, id};
 use std::process::ExitCode;
 
-const COMMON_NAME: &str = "2.5.4.3";
-const EXTENSION_REQUEST: &str = "1.2.840.113549.1.9.14";
-const SUBJECT_ALTERNATIVE_NAME: &str = "2.5.29.17";
-const RSA_KEY: &str = "1.2.840.113549.1.1.1";
-const SHA256_WITH_RSA: &str = "1.2.840.113549.1.1.11";
-const ECDSA_WITH_SHA256: &str = "1.2.840.10045.4.3.2";
-
-/// A name with one attribute, the common name.
-fn write_name(writer: &mut Writer, name: &str) -> Result<(), Error> {
-    writer.inside(Tag::SEQUENCE, |levels| {
-        levels.inside(Tag::SET, |level| {
-            level.inside(Tag::SEQUENCE, |attribute| {
-                attribute.oid(Tag::OBJECT_IDENTIFIER, COMMON_NAME)?;
-                attribute.text(Tag::UTF8_STRING, Tag::UTF8_STRING, name.as_bytes())
-            })
-        })
-    })
+/// A SEQUENCE that `write` fills.
+fn sequence(write: impl FnOnce(&mut Writer) -> Result<(), Error>) -> Result<Vec<u8>, Error> {
+    let mut space = vec![0; 1 << 16];
+    let mut writer = Writer::new(&mut space);
+    writer.inside(Tag::SEQUENCE, write)?;
+    Ok(writer.finish()?.to_vec())
 }
 
-/// An extension with the DNS name (RFC 5280, 4.2.1.6).
-fn write_extension(writer: &mut Writer, name: &str) -> Result<(), Error> {
-    writer.inside(Tag::SEQUENCE, |extension| {
-        extension.oid(Tag::OBJECT_IDENTIFIER, SUBJECT_ALTERNATIVE_NAME)?;
-        extension.inside(Tag::OCTET_STRING, |value| {
-            value.inside(Tag::SEQUENCE, |names| {
-                names.text(Tag::context(2, false), Tag::IA5_STRING, name.as_bytes())
-            })
-        })
-    })
+/// What `write` writes.
+fn written(write: impl FnOnce(&mut Writer) -> Result<(), Error>) -> Result<Vec<u8>, Error> {
+    let mut space = vec![0; 1 << 16];
+    let mut writer = Writer::new(&mut space);
+    write(&mut writer)?;
+    Ok(writer.finish()?.to_vec())
 }
 
-/// The attribute that asks for the extension (RFC 2985, 5.4.2).
-fn write_attributes(writer: &mut Writer, name: &str) -> Result<(), Error> {
-    writer.inside(Tag::context(0, true), |attributes| {
-        attributes.inside(Tag::SEQUENCE, |attribute| {
-            attribute.oid(Tag::OBJECT_IDENTIFIER, EXTENSION_REQUEST)?;
-            attribute.inside(Tag::SET, |values| {
-                values.inside(Tag::SEQUENCE, |extensions| write_extension(extensions, name))
-            })
-        })
-    })
+/// CertificationRequestInfo, the part that is signed, with the DNS name as an extension (RFC 5280, 4.2.1.6).
+fn part(key: &[u8], name: &str) -> Result<Vec<u8>, Error> {
+    let names = sequence(|names| names.text(Tag::context(2, false), Tag::IA5_STRING, name.as_bytes()))?;
+    let extensions = sequence(|all| all.extension(id::SUBJECT_ALTERNATIVE_NAME, false, &names))?;
+    let subject = sequence(|levels| levels.name_attribute(id::COMMON_NAME, Tag::UTF8_STRING, name.as_bytes()))?;
+    written(|part| part.request_part(&subject, key, &extensions))
 }
 
-/// CertificationRequestInfo, the part that is signed.
-fn write_part(writer: &mut Writer, key: &[u8], name: &str) -> Result<(), Error> {
-    writer.inside(Tag::SEQUENCE, |part| {
-        part.uint64(Tag::INTEGER, 0)?;
-        write_name(part, name)?;
-        part.write(key)?;
-        write_attributes(part, name)
-    })
-}
-
-fn write_request(writer: &mut Writer, key: &[u8], name: &str, signature: &[u8]) -> Result<(), Error> {
-    let is_rsa = PublicKey::from_der(key)?.algorithm.identifier == *RSA_KEY;
-    writer.inside(Tag::SEQUENCE, |request| {
-        write_part(request, key, name)?;
-        request.inside(Tag::SEQUENCE, |algorithm| {
-            let identifier = if is_rsa { SHA256_WITH_RSA } else { ECDSA_WITH_SHA256 };
-            algorithm.oid(Tag::OBJECT_IDENTIFIER, identifier)?;
-            if is_rsa { algorithm.null(Tag::NULL) } else { Ok(()) }
-        })?;
-        let octets = signature;
-        request.bit_string(Tag::BIT_STRING, Bits { octets, unused: 0 })
-    })
+fn request(key: &[u8], name: &str, signature: &[u8]) -> Result<Vec<u8>, Error> {
+    let is_rsa = PublicKey::from_der(key)?.algorithm.identifier == id::RSA_ENCRYPTION;
+    let identifier = if is_rsa {
+        id::SHA256_WITH_RSA
+    } else {
+        id::ECDSA_WITH_SHA256
+    };
+    let algorithm = written(|algorithm| algorithm.algorithm(identifier, is_rsa))?;
+    let part = part(key, name)?;
+    written(|request| request.signed(&part, &algorithm, signature))
 }
 
 fn run(words: &[String]) -> Result<(), Box<dyn std::error::Error>> {
-    let (key, name, out, signature) = match words {
-        [key, name, out] => (key, name, out, None),
-        [key, name, out, signature] => (key, name, out, Some(std::fs::read(signature)?)),
+    let (out, octets) = match words {
+        [key, name, out] => (out, part(&std::fs::read(key)?, name)?),
+        [key, name, out, signature] => (out, request(&std::fs::read(key)?, name, &std::fs::read(signature)?)?),
         _ => return Err("usage: make_request KEY NAME PART, or make_request KEY NAME REQUEST SIGNATURE".into()),
     };
-    let key = std::fs::read(key)?;
-    let mut space = vec![0; key.len() + signature.as_ref().map_or(0, Vec::len) + 2 * name.len() + 1024];
-    let mut writer = Writer::new(&mut space);
-    match signature {
-        None => write_part(&mut writer, &key, name)?,
-        Some(signature) => write_request(&mut writer, &key, name, &signature)?,
-    }
-    Ok(std::fs::write(out, writer.finish()?)?)
+    Ok(std::fs::write(out, octets)?)
 }
 
 fn main() -> ExitCode {
-    let words: Vec<_> = std::env::args().skip(1).collect();
-    match run(&words) {
+    match run(&std::env::args().skip(1).collect::<Vec<_>>()) {
         Ok(()) => ExitCode::SUCCESS,
         Err(error) => {
-            eprintln!("{error}");
+            eprintln!("make_request: {error}");
             ExitCode::FAILURE
         }
     }

@@ -1,10 +1,11 @@
 //! Extensions.
 use crate::error::{Error, answer};
+use crate::list::{AccessDescription, DistributionPoint, Items};
 use crate::name::GeneralNames;
 use crate::octets::Hex;
 use crate::oid::Oid;
 use crate::reader::Reader;
-use crate::sys::{self, RawConstraints, RawExtension, RawNames, RawUsage};
+use crate::sys::{self, RawAuthorityKey, RawConstraints, RawError, RawExtension, RawFound, RawNames, RawUsage};
 use core::fmt;
 use core::iter::FusedIterator;
 
@@ -47,6 +48,31 @@ pub struct BasicConstraints {
     pub path_length: Option<u64>,
     /// Whether the extension is critical.
     pub critical: bool,
+}
+
+/// What authorityKeyIdentifier says (RFC 5280, 4.2.1.1): which key of the issuer signed the certificate. That the
+/// issuer and the serial number come together is not checked.
+#[derive(Clone, Copy, PartialEq, Eq)]
+pub struct AuthorityKeyIdentifier<'a> {
+    /// The identifier of the issuer's key.
+    pub key_identifier: Option<&'a [u8]>,
+    /// The names of the issuer of the issuer's certificate.
+    pub issuer: Option<GeneralNames<'a>>,
+    /// The serial number of the issuer's certificate, as the octets of an INTEGER.
+    pub serial_number: Option<&'a [u8]>,
+    /// Whether the extension is critical.
+    pub critical: bool,
+}
+
+impl fmt::Debug for AuthorityKeyIdentifier<'_> {
+    fn fmt(&self, f: &mut fmt::Formatter<'_>) -> fmt::Result {
+        f.debug_struct("AuthorityKeyIdentifier")
+            .field("key_identifier", &self.key_identifier.map(Hex))
+            .field("issuer", &self.issuer)
+            .field("serial_number", &self.serial_number.map(Hex))
+            .field("critical", &self.critical)
+            .finish()
+    }
 }
 
 /// The extensions of a certificate, a list that is iterated.
@@ -139,7 +165,58 @@ impl<'a> Extensions<'a> {
             contents: raw.names.octets(),
         }))
     }
+
+    /// The purposes of the extKeyUsage extension, if it is there. Fails as [`key_usage`](Self::key_usage) does.
+    pub fn extended_key_usage(&self) -> Result<Option<Items<'a, Oid<'a>>>, Error> {
+        Ok(self.find(sys::der_extended_key_usage)?.map(Items::of))
+    }
+
+    /// The octets of the subjectKeyIdentifier extension, if it is there. They are compared with no key. Fails as
+    /// [`key_usage`](Self::key_usage) does.
+    pub fn subject_key_identifier(&self) -> Result<Option<&'a [u8]>, Error> {
+        Ok(self
+            .find(sys::der_subject_key_identifier)?
+            .map(|raw| raw.contents.octets()))
+    }
+
+    /// The authorityKeyIdentifier extension, if it is there. Fails as [`key_usage`](Self::key_usage) does.
+    pub fn authority_key_identifier(&self) -> Result<Option<AuthorityKeyIdentifier<'a>>, Error> {
+        let mut raw = RawAuthorityKey::EMPTY;
+        // SAFETY: pointer and length describe a slice, which the fields borrow for 'a.
+        answer(unsafe { sys::der_authority_key_identifier(self.contents.as_ptr(), self.contents.len(), &mut raw) })?;
+        Ok(raw.present.then(|| AuthorityKeyIdentifier {
+            key_identifier: raw.has_key_identifier.then(|| raw.key_identifier.octets()),
+            issuer: raw.has_issuer.then(|| GeneralNames {
+                contents: raw.issuer.octets(),
+            }),
+            serial_number: raw.has_serial_number.then(|| raw.serial_number.octets()),
+            critical: raw.critical,
+        }))
+    }
+
+    /// The authorityInfoAccess extension, if it is there: where more about the issuer is found. Fails as
+    /// [`key_usage`](Self::key_usage) does.
+    pub fn authority_information_access(&self) -> Result<Option<Items<'a, AccessDescription<'a>>>, Error> {
+        Ok(self.find(sys::der_authority_information_access)?.map(Items::of))
+    }
+
+    /// The cRLDistributionPoints extension, if it is there: where revocation lists are found. Fails as
+    /// [`key_usage`](Self::key_usage) does.
+    pub fn distribution_points(&self) -> Result<Option<Items<'a, DistributionPoint<'a>>>, Error> {
+        Ok(self.find(sys::der_distribution_points)?.map(Items::of))
+    }
+
+    /// The contents of the extension that a call finds.
+    fn find(&self, call: Find) -> Result<Option<RawFound<'a>>, Error> {
+        let mut raw = RawFound::EMPTY;
+        // SAFETY: pointer and length describe a slice, which the contents borrow for 'a.
+        answer(unsafe { call(self.contents.as_ptr(), self.contents.len(), &mut raw) })?;
+        Ok(raw.present.then_some(raw))
+    }
 }
+
+/// A call that looks an extension up in a list, which a pointer and a length describe.
+type Find = unsafe extern "C" fn(*const u8, usize, &mut RawFound<'_>) -> RawError;
 
 impl fmt::Debug for Extensions<'_> {
     fn fmt(&self, f: &mut fmt::Formatter<'_>) -> fmt::Result {

@@ -20,12 +20,15 @@ extern crate alloc;
 #[cfg(feature = "std")]
 extern crate std;
 
+mod assembly;
 mod certificate;
 mod counter;
 mod element;
 mod error;
 mod extension;
+pub mod id;
 mod items;
+mod list;
 mod name;
 mod object_identifier;
 mod octets;
@@ -41,14 +44,16 @@ mod time;
 mod value;
 mod writer;
 
+pub use assembly::CertificateParts;
 pub use certificate::{Algorithm, Any, Certificate, PublicKey};
 use core::cmp::Ordering;
 pub use counter::Counter;
 pub use element::{Element, Header};
 use error::answer;
 pub use error::{Error, ErrorKind};
-pub use extension::{BasicConstraints, Extension, ExtensionIter, Extensions, KeyUsage};
-pub use name::{Attribute, Attributes, GeneralName, GeneralNameIter, GeneralNames, Name};
+pub use extension::{AuthorityKeyIdentifier, BasicConstraints, Extension, ExtensionIter, Extensions, KeyUsage};
+pub use list::{AccessDescription, DistributionPoint, ItemIter, Items};
+pub use name::{Attribute, Attributes, GeneralName, GeneralNameIter, GeneralNames, Name, RelativeName};
 pub use object_identifier::ObjectIdentifier;
 pub use oid::Oid;
 pub use private_key::PrivateKey;

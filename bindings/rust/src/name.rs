@@ -92,6 +92,28 @@ impl<'a> IntoIterator for Name<'a> {
     }
 }
 
+/// A level of a name alone: what the name of a place has more than that of an issuer (RFC 5280, 4.2.1.13).
+#[derive(Clone, Copy, PartialEq, Eq, Hash)]
+pub struct RelativeName<'a> {
+    pub(crate) contents: &'a [u8],
+}
+
+impl<'a> RelativeName<'a> {
+    /// The attributes of the level.
+    pub fn attributes(&self) -> Attributes<'a> {
+        Attributes {
+            levels: Reader::der(&[]),
+            level: Reader::der(self.contents),
+        }
+    }
+}
+
+impl fmt::Debug for RelativeName<'_> {
+    fn fmt(&self, f: &mut fmt::Formatter<'_>) -> fmt::Result {
+        f.debug_list().entries(self.attributes()).finish()
+    }
+}
+
 /// How many parts the levels of a name are divided into, to be printed from the last to the first.
 const PARTS: usize = 32;
 
@@ -365,7 +387,7 @@ fn next_general_name<'a>(reader: &mut Reader<'a>) -> Result<GeneralName<'a>, Err
 impl FusedIterator for GeneralNameIter<'_> {}
 
 impl<'a> GeneralName<'a> {
-    fn of(raw: &RawGeneralName<'a>) -> Self {
+    pub(crate) fn of(raw: &RawGeneralName<'a>) -> Self {
         let contents = raw.contents.octets();
         // the call has seen that these are characters of 7 bits
         let text = core::str::from_utf8(contents).unwrap_or_default();

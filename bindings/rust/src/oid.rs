@@ -27,8 +27,10 @@ impl<'a> Oid<'a> {
     ///
     /// # Errors
     ///
-    /// [`ObjectIdentifier`](crate::ErrorKind::ObjectIdentifier) if the text is none;
-    /// [`Overlength`](crate::ErrorKind::Overlength) if there is too little space.
+    /// [`ObjectIdentifier`](crate::ErrorKind::ObjectIdentifier) if the text is none, however large its
+    /// numbers are; [`Overflow`](crate::ErrorKind::Overflow) if it is one, and a subidentifier needs more
+    /// than 128 bits or all of them more than 256 octets; [`Overlength`](crate::ErrorKind::Overlength) if
+    /// there is too little space.
     pub fn from_text(text: &str, space: &'a mut [u8]) -> Result<Self, Error> {
         let mut count = 0;
         // SAFETY: pointers and lengths describe slices, and the call writes the second alone.

@@ -13,7 +13,7 @@ use core::iter::FusedIterator;
 /// [`ErrorKind::Failed`](crate::ErrorKind::Failed); so a function may check once, by
 /// [`finish`](Self::finish). Two errors leave the reader where it was:
 /// [`TagUnexpected`](crate::ErrorKind::TagUnexpected), and [`Reader`](crate::ErrorKind::Reader) for
-/// an element of another reader.
+/// an element of another reader. A call that takes `&self`, as [`peek`](Self::peek), also leaves it there.
 ///
 /// ```
 /// use der_c::{Reader, Tag};
@@ -106,6 +106,55 @@ impl<'a> Reader<'a> {
         let (mut element, mut present) = (RawElement::EMPTY, false);
         answer(sys::der_optional(&mut self.0, tag.0, &mut element, &mut present))?;
         Ok(present.then_some(Element(element)))
+    }
+
+    /// The tag of the next element, which is not consumed. Only the identifier is read, so the call that
+    /// reads the element may still fail.
+    ///
+    /// # Errors
+    ///
+    /// `Failed`; `Incomplete` or `Overflow` if the identifier is cut or no octets are left; `TagUnknown`
+    /// and `TagNumberInvalid`. The reader does not fail by them.
+    #[inline]
+    pub fn peek(&self) -> Result<Tag, Error> {
+        let mut tag = 0;
+        answer(sys::der_peek(&self.0, &mut tag))?;
+        Ok(Tag(tag))
+    }
+
+    /// Whether the next element has this tag; false if no octets are left, if the reader has failed, and
+    /// if the next octets are no identifier.
+    #[inline]
+    pub fn next_is(&self, tag: Tag) -> bool {
+        sys::der_next_is(&self.0, tag.0)
+    }
+
+    /// Reads a value with OPTIONAL or DEFAULT: returns what `read` returns if the next element has this
+    /// tag. Otherwise returns `None` or fails as [`optional`](Self::optional) does.
+    ///
+    /// ```
+    /// use der_c::{Reader, Tag};
+    /// # fn main() -> Result<(), der_c::Error> {
+    /// let mut reader = Reader::der(&[2, 1, 7])?;
+    /// let is_critical = reader.read_optional(Tag::BOOLEAN, Reader::boolean)?.unwrap_or(false);
+    /// let number = reader.read_optional(Tag::INTEGER, Reader::uint64)?;
+    /// let comment = reader.read_optional(Tag::UTF8_STRING, |it, tag| it.text(tag, Tag::UTF8_STRING))?;
+    /// assert_eq!((is_critical, number, comment), (false, Some(7), None));
+    /// # reader.finish()
+    /// # }
+    /// ```
+    #[inline]
+    pub fn read_optional<T, E: From<Error>>(
+        &mut self,
+        tag: Tag,
+        read: impl FnOnce(&mut Self, Tag) -> Result<T, E>,
+    ) -> Result<Option<T>, E> {
+        if self.next_is(tag) {
+            return read(self, tag).map(Some);
+        }
+        // no element with the tag is next: this call reports a reader that has failed, and a fault
+        self.optional(tag)?;
+        Ok(None)
     }
 
     /// Consumes the next element, which must have this tag, and returns a reader of its contents.

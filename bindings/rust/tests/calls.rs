@@ -205,6 +205,48 @@ fn an_absent_element_changes_nothing() {
 }
 
 #[test]
+fn a_tag_that_is_peeked_at_is_not_consumed() {
+    let reader = Reader::ber(&[0x24, 0x80]).unwrap();
+    assert_eq!(reader.peek(), Ok(Tag::OCTET_STRING));
+    assert!(reader.next_is(Tag::OCTET_STRING) && !reader.next_is(Tag(0x24)));
+    assert_eq!(reader.position(), 0);
+    let mut reader = Reader::der(&[]).unwrap();
+    assert_eq!(
+        reader.peek().unwrap_err().kind(),
+        ErrorKind::Incomplete { expected: 1, actual: 0 }
+    );
+    reader.finish().unwrap();
+    reader.skip().unwrap_err();
+    assert_eq!(reader.peek().unwrap_err().kind(), ErrorKind::Failed);
+    assert!(!reader.next_is(Tag::NULL));
+}
+
+#[test]
+fn values_that_are_missing_are_none() {
+    let mut reader = Reader::der(&[2, 1, 7, 12, 1, 65]).unwrap();
+    assert_eq!(reader.read_optional(Tag::BOOLEAN, Reader::boolean).unwrap(), None);
+    assert_eq!(reader.read_optional(Tag::INTEGER, Reader::uint64).unwrap(), Some(7));
+    let text = |it: &mut Reader<'static>, tag| it.text(tag, Tag::UTF8_STRING);
+    assert_eq!(
+        reader.read_optional(Tag::UTF8_STRING, text).unwrap().unwrap().octets(),
+        b"A"
+    );
+    assert_eq!(reader.read_optional(Tag::UTF8_STRING, text).unwrap(), None);
+    reader.finish().unwrap();
+}
+
+#[test]
+fn a_faulty_value_is_not_a_missing_one() {
+    for octets in [&[2, 0][..], &[2, 5, 1], &[0x1F, 1], &[4, 0x81]] {
+        let mut reader = Reader::der(octets).unwrap();
+        let error = reader.read_optional(Tag::INTEGER, Reader::uint64).unwrap_err();
+        assert_ne!(error.kind(), ErrorKind::Failed);
+        let again = reader.read_optional(Tag::INTEGER, Reader::uint64);
+        assert_eq!(again.unwrap_err().kind(), ErrorKind::Failed);
+    }
+}
+
+#[test]
 fn an_error_makes_the_reader_fail() {
     for octets in [&[0x30, 5, 2, 1, 7][..], &[4, 0x84, 255, 255, 255, 255, 2, 1, 7]] {
         let mut reader = Reader::der(octets).unwrap();

@@ -1,6 +1,7 @@
 //! Names, extensions and general names from octets, requests with extensions, counters and times.
 use der_c::{
-    Counter, Error, ErrorKind, Extensions, GeneralName, GeneralNames, Name, Reader, Request, Tag, Time, Writer,
+    Certificate, Counter, Error, ErrorKind, Extensions, GeneralName, GeneralNames, Name, Reader, Request, Tag, Time,
+    Writer,
 };
 use std::time::{Duration, Instant};
 
@@ -79,6 +80,100 @@ fn extensions_are_read_from_octets() {
     let extension = extensions.into_iter().next().unwrap().unwrap();
     assert!(extension.critical && extension.identifier == *"2.5.29.19");
     assert!(Extensions::from_der(&octets[2..]).is_err());
+}
+
+/// The extensions of a certificate of openssl; `extensions.c` has the commands that made it.
+fn web() -> Extensions<'static> {
+    Certificate::from_der(include_bytes!("web.der")).unwrap().extensions()
+}
+
+/// `openssl x509 -ext extendedKeyUsage` prints `TLS Web Server Authentication, TLS Web Client Authentication, Microsoft
+/// Smartcard Login`, which is critical.
+#[test]
+fn purposes_are_found() {
+    let purposes = web().extended_key_usage().unwrap().unwrap();
+    let texts: Vec<String> = purposes.into_iter().map(|it| it.unwrap().to_string()).collect();
+    assert_eq!(
+        texts,
+        ["1.3.6.1.5.5.7.3.1", "1.3.6.1.5.5.7.3.2", "1.3.6.1.4.1.311.20.2.2"]
+    );
+    assert!(purposes.critical);
+    let octets = [&[0x30, 16], &CONSTRAINTS[..]].concat();
+    assert!(
+        Extensions::from_der(&octets)
+            .unwrap()
+            .extended_key_usage()
+            .unwrap()
+            .is_none()
+    );
+}
+
+/// `openssl x509 -ext subjectKeyIdentifier,authorityKeyIdentifier` prints `7C:51:..:42`, `keyid:3F:3D:..:7F`,
+/// `DirName:/O=Authority` and `serial:12:34`.
+#[test]
+fn keys_are_identified() {
+    let subject = web().subject_key_identifier().unwrap().unwrap();
+    assert!(subject.len() == 20 && subject.starts_with(&[0x7C, 0x51]) && subject.ends_with(&[0x42]));
+    let key = web().authority_key_identifier().unwrap().unwrap();
+    let identifier = key.key_identifier.unwrap();
+    assert!(identifier.len() == 20 && identifier.starts_with(&[0x3F, 0x3D]) && identifier.ends_with(&[0x7F]));
+    assert_eq!(key.serial_number, Some(&[0x12, 0x34][..]));
+    let names: Vec<_> = key.issuer.unwrap().into_iter().map(Result::unwrap).collect();
+    assert!(matches!(names[..], [GeneralName::Directory(name)] if name.to_string() == "O=Authority"));
+    assert!(!key.critical);
+    let octets = [&[0x30, 16], &CONSTRAINTS[..]].concat();
+    let others = Extensions::from_der(&octets).unwrap();
+    assert!(others.subject_key_identifier().unwrap().is_none());
+    assert!(others.authority_key_identifier().unwrap().is_none());
+}
+
+/// `openssl x509 -ext authorityInfoAccess` prints `OCSP - URI:http://ocsp.example.org/`, `CA Issuers -
+/// URI:http://example.org/ca.crt` and `CA Issuers - DNS:example.org`.
+#[test]
+fn information_is_accessed() {
+    let descriptions = web().authority_information_access().unwrap().unwrap();
+    let texts: Vec<_> = descriptions
+        .into_iter()
+        .map(Result::unwrap)
+        .map(|it| (it.method.to_string(), it.location))
+        .collect();
+    let wanted = [
+        ("1.3.6.1.5.5.7.48.1", GeneralName::Uri("http://ocsp.example.org/")),
+        ("1.3.6.1.5.5.7.48.2", GeneralName::Uri("http://example.org/ca.crt")),
+        ("1.3.6.1.5.5.7.48.2", GeneralName::Dns("example.org")),
+    ];
+    assert_eq!(texts, wanted.map(|(method, location)| (method.to_string(), location)));
+    assert!(!descriptions.critical);
+}
+
+/// `openssl x509 -ext crlDistributionPoints` prints `Full Name: URI:http://example.org/a.crl URI:ldap://example.org/b`;
+/// `Relative Name: CN = lists`, `Reasons: Key Compromise, CA Compromise`, `CRL Issuer: DirName:O = Lists`; `Full Name:
+/// URI:http://example.org/c.crl`, `Reasons: Superseded`.
+#[test]
+fn revocation_lists_are_distributed() {
+    let points = web().distribution_points().unwrap().unwrap();
+    let points: Vec<_> = points.into_iter().map(Result::unwrap).collect();
+    let [first, second, third] = points[..] else {
+        panic!("{points:?}");
+    };
+    let names = |names: GeneralNames<'static>| names.into_iter().map(Result::unwrap).collect::<Vec<_>>();
+    let wanted = [
+        GeneralName::Uri("http://example.org/a.crl"),
+        GeneralName::Uri("ldap://example.org/b"),
+    ];
+    assert_eq!(names(first.full_name.unwrap()), wanted);
+    assert!(first.relative_name.is_none() && first.reasons.is_none() && first.list_issuer.is_none());
+    let attributes: Vec<_> = second.relative_name.unwrap().attributes().map(Result::unwrap).collect();
+    assert!(attributes.len() == 1 && attributes[0].identifier == *"2.5.4.3");
+    assert_eq!(attributes[0].text().unwrap().to_string(), "lists");
+    assert_eq!((second.full_name, second.reasons), (None, Some(1 << 1 | 1 << 2)));
+    let issuer = names(second.list_issuer.unwrap());
+    assert!(matches!(issuer[..], [GeneralName::Directory(name)] if name.to_string() == "O=Lists"));
+    assert_eq!(
+        names(third.full_name.unwrap()),
+        [GeneralName::Uri("http://example.org/c.crl")]
+    );
+    assert_eq!(third.reasons, Some(1 << 4));
 }
 
 /// The request of openssl that `bindings/test` makes, if it is there, asks for names.

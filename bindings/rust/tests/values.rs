@@ -75,6 +75,11 @@ fn object_identifiers() {
         let error = Oid::from_text(text, &mut [0; 8]).unwrap_err();
         assert_eq!(error.kind(), ErrorKind::ObjectIdentifier, "{text}");
     }
+    let large = "2.25.340282366920938463463374607431768211456";
+    let error = Oid::from_text(large, &mut [0; 32]).unwrap_err();
+    assert_eq!(error.kind(), ErrorKind::Overflow);
+    let error = Oid::from_text(&format!("{large}."), &mut [0; 32]).unwrap_err();
+    assert_eq!(error.kind(), ErrorKind::ObjectIdentifier);
 }
 
 #[test]

@@ -6,35 +6,27 @@ ghost use Rattle.der_asn1.specs.ListAnswers.{ItemAnswer};
 ghost use Rattle.der_c_core.specs.CReader.{reader_state};
 ghost use Rattle.der_c_x509.specs.Calls.{ReadsItem, ReadsNext, ReadsWhole};
 ghost use Rattle.der_c_x509.specs.Certificate.{IsCertificateOf};
-ghost use Rattle.der_c_x509.specs.Constraints.{ReadsConstraints};
 ghost use Rattle.der_c_x509.specs.Fields.{IsPublicKeyOf};
-ghost use Rattle.der_c_x509.specs.FindCalls.{FindsIn, ReadsKnown, RefusesList};
 ghost use Rattle.der_c_x509.specs.Items.{IsAttributeOf, IsExtensionOf, IsGeneralNameOf};
-ghost use Rattle.der_c_x509.specs.Known.{IsKeyUsageOf, IsNamesOf};
-ghost use Rattle.der_c_x509.specs.LenientCalls.{ReadsLenientConstraints, ReadsLenientUsage};
 ghost use Rattle.der_c_x509.specs.PrivateKey.{IsPrivateKeyOf};
 ghost use Rattle.der_c_x509.specs.Request.{IsRequestOf};
 ghost use Rattle.der_c_x509.specs.RevocationList.{IsRevocationListOf};
 ghost use Rattle.der_c_x509.specs.Revoked.{IsRevokedOf};
 ghost use Rattle.std.specs.Prelude.{false, ◌<◌, ◌≡◌};
-ghost use Rattle.x509.specs.ExtensionIdentifiers.{id_ce};
-ghost use Rattle.x509.specs.Find.{FindsExtension, WholeRead};
-ghost use Rattle.x509_lenient.specs.Lenient.{BerRead, FindsLenient, IsDerOf, SaysDerOf};
+ghost use Rattle.x509.specs.Find.{WholeRead};
 
 use der::{Decode, DecodeValue, Encode, FixedTag, ReadValue, SliceReader, WrittenValue};
-use der_asn1::{BitStringRef, Item, NamedBitsRef, SequenceOf};
 use der_c_core::{DerError, DerReader};
 use der_c_x509::{
-    DerAttribute, DerBasicConstraints, DerCertificate, DerExtension, DerGeneralName,
-    DerGeneralNames, DerKeyUsage, DerPrivateKey, DerPublicKey, DerRequest, DerRevocationList,
-    DerRevoked,
+    DerAttribute, DerCertificate, DerExtension, DerGeneralName, DerPrivateKey, DerPublicKey,
+    DerRequest, DerRevocationList, DerRevoked,
 };
 use pkcs8::PrivateKeyInfo;
 use spki::SubjectPublicKeyInfoRef;
 use std::alloc::Global;
 use x509::{
-    AttributeTypeAndValue, BasicConstraints, CertReq, CertReqInfo, Certificate, CertificateList,
-    Extension, GeneralName, RevokedCertificate, TbsCertList, TbsCertificate,
+    AttributeTypeAndValue, CertReq, CertReqInfo, Certificate, CertificateList, Extension,
+    GeneralName, RevokedCertificate, TbsCertList, TbsCertificate,
 };
 
 /// Reads a certificate into `certificate`. `octets` must be the DER encoding of one certificate
@@ -222,7 +214,8 @@ pub extern "C" fn der_next_attribute<'a>(
 }
 
 /// Reads the next name of a list into `name`. `reader` reads the contents of GeneralNames, as
-/// `der_subject_alternative_name` returns them.
+/// `der_subject_alternative_name`, `der_authority_key_identifier` and `der_next_distribution_point`
+/// return them.
 ///
 /// Every error makes the reader fail, except `TagUnexpected`, which leaves it unchanged. A call
 /// that fails leaves `name` unchanged. At the end of the list the error is `Incomplete`.
@@ -265,144 +258,4 @@ pub extern "C" fn der_next_revoked<'a>(
         (reader_state reader.old) result (reader_state reader.new) }
 {
     der_c_x509::der_next_revoked(alloc, reader, entry)
-}
-
-/// Finds keyUsage in the contents of a list of extensions, and reads it into `usage`. It is not an
-/// error if the extension is absent.
-///
-/// A call that fails leaves `usage` unchanged. Fails with:
-///
-/// - the error of the first extension of the list that cannot be decoded; there is none in the
-///   contents that `der_certificate_read` returns;
-/// - `SetDuplicate` without a position, if the list has the extension more than once;
-/// - the error of decoding the value of the extension, whose position counts from the start of this
-///   value.
-#[unsafe(no_mangle)]
-pub extern "C" fn der_key_usage<'a>(
-    alloc: Global,
-    extensions: &'a [u8],
-    usage: &mut DerKeyUsage,
-) -> DerError
-    ensures { ReadsKnown (FindsIn
-        (RefusesList ⟦<Extension<'a> as Decode<SliceReader<'a>>>⟧.decode_answers)
-        (FindsExtension ⟦<Extension<'a> as Item>⟧.item.valid ⟦<Extension<'a> as Item>⟧.item.octets
-        (WholeRead ⟦<NamedBitsRef<'a> as FixedTag>⟧.tag_is ⟦<NamedBitsRef<'a> as ReadValue>⟧.valid
-        ⟦<NamedBitsRef<'a> as WrittenValue>⟧.contents ⟦<NamedBitsRef<'a> as ReadValue>⟧.allocates
-        ⟦<NamedBitsRef<'a> as DecodeValue<SliceReader<'a>>>⟧.decode_value_answers) (id_ce 15))
-        extensions.now) (IsKeyUsageOf (λ v. v.octets.now)) result usage.old usage.new }
-{
-    der_c_x509::der_key_usage(alloc, extensions, usage)
-}
-
-/// Finds keyUsage as `der_key_usage` does, but its contents may be BER: the bits may have zero bits after them. Sets
-/// `is_der` to whether the contents are DER, and to true if the extension is absent.
-///
-/// A call that fails leaves `usage` and `is_der` unchanged. Fails as `der_key_usage` does, with the error of decoding
-/// the value under BER.
-#[unsafe(no_mangle)]
-pub extern "C" fn der_key_usage_lenient<'a>(
-    alloc: Global,
-    extensions: &'a [u8],
-    usage: &mut DerKeyUsage,
-    is_der: &mut bool,
-) -> DerError
-    ensures { ReadsLenientUsage (λ v. v.octets.now) (FindsIn
-        (RefusesList ⟦<Extension<'a> as Decode<SliceReader<'a>>>⟧.decode_answers)
-        (FindsLenient ⟦<Extension<'a> as Item>⟧.item.valid ⟦<Extension<'a> as Item>⟧.item.octets
-        (BerRead ⟦<BitStringRef<'a> as FixedTag>⟧.tag_is ⟦<BitStringRef<'a> as ReadValue>⟧.takes
-        ⟦<BitStringRef<'a> as ReadValue>⟧.value_levels ⟦<BitStringRef<'a> as ReadValue>⟧.allocates
-        ⟦<BitStringRef<'a> as DecodeValue<SliceReader<'a>>>⟧.decode_value_answers)
-        (SaysDerOf ⟦<NamedBitsRef<'a> as ReadValue>⟧.allocates
-        (IsDerOf ⟦<NamedBitsRef<'a> as FixedTag>⟧.tag_is ⟦<NamedBitsRef<'a> as ReadValue>⟧.valid
-        ⟦<NamedBitsRef<'a> as WrittenValue>⟧.contents)) (id_ce 15)) extensions.now) result usage.old
-        usage.new is_der.old is_der.new }
-{
-    der_c_x509::der_key_usage_lenient(alloc, extensions, usage, is_der)
-}
-
-/// Finds basicConstraints in the contents of a list of extensions, and reads it into `constraints`.
-/// It is not an error if the extension is absent.
-///
-/// A call that fails leaves `constraints` unchanged. Fails with:
-///
-/// - the error of the first extension of the list that cannot be decoded; there is none in the
-///   contents that `der_certificate_read` returns;
-/// - `SetDuplicate` without a position, if the list has the extension more than once;
-/// - the error of decoding the value of the extension, whose position counts from the start of this
-///   value;
-/// - `Value` with the tag INTEGER, without a position, if the limit is negative or above 2^64 - 1.
-#[unsafe(no_mangle)]
-pub extern "C" fn der_basic_constraints<'a>(
-    alloc: Global,
-    extensions: &'a [u8],
-    constraints: &mut DerBasicConstraints,
-) -> DerError
-    ensures { ReadsConstraints (FindsIn
-        (RefusesList ⟦<Extension<'a> as Decode<SliceReader<'a>>>⟧.decode_answers)
-        (FindsExtension ⟦<Extension<'a> as Item>⟧.item.valid ⟦<Extension<'a> as Item>⟧.item.octets
-        (WholeRead ⟦<BasicConstraints<'a> as FixedTag>⟧.tag_is
-        ⟦<BasicConstraints<'a> as ReadValue>⟧.valid
-        ⟦<BasicConstraints<'a> as WrittenValue>⟧.contents
-        ⟦<BasicConstraints<'a> as ReadValue>⟧.allocates
-        ⟦<BasicConstraints<'a> as DecodeValue<SliceReader<'a>>>⟧.decode_value_answers) (id_ce 19))
-        extensions.now) result constraints.old constraints.new }
-{
-    der_c_x509::der_basic_constraints(alloc, extensions, constraints)
-}
-
-/// Finds basicConstraints as `der_basic_constraints` does, but its contents may be BER: a field may be written though it
-/// has its default. Sets `is_der` to whether the contents are DER, and to true if the extension is absent.
-///
-/// A call that fails leaves `constraints` and `is_der` unchanged. Fails as `der_basic_constraints` does, with the error
-/// of decoding the value under BER.
-#[unsafe(no_mangle)]
-pub extern "C" fn der_basic_constraints_lenient<'a>(
-    alloc: Global,
-    extensions: &'a [u8],
-    constraints: &mut DerBasicConstraints,
-    is_der: &mut bool,
-) -> DerError
-    ensures { ReadsLenientConstraints (FindsIn
-        (RefusesList ⟦<Extension<'a> as Decode<SliceReader<'a>>>⟧.decode_answers)
-        (FindsLenient ⟦<Extension<'a> as Item>⟧.item.valid ⟦<Extension<'a> as Item>⟧.item.octets
-        (BerRead ⟦<BasicConstraints<'a> as FixedTag>⟧.tag_is ⟦<BasicConstraints<'a> as ReadValue>⟧.takes
-        ⟦<BasicConstraints<'a> as ReadValue>⟧.value_levels
-        ⟦<BasicConstraints<'a> as ReadValue>⟧.allocates
-        ⟦<BasicConstraints<'a> as DecodeValue<SliceReader<'a>>>⟧.decode_value_answers)
-        (SaysDerOf ⟦<BasicConstraints<'a> as ReadValue>⟧.allocates
-        (IsDerOf ⟦<BasicConstraints<'a> as FixedTag>⟧.tag_is
-        ⟦<BasicConstraints<'a> as ReadValue>⟧.valid ⟦<BasicConstraints<'a> as WrittenValue>⟧.contents))
-        (id_ce 19)) extensions.now) result constraints.old constraints.new is_der.old is_der.new }
-{
-    der_c_x509::der_basic_constraints_lenient(alloc, extensions, constraints, is_der)
-}
-
-/// Finds subjectAltName in the contents of a list of extensions, and stores its names in `names`.
-/// It is not an error if the extension is absent. Each name is checked, as
-/// `der_next_general_name` does.
-///
-/// A call that fails leaves `names` unchanged. Fails with:
-///
-/// - the error of the first extension of the list that cannot be decoded; there is none in the
-///   contents that `der_certificate_read` returns;
-/// - `SetDuplicate` without a position, if the list has the extension more than once;
-/// - the error of decoding the value of the extension, whose position counts from the start of this
-///   value.
-#[unsafe(no_mangle)]
-pub extern "C" fn der_subject_alternative_name<'a>(
-    alloc: Global,
-    extensions: &'a [u8],
-    names: &mut DerGeneralNames<'a>,
-) -> DerError
-    ensures { ReadsKnown (FindsIn
-        (RefusesList ⟦<Extension<'a> as Decode<SliceReader<'a>>>⟧.decode_answers)
-        (FindsExtension ⟦<Extension<'a> as Item>⟧.item.valid ⟦<Extension<'a> as Item>⟧.item.octets
-        (WholeRead ⟦<SequenceOf<'a, GeneralName<'a>> as FixedTag>⟧.tag_is
-        ⟦<SequenceOf<'a, GeneralName<'a>> as ReadValue>⟧.valid
-        ⟦<SequenceOf<'a, GeneralName<'a>> as WrittenValue>⟧.contents
-        ⟦<SequenceOf<'a, GeneralName<'a>> as ReadValue>⟧.allocates
-        ⟦<SequenceOf<'a, GeneralName<'a>> as DecodeValue<SliceReader<'a>>>⟧.decode_value_answers)
-        (id_ce 17)) extensions.now) (IsNamesOf (λ v. v.octets.now)) result names.old names.new }
-{
-    der_c_x509::der_subject_alternative_name(alloc, extensions, names)
 }

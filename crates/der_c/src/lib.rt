@@ -5,10 +5,12 @@
 //! and that each struct was made by the functions here.
 #![tactic(auto)]
 
+mod assembly;
 mod blocks;
 mod certificates;
 mod counting;
 mod errors;
+mod extensions;
 mod names;
 mod reading;
 mod trees;

@@ -10,6 +10,7 @@ ghost use Rattle.der_c_core.specs.EnterCalls.{EntersElement, OpensElement};
 ghost use Rattle.der_c_core.specs.ErrorCode.{error_code, no_error};
 ghost use Rattle.der_c_core.specs.HeaderCall.{ReadsHeader};
 ghost use Rattle.der_c_core.specs.Octets.{GivesOctets};
+ghost use Rattle.der_c_core.specs.PeekCalls.{HasNextTag, PeeksTag};
 ghost use Rattle.der_c_core.specs.ScanCall.{ScansBody};
 ghost use Rattle.der_c_core.specs.Tree.{ReadsTree};
 ghost use Rattle.der_core.specs.Reader.{finish_answer};
@@ -109,6 +110,38 @@ pub extern "C" fn der_skip(reader: &mut DerReader<'_>) -> DerError
     ensures skips { SkipsElement (reader_state reader.old) result (reader_state reader.new) }
 {
     der_c_core::der_skip(reader)
+}
+
+/// Stores the tag of the next element in `tag`, a word as in
+/// `DerElement::tag`. Only its identifier is read, and `reader` is
+/// unchanged, also after an error.
+///
+/// A call that fails leaves `tag` unchanged. Fails with the errors of reading the identifier, and
+/// with their positions:
+///
+/// - `Failed` at the position of `reader`, if it has failed;
+/// - `Incomplete` at the end of `reader`, if the identifier is cut, as at the end of the octets, or
+///   `Overflow` without a position, if that end is at 4294967295;
+/// - `TagUnknown` at the position after the first octet, if no tag begins with it;
+/// - `TagNumberInvalid` at the position after the octet with which the identifier is no longer that
+///   of a tag.
+#[unsafe(no_mangle)]
+pub extern "C" fn der_peek(reader: &DerReader<'_>, tag: &mut u64) -> DerError
+    ensures peeks { PeeksTag (reader_state reader.now) result tag.old tag.new }
+{
+    der_c_core::der_peek(reader, tag)
+}
+
+/// Whether the next element has the tag `tag`, a word as in
+/// `DerElement::tag`. Only its identifier is read.
+///
+/// The result is false if `reader` has failed or is at its end, if the next octets are no
+/// identifier, and if `tag` is the word of no tag. `reader` is unchanged.
+#[unsafe(no_mangle)]
+pub extern "C" fn der_next_is(reader: &DerReader<'_>, tag: u64) -> bool
+    ensures { IsTrue result ↔ HasNextTag tag (reader_state reader.now) }
+{
+    der_c_core::der_next_is(reader, tag)
 }
 
 /// Reads the next element into `element`. The tag of this element must be `tag`, a word as in

@@ -5,10 +5,12 @@ ghost use Rattle.der_asn1.specs.Forms.{bits_form, boolean_form, integer_form, nu
 ghost use Rattle.der_asn1.specs.Integer.{integer_octets, signed_form, signed_octets, unsigned_form};
 ghost use Rattle.der_c_core.specs.CReader.{reader_state};
 ghost use Rattle.der_c_values.specs.Characters.{TakesCharacter};
-ghost use Rattle.der_c_values.specs.Dotted.{ComparesOid, EncodesText, GivesOidText};
+ghost use Rattle.der_c_values.specs.Dotted.{ComparesOid, GivesOidText};
 ghost use Rattle.der_c_values.specs.OidArcs.{GivesArcs};
+ghost use Rattle.der_c_values.specs.OidFromText.{EncodesText};
 ghost use Rattle.der_c_values.specs.StringTypes.{IsTextOf, is_string_type, string_form};
-ghost use Rattle.der_c_values.specs.TimeValues.{IsTimeOf, is_time_type, time_form};
+ghost use Rattle.der_c_values.specs.TimeText.{GivesTimeText};
+ghost use Rattle.der_c_values.specs.TimeValues.{IsTimeOf, date_of, is_time_type, time_form};
 ghost use Rattle.der_c_values.specs.ValueCalls.{IsValueOf, ReadsTyped, ReadsValue};
 ghost use Rattle.der_c_values.specs.ValueContents.{bits_contents, boolean_contents, null_contents, span_contents};
 ghost use Rattle.der_core.specs.ReaderState.{Same};
@@ -223,6 +225,21 @@ pub extern "C" fn der_read_time(
     der_c_values::der_read_time(reader, tag, time_type, time)
 }
 
+/// Writes `time` as RFC 3339 does in UTC (5.6), such as `2026-11-29T11:24:00Z`, and a final zero octet
+/// to the start of `text`. `time.seconds` is ignored. Sets `count` to the number of octets of the
+/// text, without the zero octet: 20.
+///
+/// A call that fails leaves `text` and `count` unchanged. Fails without a position with:
+///
+/// - `DateTime`, if the date or the time of day does not exist, or if the year is above 9999;
+/// - `Overlength`, if there is no space in `text`.
+#[unsafe(no_mangle)]
+pub extern "C" fn der_time_text(time: &DerTime, text: &mut [u8], count: &mut usize) -> DerError
+    ensures { GivesTimeText (date_of time.now) result text.old text.new count.old count.new }
+{
+    der_c_values::der_time_text(time, text, count)
+}
+
 /// Writes the dotted notation of an OBJECT IDENTIFIER and a final zero octet to the start of
 /// `text`, such as `2.5.29.17`. `oid` are the contents octets of the OBJECT IDENTIFIER (X.690
 /// 8.19). Sets `count` to the number of octets of the text, without the zero octet.
@@ -261,8 +278,9 @@ pub extern "C" fn der_oid_arcs(oid: &[u8], arcs: &mut [u64], count: &mut usize) 
 ///
 /// A call that fails leaves `oid` and `count` unchanged. Fails without a position with:
 ///
-/// - `OidMalformed`, if `text` is not the dotted notation of an OBJECT IDENTIFIER;
-/// - `Overflow`, if a subidentifier does not fit in 128 bits, or if there are more than 256
+/// - `OidMalformed`, if `text` is not the dotted notation of an OBJECT IDENTIFIER, whatever the size
+///   of its numbers;
+/// - `Overflow`, if it is, and a subidentifier does not fit in 128 bits, or there are more than 256
 ///   contents octets;
 /// - `Overlength`, if there is no space in `oid`.
 #[unsafe(no_mangle)]

@@ -2,6 +2,7 @@
 //!
 //! Written by tools/c_interface: change the crates that der_c uses instead.
 ghost use Rattle.der_c_core.specs.CWriter.{KeepsOpen, writer_state};
+ghost use Rattle.der_c_core.specs.JoinedSpans.{joined_spans};
 ghost use Rattle.der_c_core.specs.Part.{BeginsElement, EndsElement, FinishesWriting};
 ghost use Rattle.der_c_core.specs.SetOrder.{SpansAscend};
 ghost use Rattle.der_c_core.specs.WriterCalls.{Measures, WritesElement, WritesHeader, WritesOctets};
@@ -99,6 +100,25 @@ pub extern "C" fn der_write_element(
     ensures keeps_open { KeepsOpen writer.old writer.new }
 {
     der_c_core::der_write_element(writer, tag, contents)
+}
+
+/// Writes an element: a header with the tag `tag`, a word as `der_write_header`
+/// takes it, and then the octets of `parts`, one after another.
+///
+/// After a call that fails, `writer` has failed. Such a call may have written the header or its
+/// first octets; they remain. Fails like `der_write_element` with the
+/// octets of `parts` as the contents.
+#[unsafe(no_mangle)]
+pub extern "C" fn der_write_parts(
+    writer: &mut DerWriter<'_>,
+    tag: u64,
+    parts: &[DerSpan<'_>],
+) -> DerError
+    ensures writes { WritesElement tag (joined_spans parts.now) (writer_state writer.old) result
+        (writer_state writer.new) }
+    ensures keeps_open { KeepsOpen writer.old writer.new }
+{
+    der_c_core::der_write_parts(writer, tag, parts)
 }
 
 /// Sets `count` to the number of octets of a whole element, header and contents, with the tag `tag`

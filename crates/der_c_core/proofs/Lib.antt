@@ -2,6 +2,7 @@ pub mod CodeLemmas
 pub mod CompareLemmas
 pub mod EndLemmas
 pub mod MeetLemmas
+pub mod NextTagLemmas
 pub mod PartLemmas
 pub mod ReadLemmas
 pub mod ShortLemmas

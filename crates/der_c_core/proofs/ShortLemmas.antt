@@ -61,7 +61,7 @@ octets_of_two a b some high low =
     let is : (0 + a) * 256 + b ≡ a * 256 + b = omega arith in
     subst (λ k. length_octets k ≡ 130 ∷ a ∷ b ∷ []) is (shortest 2 (a ∷ b ∷ []) (omega arith) refl (high, (low, tt)) (omega arith))
 
-remaining_ok : (s : ReaderState) (l : List ℕ) → Ok l ≡ remaining_answer s → (s.failed ≡ false) × (rest_of s ≡ l)
+pub remaining_ok : (s : ReaderState) (l : List ℕ) → Ok l ≡ remaining_answer s → (s.failed ≡ false) × (rest_of s ≡ l)
 remaining_ok s l e = (grind rules, grind rules)
 
 -- the headers of two, three and four octets

@@ -31,7 +31,7 @@ tag_short t o more e h =
     absurd (short_octet (label t).constructed (label t).class o w h))
     (cases_lt (label t).number 31)
 
-identifier_short : (rules : EncodingRules) (id : List ℕ) (t : Tag) (b : Bool) (o : ℕ) (more : List ℕ) → IsIdentifier rules id t b → id ≡ o ∷ more → o % 32 < 31 → o ≢ 36 → o ≡ tag_word t
+pub identifier_short : (rules : EncodingRules) (id : List ℕ) (t : Tag) (b : Bool) (o : ℕ) (more : List ℕ) → IsIdentifier rules id t b → id ≡ o ∷ more → o % 32 < 31 → o ≢ 36 → o ≡ tag_word t
 identifier_short rules id t b o more h e small other =
     elim (identifier_view h) [
       | tagged n s c ↦ tag_short t o more (sym s ∙ e) small

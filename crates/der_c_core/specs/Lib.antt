@@ -8,8 +8,10 @@ pub mod Octets
 pub mod ErrorCode
 pub mod Failure
 pub mod HeaderCall
+pub mod JoinedSpans
 pub mod Located
 pub mod Part
+pub mod PeekCalls
 pub mod CReader
 pub mod ScanCall
 pub mod SetOrder

@@ -15,6 +15,7 @@ mod header;
 mod located;
 mod mark;
 mod octets;
+mod peek;
 mod reader;
 mod scan;
 mod set;
@@ -39,6 +40,7 @@ pub use header::{DerHeader, der_read_header};
 pub use located::{located_error, located_in};
 pub use mark::DerMark;
 pub use octets::der_element_octets;
+pub use peek::{der_next_is, der_peek};
 pub use reader::DerReader;
 pub use reader::calls::{der_finish, der_is_finished, der_position, der_reader_init};
 pub use scan::der_scan;
@@ -53,3 +55,4 @@ pub use writer::calls::{
     der_written,
 };
 pub use writer::part::{der_begin, der_end, der_writer_fail, der_writer_finish};
+pub use writer::parts::der_write_parts;

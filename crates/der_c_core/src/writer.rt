@@ -7,6 +7,7 @@ use der_core::Writer;
 
 pub mod calls;
 pub mod part;
+pub mod parts;
 mod short;
 
 /// A writer into octets. A C program makes it with [`der_writer_init`], and changes it only with

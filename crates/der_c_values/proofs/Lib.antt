@@ -5,5 +5,9 @@ pub mod OidArcLemmas
 pub mod OidIsLemmas
 pub mod OidTextLemmas
 pub mod TimeLemmas
+pub mod TimeTextLemmas
 pub mod WriteLemmas
 pub mod DecimalLemmas
+pub mod DottedArcLemmas
+pub mod OidContentsLemmas
+pub mod OidFromTextLemmas

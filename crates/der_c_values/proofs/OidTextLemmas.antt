@@ -134,7 +134,7 @@ arcs_large a octets same large =
     (stage_large a.stage a.octets.now (subst BeginsSmall (sym same) (begins_small (subidentifiers 0 octets))) large)
 
 -- arcs with a dot after each are their dotted notation with a dot at the end
-terminated_dotted : (a : ℕ) (arcs : List ℕ) → terminated (a ∷ arcs) ≡ dotted_text (a ∷ arcs) ++ 46 ∷ []
+pub terminated_dotted : (a : ℕ) (arcs : List ℕ) → terminated (a ∷ arcs) ≡ dotted_text (a ∷ arcs) ++ 46 ∷ []
 terminated_dotted a [] = append-nil (decimal_text a ++ 46 ∷ [])
 terminated_dotted a (b ∷ arcs) =
     ap (λ x. (decimal_text a ++ 46 ∷ []) ++ x) (terminated_dotted b arcs)

@@ -1,11 +1,10 @@
 -- Dotted notation of OBJECT IDENTIFIERs (RFC 4512, 1.4): `dotted_text`, and `oid_text` of contents.
--- `GivesOidText`, `ComparesOid` and `EncodesText` are the results of `der_oid_text`, `der_oid_is`
--- and `der_oid_from_text`.
-use Rattle.std.specs.Prelude.{◌≡◌, ◌⊎◌, ℕ, ◌+◌, ◌*◌, ◌^◌, ◌<◌, ◌≤◌, ◌&&◌, Bool, true, false, nat_lt, Option, Some, None, List, [], ◌∷◌, ◌++◌, map, length, drop, is_some}
+-- `GivesOidText` and `ComparesOid` are the results of `der_oid_text` and `der_oid_is`.
+use Rattle.std.specs.Prelude.{◌≡◌, ℕ, ◌+◌, ◌*◌, ◌^◌, ◌≤◌, ◌&&◌, Bool, true, false, nat_lt, Option, Some, None, List, [], ◌∷◌, ◌++◌, map, length, drop, is_some}
 use Rattle.std.specs.List.{join_with_byte, flat_map, list_all}
 use Rattle.der_base.specs.Length.{digits}
 use Rattle.der_base.specs.Error.{error_of_kind}
-use Rattle.der_base.specs.declared.error.ErrorKind.TheVariants.{OidMalformed, Overflow, Overlength}
+use Rattle.der_base.specs.declared.error.ErrorKind.TheVariants.{Overflow, Overlength}
 use Rattle.der_asn1.specs.Arcs.{oid_arcs}
 use Rattle.der_asn1.specs.Forms.{oid_form}
 use Rattle.der_c_core.specs.ErrorCode.{no_error, error_code}
@@ -47,30 +46,6 @@ pub data GivesOidText (octets : List ℕ) (result : DerError) (old new : List �
   succeeds : oid_form octets ≡ true → result ≡ no_error → after ≡ length (oid_text octets)
       → new ≡ oid_text octets ++ (0 ∷ drop (after + 1) old)
       → GivesOidText octets result old new before after
-
--- a text is encoded as the contents of which it is the dotted notation, and the octets after them
--- are unchanged; or there is an error, and nothing changes: there is no space for these contents, an
--- arc or the contents are too large, or the text is none
-pub data EncodesText (text : List ℕ) (result : DerError) (old new : List ℕ) (before after : ℕ)
-    : Type 0 where
-  encoded : (octets : List ℕ) → oid_form octets ≡ true → text ≡ oid_text octets
-      → result ≡ no_error → after ≡ length octets → new ≡ octets ++ drop (length octets) old
-      → EncodesText text result old new before after
-  no_space : (octets : List ℕ) → oid_form octets ≡ true → text ≡ oid_text octets
-      → length old < length octets → result ≡ error_code (error_of_kind Overlength) → new ≡ old
-      → after ≡ before → EncodesText text result old new before after
-  too_large : result ≡ error_code (error_of_kind Overflow) → new ≡ old → after ≡ before
-      → EncodesText text result old new before after
-  no_text : result ≡ error_code (error_of_kind OidMalformed) → new ≡ old → after ≡ before
-      → EncodesText text result old new before after
-
--- contents of which the text is the dotted notation, or why there are none
-abbrev pub IsEncoded : List ℕ → List ℕ → Type 0
-IsEncoded text octets = (oid_form octets ≡ true) × (text ≡ oid_text octets)
-
-abbrev pub IsNotEncoded : DerError → Type 0
-IsNotEncoded e =
-    (e ≡ error_code (error_of_kind Overflow)) ⊎ (e ≡ error_code (error_of_kind OidMalformed))
 
 -- arcs in decimal with a dot after each, as far as they fit in 128 bits
 abbrev pub item_text : Option ℕ → List ℕ

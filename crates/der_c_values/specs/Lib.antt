@@ -1,7 +1,10 @@
 pub mod Characters
 pub mod Dotted
 pub mod OidArcs
+pub mod OidContents
+pub mod OidFromText
 pub mod StringTypes
+pub mod TimeText
 pub mod TimeValues
 pub mod ValueCalls
 pub mod ValueContents

@@ -3,7 +3,7 @@ use Rattle.std.specs.Prelude.{ℕ, List}
 use Rattle.der_core.specs.Writer.{WriterState}
 use Rattle.der_c_core.specs.WriterCalls.{WritesElement}
 use Rattle.der_c_core.specs.declared.error.DerError.{DerError}
-use Rattle.der_c_values.specs.Dotted.{IsEncoded}
+use Rattle.der_c_values.specs.OidFromText.{IsEncoded}
 use Rattle.der_c_values.specs.WriteCalls.{RefusesNoValue}
 
 -- an element is written with the contents of which the text is the dotted notation; or there is an

@@ -8,6 +8,18 @@ use der_base::ErrorKind;
 use der_c_core::{DerError, DerReader, c_error};
 use der_core::Reader;
 
+/// The error `DateTime`, without a position.
+pub(crate) const NO_TIME: DerError = DerError {
+    kind: 1,
+    ..DerError::NONE
+};
+
+/// The error `OidMalformed`, without a position.
+pub(crate) const MALFORMED: DerError = DerError {
+    kind: 9,
+    ..DerError::NONE
+};
+
 /// The error `Overflow`, without a position.
 pub(crate) const OVERFLOW: DerError = DerError {
     kind: 12,

@@ -86,7 +86,7 @@ fn is_string_type(string_type: u64) -> bool
 }
 
 /// Whether the octets are characters of this string type.
-pub(crate) fn has_form(string_type: u64, octets: &[u8]) -> bool
+pub fn has_form(string_type: u64, octets: &[u8]) -> bool
     ensures { result ≡ string_form string_type octets.now }
 {
     match string_type {

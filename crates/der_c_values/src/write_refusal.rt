@@ -8,7 +8,7 @@ use der_c_core::{DerError, DerWriter, der_write, der_writer_fail, is_tag};
 /// Makes `writer` fail, and returns `error`, or `Failed` if `writer` had failed. Writes nothing.
 #[cold]
 #[inline(never)]
-pub(crate) fn refuse_write(writer: &mut DerWriter<'_>, error: DerError) -> DerError
+pub fn refuse_write(writer: &mut DerWriter<'_>, error: DerError) -> DerError
     ensures writes { RefusesWrite error (writer_state writer.old) result (writer_state writer.new) }
     ensures keeps_open { KeepsOpen writer.old writer.new }
 {
@@ -24,7 +24,7 @@ pub(crate) fn refuse_write(writer: &mut DerWriter<'_>, error: DerError) -> DerEr
 /// `TagNumberInvalid` if it is the word of no tag; and `Failed` if `writer` had failed.
 #[cold]
 #[inline(never)]
-pub(crate) fn refuse_no_value(writer: &mut DerWriter<'_>, tag: u64) -> DerError
+pub fn refuse_no_value(writer: &mut DerWriter<'_>, tag: u64) -> DerError
     ensures writes { RefusesNoValue tag (writer_state writer.old) result (writer_state writer.new) }
     ensures keeps_open { KeepsOpen writer.old writer.new }
 {

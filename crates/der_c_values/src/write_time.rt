@@ -68,8 +68,8 @@ pub fn der_write_time_seconds(
     der_write_element(writer, tag, contents_of(time_type, &date).as_slice())
 }
 
-// The date and the time of day.
-fn date_time(time: &DerTime) -> DateTime
+/// The date and the time of day.
+pub(crate) fn date_time(time: &DerTime) -> DateTime
     ensures { result ≡ date_of time.now }
 {
     DateTime {

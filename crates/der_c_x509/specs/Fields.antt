@@ -1,9 +1,10 @@
--- Values as structs of C: elements (`IsAnyOf`), bits (`IsBitsOf`), algorithms (`IsAlgorithmOf`) and
--- public keys (`IsPublicKeyOf`).
+-- Values as structs of C: elements (`IsAnyOf`), bits (`IsBitsOf`), algorithms (`IsAlgorithmOf`),
+-- public keys (`IsPublicKeyOf`) and octets that may be absent (`IsOptionalSpanOf`).
 use Rattle.std.specs.Prelude.{◌≡◌, ℕ, List, [], ◌∷◌, Option, MatchOption}
 use Rattle.der_asn1.specs.declared.elements.any.AnyRef.{AnyRef}
 use Rattle.der_c_core.specs.TagWord.{tag_word}
 use Rattle.der_c_core.specs.declared.bits.DerBits.{DerBits}
+use Rattle.der_c_core.specs.declared.span.DerSpan.{DerSpan}
 use Rattle.der_c_x509.specs.declared.algorithm.DerAlgorithm.{DerAlgorithm}
 use Rattle.der_c_x509.specs.declared.any.DerAny.{DerAny}
 use Rattle.der_c_x509.specs.declared.public_key.DerPublicKey.{DerPublicKey}
@@ -45,3 +46,8 @@ pub record IsPublicKeyOf (encoding : SubjectPublicKeyInfoRef → List ℕ)
   pub whole : k.whole.octets.now ≡ encoding v
   pub algorithm : IsAlgorithmOf v.algorithm k.algorithm
   pub key : IsBitsOf v.subject_public_key.octets.now k.key
+
+-- the contents octets of a value that may be absent; none if it is
+abbrev pub IsOptionalSpanOf : {A : Type 0} → (A → List ℕ) → Option A → DerSpan → Type 0
+IsOptionalSpanOf octets_of o s =
+    MatchOption o (s.octets.now ≡ []) (λ v. s.octets.now ≡ octets_of v)

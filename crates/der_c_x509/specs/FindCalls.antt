@@ -1,13 +1,18 @@
 -- The results of looking up an extension by its type in the contents of a list of extensions:
--- `FindsIn` for the extension, `ReadsKnown` for the struct that C sees of it.
-use Rattle.std.specs.Prelude.{◌≡◌, ℕ, ◌^◌, ◌<◌, ◌≤◌, List, length, Option, Result, Ok, Err}
+-- `FindsType` for the extension, `ReadsKnown` for the struct that C sees of it, and `FindsIn` for an
+-- extension that may be BER.
+use Rattle.std.specs.Prelude.{◌≡◌, ◌↔◌, ℕ, ◌^◌, ◌<◌, ◌≤◌, true, List, [], ◌∷◌, length, Option, Some, None, Result, Ok, Err}
 use Rattle.der_base.specs.Error.{error_of_kind}
 use Rattle.der_base.specs.declared.error.Error.{Error}
 use Rattle.der_base.specs.declared.error.ErrorKind.TheVariants.{Overflow, SetDuplicate}
 use Rattle.der_core.specs.ReaderState.{ReaderState}
 use Rattle.der_asn1.specs.ListAnswers.{ListWalked}
+use Rattle.der_asn1.specs.SequenceOf.{IsListOf}
 use Rattle.der_c_core.specs.ErrorCode.{no_error, error_code}
+use Rattle.der_c_core.specs.Located.{LocatesIn}
 use Rattle.der_c_core.specs.declared.error.DerError.{DerError}
+use Rattle.x509.specs.Find.{of_type}
+use Rattle.x509.specs.declared.asn1.extension.Extension.{Extension}
 use Rattle.x509.specs.declared.find.error.FindError.{FindError}
 use Rattle.x509.specs.declared.find.error.FindError.TheVariants.{Repeated, Contents}
 use Rattle.x509.specs.declared.find.known.Known.{Known}
@@ -18,6 +23,40 @@ pub record RefusesList {T : Type 0} (reads : ReaderState → Result T Error → 
     (octets : List ℕ) (e : Error) : Type 0 where
   pub too_long : 2 ^ 32 ≤ length octets → e ≡ error_of_kind Overflow
   pub no_item : length octets < 2 ^ 32 → ListWalked (λ e f. f ≡ e) reads (Err e) octets
+
+-- the outcome for the only extension of a type: its contents are a value; or they have an error,
+-- which is reported where they are cut (`LocatesIn`)
+pub data ReadsContents {A : Type 0} (reads : List ℕ → Result A Error → Type 0) (e : Extension)
+    (result : Result (Option (Known A)) DerError) : Type 0 where
+  read : (k : Known A) → reads e.extn_value.octets.now (Ok k.value)
+      → ((k.critical ≡ true) ↔ (e.critical.0.octets.now ≡ 255 ∷ [])) → result ≡ Ok (Some k)
+      → ReadsContents reads e result
+  refused : (error : Error) (code : DerError) → reads e.extn_value.octets.now (Err error)
+      → LocatesIn e.extn_value.octets.now error code → result ≡ Err code
+      → ReadsContents reads e result
+
+-- the outcome for the extensions of a type; if there are several, it is `SetDuplicate`
+abbrev pub TypeAnswer : {A : Type 0} → (List ℕ → Result A Error → Type 0) → List Extension
+    → Result (Option (Known A)) DerError → Type 0
+TypeAnswer reads [] result = result ≡ Ok None
+TypeAnswer reads (e ∷ []) result = ReadsContents reads e result
+TypeAnswer reads (e ∷ f ∷ es) result = result ≡ Err (error_code (error_of_kind SetDuplicate))
+
+-- the octets are the encodings of extensions; the outcome for those with this object identifier
+pub record FindsInList {A : Type 0} (valid : Extension → Type 0) (encoding : Extension → List ℕ)
+    (reads : List ℕ → Result A Error → Type 0) (oid octets : List ℕ)
+    (result : Result (Option (Known A)) DerError) : Type 0 where
+  pub list : IsListOf valid encoding octets
+  pub answer : TypeAnswer reads (of_type (λ e. e.extn_id.octets.now) oid list.items) result
+
+-- the octets are not a list of extensions, or the extension is looked up in the list
+pub data FindsType {A : Type 0} (Refuses : List ℕ → Error → Type 0) (valid : Extension → Type 0)
+    (encoding : Extension → List ℕ) (reads : List ℕ → Result A Error → Type 0) (oid octets : List ℕ)
+    (result : Result (Option (Known A)) DerError) : Type 0 where
+  no_list : (e : Error) → Refuses octets e → result ≡ Err (error_code e)
+      → FindsType Refuses valid encoding reads oid octets result
+  in_list : FindsInList valid encoding reads oid octets result
+      → FindsType Refuses valid encoding reads oid octets result
 
 -- the result of a lookup, with its error as C sees it; a type that occurs more than once is
 -- `SetDuplicate`

@@ -1,10 +1,14 @@
 -- Items of lists as structs of C: extensions (`IsExtensionOf`), attributes of names
--- (`IsAttributeOf`) and general names (`IsGeneralNameOf`).
+-- (`IsAttributeOf`), general names (`IsGeneralNameOf`), access descriptions
+-- (`IsAccessDescriptionOf`) and those that are contents octets (`IsSpanOf`).
 use Rattle.std.specs.Prelude.{◌≡◌, ◌↔◌, ℕ, true, List, [], ◌∷◌}
+use Rattle.der_c_core.specs.declared.span.DerSpan.{DerSpan}
 use Rattle.der_c_x509.specs.Fields.{IsAnyOf, IsNoAny}
+use Rattle.der_c_x509.specs.declared.access.DerAccessDescription.{DerAccessDescription}
 use Rattle.der_c_x509.specs.declared.attribute.DerAttribute.{DerAttribute}
 use Rattle.der_c_x509.specs.declared.extension.DerExtension.{DerExtension}
 use Rattle.der_c_x509.specs.declared.general_name.DerGeneralName.{DerGeneralName}
+use Rattle.x509.specs.declared.asn1.access_description.AccessDescription.{AccessDescription}
 use Rattle.x509.specs.declared.asn1.attribute_type_and_value.AttributeTypeAndValue.{AttributeTypeAndValue}
 use Rattle.x509.specs.declared.asn1.extension.Extension.{Extension}
 use Rattle.x509.specs.declared.asn1.general_name.GeneralName.{GeneralName}
@@ -47,3 +51,12 @@ IsGeneralNameOf (name.EdiPartyName v) = IsPlainName 5 []
 IsGeneralNameOf (name.UniformResourceIdentifier v) = IsPlainName 6 v.0.octets.now
 IsGeneralNameOf (name.IpAddress v) = IsPlainName 7 v.0.octets.now
 IsGeneralNameOf (name.RegisteredId v) = IsPlainName 8 v.0.octets.now
+
+-- a value as its contents octets, such as the purpose of a key (4.2.1.12)
+abbrev pub IsSpanOf : {A : Type 0} → (A → List ℕ) → A → DerSpan → Type 0
+IsSpanOf octets_of v s = s.octets.now ≡ octets_of v
+
+-- which information is found, and where (4.2.2.1)
+pub record IsAccessDescriptionOf (v : AccessDescription) (d : DerAccessDescription) : Type 0 where
+  pub method : d.method.octets.now ≡ v.access_method.octets.now
+  pub location : IsGeneralNameOf v.access_location d.location

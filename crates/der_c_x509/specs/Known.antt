@@ -1,8 +1,9 @@
--- Extensions that are found by their type, as structs of C: keyUsage (`IsKeyUsageOf`) and
--- subjectAltName (`IsNamesOf`).
+-- Extensions that are found by their type, as structs of C: keyUsage (`IsKeyUsageOf`),
+-- subjectAltName (`IsNamesOf`), and those whose value is a list or octets (`IsFoundOf`).
 use Rattle.std.specs.Prelude.{◌≡◌, ℕ, zero, suc, ◌+◌, ◌^◌, true, false, List, [], Option, Some, None, if◌then◌else◌}
 use Rattle.der_asn1.specs.NamedBits.{has_bit}
 use Rattle.x509.specs.declared.find.known.Known.{Known}
+use Rattle.der_c_x509.specs.declared.found.DerFound.{DerFound}
 use Rattle.der_c_x509.specs.declared.key_usage.DerKeyUsage.{DerKeyUsage}
 use Rattle.der_c_x509.specs.declared.subject_names.DerGeneralNames.{DerGeneralNames}
 
@@ -22,3 +23,10 @@ abbrev pub IsNamesOf : {A : Type 0} → (A → List ℕ) → Option (Known A) �
 IsNamesOf octets_of None n = (n.present ≡ false) × (n.critical ≡ false) × (n.names.octets.now ≡ [])
 IsNamesOf octets_of (Some k) n =
     (n.present ≡ true) × (n.critical ≡ k.critical) × (n.names.octets.now ≡ octets_of k.value)
+
+-- the contents octets of the value; if the extension is absent, nothing
+abbrev pub IsFoundOf : {A : Type 0} → (A → List ℕ) → Option (Known A) → DerFound → Type 0
+IsFoundOf octets_of None f =
+    (f.present ≡ false) × (f.critical ≡ false) × (f.contents.octets.now ≡ [])
+IsFoundOf octets_of (Some k) f =
+    (f.present ≡ true) × (f.critical ≡ k.critical) × (f.contents.octets.now ≡ octets_of k.value)

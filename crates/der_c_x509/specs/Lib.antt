@@ -1,6 +1,8 @@
+pub mod AuthorityKey
 pub mod Calls
 pub mod Certificate
 pub mod Constraints
+pub mod DistributionPoint
 pub mod Fields
 pub mod FindCalls
 pub mod Items

@@ -1,9 +1,9 @@
 //! Whether the subject may issue certificates.
 ghost use Rattle.std.specs.Prelude.{◌≡◌};
 ghost use Rattle.x509.specs.ExtensionIdentifiers.{id_ce};
-ghost use Rattle.x509.specs.Find.{FindsExtension, WholeRead};
+ghost use Rattle.x509.specs.Find.{WholeRead};
 ghost use Rattle.der_c_x509.specs.Constraints.{IsConstraintsAnswer, IsPathLengthAnswer, ReadsConstraints};
-ghost use Rattle.der_c_x509.specs.FindCalls.{FindsIn, RefusesList};
+ghost use Rattle.der_c_x509.specs.FindCalls.{FindsType, RefusesList};
 
 use crate::find::find_known;
 use der::{Decode, DecodeValue, ErrorKind, FixedTag, ReadValue, SliceReader, Tag, WrittenValue};
@@ -82,21 +82,20 @@ pub(crate) fn constraints_of<'a>(
 ///   contents that `der_certificate_read` returns;
 /// - `SetDuplicate` without a position, if the list has the extension more than once;
 /// - the error of decoding the value of the extension, whose position counts from the start of this
-///   value;
+///   value; `Incomplete` says where the value would end, if its contents are cut;
 /// - `Value` with the tag INTEGER, without a position, if the limit is negative or above 2^64 - 1.
 pub fn der_basic_constraints<'a>(
     alloc: Global,
     extensions: &'a [u8],
     constraints: &mut DerBasicConstraints,
 ) -> DerError
-    ensures { ReadsConstraints (FindsIn
-        (RefusesList ⟦<Extension<'a> as Decode<SliceReader<'a>>>⟧.decode_answers)
-        (FindsExtension ⟦<Extension<'a> as Item>⟧.item.valid ⟦<Extension<'a> as Item>⟧.item.octets
-        (WholeRead ⟦<BasicConstraints<'a> as FixedTag>⟧.tag_is
-        ⟦<BasicConstraints<'a> as ReadValue>⟧.valid
+    ensures { ReadsConstraints (FindsType (RefusesList
+        ⟦<Extension<'a> as Decode<SliceReader<'a>>>⟧.decode_answers)
+        ⟦<Extension<'a> as Item>⟧.item.valid ⟦<Extension<'a> as Item>⟧.item.octets (WholeRead
+        ⟦<BasicConstraints<'a> as FixedTag>⟧.tag_is ⟦<BasicConstraints<'a> as ReadValue>⟧.valid
         ⟦<BasicConstraints<'a> as WrittenValue>⟧.contents
         ⟦<BasicConstraints<'a> as ReadValue>⟧.allocates
-        ⟦<BasicConstraints<'a> as DecodeValue<SliceReader<'a>>>⟧.decode_value_answers) (id_ce 19))
+        ⟦<BasicConstraints<'a> as DecodeValue<SliceReader<'a>>>⟧.decode_value_answers) (id_ce 19)
         extensions.now) result constraints.old constraints.new }
 {
     match find_known::<ext::BasicConstraints>(alloc, extensions) {

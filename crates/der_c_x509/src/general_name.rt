@@ -72,7 +72,7 @@ fn other_name<'a>(value: &OtherName<'a>) -> DerGeneralName<'a>
 }
 
 // A name as a struct of C.
-fn general_name_of<'a>(value: &GeneralName<'a>) -> DerGeneralName<'a>
+pub(crate) fn general_name_of<'a>(value: &GeneralName<'a>) -> DerGeneralName<'a>
     ensures { IsGeneralNameOf value.now result }
 {
     match value {
@@ -89,7 +89,8 @@ fn general_name_of<'a>(value: &GeneralName<'a>) -> DerGeneralName<'a>
 }
 
 /// Reads the next name of a list into `name`. `reader` reads the contents of GeneralNames, as
-/// `der_subject_alternative_name` returns them.
+/// `der_subject_alternative_name`, `der_authority_key_identifier` and `der_next_distribution_point`
+/// return them.
 ///
 /// Every error makes the reader fail, except `TagUnexpected`, which leaves it unchanged. A call
 /// that fails leaves `name` unchanged. At the end of the list the error is `Incomplete`.

@@ -2,8 +2,8 @@
 ghost use Rattle.std.specs.Prelude.{◌≡◌, ◌<◌, ◌^◌};
 ghost use Rattle.der_asn1.specs.NamedBits.{has_bit};
 ghost use Rattle.x509.specs.ExtensionIdentifiers.{id_ce};
-ghost use Rattle.x509.specs.Find.{FindsExtension, WholeRead};
-ghost use Rattle.der_c_x509.specs.FindCalls.{FindsIn, ReadsKnown, RefusesList};
+ghost use Rattle.x509.specs.Find.{WholeRead};
+ghost use Rattle.der_c_x509.specs.FindCalls.{FindsType, ReadsKnown, RefusesList};
 ghost use Rattle.der_c_x509.specs.Known.{IsKeyUsageOf, first_bits};
 
 use crate::find::find_known;
@@ -36,7 +36,7 @@ impl DerKeyUsage {
 }
 
 // The bits 0 to 15 as a number.
-fn bits_of_usage(usage: &NamedBitsRef<'_>) -> u16
+pub(crate) fn named_bits_of(usage: &NamedBitsRef<'_>) -> u16
     ensures { result ≡ first_bits 16 usage.now.octets.now }
 {
     let mut bits: u16 = 0;
@@ -54,7 +54,7 @@ fn key_usage_of<'a>(found: &Option<Known<NamedBitsRef<'a>>>) -> DerKeyUsage
 {
     match found {
         Some(known) => DerKeyUsage {
-            bits: bits_of_usage(&known.value),
+            bits: named_bits_of(&known.value),
             present: true,
             critical: known.critical,
         },
@@ -71,14 +71,14 @@ fn key_usage_of<'a>(found: &Option<Known<NamedBitsRef<'a>>>) -> DerKeyUsage
 ///   contents that `der_certificate_read` returns;
 /// - `SetDuplicate` without a position, if the list has the extension more than once;
 /// - the error of decoding the value of the extension, whose position counts from the start of this
-///   value.
+///   value; `Incomplete` says where the value would end, if its contents are cut.
 pub fn der_key_usage<'a>(alloc: Global, extensions: &'a [u8], usage: &mut DerKeyUsage) -> DerError
-    ensures { ReadsKnown (FindsIn
-        (RefusesList ⟦<Extension<'a> as Decode<SliceReader<'a>>>⟧.decode_answers)
-        (FindsExtension ⟦<Extension<'a> as Item>⟧.item.valid ⟦<Extension<'a> as Item>⟧.item.octets
-        (WholeRead ⟦<NamedBitsRef<'a> as FixedTag>⟧.tag_is ⟦<NamedBitsRef<'a> as ReadValue>⟧.valid
+    ensures { ReadsKnown (FindsType (RefusesList
+        ⟦<Extension<'a> as Decode<SliceReader<'a>>>⟧.decode_answers)
+        ⟦<Extension<'a> as Item>⟧.item.valid ⟦<Extension<'a> as Item>⟧.item.octets (WholeRead
+        ⟦<NamedBitsRef<'a> as FixedTag>⟧.tag_is ⟦<NamedBitsRef<'a> as ReadValue>⟧.valid
         ⟦<NamedBitsRef<'a> as WrittenValue>⟧.contents ⟦<NamedBitsRef<'a> as ReadValue>⟧.allocates
-        ⟦<NamedBitsRef<'a> as DecodeValue<SliceReader<'a>>>⟧.decode_value_answers) (id_ce 15))
+        ⟦<NamedBitsRef<'a> as DecodeValue<SliceReader<'a>>>⟧.decode_value_answers) (id_ce 15)
         extensions.now) (IsKeyUsageOf (λ v. v.octets.now)) result usage.old usage.new }
 {
     match find_known::<ext::KeyUsage>(alloc, extensions) {

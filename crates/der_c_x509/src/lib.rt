@@ -4,14 +4,20 @@
 //! Nothing is validated: no signature, no chain of certificates, no time. No function allocates.
 #![tactic(auto)]
 
+mod access;
 mod algorithm;
 mod any;
 mod attribute;
+mod authority_key;
 mod basic_constraints;
 mod certificate;
+mod distribution_point;
 mod extension;
 mod find;
+mod found;
 mod general_name;
+mod key_identifier;
+mod key_purposes;
 mod key_usage;
 mod lenient;
 mod next;
@@ -25,13 +31,23 @@ mod strings;
 mod subject_names;
 mod time;
 
+pub use access::{
+    DerAccessDescription, der_authority_information_access, der_next_access_description,
+};
 pub use algorithm::DerAlgorithm;
 pub use any::DerAny;
 pub use attribute::{DerAttribute, der_next_attribute};
+pub use authority_key::{DerAuthorityKey, der_authority_key_identifier};
 pub use basic_constraints::{DerBasicConstraints, der_basic_constraints};
 pub use certificate::{DerCertificate, der_certificate_read};
+pub use distribution_point::{
+    DerDistributionPoint, der_distribution_points, der_next_distribution_point,
+};
 pub use extension::{DerExtension, der_next_extension};
+pub use found::DerFound;
 pub use general_name::{DerGeneralName, der_next_general_name};
+pub use key_identifier::der_subject_key_identifier;
+pub use key_purposes::{der_extended_key_usage, der_next_key_purpose};
 pub use key_usage::{DerKeyUsage, der_key_usage};
 pub use lenient::{der_basic_constraints_lenient, der_key_usage_lenient};
 pub use private_key::{DerPrivateKey, der_private_key_read};

@@ -1,10 +1,14 @@
 //! The sizes and alignments that `bindings/c/der.h` promises to programs in C.
+use crate::access::DerAccessDescription;
 use crate::algorithm::DerAlgorithm;
 use crate::any::DerAny;
 use crate::attribute::DerAttribute;
+use crate::authority_key::DerAuthorityKey;
 use crate::basic_constraints::DerBasicConstraints;
 use crate::certificate::DerCertificate;
+use crate::distribution_point::DerDistributionPoint;
 use crate::extension::DerExtension;
+use crate::found::DerFound;
 use crate::general_name::DerGeneralName;
 use crate::key_usage::DerKeyUsage;
 use crate::private_key::DerPrivateKey;
@@ -69,3 +73,19 @@ const _: () = prove!(align_of::<DerRevocationList<'static>>() == 8);
 const _: () = prove!(size_of::<DerRevoked<'static>>() == 48);
 
 const _: () = prove!(align_of::<DerRevoked<'static>>() == 8);
+
+const _: () = prove!(size_of::<DerFound<'static>>() == 24);
+
+const _: () = prove!(align_of::<DerFound<'static>>() == 8);
+
+const _: () = prove!(size_of::<DerAuthorityKey<'static>>() == 56);
+
+const _: () = prove!(align_of::<DerAuthorityKey<'static>>() == 8);
+
+const _: () = prove!(size_of::<DerAccessDescription<'static>>() == 80);
+
+const _: () = prove!(align_of::<DerAccessDescription<'static>>() == 8);
+
+const _: () = prove!(size_of::<DerDistributionPoint<'static>>() == 56);
+
+const _: () = prove!(align_of::<DerDistributionPoint<'static>>() == 8);

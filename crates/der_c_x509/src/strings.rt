@@ -1,9 +1,10 @@
 //! Octets and bits of values.
 ghost use Rattle.std.specs.Prelude.{◌≡◌};
-ghost use Rattle.der_c_x509.specs.Fields.{IsBitsOf};
+ghost use Rattle.der_c_x509.specs.Fields.{IsBitsOf, IsOptionalSpanOf};
 
-use der_asn1::{BitStringRef, Checked, ContentsGrammar};
+use der_asn1::{BitStringRef, Checked, ContentsGrammar, Implicit, Optional, SequenceOf};
 use der_c_core::{DerBits, DerSpan};
+use x509::GeneralName;
 
 // The contents octets of a value.
 #[inline(always)]
@@ -25,5 +26,31 @@ pub(crate) fn bits_of<'a>(value: &BitStringRef<'a>) -> DerBits<'a>
             unused: *unused,
         },
         [] => DerBits::EMPTY,
+    }
+}
+
+// The contents octets of a value with an implicit tag, or no octets.
+pub(crate) fn optional_span_of<'a, F: ContentsGrammar, const N: u32>(
+    value: &Optional<Implicit<Checked<'a, F>, N>>,
+) -> DerSpan<'a>
+    ensures { IsOptionalSpanOf (λ v. v.0.octets.now) value.now.0 result }
+{
+    match &value.0 {
+        Some(value) => span_of(&value.0),
+        None => DerSpan::EMPTY,
+    }
+}
+
+// The contents octets of a list of names with an implicit tag, or no octets.
+pub(crate) fn optional_names_of<'a, const N: u32>(
+    value: &Optional<Implicit<SequenceOf<'a, GeneralName<'a>>, N>>,
+) -> DerSpan<'a>
+    ensures { IsOptionalSpanOf (λ v. v.0.octets.now) value.now.0 result }
+{
+    match &value.0 {
+        Some(value) => DerSpan {
+            octets: value.0.octets(),
+        },
+        None => DerSpan::EMPTY,
     }
 }

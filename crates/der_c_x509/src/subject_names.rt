@@ -1,8 +1,8 @@
 //! Further names of the subject.
 ghost use Rattle.std.specs.Prelude.{◌≡◌};
 ghost use Rattle.x509.specs.ExtensionIdentifiers.{id_ce};
-ghost use Rattle.x509.specs.Find.{FindsExtension, WholeRead};
-ghost use Rattle.der_c_x509.specs.FindCalls.{FindsIn, ReadsKnown, RefusesList};
+ghost use Rattle.x509.specs.Find.{WholeRead};
+ghost use Rattle.der_c_x509.specs.FindCalls.{FindsType, ReadsKnown, RefusesList};
 ghost use Rattle.der_c_x509.specs.Known.{IsNamesOf};
 
 use crate::find::find_known;
@@ -60,21 +60,21 @@ fn names_of<'a>(found: &Option<Known<SequenceOf<'a, GeneralName<'a>>>>) -> DerGe
 ///   contents that `der_certificate_read` returns;
 /// - `SetDuplicate` without a position, if the list has the extension more than once;
 /// - the error of decoding the value of the extension, whose position counts from the start of this
-///   value.
+///   value; `Incomplete` says where the value would end, if its contents are cut.
 pub fn der_subject_alternative_name<'a>(
     alloc: Global,
     extensions: &'a [u8],
     names: &mut DerGeneralNames<'a>,
 ) -> DerError
-    ensures { ReadsKnown (FindsIn
-        (RefusesList ⟦<Extension<'a> as Decode<SliceReader<'a>>>⟧.decode_answers)
-        (FindsExtension ⟦<Extension<'a> as Item>⟧.item.valid ⟦<Extension<'a> as Item>⟧.item.octets
-        (WholeRead ⟦<SequenceOf<'a, GeneralName<'a>> as FixedTag>⟧.tag_is
+    ensures { ReadsKnown (FindsType (RefusesList
+        ⟦<Extension<'a> as Decode<SliceReader<'a>>>⟧.decode_answers)
+        ⟦<Extension<'a> as Item>⟧.item.valid ⟦<Extension<'a> as Item>⟧.item.octets (WholeRead
+        ⟦<SequenceOf<'a, GeneralName<'a>> as FixedTag>⟧.tag_is
         ⟦<SequenceOf<'a, GeneralName<'a>> as ReadValue>⟧.valid
         ⟦<SequenceOf<'a, GeneralName<'a>> as WrittenValue>⟧.contents
         ⟦<SequenceOf<'a, GeneralName<'a>> as ReadValue>⟧.allocates
         ⟦<SequenceOf<'a, GeneralName<'a>> as DecodeValue<SliceReader<'a>>>⟧.decode_value_answers)
-        (id_ce 17)) extensions.now) (IsNamesOf (λ v. v.octets.now)) result names.old names.new }
+        (id_ce 17) extensions.now) (IsNamesOf (λ v. v.octets.now)) result names.old names.new }
 {
     match find_known::<ext::SubjectAltName>(alloc, extensions) {
         Ok(found) => {

@@ -14,7 +14,7 @@ use Rattle.x509_match.specs.NameMatching.{AreAsMany, AttributesMatch, HasMatch, 
 abbrev pub Match : Tag → List ℕ → Tag → List ℕ → Type 0
 Match t c u d =
     (((is_text_tag t && is_text_tag u) ≡ true) × TextsMatch c d)
-    ⊎ (((is_text_tag t && is_text_tag u) ≡ false) × (t ≡ u) × (c ≡ d))
+    ⊎ (((is_text_tag t && is_text_tag u) ≡ false) × ((t ≡ u) × (c ≡ d)))
 
 -- the first attribute is one with the same encoding
 pub first_same : (x v w : AttributeTypeAndValue) → attribute_encoding v ≡ attribute_encoding w → AttributesMatch v x → AttributesMatch w x

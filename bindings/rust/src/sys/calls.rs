@@ -1,8 +1,9 @@
 //! The calls of `der.h`. Written by tools/c_interface: change the crates that der_c uses instead.
 use super::{
-    Node, RawAttribute, RawBits, RawCertificate, RawConstraints, RawCounter, RawElement, RawEntry, RawError,
-    RawExtension, RawGeneralName, RawHeader, RawMark, RawNames, RawPemBlock, RawPrivateKey, RawPublicKey, RawReader,
-    RawRequest, RawRevocationList, RawRevoked, RawSpan, RawText, RawTime, RawTreeFound, RawUsage, RawWriter,
+    Node, RawAccessDescription, RawAttribute, RawAuthorityKey, RawBits, RawCertificate, RawCertificateParts,
+    RawConstraints, RawCounter, RawDistributionPoint, RawElement, RawEntry, RawError, RawExtension, RawFound,
+    RawGeneralName, RawHeader, RawMark, RawNames, RawPemBlock, RawPrivateKey, RawPublicKey, RawReader, RawRequest,
+    RawRevocationList, RawRevoked, RawSpan, RawText, RawTime, RawTreeFound, RawUsage, RawWriter,
 };
 
 unsafe extern "C" {
@@ -15,6 +16,8 @@ unsafe extern "C" {
     pub safe fn der_read_header(reader: &mut RawReader<'_>, header: &mut RawHeader) -> RawError;
     pub safe fn der_read_element<'a>(reader: &mut RawReader<'a>, element: &mut RawElement<'a>) -> RawError;
     pub safe fn der_skip(reader: &mut RawReader<'_>) -> RawError;
+    pub safe fn der_peek(reader: &RawReader<'_>, tag: &mut u64) -> RawError;
+    pub safe fn der_next_is(reader: &RawReader<'_>, tag: u64) -> bool;
     pub safe fn der_expect<'a>(reader: &mut RawReader<'a>, tag: u64, element: &mut RawElement<'a>) -> RawError;
     pub safe fn der_optional<'a>(
         reader: &mut RawReader<'a>,
@@ -57,6 +60,7 @@ unsafe extern "C" {
     ) -> RawError;
     pub safe fn der_next_character(text: &mut RawText<'_>, character: &mut u32) -> bool;
     pub safe fn der_read_time(reader: &mut RawReader<'_>, tag: u64, time_type: u64, time: &mut RawTime) -> RawError;
+    pub fn der_time_text(time: &RawTime, text: *mut u8, capacity: usize, count: &mut usize) -> RawError;
     pub fn der_oid_text(oid: *const u8, length: usize, text: *mut u8, capacity: usize, count: &mut usize) -> RawError;
     pub fn der_oid_arcs(oid: *const u8, length: usize, arcs: *mut u64, capacity: usize, count: &mut usize) -> RawError;
     pub fn der_oid_from_text(
@@ -114,6 +118,32 @@ unsafe extern "C" {
         length: usize,
         names: &mut RawNames<'a>,
     ) -> RawError;
+    pub fn der_extended_key_usage<'a>(extensions: *const u8, length: usize, purposes: &mut RawFound<'a>) -> RawError;
+    pub safe fn der_next_key_purpose<'a>(reader: &mut RawReader<'a>, purpose: &mut RawSpan<'a>) -> RawError;
+    pub fn der_subject_key_identifier<'a>(
+        extensions: *const u8,
+        length: usize,
+        identifier: &mut RawFound<'a>,
+    ) -> RawError;
+    pub fn der_authority_key_identifier<'a>(
+        extensions: *const u8,
+        length: usize,
+        key: &mut RawAuthorityKey<'a>,
+    ) -> RawError;
+    pub fn der_authority_information_access<'a>(
+        extensions: *const u8,
+        length: usize,
+        descriptions: &mut RawFound<'a>,
+    ) -> RawError;
+    pub safe fn der_next_access_description<'a>(
+        reader: &mut RawReader<'a>,
+        description: &mut RawAccessDescription<'a>,
+    ) -> RawError;
+    pub fn der_distribution_points<'a>(extensions: *const u8, length: usize, points: &mut RawFound<'a>) -> RawError;
+    pub safe fn der_next_distribution_point<'a>(
+        reader: &mut RawReader<'a>,
+        point: &mut RawDistributionPoint<'a>,
+    ) -> RawError;
     pub fn der_writer_init<'a>(octets: *mut u8, length: usize, writer: &mut RawWriter<'a>);
     pub safe fn der_written(writer: &RawWriter<'_>) -> usize;
     pub safe fn der_writer_finish(writer: &RawWriter<'_>) -> RawError;
@@ -121,6 +151,7 @@ unsafe extern "C" {
     pub fn der_write(writer: &mut RawWriter<'_>, octets: *const u8, length: usize) -> RawError;
     pub safe fn der_write_header(writer: &mut RawWriter<'_>, tag: u64, length: u32) -> RawError;
     pub fn der_write_element(writer: &mut RawWriter<'_>, tag: u64, contents: *const u8, length: usize) -> RawError;
+    pub fn der_write_parts(writer: &mut RawWriter<'_>, tag: u64, parts: *const RawSpan<'_>, count: usize) -> RawError;
     pub safe fn der_element_length(tag: u64, length: u32, count: &mut u32) -> RawError;
     pub safe fn der_begin(writer: &mut RawWriter<'_>, tag: u64, mark: &mut RawMark) -> RawError;
     pub safe fn der_end(writer: &mut RawWriter<'_>, mark: &RawMark) -> RawError;
@@ -155,6 +186,48 @@ unsafe extern "C" {
     ) -> RawError;
     pub safe fn der_write_time(writer: &mut RawWriter<'_>, tag: u64, time_type: u64, time: &RawTime) -> RawError;
     pub safe fn der_write_time_seconds(writer: &mut RawWriter<'_>, tag: u64, time_type: u64, seconds: i64) -> RawError;
+    pub fn der_write_name_attribute<'a>(
+        writer: &mut RawWriter<'_>,
+        identifier: *const u8,
+        length: usize,
+        string_type: u64,
+        text: *const u8,
+        text_length: usize,
+    ) -> RawError;
+    pub fn der_write_extension<'a>(
+        writer: &mut RawWriter<'_>,
+        identifier: *const u8,
+        length: usize,
+        critical: bool,
+        value: *const u8,
+        value_length: usize,
+    ) -> RawError;
+    pub fn der_write_algorithm(
+        writer: &mut RawWriter<'_>,
+        identifier: *const u8,
+        length: usize,
+        null_parameters: bool,
+    ) -> RawError;
+    pub fn der_write_request_part<'a>(
+        writer: &mut RawWriter<'_>,
+        subject: *const u8,
+        subject_length: usize,
+        public_key: *const u8,
+        key_length: usize,
+        extensions: *const u8,
+        extensions_length: usize,
+    ) -> RawError;
+    pub safe fn der_write_validity(writer: &mut RawWriter<'_>, not_before: i64, not_after: i64) -> RawError;
+    pub safe fn der_write_certificate_part(writer: &mut RawWriter<'_>, parts: &RawCertificateParts<'_>) -> RawError;
+    pub fn der_write_signed<'a>(
+        writer: &mut RawWriter<'_>,
+        part: *const u8,
+        part_length: usize,
+        algorithm: *const u8,
+        algorithm_length: usize,
+        signature: *const u8,
+        signature_length: usize,
+    ) -> RawError;
     pub safe fn der_known_types_room() -> usize;
     pub fn der_known_types(table: *mut u8, capacity: usize) -> usize;
     pub fn der_type_find(table: *const u8, table_length: usize, name: *const u8, length: usize) -> u32;

@@ -23,6 +23,44 @@ pub struct RawPemBlock {
 
 #[repr(C)]
 #[derive(Clone, Copy)]
+pub struct RawCertificateParts<'a> {
+    pub serial_number: RawSpan<'a>,
+    pub signature_algorithm: RawSpan<'a>,
+    pub issuer: RawSpan<'a>,
+    pub validity: RawSpan<'a>,
+    pub subject: RawSpan<'a>,
+    pub public_key: RawSpan<'a>,
+    pub extensions: RawSpan<'a>,
+}
+
+impl RawCertificateParts<'_> {
+    pub const EMPTY: Self = RawCertificateParts {
+        serial_number: RawSpan::EMPTY,
+        signature_algorithm: RawSpan::EMPTY,
+        issuer: RawSpan::EMPTY,
+        validity: RawSpan::EMPTY,
+        subject: RawSpan::EMPTY,
+        public_key: RawSpan::EMPTY,
+        extensions: RawSpan::EMPTY,
+    };
+}
+
+#[repr(C)]
+#[derive(Clone, Copy)]
+pub struct RawAccessDescription<'a> {
+    pub method: RawSpan<'a>,
+    pub location: RawGeneralName<'a>,
+}
+
+impl RawAccessDescription<'_> {
+    pub const EMPTY: Self = RawAccessDescription {
+        method: RawSpan::EMPTY,
+        location: RawGeneralName::EMPTY,
+    };
+}
+
+#[repr(C)]
+#[derive(Clone, Copy)]
 pub struct RawAlgorithm<'a> {
     pub identifier: RawSpan<'a>,
     pub parameters: RawAny<'a>,
@@ -60,6 +98,32 @@ impl RawAttribute<'_> {
     pub const EMPTY: Self = RawAttribute {
         identifier: RawSpan::EMPTY,
         value: RawAny::EMPTY,
+    };
+}
+
+#[repr(C)]
+#[derive(Clone, Copy)]
+pub struct RawAuthorityKey<'a> {
+    pub key_identifier: RawSpan<'a>,
+    pub issuer: RawSpan<'a>,
+    pub serial_number: RawSpan<'a>,
+    pub present: bool,
+    pub critical: bool,
+    pub has_key_identifier: bool,
+    pub has_issuer: bool,
+    pub has_serial_number: bool,
+}
+
+impl RawAuthorityKey<'_> {
+    pub const EMPTY: Self = RawAuthorityKey {
+        key_identifier: RawSpan::EMPTY,
+        issuer: RawSpan::EMPTY,
+        serial_number: RawSpan::EMPTY,
+        present: false,
+        critical: false,
+        has_key_identifier: false,
+        has_issuer: false,
+        has_serial_number: false,
     };
 }
 
@@ -119,6 +183,32 @@ impl RawCertificate<'_> {
 
 #[repr(C)]
 #[derive(Clone, Copy)]
+pub struct RawDistributionPoint<'a> {
+    pub full_name: RawSpan<'a>,
+    pub relative_name: RawSpan<'a>,
+    pub list_issuer: RawSpan<'a>,
+    pub reasons: u16,
+    pub has_full_name: bool,
+    pub has_relative_name: bool,
+    pub has_reasons: bool,
+    pub has_list_issuer: bool,
+}
+
+impl RawDistributionPoint<'_> {
+    pub const EMPTY: Self = RawDistributionPoint {
+        full_name: RawSpan::EMPTY,
+        relative_name: RawSpan::EMPTY,
+        list_issuer: RawSpan::EMPTY,
+        reasons: 0,
+        has_full_name: false,
+        has_relative_name: false,
+        has_reasons: false,
+        has_list_issuer: false,
+    };
+}
+
+#[repr(C)]
+#[derive(Clone, Copy)]
 pub struct RawExtension<'a> {
     pub identifier: RawSpan<'a>,
     pub value: RawSpan<'a>,
@@ -129,6 +219,22 @@ impl RawExtension<'_> {
     pub const EMPTY: Self = RawExtension {
         identifier: RawSpan::EMPTY,
         value: RawSpan::EMPTY,
+        critical: false,
+    };
+}
+
+#[repr(C)]
+#[derive(Clone, Copy)]
+pub struct RawFound<'a> {
+    pub contents: RawSpan<'a>,
+    pub present: bool,
+    pub critical: bool,
+}
+
+impl RawFound<'_> {
+    pub const EMPTY: Self = RawFound {
+        contents: RawSpan::EMPTY,
+        present: false,
         critical: false,
     };
 }
@@ -498,12 +604,29 @@ const _: () = {
     assert!(offset_of!(RawPemBlock, line) == 16);
     assert!(offset_of!(RawPemBlock, length) == 24);
     assert!(offset_of!(RawPemBlock, end) == 32);
+    assert!(size_of::<RawCertificateParts>() == 112);
+    assert!(offset_of!(RawCertificateParts, signature_algorithm) == 16);
+    assert!(offset_of!(RawCertificateParts, issuer) == 32);
+    assert!(offset_of!(RawCertificateParts, validity) == 48);
+    assert!(offset_of!(RawCertificateParts, subject) == 64);
+    assert!(offset_of!(RawCertificateParts, public_key) == 80);
+    assert!(offset_of!(RawCertificateParts, extensions) == 96);
+    assert!(size_of::<RawAccessDescription>() == 80);
+    assert!(offset_of!(RawAccessDescription, location) == 16);
     assert!(size_of::<RawAlgorithm>() == 40);
     assert!(offset_of!(RawAlgorithm, parameters) == 16);
     assert!(size_of::<RawAny>() == 24);
     assert!(offset_of!(RawAny, tag) == 16);
     assert!(size_of::<RawAttribute>() == 40);
     assert!(offset_of!(RawAttribute, value) == 16);
+    assert!(size_of::<RawAuthorityKey>() == 56);
+    assert!(offset_of!(RawAuthorityKey, issuer) == 16);
+    assert!(offset_of!(RawAuthorityKey, serial_number) == 32);
+    assert!(offset_of!(RawAuthorityKey, present) == 48);
+    assert!(offset_of!(RawAuthorityKey, critical) == 49);
+    assert!(offset_of!(RawAuthorityKey, has_key_identifier) == 50);
+    assert!(offset_of!(RawAuthorityKey, has_issuer) == 51);
+    assert!(offset_of!(RawAuthorityKey, has_serial_number) == 52);
     assert!(size_of::<RawConstraints>() == 16);
     assert!(offset_of!(RawConstraints, present) == 8);
     assert!(offset_of!(RawConstraints, critical) == 9);
@@ -526,9 +649,20 @@ const _: () = {
     assert!(offset_of!(RawCertificate, has_issuer_unique_id) == 329);
     assert!(offset_of!(RawCertificate, has_subject_unique_id) == 330);
     assert!(offset_of!(RawCertificate, has_extensions) == 331);
+    assert!(size_of::<RawDistributionPoint>() == 56);
+    assert!(offset_of!(RawDistributionPoint, relative_name) == 16);
+    assert!(offset_of!(RawDistributionPoint, list_issuer) == 32);
+    assert!(offset_of!(RawDistributionPoint, reasons) == 48);
+    assert!(offset_of!(RawDistributionPoint, has_full_name) == 50);
+    assert!(offset_of!(RawDistributionPoint, has_relative_name) == 51);
+    assert!(offset_of!(RawDistributionPoint, has_reasons) == 52);
+    assert!(offset_of!(RawDistributionPoint, has_list_issuer) == 53);
     assert!(size_of::<RawExtension>() == 40);
     assert!(offset_of!(RawExtension, value) == 16);
     assert!(offset_of!(RawExtension, critical) == 32);
+    assert!(size_of::<RawFound>() == 24);
+    assert!(offset_of!(RawFound, present) == 16);
+    assert!(offset_of!(RawFound, critical) == 17);
     assert!(size_of::<RawGeneralName>() == 64);
     assert!(offset_of!(RawGeneralName, identifier) == 16);
     assert!(offset_of!(RawGeneralName, value) == 32);

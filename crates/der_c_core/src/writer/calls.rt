@@ -161,7 +161,7 @@ pub fn der_element_length(tag: u64, length: u32, count: &mut u32) -> DerError
 
 // The C form of a result.
 #[inline(always)]
-fn code(answer: Result<(), Error>) -> DerError
+pub(crate) fn code(answer: Result<(), Error>) -> DerError
     ensures { result ≡ answer_code answer }
 {
     match answer {

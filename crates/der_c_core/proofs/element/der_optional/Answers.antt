@@ -1,4 +1,4 @@
-use Rattle.std.proofs.Common.{◌≡◌, true, false, refl, sym, ◌∙◌}
+use Rattle.std.proofs.Common.{◌≡◌, true, false, sym, ◌∙◌}
 use Rattle.der_c_core.proofs.MeetLemmas.{finds_met, finds_other, finds_no_tag, finds_error}
 use Rattle.der_c_core.proofs.element.der_optional.Goals.{else-not-reader-via-then-not-reader+else-reader, else-not-reader-via-else-not-reader}
 use Rattle.der_c_core.proofs.element.der_optional.Goals as goal

@@ -1,0 +1,168 @@
+//! Names, extensions, requests and certificates that are written from parts, for C.
+//!
+//! Written by tools/c_interface: change the crates that der_c uses instead.
+ghost use Rattle.der_asn1.specs.Forms.{integer_form, oid_form};
+ghost use Rattle.der_c_assembly.specs.Assembly.{algorithm_contents, attribute_octets, certificate_contents, extension_contents, request_contents, signed_contents, string_tag};
+ghost use Rattle.der_c_assembly.specs.Validities.{WritesValidity};
+ghost use Rattle.der_c_core.specs.CWriter.{KeepsOpen, writer_state};
+ghost use Rattle.der_c_core.specs.WriterCalls.{WritesElement};
+ghost use Rattle.der_c_values.specs.StringTypes.{string_form};
+ghost use Rattle.der_c_values.specs.WriteCalls.{WritesValue};
+ghost use Rattle.std.specs.Prelude.{◌&&◌};
+
+use der_c_assembly::DerCertificateParts;
+use der_c_core::{DerError, DerWriter};
+
+/// Writes a level of a name with one attribute, a RelativeDistinguishedName (RFC 5280, 4.1.2.4): a SET
+/// with a SEQUENCE of the type and the value. `identifier` are the contents octets of the type's OBJECT
+/// IDENTIFIER. `text` are the contents of the value, a string of the type `string_type`, which is a word as
+/// `der_read_text` takes it. A name is a SEQUENCE of such levels.
+///
+/// `writer` has failed after an error. Fails with:
+///
+/// - `Value` with the tag SET, without a position, if `identifier` are not contents of an OBJECT
+///   IDENTIFIER, if `text` are not characters of the type, or if `string_type` is not the word of a string
+///   type;
+/// - the errors of `der_write_element`.
+#[unsafe(no_mangle)]
+pub extern "C" fn der_write_name_attribute<'a>(
+    writer: &mut DerWriter<'_>,
+    identifier: &'a [u8],
+    string_type: u64,
+    text: &'a [u8],
+) -> DerError
+    ensures writes { WritesValue (oid_form identifier.now && string_form string_type text.now)
+        (attribute_octets identifier.now (string_tag string_type) text.now) 0x31
+        (writer_state writer.old) result (writer_state writer.new) }
+    ensures keeps_open { KeepsOpen writer.old writer.new }
+{
+    der_c_assembly::der_write_name_attribute(writer, identifier, string_type, text)
+}
+
+/// Writes an extension of a certificate, a request or a revocation list (RFC 5280, 4.1). `identifier` are
+/// the contents octets of its OBJECT IDENTIFIER, and `value` is the encoding of its value, which is written
+/// as the contents of an OCTET STRING and not checked. Extensions are a SEQUENCE of such elements.
+///
+/// `writer` has failed after an error. Fails with:
+///
+/// - `Value` with the tag SEQUENCE, without a position, if `identifier` are not contents of an OBJECT
+///   IDENTIFIER;
+/// - the errors of `der_write_element`.
+#[unsafe(no_mangle)]
+pub extern "C" fn der_write_extension<'a>(
+    writer: &mut DerWriter<'_>,
+    identifier: &'a [u8],
+    critical: bool,
+    value: &'a [u8],
+) -> DerError
+    ensures writes { WritesValue (oid_form identifier.now)
+        (extension_contents identifier.now critical value.now) 0x30 (writer_state writer.old) result
+        (writer_state writer.new) }
+    ensures keeps_open { KeepsOpen writer.old writer.new }
+{
+    der_c_assembly::der_write_extension(writer, identifier, critical, value)
+}
+
+/// Writes an AlgorithmIdentifier (RFC 5280, 4.1.1.2). `identifier` are the contents octets of the
+/// algorithm's OBJECT IDENTIFIER. Its parameters are NULL if `null_parameters`, as RSA has them, and else
+/// absent, as ECDSA and Ed25519 have them.
+///
+/// `writer` has failed after an error. Fails with:
+///
+/// - `Value` with the tag SEQUENCE, without a position, if `identifier` are not contents of an OBJECT
+///   IDENTIFIER;
+/// - the errors of `der_write_element`.
+#[unsafe(no_mangle)]
+pub extern "C" fn der_write_algorithm(
+    writer: &mut DerWriter<'_>,
+    identifier: &[u8],
+    null_parameters: bool,
+) -> DerError
+    ensures writes { WritesValue (oid_form identifier.now)
+        (algorithm_contents identifier.now null_parameters) 0x30 (writer_state writer.old) result
+        (writer_state writer.new) }
+    ensures keeps_open { KeepsOpen writer.old writer.new }
+{
+    der_c_assembly::der_write_algorithm(writer, identifier, null_parameters)
+}
+
+/// Writes a CertificationRequestInfo (PKCS #10; RFC 2986, 4.1), the part of a request that is signed.
+/// `subject` is the encoding of a Name, `public_key` that of a SubjectPublicKeyInfo. `extensions` is the
+/// encoding of the Extensions that are requested (RFC 2985, 5.4.2); a request without octets of
+/// `extensions` has no attributes. All three are written as they are, and not checked.
+///
+/// Fails with the errors of `der_write_element`; `writer` has failed then.
+#[unsafe(no_mangle)]
+pub extern "C" fn der_write_request_part<'a>(
+    writer: &mut DerWriter<'_>,
+    subject: &'a [u8],
+    public_key: &'a [u8],
+    extensions: &'a [u8],
+) -> DerError
+    ensures writes { WritesElement 0x30
+        (request_contents subject.now public_key.now extensions.now) (writer_state writer.old) result
+        (writer_state writer.new) }
+    ensures keeps_open { KeepsOpen writer.old writer.new }
+{
+    der_c_assembly::der_write_request_part(writer, subject, public_key, extensions)
+}
+
+/// Writes a Validity (RFC 5280, 4.1.2.5): a SEQUENCE of two times, each in seconds since
+/// 1970-01-01T00:00:00Z. A time from 1950 to 2049 is a UTCTime, and another one a GeneralizedTime. That
+/// `not_before` comes first is not checked.
+///
+/// `writer` has failed after an error; octets of the element that were written remain. Fails with the errors
+/// of `der_write_header`, and of `der_write_time_seconds` of each time.
+#[unsafe(no_mangle)]
+pub extern "C" fn der_write_validity(
+    writer: &mut DerWriter<'_>,
+    not_before: i64,
+    not_after: i64,
+) -> DerError
+    ensures writes { WritesValidity not_before not_after (writer_state writer.old) result
+        (writer_state writer.new) }
+    ensures keeps_open { KeepsOpen writer.old writer.new }
+{
+    der_c_assembly::der_write_validity(writer, not_before, not_after)
+}
+
+/// Writes a TBSCertificate (RFC 5280, 4.1) of version 3, the part of a certificate that is signed, without
+/// unique identifiers. The parts are written as they are.
+///
+/// `writer` has failed after an error. Fails with:
+///
+/// - `Value` with the tag SEQUENCE, without a position, if the serial number has no octets or not the
+///   fewest;
+/// - the errors of `der_write_element`.
+#[unsafe(no_mangle)]
+pub extern "C" fn der_write_certificate_part(
+    writer: &mut DerWriter<'_>,
+    parts: &DerCertificateParts<'_>,
+) -> DerError
+    ensures writes { WritesValue (integer_form parts.now.serial_number.octets.now)
+        (certificate_contents parts.now) 0x30 (writer_state writer.old) result
+        (writer_state writer.new) }
+    ensures keeps_open { KeepsOpen writer.old writer.new }
+{
+    der_c_assembly::der_write_certificate_part(writer, parts)
+}
+
+/// Writes a Certificate, a CertificateList (RFC 5280, 4.1 and 5.1) or a CertificationRequest (RFC 2986,
+/// 4.2): a SEQUENCE of the part that is signed, the algorithm, and a BIT STRING with the octets of the
+/// signature. `part` and `algorithm` are written as they are: each must be the encoding of one element,
+/// which is not checked.
+///
+/// Fails with the errors of `der_write_element`; `writer` has failed then.
+#[unsafe(no_mangle)]
+pub extern "C" fn der_write_signed<'a>(
+    writer: &mut DerWriter<'_>,
+    part: &'a [u8],
+    algorithm: &'a [u8],
+    signature: &'a [u8],
+) -> DerError
+    ensures writes { WritesElement 0x30 (signed_contents part.now algorithm.now signature.now)
+        (writer_state writer.old) result (writer_state writer.new) }
+    ensures keeps_open { KeepsOpen writer.old writer.new }
+{
+    der_c_assembly::der_write_signed(writer, part, algorithm, signature)
+}
