@@ -64,16 +64,7 @@ impl<'a> Input<'a> {
 
     fn see_general_names(&self, names: GeneralNames<'a>) {
         for name in names {
-            match name {
-                Ok(GeneralName::Directory(name)) => self.see_name(name),
-                Ok(GeneralName::Dns(text) | GeneralName::Mail(text) | GeneralName::Uri(text)) => {
-                    self.has(text.as_bytes());
-                }
-                Ok(GeneralName::Ip(octets)) => self.has(octets),
-                Ok(GeneralName::Registered(oid)) => self.has_oid(oid),
-                Ok(_) => (),
-                Err(_) => break,
-            }
+            let _name = name.map(|it| self.see_general_name(&it));
         }
         let _printed = format!("{names:?}");
     }
@@ -89,7 +80,46 @@ impl<'a> Input<'a> {
         if let Ok(Some(names)) = extensions.subject_alternative_name() {
             self.see_general_names(names);
         }
+        self.see_other_extensions(extensions);
         let _printed = format!("{extensions:?}");
+    }
+
+    fn see_general_name(&self, name: &GeneralName<'a>) {
+        match name {
+            GeneralName::Directory(name) => self.see_name(*name),
+            GeneralName::Dns(text) | GeneralName::Mail(text) | GeneralName::Uri(text) => self.has(text.as_bytes()),
+            GeneralName::Ip(octets) => self.has(octets),
+            GeneralName::Registered(oid) => self.has_oid(*oid),
+            _ => (),
+        }
+    }
+
+    fn see_other_extensions(&self, extensions: Extensions<'a>) {
+        let _identifier = extensions.subject_key_identifier().map(|it| it.map(|it| self.has(it)));
+        if let Ok(Some(key)) = extensions.authority_key_identifier() {
+            let _printed = format!("{key:?}");
+        }
+        for purpose in extensions.extended_key_usage().ok().flatten().into_iter().flatten() {
+            let _oid = purpose.map(|it| self.has_oid(it));
+        }
+        for access in extensions
+            .authority_information_access()
+            .ok()
+            .flatten()
+            .into_iter()
+            .flatten()
+        {
+            let _access = access.map(|it| {
+                self.has_oid(it.method);
+                self.see_general_name(&it.location);
+            });
+        }
+        for point in extensions.distribution_points().ok().flatten().into_iter().flatten() {
+            let Ok(point) = point else { break };
+            for names in [point.full_name, point.list_issuer].into_iter().flatten() {
+                self.see_general_names(names);
+            }
+        }
     }
 
     fn see_key(&self, key: PublicKey<'a>) {
@@ -164,6 +194,8 @@ impl<'a> Input<'a> {
             at().header(),
             at().scan(),
         );
+        assert_eq!(at().peek(), Ok(tag));
+        assert!(at().next_is(tag));
     }
 
     /// All elements, and those inside.
@@ -232,9 +264,11 @@ fn input(numbers: &mut Numbers, seeds: &[Vec<u8>]) -> Vec<u8> {
     }
 }
 
-/// A request with three extensions (see DER_C_REQUEST in `parts.rs`), and its parts; a time, a PEM text.
+/// A certificate with many extensions (see `web.cnf`), a request (see DER_C_REQUEST in `parts.rs`) and its key, a time, an
+/// OBJECT IDENTIFIER, a string in segments, and a PEM text.
 fn seeds() -> Vec<Vec<u8>> {
     let mut seeds = vec![
+        include_bytes!("web.der").to_vec(),
         b"2026-11-26T23:05:00Z".to_vec(),
         b"1.2.840.113549".to_vec(),
         b"\x18\x0f20261126230500Z".to_vec(),
