@@ -286,6 +286,13 @@ static void see_cut_values(void)
     see_needed(der_subject_alternative_name(inner, sizeof inner, &names), 6, 5, 5);
     see_needed(der_extended_key_usage(purposes, sizeof purposes, &found), 6, 4, 2);
     see_needed(der_subject_key_identifier(key, sizeof key, &found), 10, 4, 2);
+    /* these need one octet more than there is */
+    bool is_der = true;
+    see_needed(der_key_usage_lenient(usages, sizeof usages, &usage, &is_der), 5, 4, 4);
+    see_needed(der_basic_constraints_lenient(limits, sizeof limits, &constraints, &is_der), 6, 5, 5);
+    for (uint32_t cut = 1; cut < sizeof usages; cut++)
+        see_needed(der_key_usage(usages, cut, &usage), cut + 1, cut, cut);
+    must(!usage.present && !constraints.present && !names.present && !found.present && is_der);
 }
 
 int main(int argc, char **argv)

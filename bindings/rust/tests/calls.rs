@@ -334,4 +334,5 @@ fn threads() {
     is_send::<Writer>();
     is_send::<Error>();
     is_send::<der_c::Certificate>();
+    is_send::<der_c::Items<der_c::DistributionPoint>>();
 }

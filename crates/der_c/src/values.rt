@@ -225,9 +225,9 @@ pub extern "C" fn der_read_time(
     der_c_values::der_read_time(reader, tag, time_type, time)
 }
 
-/// Writes `time` as RFC 3339 does in UTC (5.6), such as `2026-11-29T11:24:00Z`, and a final zero octet
-/// to the start of `text`. `time.seconds` is ignored. Sets `count` to the number of octets of the
-/// text, without the zero octet: 20.
+/// Writes `time` as RFC 3339 does in UTC (5.6), such as `2026-11-29T11:24:00Z`, and a final zero
+/// octet to the start of `text`. `time.seconds` is ignored. Sets `count` to the number of octets of
+/// the text, without the zero octet: 20.
 ///
 /// A call that fails leaves `text` and `count` unchanged. Fails without a position with:
 ///
@@ -278,8 +278,8 @@ pub extern "C" fn der_oid_arcs(oid: &[u8], arcs: &mut [u64], count: &mut usize) 
 ///
 /// A call that fails leaves `oid` and `count` unchanged. Fails without a position with:
 ///
-/// - `OidMalformed`, if `text` is not the dotted notation of an OBJECT IDENTIFIER, whatever the size
-///   of its numbers;
+/// - `OidMalformed`, if `text` is not the dotted notation of an OBJECT IDENTIFIER, however large its
+///   numbers are;
 /// - `Overflow`, if it is, and a subidentifier does not fit in 128 bits, or there are more than 256
 ///   contents octets;
 /// - `Overlength`, if there is no space in `oid`.

@@ -1,5 +1,5 @@
--- The next tag in C, which is peeked at: `PeeksWord` is its word or why there is none, `PeeksTag` the
--- result of `der_peek`, and `HasNextTag` says when `der_next_is` is true.
+-- The next tag in C, which is peeked at: `PeeksWord` is its word or why there is none, `PeeksTag` is
+-- the result of `der_peek`, and `HasNextTag` says when `der_next_is` is true.
 use Rattle.std.specs.Prelude.{◌≡◌, ℕ, Result, Ok, Err}
 use Rattle.der_base.specs.Tag.{IdentifierFault}
 use Rattle.der_base.specs.HeaderGrammar.{TagNext}

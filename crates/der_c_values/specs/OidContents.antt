@@ -1,5 +1,5 @@
--- The contents of an OBJECT IDENTIFIER that are made arc by arc: `Holds` says of which arcs they are,
--- and `Pushes` is the result of one more. `ReadsArc` is that of reading one from a text.
+-- The contents of an OBJECT IDENTIFIER that are made arc by arc: `Holds` says of which arcs they
+-- are, and `Pushes` is the result of one more. `ReadsArc` is that of reading one from a text.
 use Rattle.std.specs.Prelude.{◌≡◌, ◌⊎◌, ℕ, ◌+◌, ◌^◌, ◌<◌, ◌≤◌, Bool, true, false, Option, Some, None, List, [], ◌∷◌, ◌++◌, length, take, drop}
 use Rattle.der_asn1.specs.Arcs.{oid_octets, subidentifier_octets, subidentifier_value}
 use Rattle.der_c_values.specs.Dotted.{decimal_text}
@@ -24,8 +24,8 @@ pub record Holds (c : OidContents) (arcs : List ℕ) : Type 0 where
   pub fit : c.fits ≡ true → held_octets c ≡ oid_octets arcs
   pub large : c.fits ≡ false → AreTooLarge arcs
 
--- one more subidentifier is there; or it is not, since one before it was not, since it does not fit in
--- 128 bits, or since there are more than 256 octets with it
+-- one more subidentifier is there; or it is not, since one before it was not, since it does not fit
+-- in 128 bits, or since there are more than 256 octets with it
 pub record AppendsNumber (n : ℕ) (old new : OidContents) : Type 0 where
   pub next : new.next ≡ old.next
   pub fit : new.fits ≡ true
@@ -38,8 +38,8 @@ abbrev pub Pushes : List ℕ → ℕ → Bool → OidContents → Type 0
 Pushes arcs n true new = Holds new (arcs ++ n ∷ [])
 Pushes arcs n false new = (more : List ℕ) → AreOidArcs (arcs ++ n ∷ more) → ⊥
 
--- at a position of a text there is a number in decimal, without leading zeros, and after it a dot or
--- the end of the text; or there is none
+-- at a position of a text there is a number in decimal, without leading zeros, and after it a dot
+-- or the end of the text; or there is none
 abbrev pub ReadsArc : List ℕ → ℕ → Option DottedArc → Type 0
 ReadsArc text at None =
     (n : ℕ) (more : List ℕ) → drop at (text ++ 46 ∷ []) ≡ decimal_text n ++ 46 ∷ more → ⊥

@@ -1,5 +1,5 @@
--- Dotted notation that is encoded: `EncodesText` is the result of `der_oid_from_text`, by the contents
--- (`IsEncoded`) or by why there are none (`IsNotEncoded`).
+-- Dotted notation that is encoded: `EncodesText` is the result of `der_oid_from_text`, by the
+-- contents (`IsEncoded`) or by why there are none (`IsNotEncoded`).
 use Rattle.std.specs.Prelude.{◌≡◌, ◌⊎◌, ℕ, ◌<◌, ◌≤◌, true, false, List, [], ◌∷◌, ◌++◌, length, drop}
 use Rattle.der_base.specs.Error.{error_of_kind}
 use Rattle.der_base.specs.declared.error.ErrorKind.TheVariants.{OidMalformed, Overflow, Overlength}
@@ -36,8 +36,8 @@ pub data IsNotEncoded (text : List ℕ) (e : DerError) : Type 0 where
       → e ≡ error_code (error_of_kind OidMalformed) → IsNotEncoded text e
 
 -- a text is encoded as the contents of which it is the dotted notation, and the octets after them
--- are unchanged; or there is an error, and nothing changes: there is no space for these contents, or
--- there are none
+-- are unchanged; or there is an error, and nothing changes: there is no space for these contents,
+-- or there are none
 pub data EncodesText (text : List ℕ) (result : DerError) (old new : List ℕ) (before after : ℕ)
     : Type 0 where
   encoded : (octets : List ℕ) → IsEncoded text octets → result ≡ no_error → after ≡ length octets

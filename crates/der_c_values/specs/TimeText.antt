@@ -8,8 +8,8 @@ use Rattle.der_asn1.specs.declared.times.date_time.DateTime.{DateTime}
 use Rattle.der_c_core.specs.ErrorCode.{no_error, error_code}
 use Rattle.der_c_core.specs.declared.error.DerError.{DerError}
 
--- there is no such time; or there is no space for its text and a zero octet; or these are written, and
--- the octets after them are unchanged
+-- there is no such time; or there is no space for its text and a zero octet; or these are written,
+-- and the octets after them are unchanged
 pub data GivesTimeText (t : DateTime) (result : DerError) (old new : List ℕ) (before after : ℕ)
     : Type 0 where
   no_time : is_date_time t ≡ false → result ≡ error_code (error_of_kind NoDateTime) → new ≡ old

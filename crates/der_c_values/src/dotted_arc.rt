@@ -12,8 +12,8 @@ pub(crate) struct DottedArc {
 impl DottedArc {
     ghost use Rattle.der_c_values.specs.OidContents.{ReadsArc};
 
-    /// The arc at a position of a text, in decimal without leading zeros, and a dot or the end of the
-    /// text after it; `None` if there is none.
+    /// The arc at a position of a text, in decimal without leading zeros, if a dot or the end of the
+    /// text is after it; else `None`.
     pub(crate) fn read(text: &[u8], at: usize) -> Option<Self>
         requires { at ≤ length text.now }
         ensures { ReadsArc text.now at result }

@@ -62,8 +62,8 @@ impl OidContents {
         self.fits
     }
 
-    /// Adds an arc; `None` is one from 2^128 on. Returns false if no OBJECT IDENTIFIER begins with the
-    /// arcs and this one (X.690 8.19.4).
+    /// Adds an arc; `None` is one from 2^128 on. Returns false if no OBJECT IDENTIFIER begins with
+    /// the arcs and this one (X.690 8.19.4).
     pub(crate) fn push(&mut self, arc: Option<u128>) -> bool
         ensures { (arcs : List ℕ) (n : ℕ) → Holds self.old arcs → arc ≡ subidentifier_value n
             → Pushes arcs n result self.new }

@@ -14,8 +14,8 @@ use der_c_core::DerError;
 ///
 /// A call that fails leaves `oid` and `count` unchanged. Fails without a position with:
 ///
-/// - `OidMalformed`, if `text` is not the dotted notation of an OBJECT IDENTIFIER, whatever the size
-///   of its numbers;
+/// - `OidMalformed`, if `text` is not the dotted notation of an OBJECT IDENTIFIER, however large its
+///   numbers are;
 /// - `Overflow`, if it is, and a subidentifier does not fit in 128 bits, or there are more than 256
 ///   contents octets;
 /// - `Overlength`, if there is no space in `oid`.

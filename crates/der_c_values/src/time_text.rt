@@ -14,9 +14,9 @@ use der_c_core::DerError;
 // how many octets the text of a time and the zero octet after it are
 const SIZE: usize = 21;
 
-/// Writes `time` as RFC 3339 does in UTC (5.6), such as `2026-11-29T11:24:00Z`, and a final zero octet
-/// to the start of `text`. `time.seconds` is ignored. Sets `count` to the number of octets of the
-/// text, without the zero octet: 20.
+/// Writes `time` as RFC 3339 does in UTC (5.6), such as `2026-11-29T11:24:00Z`, and a final zero
+/// octet to the start of `text`. `time.seconds` is ignored. Sets `count` to the number of octets of
+/// the text, without the zero octet: 20.
 ///
 /// A call that fails leaves `text` and `count` unchanged. Fails without a position with:
 ///

@@ -1,5 +1,6 @@
 use Rattle.std.proofs.Common.{Ok, Err, refl, subst}
 use Rattle.x509.specs.Find.{WholeRead}
+use Rattle.der_c_core.specs.Located.{LocatesIn}
 use Rattle.der_c_x509.specs.FindCalls.{ReadsContents}
 use Rattle.der_c_x509.proofs.find.read_contents.Goals as goal
 
@@ -15,4 +16,4 @@ returns-in-Err g c =
     ReadsContents.refused c.in-Err.error _
     (subst (λ o. WholeRead g.K.Value.FixedTag.tag_is g.K.Value.ReadValue.valid g.K.Value.WrittenValue.contents g.K.Value.ReadValue.allocates g.K.Value.DecodeValue.decode_value_answers o (Err c.in-Err.error)) c.octets-octets.ensures.value
     (record { ok = c.in-Err.ensures.ok; complete = c.in-Err.ensures.complete; exact = c.in-Err.ensures.exact }))
-    (rw c.octets-octets.ensures.value at c.located_in.ensures) refl
+    (subst (λ o. LocatesIn o c.in-Err.error c.located_in.result) c.octets-octets.ensures.value c.located_in.ensures) refl
