@@ -10,17 +10,18 @@ use std::alloc::Global;
 use x509::RelativeDistinguishedName;
 
 /// Writes a name as RFC 4514 does, and a final zero octet, to the start of `text`, as
-/// `CN=example.org,O=Example,C=DE`: the last level first. Sets `count` to the number of octets of the text, without the
-/// zero octet. `name` are the contents octets of a Name, as the structs of certificates, requests and revocation lists
-/// have them.
+/// `CN=example.org,O=Example,C=DE`: the last level first. Sets `count` to the number of octets of
+/// the text, without the zero octet. `name` are the contents octets of a Name, as the structs of
+/// certificates, requests and revocation lists have them.
 ///
-/// A type without a short name in RFC 4514 or RFC 4519 is written as its OBJECT IDENTIFIER. Its value, and one that is no
-/// string, is `#` and the octets of its encoding in hexadecimal. Control characters of ASCII are escaped too. So `text` has
-/// no other zero octet.
+/// A type without a short name in RFC 4514 or RFC 4519 is written as its OBJECT IDENTIFIER. Its
+/// value, and one that is no string, is `#` and the octets of its encoding in hexadecimal. Control
+/// characters of ASCII are escaped too. So `text` has no other zero octet.
 ///
 /// A call that fails leaves `count` unchanged. Fails with:
 ///
-/// - the error of the first level that cannot be decoded, at its position; then `text` is unchanged;
+/// - the error of the first level that cannot be decoded, at its position; then `text` is
+///   unchanged;
 /// - `Overlength` without a position, if there is no room in `text`.
 #[unsafe(no_mangle)]
 pub extern "C" fn der_name_text<'a>(

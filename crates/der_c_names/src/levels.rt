@@ -6,8 +6,8 @@ use std::fmt;
 use x509::Name;
 use x509_names::LevelText;
 
-/// What is written between two levels until they are in their order. It is in no text of a level, in which
-/// control characters are escaped.
+/// What is written between two levels until they are in their order. It is in no text of a level,
+/// in which control characters are escaped.
 const BETWEEN: u8 = 0;
 
 /// Writes the levels of a name from the first to the last, with a zero octet between two.
@@ -27,8 +27,8 @@ pub(crate) fn write_levels<W: fmt::Write>(
     Ok(())
 }
 
-/// Puts such levels into the order of RFC 4514, 2.1: the last first, with `,` between two. It turns the whole
-/// text around, and then each level.
+/// Puts such levels into the order of RFC 4514, 2.1: the last first, with `,` between two. It turns
+/// the whole text around, and then each level.
 pub(crate) fn turn_levels(text: &mut [u8])
     ensures { length text.new ≡ length text.old }
 {

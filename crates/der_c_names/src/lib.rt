@@ -1,4 +1,5 @@
-//! Names of certificates as text, for callers that have memory and no allocator. The crate `der_c` exports the call.
+//! Names of certificates as text, for callers that have memory and no allocator. The crate `der_c`
+//! exports the call.
 #![tactic(auto)]
 
 mod length;

@@ -17,17 +17,18 @@ const OVERLENGTH: DerError = DerError {
 };
 
 /// Writes a name as RFC 4514 does, and a final zero octet, to the start of `text`, as
-/// `CN=example.org,O=Example,C=DE`: the last level first. Sets `count` to the number of octets of the text, without the
-/// zero octet. `name` are the contents octets of a Name, as the structs of certificates, requests and revocation lists
-/// have them.
+/// `CN=example.org,O=Example,C=DE`: the last level first. Sets `count` to the number of octets of
+/// the text, without the zero octet. `name` are the contents octets of a Name, as the structs of
+/// certificates, requests and revocation lists have them.
 ///
-/// A type without a short name in RFC 4514 or RFC 4519 is written as its OBJECT IDENTIFIER. Its value, and one that is no
-/// string, is `#` and the octets of its encoding in hexadecimal. Control characters of ASCII are escaped too. So `text` has
-/// no other zero octet.
+/// A type without a short name in RFC 4514 or RFC 4519 is written as its OBJECT IDENTIFIER. Its
+/// value, and one that is no string, is `#` and the octets of its encoding in hexadecimal. Control
+/// characters of ASCII are escaped too. So `text` has no other zero octet.
 ///
 /// A call that fails leaves `count` unchanged. Fails with:
 ///
-/// - the error of the first level that cannot be decoded, at its position; then `text` is unchanged;
+/// - the error of the first level that cannot be decoded, at its position; then `text` is
+///   unchanged;
 /// - `Overlength` without a position, if there is no room in `text`.
 pub fn der_name_text<'a>(
     alloc: Global,
@@ -72,8 +73,8 @@ fn has_room(alloc: Global, name: &Name<'_>, room: usize) -> bool {
     write_levels(alloc, name, &mut length).is_ok() && length.count < room
 }
 
-// Writes the text of a name to the start of `text`, and returns how many octets it has: fewer than `text`. Returns `None`
-// if they are not fewer.
+// Writes the text of a name to the start of `text`, and returns how many octets it has: fewer than
+// `text`. Returns `None` if they are not fewer.
 fn put_name(alloc: Global, name: &Name<'_>, text: &mut [u8]) -> Option<usize>
     ensures fits { IfSome result (λ n. n < length text.new) }
     ensures size { length text.new ≡ length text.old }

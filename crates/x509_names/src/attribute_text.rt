@@ -8,8 +8,9 @@ use der_asn1::AnyRef;
 use std::fmt;
 use x509::{AttributeTypeAndValue, Text};
 
-// An attribute, which is printed as its type, `=`, and its value (RFC 4514, 2.3): a string of a type
-// with a short name as its characters, and any other value as `#` and the octets of its encoding.
+// An attribute, which is printed as its type, `=`, and its value (RFC 4514, 2.3): a string of a
+// type with a short name as its characters, and any other value as `#` and the octets of its
+// encoding.
 #[derive(Drop)]
 pub(crate) struct AttributeText<'a>(pub(crate) AttributeTypeAndValue<'a>);
 

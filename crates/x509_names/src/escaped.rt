@@ -2,8 +2,8 @@
 
 use std::fmt;
 
-// A text, which is printed as RFC 4514, 2.4 escapes it. Control characters of ASCII are written as two
-// hexadecimal digits, too.
+// A text, which is printed as RFC 4514, 2.4 escapes it. Control characters of ASCII are written as
+// two hexadecimal digits, too.
 #[derive(Drop)]
 pub(crate) struct Escaped<'a>(pub(crate) &'a str);
 

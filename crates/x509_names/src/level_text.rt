@@ -5,11 +5,11 @@ use std::alloc::Global;
 use std::fmt;
 use x509::RelativeDistinguishedName;
 
-/// A level of a name, which is printed as RFC 4514 writes it: its attributes with `+` between them, as in
-/// [`NameText`](crate::NameText).
+/// A level of a name, which is printed as RFC 4514 writes it: its attributes with `+` between them,
+/// as in [`NameText`](crate::NameText).
 ///
-/// Printing takes time in proportion to the size of the level. It takes no memory: the allocator is that
-/// of decoding, which does not use it.
+/// Printing takes time in proportion to the size of the level. It takes no memory: the allocator is
+/// that of decoding, which does not use it.
 #[derive(Drop)]
 pub struct LevelText<'n, 'a> {
     level: &'n RelativeDistinguishedName<'a>,

@@ -1,7 +1,7 @@
 //! Names of certificates as text.
 //!
-//! [`NameText`] prints a name as RFC 4514 writes it, [`LevelText`] a level of one, [`GeneralNameText`] a name of a
-//! subjectAltName, and [`SerialNumberText`] a serial number.
+//! [`NameText`] prints a name as RFC 4514 writes it, [`LevelText`] a level of one,
+//! [`GeneralNameText`] a name of a subjectAltName, and [`SerialNumberText`] a serial number.
 //!
 //! Proved: each call is safe and returns. Not proved: which text is printed; the tests compare it
 //! with openssl.
