@@ -1,7 +1,7 @@
 //! Extensions.
 use crate::error::{Error, answer};
+use crate::general_name::GeneralNames;
 use crate::list::{AccessDescription, DistributionPoint, Items};
-use crate::name::GeneralNames;
 use crate::octets::Hex;
 use crate::oid::Oid;
 use crate::reader::Reader;

@@ -1,6 +1,7 @@
 //! Extensions whose value is a list.
 use crate::error::{Error, answer};
-use crate::name::{GeneralName, GeneralNames, RelativeName};
+use crate::general_name::{GeneralName, GeneralNames};
+use crate::name::RelativeName;
 use crate::oid::Oid;
 use crate::reader::Reader;
 use crate::sys::{self, RawAccessDescription, RawDistributionPoint, RawFound, RawSpan};
