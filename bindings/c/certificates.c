@@ -15,6 +15,33 @@ static bool is_text(der_span span, const char *text)
 }
 
 
+/* The text of the subject C=DE, O=Test & Söhne, CN=example.org as RFC 4514 writes it, at each capacity; and what a
+ * name that is cut leaves. */
+static void see_text(der_span name)
+{
+    static const char wanted[] = "CN=example.org,O=Test & S\xC3\xB6hne,C=DE", kept[64] = "";
+    char text[64] = "";
+    for (size_t room = 0; room <= sizeof text; room++) {
+        size_t count = 99;
+        der_error error = der_name_text(name.octets, name.length, text, room, &count);
+        if (room < sizeof wanted) {
+            must(error.kind == DER_OVERLENGTH && count == 99 && memcmp(text, kept, sizeof text) == 0);
+        } else {
+            must(error.kind == DER_OK && count == sizeof wanted - 1 && memcmp(text, wanted, sizeof wanted) == 0);
+            must(memcmp(text + sizeof wanted, kept, sizeof text - sizeof wanted) == 0);
+            memset(text, 0, sizeof text);
+        }
+    }
+    for (size_t length = 0; length < name.length; length++) {
+        size_t count = 99;
+        der_error error = der_name_text(name.octets, length, text, sizeof text, &count);
+        must(error.kind == DER_OK || (error.kind == DER_INCOMPLETE && count == 99));
+        must(error.kind == DER_OK || memcmp(text, kept, sizeof text) == 0);
+        must(length > 0 || (error.kind == DER_OK && count == 0 && text[0] == 0));
+        memset(text, 0, sizeof text);
+    }
+}
+
 /* The subject is C=DE, O=Test & Söhne, CN=example.org. */
 static void see_subject(der_span name)
 {
@@ -34,6 +61,7 @@ static void see_subject(der_span name)
         count++;
     }
     must(count == 3);
+    see_text(name);
 }
 
 static void see_names(der_span extensions)

@@ -648,6 +648,15 @@ typedef struct der_attribute {
 DER_MUST_USE DER_NONNULL(1, 2)
 der_error der_next_attribute(der_reader *reader, der_attribute *attribute);
 
+/* der_name_text writes a name as RFC 4514 does, as "CN=example.org,O=Example,C=DE", and a zero octet into
+ * |text|, and sets |*count| to the number of octets without the zero octet. A type without a short name
+ * in RFC 4514 or RFC 4519 is written as its OBJECT IDENTIFIER; its value, and one that is no string, as #
+ * and its encoding in hexadecimal. Control characters are escaped, too: there is no other zero octet.
+ * Fails with the error of the first level that cannot be read, at its position in |name|, and with
+ * DER_OVERLENGTH if |capacity| is too small. */
+DER_MUST_USE DER_NONNULL(5)
+der_error der_name_text(const uint8_t *name, size_t length, char *text, size_t capacity, size_t *count);
+
 /* The forms of general names, by the numbers of their tags. */
 enum {
     DER_OTHER_NAME = 0,     /* |identifier| and |value| */

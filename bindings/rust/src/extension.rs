@@ -52,7 +52,7 @@ pub struct BasicConstraints {
 
 /// What authorityKeyIdentifier says (RFC 5280, 4.2.1.1): which key of the issuer signed the certificate. That the
 /// issuer and the serial number come together is not checked.
-#[derive(Clone, Copy, PartialEq, Eq)]
+#[derive(Clone, Copy, PartialEq, Eq, Hash)]
 pub struct AuthorityKeyIdentifier<'a> {
     /// The identifier of the issuer's key.
     pub key_identifier: Option<&'a [u8]>,

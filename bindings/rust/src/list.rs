@@ -62,6 +62,10 @@ pub struct ItemIter<'a, T> {
 impl<'a, T: Listed<'a>> Iterator for ItemIter<'a, T> {
     type Item = Result<T, Error>;
 
+    fn size_hint(&self) -> (usize, Option<usize>) {
+        crate::items::size_hint(&self.reader)
+    }
+
     fn next(&mut self) -> Option<Self::Item> {
         crate::items::next(&mut self.reader, T::read)
     }

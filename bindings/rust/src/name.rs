@@ -50,6 +50,29 @@ impl<'a> Name<'a> {
         Ok(Name { contents })
     }
 
+    /// The text of the name, as RFC 4514 writes it: `CN=example.org,O=Example,C=DE`. It is written into `space`, which needs
+    /// room for one octet more. Printing the name needs no space, escapes `=` too, and writes a value that is no string as its
+    /// contents octets alone.
+    ///
+    /// # Errors
+    ///
+    /// [`Overlength`](crate::ErrorKind::Overlength) if there is too little space.
+    pub fn to_text<'s>(&self, space: &'s mut [u8]) -> Result<&'s str, Error> {
+        let Name { contents } = *self;
+        let mut count = 0;
+        // SAFETY: pointers and lengths describe slices, and the call writes the second alone.
+        answer(unsafe {
+            sys::der_name_text(
+                contents.as_ptr(),
+                contents.len(),
+                space.as_mut_ptr(),
+                space.len(),
+                &mut count,
+            )
+        })?;
+        Ok(core::str::from_utf8(&space[..count]).unwrap_or_default())
+    }
+
     /// All attributes, level by level.
     pub fn attributes(&self) -> Attributes<'a> {
         Attributes {

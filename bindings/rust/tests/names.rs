@@ -1,4 +1,4 @@
-use der_c::{Bits, Error, Request, Tag, Writer};
+use der_c::{Bits, Error, ErrorKind, Request, Tag, Writer};
 
 /// A level of a name: for each attribute its type in dotted notation and its value, a UTF8String.
 type Level<'a> = &'a [(&'a str, &'a str)];
@@ -62,6 +62,12 @@ fn a_name_is_printed_as_rfc_4514_says() {
     let name = Request::from_der(&octets).unwrap().subject;
     assert_eq!(name.to_string(), r"CN=\#ä\07\=,O=A\,B+OU=\ x\ ,C=DE");
     assert_eq!(Request::from_der(&request(&[])).unwrap().subject.to_string(), "");
+    let wanted = r"CN=\#ä\07=,O=A\,B+OU=\ x\ ,C=DE";
+    let mut space = [0; 64];
+    assert_eq!(name.to_text(&mut space), Ok(wanted));
+    assert_eq!(name.to_text(&mut space[..wanted.len() + 1]), Ok(wanted));
+    let error = name.to_text(&mut space[..wanted.len()]).unwrap_err();
+    assert_eq!(error.kind(), ErrorKind::Overlength);
 }
 
 #[test]

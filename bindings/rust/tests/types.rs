@@ -77,7 +77,9 @@ fn object_identifiers_own_their_octets() {
     assert_eq!(identifier.as_oid().contents(), [0x2A, 0x86, 0x48, 0x86, 0xF7, 0x0D]);
     let octets = [6, 6, 0x2A, 0x86, 0x48, 0x86, 0xF7, 0x0D];
     let oid = Reader::der(&octets).unwrap().oid(Tag::OBJECT_IDENTIFIER).unwrap();
-    assert!(identifier == oid && oid == identifier && identifier == *"1.2.840.113549");
+    assert_eq!(identifier, oid);
+    assert_eq!(oid, identifier);
+    assert_eq!(identifier, *"1.2.840.113549");
     assert_eq!(ObjectIdentifier::try_from(oid), Ok(identifier));
     assert_eq!(Oid::from(&identifier), oid);
     assert_eq!(

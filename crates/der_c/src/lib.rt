@@ -11,6 +11,7 @@ mod certificates;
 mod counting;
 mod errors;
 mod extensions;
+mod names;
 mod reading;
 mod trees;
 mod values;

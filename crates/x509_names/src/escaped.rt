@@ -11,15 +11,24 @@ impl<'a> fmt::Display for Escaped<'a> {
     fn fmt<W: fmt::Write>(&self, f: &mut fmt::Formatter<W>) -> fmt::Result {
         let count = self.0.chars().count();
         for (at, character) in self.0.chars().enumerate() {
-            let is_end = at == 0 || at + 1 == count;
-            match character {
-                '"' | '+' | ',' | ';' | '<' | '>' | '\\' => write!(f, "\\{character}")?,
-                '#' if at == 0 => f.write_str("\\#")?,
-                ' ' if is_end => f.write_str("\\ ")?,
-                '\0'..='\u{1F}' | '\u{7F}' => write!(f, "\\{:02X}", u32::from(character))?,
-                _ => f.write_char(character)?,
-            }
+            write_character(character, at == 0, at + 1 == count, f)?;
         }
         Ok(())
+    }
+}
+
+// Writes a character of a text, of which it may be the first or the last.
+pub(crate) fn write_character<W: fmt::Write>(
+    character: char,
+    is_first: bool,
+    is_last: bool,
+    f: &mut fmt::Formatter<W>,
+) -> fmt::Result {
+    match character {
+        '"' | '+' | ',' | ';' | '<' | '>' | '\\' => write!(f, "\\{character}"),
+        '#' if is_first => f.write_str("\\#"),
+        ' ' if is_first || is_last => f.write_str("\\ "),
+        '\0'..='\u{1F}' | '\u{7F}' => write!(f, "\\{:02X}", u32::from(character)),
+        _ => f.write_char(character),
     }
 }

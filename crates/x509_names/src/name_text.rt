@@ -53,7 +53,7 @@ pub(crate) fn write_levels<W: fmt::Write>(
 }
 
 // Writes the attributes of a level.
-fn write_level<W: fmt::Write>(
+pub(crate) fn write_level<W: fmt::Write>(
     alloc: Global,
     level: &RelativeDistinguishedName<'_>,
     f: &mut fmt::Formatter<W>,
@@ -64,7 +64,7 @@ fn write_level<W: fmt::Write>(
             f.write_str("+")?;
         }
         is_first = false;
-        write!(f, "{}", AttributeText { attribute, alloc })?;
+        write!(f, "{}", AttributeText(attribute))?;
     }
     Ok(())
 }

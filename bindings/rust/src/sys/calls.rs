@@ -86,6 +86,13 @@ unsafe extern "C" {
     ) -> RawError;
     pub safe fn der_next_extension<'a>(reader: &mut RawReader<'a>, extension: &mut RawExtension<'a>) -> RawError;
     pub safe fn der_next_attribute<'a>(reader: &mut RawReader<'a>, attribute: &mut RawAttribute<'a>) -> RawError;
+    pub fn der_name_text<'a>(
+        name: *const u8,
+        length: usize,
+        text: *mut u8,
+        capacity: usize,
+        count: &mut usize,
+    ) -> RawError;
     pub safe fn der_next_general_name<'a>(reader: &mut RawReader<'a>, name: &mut RawGeneralName<'a>) -> RawError;
     pub safe fn der_next_revoked<'a>(reader: &mut RawReader<'a>, entry: &mut RawRevoked<'a>) -> RawError;
     pub fn der_key_usage<'a>(extensions: *const u8, length: usize, usage: &mut RawUsage) -> RawError;
