@@ -1,4 +1,4 @@
-use Rattle.std.proofs.Common.{◌≡◌, Err, Ok, length, arith, subst}
+use Rattle.std.proofs.Common.{Err, Ok, length, arith, subst}
 use Rattle.der_core.specs.Writer.{Writes}
 use Rattle.der_core.specs.Encode.{header_outcome}
 use Rattle.der_c_core.specs.CWriter.{writer_state}
