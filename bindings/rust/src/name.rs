@@ -7,6 +7,7 @@ use crate::reader::Reader;
 use crate::sys::{self, RawAttribute};
 use crate::tag::Tag;
 use crate::value::Text;
+use crate::writer::Writer;
 use core::fmt::{self, Write};
 use core::iter::FusedIterator;
 
@@ -226,7 +227,7 @@ const SHORT_NAMES: [(&[u8], &str); 9] = [
 
 /// Prints the name as RFC 4514 does: the last level first, special characters escaped. Control
 /// characters are escaped too. The value of a type without a short name, or one that is no string, is
-/// its contents octets in hexadecimal.
+/// its encoding in hexadecimal, after a `#`.
 impl fmt::Display for Name<'_> {
     fn fmt(&self, f: &mut fmt::Formatter<'_>) -> fmt::Result {
         match Levels::of(*self) {
@@ -251,9 +252,25 @@ fn write_attribute(f: &mut fmt::Formatter<'_>, attribute: &Attribute<'_>) -> fmt
             write!(f, "{name}=")?;
             write_escaped(f, &text)
         }
-        (Some((_, name)), None) => write!(f, "{name}=#{:?}", Hex(attribute.value.contents)),
-        (None, _) => write!(f, "{}=#{:?}", attribute.identifier, Hex(attribute.value.contents)),
+        (Some((_, name)), None) => {
+            write!(f, "{name}=")?;
+            write_encoding(f, &attribute.value)
+        }
+        (None, _) => {
+            write!(f, "{}=", attribute.identifier)?;
+            write_encoding(f, &attribute.value)
+        }
     }
+}
+
+/// Writes the encoding of a value as RFC 4514, 2.4 has it.
+fn write_encoding(f: &mut fmt::Formatter<'_>, value: &Any<'_>) -> fmt::Result {
+    let mut space = [0; 12];
+    let mut writer = Writer::new(&mut space);
+    let count = u32::try_from(value.contents.len()).map_err(|_| fmt::Error)?;
+    writer.header(value.tag, count).map_err(|_| fmt::Error)?;
+    let header = writer.finish().map_err(|_| fmt::Error)?;
+    write!(f, "#{:?}{:?}", Hex(header), Hex(value.contents))
 }
 
 /// Writes a text with the escapes of RFC 4514, 2.4.

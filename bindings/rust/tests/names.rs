@@ -1,4 +1,4 @@
-use der_c::{Bits, Error, ErrorKind, Request, Tag, Writer};
+use der_c::{Bits, Error, ErrorKind, Name, Request, Tag, Writer};
 
 /// A level of a name: for each attribute its type in dotted notation and its value, a UTF8String.
 type Level<'a> = &'a [(&'a str, &'a str)];
@@ -84,4 +84,17 @@ fn the_attributes_of_a_name_are_in_order() {
         .map(|(identifier, text)| (identifier.to_string(), text.to_string()));
     assert!(attributes.eq(wanted));
     assert!(name.into_iter().eq(name.attributes()));
+}
+
+/// The example of RFC 4514, 4 with the encoding of a value.
+#[test]
+fn a_value_that_is_no_string_is_printed_as_its_encoding() {
+    let octets = [
+        0x30, 0x12, 0x31, 0x10, 0x30, 0x0E, 0x06, 0x08, 0x2B, 0x06, 0x01, 0x04, 0x01, 0x8B, 0x3A, 0x00, 0x04, 0x02,
+        0x48, 0x69,
+    ];
+    let name = Name::from_der(&octets).unwrap();
+    assert_eq!(name.to_string(), "1.3.6.1.4.1.1466.0=#04024869");
+    let mut space = [0; 64];
+    assert_eq!(name.to_text(&mut space), Ok("1.3.6.1.4.1.1466.0=#04024869"));
 }
