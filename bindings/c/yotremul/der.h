@@ -283,7 +283,7 @@ der_error der_skip(der_reader *reader);
  * or DER_OVERFLOW if the identifier is cut or no octets are left, with DER_TAG_UNKNOWN and with
  * DER_TAG_NUMBER_INVALID. */
 DER_MUST_USE DER_NONNULL(1, 2)
-der_error der_peek(const der_reader *reader, uint64_t *tag);
+der_error der_peek(const der_reader *reader, der_tag *tag);
 
 /* der_next_is returns whether the next element has this tag. It is false if no octets are left, if the
  * reader has failed, and if the next octets are no identifier. A value with OPTIONAL or DEFAULT is read
