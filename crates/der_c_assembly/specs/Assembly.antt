@@ -1,22 +1,16 @@
 -- The contents of what certificates and requests are made of: a level of a name, an extension, an
 -- algorithm, a signed structure, and the parts of a request and of a certificate that are signed.
-use Rattle.std.specs.Prelude.{◌≡◌, ℕ, ◌==◌, Bool, true, List, [], ◌∷◌, ◌++◌, length, if◌then◌else◌}
-use Rattle.der_base.specs.Tag.{tag_number}
+use Rattle.std.specs.Prelude.{◌≡◌, ℕ, Bool, true, List, [], ◌∷◌, ◌++◌, length, if◌then◌else◌}
+use Rattle.std.specs.Option.{unwrap_or}
+use Rattle.der_base.specs.Tag.{tag_number, universal_tag}
 use Rattle.der_base.specs.declared.tag.Tag.{Tag}
-use Rattle.der_base.specs.declared.tag.Tag.TheVariants.{BitString, BmpString, Boolean, ContextSpecific, Ia5String, Integer, Null, NumericString, ObjectIdentifier, OctetString, PrintableString, Sequence, Set, TeletexString, Utf8String, VisibleString}
+use Rattle.der_base.specs.declared.tag.Tag.TheVariants.{BitString, Boolean, ContextSpecific, Integer, Null, ObjectIdentifier, OctetString, Sequence, Set, Utf8String}
 use Rattle.der_core.specs.Encode.{element_octets}
 use Rattle.der_c_assembly.specs.declared.certificate.DerCertificateParts.{DerCertificateParts}
 
--- the tag of a string type, by its word
+-- the tag of a string type, by its word; that of a UTF8String for the word of no universal tag
 abbrev pub string_tag : ℕ → Tag
-string_tag word =
-    if word == 12 then Utf8String
-    else if word == 18 then NumericString
-    else if word == 19 then PrintableString
-    else if word == 20 then TeletexString
-    else if word == 22 then Ia5String
-    else if word == 26 then VisibleString
-    else BmpString
+string_tag word = unwrap_or (universal_tag word) Utf8String
 
 -- AttributeTypeAndValue (RFC 5280, 4.1.2.4): an OBJECT IDENTIFIER and a text
 abbrev pub attribute_octets : List ℕ → Tag → List ℕ → List ℕ
