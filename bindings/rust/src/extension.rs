@@ -1,13 +1,13 @@
 //! Extensions.
 use crate::error::{Error, answer};
 use crate::general_name::GeneralNames;
+use crate::items::{ItemIter, Listed, contents_of};
 use crate::list::{AccessDescription, DistributionPoint, Items};
 use crate::octets::Hex;
 use crate::oid::Oid;
 use crate::reader::Reader;
 use crate::sys::{self, RawAuthorityKey, RawConstraints, RawError, RawExtension, RawFound, RawNames, RawUsage};
 use core::fmt;
-use core::iter::FusedIterator;
 
 /// An extension (RFC 5280, 4.2). Its value is not checked.
 #[derive(Clone, Copy, PartialEq, Eq, Hash)]
@@ -39,6 +39,15 @@ pub struct KeyUsage {
     pub critical: bool,
 }
 
+impl KeyUsage {
+    fn of(raw: &RawUsage) -> Self {
+        KeyUsage {
+            bits: raw.bits,
+            critical: raw.critical,
+        }
+    }
+}
+
 /// What basicConstraints says (RFC 5280, 4.2.1.9).
 #[derive(Clone, Copy, PartialEq, Eq, Hash, Debug)]
 pub struct BasicConstraints {
@@ -48,6 +57,16 @@ pub struct BasicConstraints {
     pub path_length: Option<u64>,
     /// Whether the extension is critical.
     pub critical: bool,
+}
+
+impl BasicConstraints {
+    fn of(raw: &RawConstraints) -> Self {
+        BasicConstraints {
+            is_authority: raw.is_authority,
+            path_length: raw.has_path_length.then_some(raw.path_length),
+            critical: raw.critical,
+        }
+    }
 }
 
 /// What authorityKeyIdentifier says (RFC 5280, 4.2.1.1): which key of the issuer signed the certificate. That the
@@ -88,11 +107,7 @@ impl<'a> Extensions<'a> {
     ///
     /// The first step of reading that fails, at its position. The octets must be one list, and no more.
     pub fn from_der(octets: &'a [u8]) -> Result<Self, Error> {
-        let mut extensions = crate::items::list(octets)?;
-        let contents = extensions.rest();
-        while !extensions.is_finished() {
-            next_extension(&mut extensions)?;
-        }
+        let contents = contents_of::<Extension<'a>>(octets)?;
         Ok(Extensions { contents })
     }
 
@@ -106,10 +121,7 @@ impl<'a> Extensions<'a> {
         let mut raw = RawUsage::default();
         // SAFETY: pointer and length describe a slice, and the call only reads it.
         answer(unsafe { sys::der_key_usage(self.contents.as_ptr(), self.contents.len(), &mut raw) })?;
-        Ok(raw.present.then_some(KeyUsage {
-            bits: raw.bits,
-            critical: raw.critical,
-        }))
+        Ok(raw.present.then(|| KeyUsage::of(&raw)))
     }
 
     /// The keyUsage extension, if it is there, and whether its contents are DER: they may be BER, as some roots have
@@ -120,11 +132,7 @@ impl<'a> Extensions<'a> {
         answer(unsafe {
             sys::der_key_usage_lenient(self.contents.as_ptr(), self.contents.len(), &mut raw, &mut is_der)
         })?;
-        let usage = KeyUsage {
-            bits: raw.bits,
-            critical: raw.critical,
-        };
-        Ok(raw.present.then_some((usage, is_der)))
+        Ok(raw.present.then(|| (KeyUsage::of(&raw), is_der)))
     }
 
     /// The basicConstraints extension, if it is there. Fails as [`key_usage`](Self::key_usage) does.
@@ -132,11 +140,7 @@ impl<'a> Extensions<'a> {
         let mut raw = RawConstraints::default();
         // SAFETY: as above.
         answer(unsafe { sys::der_basic_constraints(self.contents.as_ptr(), self.contents.len(), &mut raw) })?;
-        Ok(raw.present.then_some(BasicConstraints {
-            is_authority: raw.is_authority,
-            path_length: raw.has_path_length.then_some(raw.path_length),
-            critical: raw.critical,
-        }))
+        Ok(raw.present.then(|| BasicConstraints::of(&raw)))
     }
 
     /// The basicConstraints extension, if it is there, and whether its contents are DER: they may be BER, with a field
@@ -147,12 +151,7 @@ impl<'a> Extensions<'a> {
         answer(unsafe {
             sys::der_basic_constraints_lenient(self.contents.as_ptr(), self.contents.len(), &mut raw, &mut is_der)
         })?;
-        let constraints = BasicConstraints {
-            is_authority: raw.is_authority,
-            path_length: raw.has_path_length.then_some(raw.path_length),
-            critical: raw.critical,
-        };
-        Ok(raw.present.then_some((constraints, is_der)))
+        Ok(raw.present.then(|| (BasicConstraints::of(&raw), is_der)))
     }
 
     /// The names of the subjectAltName extension, if it is there. Fails as
@@ -245,40 +244,23 @@ impl<'a> IntoIterator for Extensions<'a> {
     type IntoIter = ExtensionIter<'a>;
 
     fn into_iter(self) -> ExtensionIter<'a> {
-        ExtensionIter {
-            reader: Reader::der(self.contents),
-        }
+        ExtensionIter::of(self.contents)
     }
 }
 
 /// The extensions of a list, in order; the iterator ends after an error.
-#[derive(Clone, Debug)]
-pub struct ExtensionIter<'a> {
-    reader: Result<Reader<'a>, Error>,
-}
+pub type ExtensionIter<'a> = ItemIter<'a, Extension<'a>>;
 
-impl<'a> Iterator for ExtensionIter<'a> {
-    type Item = Result<Extension<'a>, Error>;
-
-    fn size_hint(&self) -> (usize, Option<usize>) {
-        crate::items::size_hint(&self.reader)
+impl<'a> Listed<'a> for Extension<'a> {
+    fn read(reader: &mut Reader<'a>) -> Result<Self, Error> {
+        let mut raw = RawExtension::EMPTY;
+        answer(sys::der_next_extension(&mut reader.0, &mut raw))?;
+        Ok(Extension {
+            identifier: Oid {
+                contents: raw.identifier.octets(),
+            },
+            value: raw.value.octets(),
+            critical: raw.critical,
+        })
     }
-
-    fn next(&mut self) -> Option<Self::Item> {
-        crate::items::next(&mut self.reader, next_extension)
-    }
 }
-
-fn next_extension<'a>(reader: &mut Reader<'a>) -> Result<Extension<'a>, Error> {
-    let mut raw = RawExtension::EMPTY;
-    answer(sys::der_next_extension(&mut reader.0, &mut raw))?;
-    Ok(Extension {
-        identifier: Oid {
-            contents: raw.identifier.octets(),
-        },
-        value: raw.value.octets(),
-        critical: raw.critical,
-    })
-}
-
-impl FusedIterator for ExtensionIter<'_> {}

@@ -1,13 +1,13 @@
 //! General names.
 use crate::certificate::Any;
 use crate::error::{Error, answer};
+use crate::items::{ItemIter, Listed, contents_of};
 use crate::name::Name;
 use crate::oid::Oid;
 use crate::reader::Reader;
 use crate::sys::{self, RawGeneralName};
 use crate::tag::Tag;
 use core::fmt;
-use core::iter::FusedIterator;
 
 /// A general name (RFC 5280, 4.2.1.6). The characters of names are those of an IA5String.
 #[derive(Clone, Copy, PartialEq, Eq, Hash, Debug)]
@@ -46,11 +46,7 @@ impl<'a> GeneralNames<'a> {
     ///
     /// The first step of reading that fails, at its position. The octets must be one list, and no more.
     pub fn from_der(octets: &'a [u8]) -> Result<Self, Error> {
-        let mut names = crate::items::list(octets)?;
-        let contents = names.rest();
-        while !names.is_finished() {
-            next_general_name(&mut names)?;
-        }
+        let contents = contents_of::<GeneralName<'a>>(octets)?;
         Ok(GeneralNames { contents })
     }
 }
@@ -82,37 +78,20 @@ impl<'a> IntoIterator for GeneralNames<'a> {
     type IntoIter = GeneralNameIter<'a>;
 
     fn into_iter(self) -> GeneralNameIter<'a> {
-        GeneralNameIter {
-            reader: Reader::der(self.contents),
-        }
+        GeneralNameIter::of(self.contents)
     }
 }
 
 /// The names of a list, in order; the iterator ends after an error.
-#[derive(Clone, Debug)]
-pub struct GeneralNameIter<'a> {
-    reader: Result<Reader<'a>, Error>,
-}
+pub type GeneralNameIter<'a> = ItemIter<'a, GeneralName<'a>>;
 
-impl<'a> Iterator for GeneralNameIter<'a> {
-    type Item = Result<GeneralName<'a>, Error>;
-
-    fn size_hint(&self) -> (usize, Option<usize>) {
-        crate::items::size_hint(&self.reader)
-    }
-
-    fn next(&mut self) -> Option<Self::Item> {
-        crate::items::next(&mut self.reader, next_general_name)
+impl<'a> Listed<'a> for GeneralName<'a> {
+    fn read(reader: &mut Reader<'a>) -> Result<Self, Error> {
+        let mut raw = RawGeneralName::EMPTY;
+        answer(sys::der_next_general_name(&mut reader.0, &mut raw))?;
+        Ok(GeneralName::of(&raw))
     }
 }
-
-fn next_general_name<'a>(reader: &mut Reader<'a>) -> Result<GeneralName<'a>, Error> {
-    let mut raw = RawGeneralName::EMPTY;
-    answer(sys::der_next_general_name(&mut reader.0, &mut raw))?;
-    Ok(GeneralName::of(&raw))
-}
-
-impl FusedIterator for GeneralNameIter<'_> {}
 
 impl<'a> GeneralName<'a> {
     pub(crate) fn of(raw: &RawGeneralName<'a>) -> Self {

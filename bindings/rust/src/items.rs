@@ -2,6 +2,8 @@
 use crate::error::Error;
 use crate::reader::Reader;
 use crate::tag::Tag;
+use core::iter::FusedIterator;
+use core::marker::PhantomData;
 
 /// A reader of the items of a list, a SEQUENCE that all octets are.
 pub(crate) fn list(octets: &[u8]) -> Result<Reader<'_>, Error> {
@@ -11,12 +13,14 @@ pub(crate) fn list(octets: &[u8]) -> Result<Reader<'_>, Error> {
     Ok(items)
 }
 
-/// How many items are left: each has two octets at least, except one that is refused.
-pub(crate) fn size_hint(reader: &Result<Reader<'_>, Error>) -> (usize, Option<usize>) {
-    match reader {
-        Ok(reader) => reader.size_hint(),
-        Err(_) => (1, Some(1)),
+/// The contents of such a list, each of whose items is read.
+pub(crate) fn contents_of<'a, T: Listed<'a>>(octets: &'a [u8]) -> Result<&'a [u8], Error> {
+    let mut items = list(octets)?;
+    let contents = items.rest();
+    while !items.is_finished() {
+        T::read(&mut items)?;
     }
+    Ok(contents)
 }
 
 /// The next item of a list. After an error there is no other item.
@@ -34,3 +38,43 @@ pub(crate) fn next<'a, T>(
     }
     Some(item)
 }
+
+/// What a list has. The trait is in a private module: no other crate implements it.
+pub trait Listed<'a>: Sized {
+    /// Reads the next item of a list.
+    fn read(reader: &mut Reader<'a>) -> Result<Self, Error>;
+}
+
+/// The items of a list, in order; the iterator ends after an error.
+#[derive(Clone, Debug)]
+pub struct ItemIter<'a, T> {
+    reader: Result<Reader<'a>, Error>,
+    items: PhantomData<T>,
+}
+
+impl<'a, T> ItemIter<'a, T> {
+    /// The items of a list with these contents.
+    pub(crate) fn of(contents: &'a [u8]) -> Self {
+        ItemIter {
+            reader: Reader::der(contents),
+            items: PhantomData,
+        }
+    }
+}
+
+impl<'a, T: Listed<'a>> Iterator for ItemIter<'a, T> {
+    type Item = Result<T, Error>;
+
+    fn size_hint(&self) -> (usize, Option<usize>) {
+        match &self.reader {
+            Ok(reader) => reader.size_hint(),
+            Err(_) => (1, Some(1)),
+        }
+    }
+
+    fn next(&mut self) -> Option<Self::Item> {
+        next(&mut self.reader, T::read)
+    }
+}
+
+impl<'a, T: Listed<'a>> FusedIterator for ItemIter<'a, T> {}

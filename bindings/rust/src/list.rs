@@ -1,19 +1,13 @@
 //! Extensions whose value is a list.
 use crate::error::{Error, answer};
 use crate::general_name::{GeneralName, GeneralNames};
+use crate::items::{ItemIter, Listed};
 use crate::name::RelativeName;
 use crate::oid::Oid;
 use crate::reader::Reader;
 use crate::sys::{self, RawAccessDescription, RawDistributionPoint, RawFound, RawSpan};
 use core::fmt;
-use core::iter::FusedIterator;
 use core::marker::PhantomData;
-
-/// What an extension lists. The trait is in a private module: no other crate implements it.
-pub trait Listed<'a>: Sized {
-    /// Reads the next item of a list.
-    fn read(reader: &mut Reader<'a>) -> Result<Self, Error>;
-}
 
 /// The items of an extension whose value is a list. That there is at least one is not checked.
 #[derive(Clone, Copy, PartialEq, Eq, Hash)]
@@ -46,33 +40,9 @@ impl<'a, T: Listed<'a>> IntoIterator for Items<'a, T> {
     type IntoIter = ItemIter<'a, T>;
 
     fn into_iter(self) -> ItemIter<'a, T> {
-        ItemIter {
-            reader: Reader::der(self.contents),
-            items: PhantomData,
-        }
+        ItemIter::of(self.contents)
     }
 }
-
-/// The items of a list, in order; the iterator ends after an error.
-#[derive(Clone, Debug)]
-pub struct ItemIter<'a, T> {
-    reader: Result<Reader<'a>, Error>,
-    items: PhantomData<T>,
-}
-
-impl<'a, T: Listed<'a>> Iterator for ItemIter<'a, T> {
-    type Item = Result<T, Error>;
-
-    fn size_hint(&self) -> (usize, Option<usize>) {
-        crate::items::size_hint(&self.reader)
-    }
-
-    fn next(&mut self) -> Option<Self::Item> {
-        crate::items::next(&mut self.reader, T::read)
-    }
-}
-
-impl<'a, T: Listed<'a>> FusedIterator for ItemIter<'a, T> {}
 
 /// A purpose of a key.
 impl<'a> Listed<'a> for Oid<'a> {

@@ -2,13 +2,13 @@
 use crate::certificate::Algorithm;
 use crate::error::{Error, answer};
 use crate::extension::Extensions;
+use crate::items::{ItemIter, Listed};
 use crate::name::Name;
 use crate::octets::Hex;
 use crate::reader::Reader;
 use crate::sys::{self, RawRevocationList, RawRevoked};
 use crate::value::Bits;
 use core::fmt;
-use core::iter::FusedIterator;
 
 /// A certificate revocation list (RFC 5280, 5.1), borrowed from its octets. Nothing about it is
 /// validated.
@@ -122,38 +122,23 @@ impl<'a> IntoIterator for Entries<'a> {
     type IntoIter = EntryIter<'a>;
 
     fn into_iter(self) -> EntryIter<'a> {
-        EntryIter {
-            reader: Reader::der(self.contents),
-        }
+        EntryIter::of(self.contents)
     }
 }
 
 /// The entries of a list, in order; the iterator ends after an error.
-#[derive(Clone, Debug)]
-pub struct EntryIter<'a> {
-    reader: Result<Reader<'a>, Error>,
-}
+pub type EntryIter<'a> = ItemIter<'a, Revoked<'a>>;
 
-impl<'a> Iterator for EntryIter<'a> {
-    type Item = Result<Revoked<'a>, Error>;
-
-    fn size_hint(&self) -> (usize, Option<usize>) {
-        crate::items::size_hint(&self.reader)
-    }
-
-    fn next(&mut self) -> Option<Self::Item> {
-        crate::items::next(&mut self.reader, |reader| {
-            let mut raw = RawRevoked::EMPTY;
-            answer(sys::der_next_revoked(&mut reader.0, &mut raw))?;
-            Ok(Revoked {
-                serial_number: raw.serial_number.octets(),
-                revocation_date: raw.revocation_date,
-                extensions: Extensions {
-                    contents: raw.extensions.octets(),
-                },
-            })
+impl<'a> Listed<'a> for Revoked<'a> {
+    fn read(reader: &mut Reader<'a>) -> Result<Self, Error> {
+        let mut raw = RawRevoked::EMPTY;
+        answer(sys::der_next_revoked(&mut reader.0, &mut raw))?;
+        Ok(Revoked {
+            serial_number: raw.serial_number.octets(),
+            revocation_date: raw.revocation_date,
+            extensions: Extensions {
+                contents: raw.extensions.octets(),
+            },
         })
     }
 }
-
-impl FusedIterator for EntryIter<'_> {}
