@@ -9,20 +9,17 @@
 use der_c::{Error, PublicKey, Tag, Writer, id};
 use std::process::ExitCode;
 
-/// A SEQUENCE that `write` fills.
-fn sequence(write: impl FnOnce(&mut Writer) -> Result<(), Error>) -> Result<Vec<u8>, Error> {
-    let mut space = vec![0; 1 << 16];
-    let mut writer = Writer::new(&mut space);
-    writer.inside(Tag::SEQUENCE, write)?;
-    Ok(writer.finish()?.to_vec())
-}
-
 /// What `write` writes.
 fn written(write: impl FnOnce(&mut Writer) -> Result<(), Error>) -> Result<Vec<u8>, Error> {
     let mut space = vec![0; 1 << 16];
     let mut writer = Writer::new(&mut space);
     write(&mut writer)?;
     Ok(writer.finish()?.to_vec())
+}
+
+/// A SEQUENCE that `write` fills.
+fn sequence(write: impl FnOnce(&mut Writer) -> Result<(), Error>) -> Result<Vec<u8>, Error> {
+    written(|writer| writer.inside(Tag::SEQUENCE, write))
 }
 
 /// CertificationRequestInfo, the part that is signed, with the DNS name as an extension (RFC 5280, 4.2.1.6).
