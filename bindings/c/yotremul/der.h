@@ -60,8 +60,8 @@
 
 /* The version of this header: 10000 times the major number, plus 100 times the minor number, plus
  * the patch number. |der_version| returns that of the library. */
-#define DER_VERSION 200
-#define DER_VERSION_TEXT "0.2.0"
+#define DER_VERSION 300
+#define DER_VERSION_TEXT "0.3.0"
 
 #ifdef __cplusplus
 extern "C" {

@@ -15,7 +15,7 @@ use std::io::Write;
 use std::rt::Files;
 use std::{fs, io, str};
 
-const VERSION: &str = "0.2.0";
+const VERSION: &str = "0.3.0";
 
 /// Runs the program with the arguments `given`, of which the first one is the name of the program.
 /// Compiles the module in a file, and writes its types to the folder of a crate. What it imports is

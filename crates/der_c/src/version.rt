@@ -5,7 +5,7 @@ ghost use Rattle.std.specs.Prelude.{◌≡◌};
 /// patch number. It is `DER_VERSION` of the header that belongs to this library.
 #[unsafe(no_mangle)]
 pub extern "C" fn der_version() -> u32
-    ensures { result ≡ 200 }
+    ensures { result ≡ 300 }
 {
-    200
+    300
 }

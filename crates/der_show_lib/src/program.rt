@@ -18,7 +18,7 @@ use std::rt::Files;
 use std::{fs, io, str};
 
 /// The version of the program.
-const VERSION: &str = "0.2.0";
+const VERSION: &str = "0.3.0";
 
 /// How standard input is called in messages.
 const INPUT: &str = "standard input";

@@ -1,5 +1,6 @@
 //! Types.
 
+use super::numbering::{unnumber, written_number};
 use super::places::Back;
 use super::{Parser, refused, unsupported};
 use crate::component::{Component, Presence};
@@ -7,7 +8,6 @@ use crate::constraint::Constraint;
 use crate::failure::Failure;
 use crate::item::Item;
 use crate::item_kind::ItemKind;
-use crate::reserved::is_reserved;
 use crate::simple_type::SimpleType;
 use crate::tag::{Tag, TagPrefix};
 use crate::tag_class::TagClass;
@@ -16,9 +16,6 @@ use crate::type_node::{Mark, TypeForm, TypeNode};
 use std::alloc::AllocError;
 
 const NO_STRUCTURE: &str = "a SEQUENCE or a SET of a module that is given";
-
-const TAGGED_ADDITION: &str =
-    "an addition without a tag, since the components in front of it have none";
 
 impl<'a> Parser<'a> {
     /// Parses a type in which types may be at so many levels, and returns its index.
@@ -265,49 +262,6 @@ impl<'a> Parser<'a> {
         Ok(Some(self.go(place, name, Vec::new(self.alloc))?))
     }
 
-    // Numbers components in a module with AUTOMATIC TAGS, unless one of them is written with a tag:
-    // first those that are no additions (X.680, 25.2 and 25.7). Additions have no tags then.
-    fn number_components(&self, components: &mut Vec<Component<'a>>) -> Result<(), Failure<'a>> {
-        let mut is_numbered = self.module_tags() == TagDefault::Automatic;
-        for component in components.iter() {
-            is_numbered = is_numbered && (component.number.is_some() || component.is_addition);
-        }
-        let mut roots = 0usize;
-        for component in components.iter() {
-            if !component.is_addition {
-                roots = roots.saturating_add(1);
-            } else if is_numbered && component.number.is_none() {
-                return Err(refused(component.name, TAGGED_ADDITION));
-            }
-        }
-        let (mut root, mut addition) = (0usize, roots);
-        for component in components.iter_mut() {
-            let number = if component.is_addition {
-                addition
-            } else {
-                root
-            };
-            component.number = if is_numbered { Some(number) } else { None };
-            if component.is_addition {
-                addition = addition.saturating_add(1);
-            } else {
-                root = root.saturating_add(1);
-            }
-        }
-        Ok(())
-    }
-
-    // What the module that is read says of tags.
-    fn module_tags(&self) -> TagDefault {
-        let Some(frame) = self.frames.get(self.frame) else {
-            return TagDefault::Explicit;
-        };
-        match self.modules.get(frame.module) {
-            Some(outline) => outline.tags,
-            None => TagDefault::Explicit,
-        }
-    }
-
     // Parses whether a component may be absent, as any addition may: senders that know a former
     // version of the module have none.
     fn presence(&mut self, is_addition: bool) -> Result<Presence<'a>, Failure<'a>> {
@@ -381,96 +335,6 @@ impl<'a> Parser<'a> {
             tag: Tag { class, number },
             tagging,
         })
-    }
-
-    // Parses a type whose parts are no types.
-    fn leaf(
-        &mut self,
-        item: Item<'a>,
-        mark: &mut Option<Mark<'a>>,
-    ) -> Result<TypeForm<'a>, Failure<'a>> {
-        if let Some(simple) = self.field_type.take() {
-            return Ok(TypeForm::Simple(simple));
-        }
-        if item.kind != ItemKind::UpperName {
-            return Err(refused(item, "a type"));
-        }
-        match item.text {
-            "INTEGER" if self.peek().is("{") => Ok(TypeForm::Integer(self.named_numbers()?)),
-            "INTEGER" => Ok(TypeForm::Integer(Vec::new(self.alloc))),
-            "ENUMERATED" => Ok(TypeForm::Enumerated(self.enumeration_items(mark)?)),
-            "BIT" => {
-                self.expect("STRING")?;
-                self.bit_string()
-            }
-            "OCTET" => {
-                self.expect("STRING")?;
-                Ok(TypeForm::Simple(SimpleType::OctetString))
-            }
-            "OBJECT" => {
-                self.expect("IDENTIFIER")?;
-                Ok(TypeForm::Simple(SimpleType::ObjectIdentifier))
-            }
-            "ANY" => self.any(),
-            "EMBEDDED" => {
-                self.expect("PDV")?;
-                Ok(TypeForm::Simple(SimpleType::Unknown(11)))
-            }
-            "CHARACTER" => {
-                self.expect("STRING")?;
-                Ok(TypeForm::Simple(SimpleType::Unknown(29)))
-            }
-            "INSTANCE" => {
-                self.expect("OF")?;
-                self.at = self.at.saturating_add(1);
-                Ok(TypeForm::Simple(SimpleType::Unknown(8)))
-            }
-            word => match SimpleType::of(word) {
-                Some(simple) => Ok(TypeForm::Simple(simple)),
-                None => self.reference(item),
-            },
-        }
-    }
-
-    fn bit_string(&mut self) -> Result<TypeForm<'a>, Failure<'a>> {
-        if self.peek().is("{") {
-            return Ok(TypeForm::BitString(self.named_numbers()?));
-        }
-        Ok(TypeForm::BitString(Vec::new(self.alloc)))
-    }
-
-    fn any(&mut self) -> Result<TypeForm<'a>, Failure<'a>> {
-        if self.takes("DEFINED") {
-            self.expect("BY")?;
-            let name = self.expect_kind(ItemKind::LowerName, "the name of a component")?;
-            self.defined_by.push(name)?;
-        }
-        Ok(TypeForm::Simple(SimpleType::Any))
-    }
-
-    fn reference(&mut self, item: Item<'a>) -> Result<TypeForm<'a>, Failure<'a>> {
-        match item.text {
-            _ if self.is_class_name(item) => {
-                Err(unsupported(item, "no class, which stands for no type"))
-            }
-            word if is_reserved(word) => Err(refused(item, "a type")),
-            _ if self.peek().is("{") => {
-                Err(unsupported(item, "a type with parameters of a module that is given"))
-            }
-            _ => Ok(TypeForm::Reference),
-        }
-    }
-}
-
-// The number of a component that gets one, unless it is written with a tag.
-fn written_number(is_tagged: bool) -> Option<usize> {
-    if is_tagged { None } else { Some(0) }
-}
-
-// Lets components get numbers, which are not written where they are added.
-fn unnumber(components: &mut Vec<Component<'_>>) {
-    for component in components.iter_mut() {
-        component.number = written_number(false);
     }
 }
 

@@ -1,20 +1,20 @@
 //! Types of extensions (RFC 5280, 4.2, 5.2, 5.3; RFC 6962, 3.3), for
 //! [`Extensions::find`](crate::Extensions::find).
 
-mod of_keys_and_names;
-mod of_lists;
-mod of_paths;
+mod keys_and_names;
+mod paths;
+mod revocation_lists;
 
-pub use of_keys_and_names::{
+pub use keys_and_names::{
     AuthorityKeyIdentifier, CertificatePolicies, IssuerAltName, KeyUsage, PolicyMappings,
     SubjectAltName, SubjectDirectoryAttributes, SubjectKeyIdentifier,
 };
-pub use of_lists::{
-    CertificateIssuer, CrlNumber, DeltaCrlIndicator, InvalidityDate, IssuingDistributionPoint,
-    ReasonCode,
-};
-pub use of_paths::{
+pub use paths::{
     AuthorityInfoAccess, BasicConstraints, CrlDistributionPoints, ExtKeyUsage, FreshestCrl,
     InhibitAnyPolicy, NameConstraints, PolicyConstraints, SignedCertificateTimestamps,
     SubjectInfoAccess,
+};
+pub use revocation_lists::{
+    CertificateIssuer, CrlNumber, DeltaCrlIndicator, InvalidityDate, IssuingDistributionPoint,
+    ReasonCode,
 };
