@@ -1,10 +1,18 @@
 """The mutants in the lists crates/*/mutants/*.edits, as tools/mutants describes them."""
 import functools
 import glob
+import hashlib
 import os
 import re
+import threading
 
-from checker import TOP, crates, folder_of, give_up, text_of
+from checker import KIT, PARTS, TOP, below, crates, folder_of, give_up, text_of
+
+RECORD = f"{TOP}/.ci/refused"
+RECORD_HEAD = """# The crates all of whose mutants `tools/mutants` saw refused: how many, and a checksum of what it read:
+# their files, those of the crates below, and the name of the kit.
+"""
+RECORD_LOCK = threading.Lock()
 
 
 class Edit:
@@ -104,3 +112,47 @@ def grouped(edits):
         group[0].append(edit)
         group[1].update(keys)
     return [group for group, _ in groups]
+
+
+def crates_with_mutants():
+    return [it for it in crates() if mutants(it)]
+
+
+def files_of(name, parts):
+    """The paths of the crate's files in these folders."""
+    walked = [it for part in parts for it in os.walk(f"{folder_of(name)}/{part}")]
+    return sorted(f"{at}/{it}" for at, _, files in walked for it in files)
+
+
+@functools.cache
+def made_of(name):
+    """A checksum of what the refusal of the crate's mutants depends on."""
+    found = hashlib.sha256(text_of(f"{KIT}/KIT-ID").encode())
+    paths = files_of(name, [*PARTS, "mutants"])
+    paths += [it for low in sorted(below(crates()[name])) for it in files_of(low, PARTS)]
+    for path in paths:
+        text = text_of(path).encode()
+        found.update(f"{os.path.relpath(path, TOP)} {len(text)}\n".encode() + text)
+    return found.hexdigest()[:32]
+
+
+def recorded():
+    """The line of each crate in the record."""
+    lines = text_of(RECORD).splitlines() if os.path.exists(RECORD) else []
+    return {it.split()[0]: it for it in lines if not it.startswith("#")}
+
+
+def line_of(name):
+    return f"{name} {len(mutants(name))} {made_of(name)}"
+
+
+def is_recorded(name):
+    return recorded().get(name) == line_of(name)
+
+
+def record(name):
+    """Writes into the record that all mutants of the crate were refused."""
+    with RECORD_LOCK:
+        lines = {**recorded(), name: line_of(name)}
+        with open(RECORD, "w", encoding="utf-8") as file:
+            file.write(RECORD_HEAD + "".join(f"{lines[it]}\n" for it in crates_with_mutants() if it in lines))
