@@ -1,10 +1,10 @@
 """The mutants in the lists crates/*/mutants/*.edits, as tools/mutants describes them."""
+import fcntl
 import functools
 import glob
 import hashlib
 import os
 import re
-import threading
 
 from checker import KIT, PARTS, TOP, below, crates, folder_of, give_up, text_of
 
@@ -12,7 +12,6 @@ RECORD = f"{TOP}/.ci/refused"
 RECORD_HEAD = """# The crates all of whose mutants `tools/mutants` saw refused: how many, and a checksum of what it read:
 # their files, those of the crates below, and the name of the kit.
 """
-RECORD_LOCK = threading.Lock()
 
 
 class Edit:
@@ -152,7 +151,9 @@ def is_recorded(name):
 
 def record(name):
     """Writes into the record that all mutants of the crate were refused."""
-    with RECORD_LOCK:
+    with open(RECORD, "a", encoding="utf-8") as file:
+        fcntl.flock(file, fcntl.LOCK_EX)
         lines = {**recorded(), name: line_of(name)}
-        with open(RECORD, "w", encoding="utf-8") as file:
-            file.write(RECORD_HEAD + "".join(f"{lines[it]}\n" for it in crates_with_mutants() if it in lines))
+        text = RECORD_HEAD + "".join(f"{lines[it]}\n" for it in crates_with_mutants() if it in lines)
+        file.truncate(0)
+        file.write(text)
