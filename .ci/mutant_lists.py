@@ -10,7 +10,7 @@ from checker import KIT, PARTS, TOP, below, crates, folder_of, give_up, text_of
 
 RECORD = f"{TOP}/.ci/refused"
 RECORD_HEAD = """# The crates all of whose mutants `tools/mutants` saw refused: how many, and a checksum of what it read:
-# their files, those of the crates below, and the name of the kit.
+# their files, those of the crates below, and the name of the kit; comments are left out.
 """
 
 
@@ -125,12 +125,13 @@ def files_of(name, parts):
 
 @functools.cache
 def made_of(name):
-    """A checksum of what the refusal of the crate's mutants depends on."""
+    """A checksum of what the refusal of the crate's mutants depends on: comments are left out."""
     found = hashlib.sha256(text_of(f"{KIT}/KIT-ID").encode())
     paths = files_of(name, [*PARTS, "mutants"])
     paths += [it for low in sorted(below(crates()[name])) for it in files_of(low, PARTS)]
     for path in paths:
-        text = text_of(path).encode()
+        lines = [it for it in text_of(path).splitlines() if not it.lstrip().startswith(("//", "--"))]
+        text = "\n".join(lines).encode()
         found.update(f"{os.path.relpath(path, TOP)} {len(text)}\n".encode() + text)
     return found.hexdigest()[:32]
 
