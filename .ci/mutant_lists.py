@@ -124,16 +124,21 @@ def files_of(name, parts):
 
 
 @functools.cache
-def made_of(name):
-    """A checksum of what the refusal of the crate's mutants depends on: comments are left out."""
-    found = hashlib.sha256(text_of(f"{KIT}/KIT-ID").encode())
-    paths = files_of(name, [*PARTS, "mutants"])
-    paths += [it for low in sorted(below(crates()[name])) for it in files_of(low, PARTS)]
-    for path in paths:
+def sum_of(name, parts):
+    """A checksum of the crate's files in these folders, without comments."""
+    found = hashlib.sha256()
+    for path in files_of(name, parts):
         lines = [it for it in text_of(path).splitlines() if not it.lstrip().startswith(("//", "--"))]
         text = "\n".join(lines).encode()
         found.update(f"{os.path.relpath(path, TOP)} {len(text)}\n".encode() + text)
-    return found.hexdigest()[:32]
+    return found.hexdigest()
+
+
+def made_of(name):
+    """A checksum of what the refusal of the crate's mutants depends on."""
+    sums = [sum_of(it, PARTS) for it in sorted(below([name]))]
+    found = [text_of(f"{KIT}/KIT-ID"), sum_of(name, ("mutants",)), *sums]
+    return hashlib.sha256("\n".join(found).encode()).hexdigest()[:32]
 
 
 def recorded():
