@@ -13,7 +13,7 @@ enum ReadError {
     NoBlock,
     /// The contents are encrypted.
     Encrypted,
-    /// There is no memory.
+    /// There is not enough memory.
     OutOfMemory,
 }
 

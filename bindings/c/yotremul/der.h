@@ -17,16 +17,17 @@
  *     as it is, whatever the result.
  *   - No out-parameter changes in a call that fails, except those of |der_read_tree|, which reports
  *     the elements that come before the error.
- *   - |DER_INCOMPLETE| says that octets are missing: |first| is needed, |second| are there, both in
- *     octets from the start of the input. If a header was read and its contents are cut, |first| is
- *     where the element would end. If the header itself is cut, |first| is one octet more than there
- *     is: how long the element would be is not known. So it is for an element inside a certificate, a
- *     request, a key, a list, an item or the value of an extension that passes the end of the one
- *     around it, which more octets do not mend. |der_key_usage| and its kin say it of the value of the
- *     extension, in octets from its start; of a list that is cut they need one octet more than there
- *     is, and so do |der_key_usage_lenient| and |der_basic_constraints_lenient| of a value.
- *     Under BER so it may be for a primitive element of an indefinite length, as 04 80, too: the end of
- *     its contents is looked for before its form is refused.
+ *   - |DER_INCOMPLETE| says that octets are missing. |first| octets are needed, and |second| are
+ *     there, both counted from the start of the input. If the header of the element was read, |first|
+ *     is where the element would end. If the header itself is cut, the length of the element is not
+ *     known, and |first| is |second| plus one.
+ *     The same error is reported if an element inside a certificate, a request, a key, a list, an item
+ *     or the value of an extension passes the end of the element around it. More octets do not help
+ *     then. |der_key_usage|, and the other calls that read the value of an extension, count from the
+ *     start of that value. If a list is cut, they need |second| plus one octets; so do
+ *     |der_key_usage_lenient| and |der_basic_constraints_lenient| if a value is cut.
+ *     Under BER, a primitive element with an indefinite length, such as 04 80, may have this error too:
+ *     the end of its contents is looked for before its form is refused.
  *
  * What is read. Under DER each element is a header and contents, with the fewest octets for the tag
  * number and for the length (X.690 10.1). Under BER, lengths of the indefinite form are read too, at
@@ -744,7 +745,8 @@ typedef struct der_constraints {
 DER_MUST_USE DER_NONNULL(3)
 der_error der_basic_constraints(const uint8_t *extensions, size_t length, der_constraints *constraints);
 
-/* der_basic_constraints_lenient likewise: a field may be written though it has its default, as |cA FALSE|. */
+/* der_basic_constraints_lenient is |der_basic_constraints|, but accepts a field that is written though it
+ * has its default value, such as |cA FALSE|. */
 DER_MUST_USE DER_NONNULL(3, 4)
 der_error der_basic_constraints_lenient(const uint8_t *extensions, size_t length, der_constraints *constraints,
                                         bool *is_der);

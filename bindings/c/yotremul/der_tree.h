@@ -1,20 +1,21 @@
 /* yotremul/der_tree.h: values of any known type as trees of elements, with the names of their fields
- * and their types; and PEM. The types are those of certificates, requests, revocation lists, keys,
- * CMS, PKCS #12, OCSP, timestamps, and of what is in them, extensions and attributes among them.
+ * and their types; and PEM. The known types are those of certificates, requests, revocation lists,
+ * keys, CMS, PKCS #12, OCSP and timestamps, with their extensions and attributes.
  *
- * No function allocates. A program that calls none of these links no table of types.
+ * No function allocates. A program that calls none of these functions does not link the table of
+ * types.
  *
  * Memory. A tree is read into memory of the caller, which a |der_tree| points to: the table of the
  * types (|DER_TYPES_ROOM| octets), an array of entries (one for each element), an array of marks and
- * a buffer. If a call says that there is no room, try again with more entries; there are at most
- * half as many elements as octets. 4096 marks are enough for the known types, and a buffer of one
- * octet more than the input.
+ * a buffer. The marks and the buffer are working memory of the calls. If a call reports too little
+ * memory, try again with more entries; a value has at most half as many elements as octets. For the
+ * known types 4096 marks are enough, and a buffer that is one octet longer than the input.
  *
- * Texts. A call that writes text writes a zero octet after it, and returns how many octets the text
- * has; |DER_NONE| if there is no room, and if there is no such element. Base64 and PEM have no zero
- * octet.
+ * Texts. A call that writes a text writes a zero octet after it, and returns the number of octets of
+ * the text, without the zero octet. It returns |DER_NONE| if the text does not fit, or if there is no
+ * such element. Base64 and PEM are written without a zero octet.
  *
- * The caller ensures what the head of der.h says. */
+ * The caller must ensure what the head of der.h says. */
 #ifndef YOTREMUL_DER_TREE_H
 #define YOTREMUL_DER_TREE_H
 
@@ -25,54 +26,60 @@
 extern "C" {
 #endif
 
-/* No element; and no number of octets. */
+/* The result of a call that returns an index or a number of octets, if there is none. */
 #define DER_NONE SIZE_MAX
-/* No type; and no kind. */
+/* The result of a call that returns a type or a kind, if there is none. */
 #define DER_NO_TYPE UINT32_C(4294967295)
-/* There is no room to find the kind. */
+/* The result of |der_kind_find| if there is too little memory. */
 #define DER_NO_ROOM UINT32_C(4294967294)
 
-/* Octets that are enough for the table of the known types. */
+/* A number of octets that is enough for the table of the known types. */
 #define DER_TYPES_ROOM 100000
 
-/* An element of a tree. Elements come in the order of the input, each before those inside it. */
+/* An element of a tree. The elements are in the order of the input: each comes before the elements
+ * inside it. */
 typedef struct der_entry {
-    size_t offset;          /* where its header begins, in octets from the start of the input */
-    size_t contents_length; /* of its contents, in octets */
-    size_t parent;          /* the index of the element around it; its own for the first */
-    uint32_t type;          /* the index of its type in the table; DER_NO_TYPE if it has none */
-    uint32_t field;         /* the field that it is, as an index in the table; DER_NO_TYPE if none */
-    uint32_t alternative;   /* the alternative of a CHOICE that it is; DER_NO_TYPE if none */
-    uint8_t header_length;  /* in octets */
-    uint8_t depth;          /* how many elements it is inside */
+    size_t offset;          /* where the header begins, in octets from the start of the input */
+    size_t contents_length; /* the number of contents octets */
+    size_t parent;          /* the index of the element around it; its own index for the first */
+    uint32_t type;          /* the index of the type in the table; DER_NO_TYPE if it has none */
+    uint32_t field;         /* the index of the field in the table; DER_NO_TYPE if it is no field */
+    uint32_t alternative;   /* the same of the alternative of a CHOICE */
+    uint8_t header_length;  /* the number of octets of the header */
+    uint8_t depth;          /* the number of elements around it */
 } der_entry;
 #define DER_ENTRY_INIT {0, 0, 0, DER_NO_TYPE, DER_NO_TYPE, DER_NO_TYPE, 0, 0}
 
-/* What a read found. */
+/* What |der_tree_read| found. A departure is a fault by which the octets are not DER. */
 typedef struct der_tree_found {
     size_t entries;    /* the number of elements */
-    size_t departures; /* the number of departures from the Distinguished Encoding Rules, of those listed */
-    size_t lost;       /* how many more there are */
-    size_t listed;     /* how many octets their list has; SIZE_MAX if there is no room for it */
-    uint32_t verdict;  /* 0 if the octets are DER, 1 if they are BER alone, 2 if they are neither */
+    size_t departures; /* the number of departures in the list */
+    size_t lost;       /* the number of departures for which the list had no place */
+    size_t listed;     /* the number of octets of the list; SIZE_MAX if it does not fit */
+    uint32_t verdict;  /* 0 if the octets are DER, 1 if they are only BER, 2 if they are neither */
 } der_tree_found;
 #define DER_TREE_FOUND_INIT {0, 0, 0, 0, 2}
 
 /* The types of the library. */
 
-/* der_known_types writes the table of the known types into |table|, and returns how many octets it
- * has; der_known_types_room returns how many are enough. */
+/* der_known_types writes the table of the known types into |table|, and returns the number of octets
+ * written. If |table| is too short, it writes only the first part, which is not a usable table.
+ * der_known_types_room returns a number of octets that is enough. */
 size_t der_known_types_room(void);
 size_t der_known_types(uint8_t *table, size_t capacity);
 
-/* der_type_find returns the index of the type of this name in a table, as `asn1_compile --schema`
- * writes it; DER_NO_TYPE if there is none, and if |table| is no table. */
+/* der_type_find returns the index of the type with this name in a table of types, such as
+ * `asn1_compile --schema` writes. It returns DER_NO_TYPE if the table has no such type, or if |table|
+ * is not a table of types. */
 uint32_t der_type_find(const uint8_t *table, size_t table_length, const char *name, size_t length);
 
-/* der_kind_find returns the number of the kind of a value: DER_NO_TYPE if it is of none, and
- * DER_NO_ROOM. der_kind_of_label returns that which the label of a PEM block promises, der_kind_type
- * the index of its type in the table of the known types (that of any value for no kind), and
- * der_kind_word writes the word for it, as `der_show --as` has it. */
+/* A kind is what a file may contain, such as a certificate or a private key; it has a number.
+ * der_kind_find returns the kind of the value in |octets|; DER_NO_TYPE if it is of no known kind, and
+ * DER_NO_ROOM if there is too little memory. |table| must be the table of the known types.
+ * der_kind_of_label returns the kind that a PEM block with this label should contain; DER_NO_TYPE if
+ * the label stands for none. der_kind_type returns the index of the type of a kind in the table of the
+ * known types; for a number that is no kind, that of any value. der_kind_word writes the word for a
+ * kind, as the option `--as` of `der_show` has it. */
 uint32_t der_kind_find(const uint8_t *table, size_t table_length, const uint8_t *octets, size_t length,
                        der_entry *entries, size_t capacity, uint32_t *marks, size_t mark_count, uint8_t *buffer,
                        size_t buffer_length);
@@ -80,35 +87,39 @@ uint32_t der_kind_of_label(const char *label, size_t length);
 uint32_t der_kind_type(uint32_t kind);
 size_t der_kind_word(uint32_t kind, char *text, size_t capacity);
 
-/* Reading. The calls with a |der_tree| below are shorter. */
+/* Reading. The functions below that take a |der_tree| have fewer parameters. */
 
-/* der_tree_read reads |octets| as a value of the type with the index |type| of a table. It goes on
- * after a departure. It writes the departures into |list| as JSON, as `der_show --json` does, each
- * with the index of its element. It returns false if there is no room, no table or no such type. */
+/* der_tree_read reads |octets| as a value of the type with the index |type| in |table|, and continues
+ * after a departure. It stores the elements in |entries|, and sets |*found|. It writes the departures
+ * into |list| as JSON, as `der_show --json` does, each with the index of its element. If they do not fit,
+ * the octets of |list| are unspecified. It returns false if |entries|, |marks| or |buffer| is too short,
+ * if |table| is not a table of types, or if there is no such type. */
 bool der_tree_read(const uint8_t *table, size_t table_length, uint32_t type, const uint8_t *octets, size_t length,
                    der_entry *entries, size_t capacity, uint32_t *marks, size_t mark_count, uint8_t *buffer,
                    size_t buffer_length, char *list, size_t list_length, der_tree_found *found);
 
-/* der_tree_find returns the index of the element at the end of a path from the element |from|: names of
- * fields with full stops between them, and items of lists in brackets, counted from 0, such as
- * tbsCertificate.extensions[2].extnValue.cA. der_tree_child returns that of the element inside
- * |parent| which |number| others come before. */
+/* der_tree_find returns the index of the element at the end of |path|, which starts at the element with
+ * the index |from|. A path consists of names of fields with full stops between them, and of numbers of
+ * list items in brackets, counted from 0, such as tbsCertificate.extensions[2].extnValue.cA.
+ * der_tree_child returns the index of an element directly inside the element |parent|: |number| is its
+ * position among these, counted from 0. Both return DER_NONE if there is no such element. */
 size_t der_tree_find(const uint8_t *table, size_t table_length, const uint8_t *octets, size_t length,
                      const der_entry *entries, size_t count, size_t from, const char *path, size_t path_length);
 size_t der_tree_child(const uint8_t *table, size_t table_length, const uint8_t *octets, size_t length,
                       const der_entry *entries, size_t count, size_t parent, size_t number);
 
-/* der_tree_octets sets |*part| to the octets of an element, and der_tree_contents to its contents. They
- * return false if there is no such element. A |der_reader| of the octets reads its value. */
+/* der_tree_octets sets |*part| to the octets of an element, and der_tree_contents to its contents octets.
+ * They return false if there is no such element. To read the value of an element, make a |der_reader|
+ * of its octets. */
 bool der_tree_octets(const uint8_t *octets, size_t length, const der_entry *entries, size_t count, size_t index,
                      der_span *part);
 bool der_tree_contents(const uint8_t *octets, size_t length, const der_entry *entries, size_t count, size_t index,
                        der_span *part);
 
-/* der_tree_name writes the name of the field that an element is, der_tree_type that of its type, and
- * der_tree_text the text of its value, as `der_show` prints it: a name, an OBJECT IDENTIFIER with its
- * name, a time, a number or a string. The first element of a value whose octets begin with
- * end-of-contents octets is the one after these. */
+/* der_tree_name writes the name of the field or of the alternative that an element is, and der_tree_type
+ * the name of its type; the text is empty if there is no name. der_tree_text writes the value of an
+ * element as `der_show` prints it: a distinguished name, an OBJECT IDENTIFIER with its name, a time, a
+ * number or a string. */
 size_t der_tree_name(const uint8_t *table, size_t table_length, const uint8_t *octets, size_t length,
                      const der_entry *entries, size_t count, size_t index, char *text, size_t capacity);
 size_t der_tree_type(const uint8_t *table, size_t table_length, const uint8_t *octets, size_t length,
@@ -116,8 +127,8 @@ size_t der_tree_type(const uint8_t *table, size_t table_length, const uint8_t *o
 size_t der_tree_text(const uint8_t *table, size_t table_length, const uint8_t *octets, size_t length,
                      const der_entry *entries, size_t count, size_t index, char *text, size_t capacity);
 
-/* A tree, with the memory that it is read into. Set the memory with DER_TREE_INIT, from four arrays.
- * |octets| are the input, and |found| says what a read found. */
+/* A tree, with the memory that it is read into. Initialise it with DER_TREE_INIT, from four arrays.
+ * |octets| is the input, and |found| what was found in it. */
 typedef struct der_tree {
     uint8_t *types;
     size_t types_length;
@@ -136,8 +147,8 @@ typedef struct der_tree {
             (buffer), sizeof(buffer), DER_SPAN_INIT, DER_TREE_FOUND_INIT                                           \
     }
 
-/* der_tree_load reads a value of any known kind. It returns false if the value is of no known kind, and
- * if there is no room. It keeps |octets|. */
+/* der_tree_load reads a value of any known kind into |tree|. It returns false if the value is of no known
+ * kind, or if there is too little memory. It keeps the pointer |octets|. */
 static inline bool der_tree_load(der_tree *tree, const uint8_t *octets, size_t length)
 {
     size_t count = der_known_types(tree->types, tree->types_length);
@@ -151,14 +162,14 @@ static inline bool der_tree_load(der_tree *tree, const uint8_t *octets, size_t l
                          tree->marks, tree->mark_count, tree->buffer, tree->buffer_length, NULL, 0, &tree->found);
 }
 
-/* der_tree_at returns the index of the element at the end of a path from the element |from|. */
+/* der_tree_at returns the index of the element at the end of |path|, as |der_tree_find| does. */
 static inline size_t der_tree_at(const der_tree *tree, size_t from, const char *path)
 {
     return der_tree_find(tree->types, tree->types_length, tree->octets.octets, tree->octets.length, tree->entries,
                          tree->found.entries, from, path, strlen(path));
 }
 
-/* der_tree_print writes the text of the value at the end of such a path. */
+/* der_tree_print writes the text of the element at the end of |path|, as |der_tree_text| does. */
 static inline size_t der_tree_print(const der_tree *tree, size_t from, const char *path, char *text, size_t capacity)
 {
     return der_tree_text(tree->types, tree->types_length, tree->octets.octets, tree->octets.length, tree->entries,
@@ -167,49 +178,50 @@ static inline size_t der_tree_print(const der_tree *tree, size_t from, const cha
 
 /* PEM. */
 
-/* A block of a PEM text. Offsets are in octets from the start of the text. */
+/* A block of a PEM text. Positions are in octets from the start of the text. */
 typedef struct der_pem_block {
-    size_t label; /* where its label begins */
+    size_t label; /* the position of the label */
     size_t label_length;
-    size_t line;   /* of -----BEGIN, counted from 1; or that of an error */
-    size_t length; /* how many octets are decoded */
-    size_t end;    /* where the line of -----END begins: the next block is after it */
+    size_t line;   /* the number of the -----BEGIN line, or of the line with the error, from 1 */
+    size_t length; /* the number of decoded octets */
+    size_t end;    /* the position of the -----END line; look for the next block after it */
 } der_pem_block;
 #define DER_PEM_BLOCK_INIT {0, 0, 0, 0, 0}
 
 enum {
     DER_PEM_BLOCK = 0,
     DER_PEM_NONE = 1,     /* there is no block */
-    DER_PEM_ERROR = 2,    /* |line| has the first error */
-    DER_PEM_ENCRYPTED = 3 /* a block that is encrypted by PEM itself: it is not decoded */
+    DER_PEM_ERROR = 2,    /* the first error is in the line |line| */
+    DER_PEM_ENCRYPTED = 3 /* the headers of the block say that it is encrypted; it is not decoded */
 };
 
-/* der_pem_next decodes the first block of |text| into |octets|. Base64 of n octets is decoded to less
- * than n octets. No room for them is an error. An error in the base64 of a block leaves |label| and |end|
- * as those of the block; any other leaves them unchanged. */
+/* der_pem_next decodes the first block of |text| into |octets|, and returns one of the numbers above.
+ * |length| octets are always enough for |octets|; too few are an error. After an error in the base64 text of a
+ * block, |label| and |end| are those of the block; after any other error they are unchanged. */
 uint32_t der_pem_next(const char *text, size_t length, uint8_t *octets, size_t capacity, der_pem_block *block);
 
-/* der_base64_decode decodes base64, with white space in it, and returns how many octets it is; DER_NONE
- * if |text| is none, and if there is no room. Some of |octets| may have been written then. */
+/* der_base64_decode decodes base64, which may have white space in it, and returns the number of octets. It
+ * returns DER_NONE if |text| is not base64, or if the octets do not fit; then some of |octets| may have been
+ * written. */
 size_t der_base64_decode(const char *text, size_t length, uint8_t *octets, size_t capacity);
 
-/* How many octets der_base64_encode and der_pem_write write, of |length| octets and a label of
- * |label_length| octets: constants, if these are constants. */
+/* The number of octets that der_base64_encode and der_pem_write write, for |length| octets and a label of
+ * |label_length| octets. It is a constant if the arguments are constants. */
 #define DER_BASE64_ROOM(length) (((length) + 2) / 3 * 4)
 #define DER_PEM_ROOM(label_length, length)                                                                         \
     (2 * (label_length) + DER_BASE64_ROOM(length) + (DER_BASE64_ROOM(length) + 63) / 64 + 32)
 
-/* der_base64_encode writes base64 with padding and without white space (RFC 4648, 4), and der_pem_write
+/* der_base64_encode writes base64 with padding and without white space (RFC 4648, 4). der_pem_write writes
  * a block: the line -----BEGIN label-----, base64 in lines of 64 characters, and the line
- * -----END label-----, each of which ends in LF (RFC 7468, 2). They write no zero octet, return how many
- * octets they wrote, and change no others of |text|. They return DER_NONE and write nothing if there is no
- * room, and if |label| is none: printable ASCII characters, where each - and each space stands between
- * two others (RFC 7468, 3). */
+ * -----END label-----; each line ends in LF (RFC 7468, 2). Both return the number of octets written,
+ * write no zero octet, and change no other octets of |text|. They return DER_NONE and write nothing if
+ * the text does not fit. So does der_pem_write if |label| is not a label: a label has printable ASCII
+ * characters, and each - and each space in it is between two other characters (RFC 7468, 3). */
 size_t der_base64_encode(const uint8_t *octets, size_t length, char *text, size_t capacity);
 size_t der_pem_write(const char *label, size_t label_length, const uint8_t *octets, size_t length, char *text,
                      size_t capacity);
 
-/* The layouts that the library was compiled for. */
+/* These assertions fail if the layouts of the structs are not those for which the library was compiled. */
 DER_STATIC_ASSERT(entry, sizeof(der_entry) == 40 && offsetof(der_entry, parent) == 16 &&
                              offsetof(der_entry, type) == 24 && offsetof(der_entry, alternative) == 32 &&
                              offsetof(der_entry, header_length) == 36 && offsetof(der_entry, depth) == 37);

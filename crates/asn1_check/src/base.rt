@@ -1,11 +1,12 @@
-//! How types are made after their names and tags.
+//! The types for which references and tagged types stand.
 
 use crate::checks::find_type;
 use crate::module::Module;
 use asn1_syntax::TypeForm;
 
-/// How the type with this index is made after its names and tags; `None` if a name is not defined,
-/// or if the type contains itself.
+/// The form of the type with this index. For a reference (the name of a type) or a tagged type, it
+/// is the form of the type behind it. `None` if that name is not defined, or if the type is only a
+/// reference to itself.
 pub fn base_form<'m, 'a>(module: &'m Module<'a>, index: usize) -> Option<&'m TypeForm<'a>> {
     let mut index = index;
     for _ in module.nodes.iter() {
@@ -24,8 +25,10 @@ pub fn base_form<'m, 'a>(module: &'m Module<'a>, index: usize) -> Option<&'m Typ
     None
 }
 
-/// The index of the type after the names of the type with this index; of the last name, if another
-/// crate holds what it stands for.
+/// The index of the type that a reference (the name of a type) stands for. References to other
+/// references are followed, tags are not. If the type is compiled in another crate, the result is
+/// the index of the last reference. If the type with this index is no reference, the result is
+/// `index`.
 pub fn base_of(module: &Module<'_>, index: usize) -> usize {
     let mut index = index;
     for _ in module.nodes.iter() {

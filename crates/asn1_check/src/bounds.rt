@@ -1,12 +1,13 @@
-//! The numbers that a type allows.
+//! The numbers that a type allows, and the type that a string contains.
 
 use crate::checks::find_type;
 use crate::module::Module;
 use asn1_syntax::{Constraint, Range, TypeForm, TypeNode};
 
-/// The numbers that the type with this index allows: those that are in all ranges after it, and
-/// after the types that it names. An extension mark after the last one allows the numbers of the
-/// type in front of it; those after others are lost (X.680, 50.8).
+/// The range of numbers that the type with this index allows. All range constraints of the type
+/// count, and all range constraints of the types behind its references and tags. If the last range
+/// constraint has an extension marker, that constraint excludes no number. The extension markers of
+/// the other constraints are ignored (X.680, 50.8).
 pub fn range_at<'a>(module: &Module<'a>, index: usize) -> Range<'a> {
     let mut index = index;
     let mut found = None;
@@ -54,7 +55,8 @@ fn with_imported<'a>(module: &Module<'a>, name: &str, found: Option<Range<'a>>) 
     }
 }
 
-/// The index of the type whose encoding the contents of a string are, if a constraint says one.
+/// The index of the type that a string contains: the contents of the string are an encoding of that
+/// type. `None` if the string has no constraint CONTAINING.
 pub fn contained(node: &TypeNode<'_>) -> Option<usize> {
     for constraint in node.constraints.iter() {
         if let Constraint::Containing(of) = constraint {

@@ -1,4 +1,4 @@
-//! From the text of a module to its checks.
+//! Parses a module and checks it.
 
 use crate::checks::{Checks, check_module, cut_recursion, unsupported_types};
 use crate::external::External;
@@ -8,8 +8,9 @@ use crate::selection::{Selection, select_first};
 use asn1_syntax::{Failure, LeftOut, Refusal, parse_module};
 use std::alloc::Global;
 
-/// Parses a module, looks up its names, and checks it. It imports from modules of other crates.
-/// Refuses what is not supported, wherever it stands.
+/// Parses a module, finds what its names stand for, and checks it. `externals` are modules of other
+/// crates, from which this module may import. Fails if the module is not valid, or if any of its
+/// assignments is not supported.
 pub fn checked_module<'a>(
     alloc: Global,
     externals: &Vec<External<'a>>,
@@ -24,17 +25,24 @@ pub fn checked_module<'a>(
     Ok((module, checks))
 }
 
-/// A module without the assignments that are not compiled, whose names are looked up.
+/// A module from which the assignments that are not compiled are removed. What its names stand for
+/// is looked up.
 #[derive(Drop)]
 pub struct Selected<'a> {
     /// The module.
     pub module: Module<'a>,
-    /// The assignments that are left out.
+    /// The removed assignments: those that are not supported, and those that refer to a removed
+    /// assignment.
     pub left_out: Vec<LeftOut<'a>>,
 }
 
-/// Parses a module, selects what is compiled of it, as [`select_first`] says, and looks up its names. Names
-/// that lead back to the type which they name become types that are not read. What is not supported, and seen by no parser, is added to `known` and left out.
+/// Parses a module, keeps the assignments that [`select_first`] keeps, and finds what the names of
+/// the module stand for. It also makes these changes:
+///
+/// - Where a type contains itself, the name that leads back to it is replaced by a type whose
+///   values are not read ([`cut_recursion`]).
+/// - Some types turn out not to be supported only after parsing. They are added to `known`, and the
+///   assignments that contain them are removed.
 pub fn selected_module<'a>(
     alloc: Global,
     externals: &Vec<External<'a>>,

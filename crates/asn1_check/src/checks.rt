@@ -1,4 +1,4 @@
-//! What makes a module right beyond its grammar.
+//! Checks of a module that its grammar does not make.
 
 mod components;
 mod constraints;
@@ -28,16 +28,19 @@ pub use recursion::{cut_recursion, recursive_name};
 use std::alloc::{AllocError, Global};
 pub use tags::{copy_at, has_no_tag};
 
-/// What the checks of a module find.
+/// What the checks of a module find out about its types.
 #[derive(Drop)]
 pub struct Checks {
-    /// The indices of its types, each after those that it is made of.
+    /// The indices of all types among the `nodes` of the module. Each type comes after the types
+    /// that it is made of.
     pub order: Vec<usize>,
-    /// The tags that values of each type begin with, by index.
+    /// The tags that values of a type may begin with, for each type. The place in the list is the
+    /// index of the type.
     pub tags: Vec<TagSet>,
 }
 
-/// Adds the refusals of types that are right, and that the library has no form for.
+/// Adds a refusal to `found` for each type that is valid ASN.1, but that the compiler does not
+/// support. These are built-in types that are not compiled, and types that contain themselves.
 pub fn unsupported_types<'a>(
     alloc: Global,
     module: &Module<'a>,
@@ -47,8 +50,9 @@ pub fn unsupported_types<'a>(
     add_loops(alloc, module, found)
 }
 
-/// Checks a module as [`check_module`] does, and puts a SEQUENCE after the tag of a SET in the place of
-/// each SET with components.
+/// Checks a module as [`check_module`] does, and replaces each SET with components. The replacement
+/// is a SEQUENCE with the tag of a SET. Its components are in the order of their tags, as DER
+/// encodes them.
 pub fn check_sorted<'a>(alloc: Global, module: &mut Module<'a>) -> Result<Checks, Failure<'a>> {
     let checks = check_module(alloc, module)?;
     if sort_sets(alloc, module, &checks.tags)? {
@@ -57,8 +61,14 @@ pub fn check_sorted<'a>(alloc: Global, module: &mut Module<'a>) -> Result<Checks
     Ok(checks)
 }
 
-/// Checks that names are defined once, that no type contains itself, that constraints are those of
-/// their types, and that tags are distinct.
+/// Checks a module:
+///
+/// - each name is defined once;
+/// - each name that is used or exported is defined or imported;
+/// - no type contains itself;
+/// - each constraint fits its type;
+/// - all types are supported;
+/// - tags that must be distinct are distinct.
 pub fn check_module<'a>(alloc: Global, module: &Module<'a>) -> Result<Checks, Failure<'a>> {
     check_names(alloc, module)?;
     check_exports(module)?;

@@ -1,25 +1,26 @@
-//! Values that are known.
+//! Computed values.
 
 use asn1_syntax::Endpoint;
 use std::alloc::{AllocError, Global};
 
-/// What a value is.
+/// The value of a value assignment. The compiler computes only numbers, BOOLEANs and OBJECT
+/// IDENTIFIERs.
 #[derive(Drop)]
 pub enum Constant {
     /// A number that is 0 or more.
     Number(u64),
-    /// A number below 0, without its sign.
+    /// A number below 0. The `u64` is its absolute value.
     Negative(u64),
-    /// A BOOLEAN.
+    /// A BOOLEAN value.
     Boolean(bool),
     /// An OBJECT IDENTIFIER, by its arcs.
     ObjectIdentifier(Vec<u64>),
-    /// A value of any other type; it is not evaluated.
+    /// A value of any other type. The compiler does not compute it.
     Other,
 }
 
 impl Constant {
-    /// The same value.
+    /// A copy of this value.
     pub fn copy(&self, alloc: Global) -> Result<Self, AllocError> {
         match self {
             Constant::Number(number) => Ok(Constant::Number(*number)),
@@ -32,7 +33,7 @@ impl Constant {
         }
     }
 
-    /// The number that it is; `None` if it is none.
+    /// The value as a number; `None` if the value is not a number.
     pub fn number<'a>(&self) -> Option<Endpoint<'a>> {
         match self {
             Constant::Number(number) => Some(Endpoint::Number(*number)),
@@ -42,7 +43,7 @@ impl Constant {
     }
 }
 
-/// The same arcs.
+/// A copy of these arcs.
 pub fn copy_of(alloc: Global, arcs: &Vec<u64>) -> Result<Vec<u64>, AllocError> {
     let mut copy = Vec::new(alloc);
     for arc in arcs.iter() {
@@ -54,14 +55,14 @@ pub fn copy_of(alloc: Global, arcs: &Vec<u64>) -> Result<Vec<u64>, AllocError> {
 /// A value with its name.
 #[derive(Drop)]
 pub struct NamedConstant<'a> {
-    /// The name.
+    /// The name of the value.
     pub name: &'a str,
-    /// The value.
+    /// The value that has the name.
     pub constant: Constant,
 }
 
 impl<'a> NamedConstant<'a> {
-    /// The same value.
+    /// A copy of this value with its name.
     pub fn copy(&self, alloc: Global) -> Result<Self, AllocError> {
         Ok(NamedConstant {
             name: self.name,

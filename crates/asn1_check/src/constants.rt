@@ -4,16 +4,16 @@ use crate::constant::{Constant, NamedConstant};
 use asn1_syntax::NameIndex;
 use std::alloc::{AllocError, Global};
 
-/// Values with names, in their order.
+/// A list of values with names.
 #[derive(Drop)]
 pub struct Constants<'a> {
-    /// The values.
+    /// The values, in the order in which they were added.
     pub list: Vec<NamedConstant<'a>>,
     places: NameIndex<'a>,
 }
 
 impl<'a> Constants<'a> {
-    /// No values.
+    /// A list without values.
     pub fn new(alloc: Global) -> Self {
         Constants {
             list: Vec::new(alloc),
@@ -21,7 +21,7 @@ impl<'a> Constants<'a> {
         }
     }
 
-    /// Adds a value after the others.
+    /// Adds a value at the end of the list.
     pub fn push(&mut self, named: NamedConstant<'a>) -> Result<(), AllocError> {
         self.places.add(named.name, self.list.len())?;
         self.list.push(named)?;

@@ -1,18 +1,18 @@
-//! Modules that other crates hold.
+//! Modules that other crates contain.
 
 use crate::constants::Constants;
 use crate::external_types::ExternalTypes;
 use asn1_syntax::NameIndex;
 
-/// A module that another crate holds, with what other modules may import from it.
+/// A module that is compiled in another crate, with what other modules may import from it.
 #[derive(Drop)]
 pub struct External<'a> {
     /// The name of the module.
     pub module: &'a str,
-    /// Its types that have names.
+    /// The named types of the module.
     pub types: ExternalTypes<'a>,
-    /// Its values.
+    /// The named values of the module.
     pub values: Constants<'a>,
-    /// The names of what is left out of it.
+    /// The names of the assignments of the module that are not compiled.
     pub left_out: NameIndex<'a>,
 }

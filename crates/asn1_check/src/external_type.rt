@@ -1,35 +1,37 @@
-//! Types that other crates hold.
+//! Types that other crates contain.
 
 use crate::rust_type::RustType;
 use crate::tag_set::TagSet;
 use asn1_syntax::{NamedNumber, Range, TypeForm};
 use std::alloc::{AllocError, Global};
 
-/// A type that another crate holds.
+/// A type that is compiled in another crate.
 #[derive(Drop)]
 pub struct ExternalType<'a> {
-    /// The name of that crate.
+    /// The name of the crate in which the type is compiled.
     pub krate: String,
-    /// The name of the type in the notation.
+    /// The ASN.1 name of the type.
     pub name: &'a str,
-    /// The name that Rust has for it.
+    /// The name of the Rust type.
     pub rust_name: String,
-    /// The type of Rust.
+    /// The Rust type for this ASN.1 type.
     pub of: RustType,
-    /// The tags that its values begin with.
+    /// The tags that values of the type may begin with.
     pub tags: TagSet,
-    /// Whether it is a CHOICE or ANY without a tag.
+    /// Whether the type has no tag of its own. Only a CHOICE and ANY have none.
     pub has_no_tag: bool,
-    /// Whether its crate has what an item of a list needs.
+    /// Whether a SEQUENCE OF or SET OF of this crate can have items of the type. The other crate
+    /// then has the trait implementations that items need.
     pub is_item: bool,
-    /// The numbers that it allows, if it is an INTEGER.
+    /// The range of numbers that the type allows. It has a meaning only for an INTEGER.
     pub range: Range<'a>,
-    /// How it is made, after its names and tags; without the types that it is made of.
+    /// The form of the type, without its components, alternatives and items. If the type is a
+    /// reference or has tags, it is the form of the type behind them.
     pub form: TypeForm<'a>,
 }
 
 impl<'a> ExternalType<'a> {
-    /// The same type.
+    /// A copy of this type.
     pub fn copy(&self, alloc: Global) -> Result<Self, AllocError> {
         let mut tags = TagSet::empty(alloc);
         tags.add(&self.tags)?;
@@ -47,7 +49,7 @@ impl<'a> ExternalType<'a> {
     }
 }
 
-/// How a type is made, without the types that it is made of.
+/// A copy of the form of a type. The copy has no components, alternatives and items.
 pub fn bare_form<'a>(alloc: Global, form: &TypeForm<'a>) -> Result<TypeForm<'a>, AllocError> {
     match form {
         TypeForm::Simple(simple) => Ok(TypeForm::Simple(*simple)),

@@ -1,19 +1,19 @@
-//! Types that other crates hold, with their names.
+//! Lists of types that other crates contain.
 
 use crate::external_type::ExternalType;
 use asn1_syntax::NameIndex;
 use std::alloc::{AllocError, Global};
 
-/// Types that other crates hold, in their order.
+/// A list of types that other crates contain.
 #[derive(Drop)]
 pub struct ExternalTypes<'a> {
-    /// The types.
+    /// The types, in the order in which they were added.
     pub list: Vec<ExternalType<'a>>,
     places: NameIndex<'a>,
 }
 
 impl<'a> ExternalTypes<'a> {
-    /// No types.
+    /// A list without types.
     pub fn new(alloc: Global) -> Self {
         ExternalTypes {
             list: Vec::new(alloc),
@@ -21,14 +21,14 @@ impl<'a> ExternalTypes<'a> {
         }
     }
 
-    /// Adds a type after the others.
+    /// Adds a type at the end of the list.
     pub fn push(&mut self, of: ExternalType<'a>) -> Result<(), AllocError> {
         self.places.add(of.name, self.list.len())?;
         self.list.push(of)?;
         Ok(())
     }
 
-    /// The first type with this name.
+    /// The first type with this ASN.1 name.
     pub fn find(&self, name: &str) -> Option<&ExternalType<'a>> {
         self.list.get(self.places.find(name)?)
     }

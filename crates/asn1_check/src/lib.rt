@@ -1,4 +1,5 @@
-//! Modules of ASN.1 whose names are looked up, and whose types and values are checked.
+//! Checks modules of ASN.1. The crate finds what the names in a module stand for, and checks the
+//! types and the values of the module.
 #![tactic(auto)]
 
 mod base;

@@ -1,4 +1,4 @@
-//! What names stand for: imports, and values.
+//! Finds imported names, and computes values.
 
 mod arcs;
 mod enumerations;
@@ -19,8 +19,9 @@ use ranges::check_ranges;
 use std::alloc::Global;
 use values::constants_of;
 
-/// Looks up what a module imports in the modules of other crates, computes its values, and puts
-/// numbers in the place of names of numbers.
+/// Completes a parsed module. It finds the imported names in the modules `externals` of other
+/// crates, and computes the values of the module. Then it replaces each name that stands for a
+/// number by the number. Fails if a name is not found, or if a value is not valid for its type.
 pub fn link_module<'a>(
     alloc: Global,
     parsed: ParsedModule<'a>,

@@ -1,4 +1,4 @@
-//! Modules whose names are looked up.
+//! Modules with known names.
 
 use crate::constants::Constants;
 use crate::external_types::ExternalTypes;
@@ -7,35 +7,38 @@ use asn1_syntax::{
 };
 use std::alloc::Global;
 
-/// A module, with what its names stand for.
+/// A module in which it is known what names stand for. Imported names are found, and values are
+/// computed.
 #[derive(Drop)]
 pub struct Module<'a> {
-    /// The name.
+    /// The name of the module.
     pub name: Item<'a>,
-    /// What it says of its tags.
+    /// Whether the module has explicit, implicit or automatic tags.
     pub tags: TagDefault,
-    /// The names that it exports.
+    /// The names that the module exports.
     pub exports: Vec<Item<'a>>,
-    /// The types that it imports.
+    /// The types that the module imports.
     pub imported: ExternalTypes<'a>,
-    /// The types that it names, in their order.
+    /// The type assignments, in the order of the text.
     pub types: Vec<TypeAssignment<'a>>,
-    /// The values that it names, in their order.
+    /// The value assignments, in the order of the text.
     pub values: Vec<ValueAssignment<'a>>,
-    /// What its values are, and those that it imports.
+    /// The computed values of the module, and those that it imports.
     pub constants: Constants<'a>,
-    /// All types of the module, also those without a name.
+    /// All types that the module contains, with or without a name. Other fields refer to a type by
+    /// its index here.
     pub nodes: Vec<TypeNode<'a>>,
-    /// Where it has what it names.
+    /// Finds the type, the value or the import that has a given name.
     pub index: ModuleIndex<'a>,
-    /// Whether each type, by its index, is an item of a list, maybe by name.
+    /// Whether a type is the item type of a SEQUENCE OF or SET OF, directly or by name, for each
+    /// type. The place in the list is the index of the type.
     pub list_items: Vec<bool>,
-    /// What the parser warns of.
+    /// The warnings about the module.
     pub warnings: Vec<Warning<'a>>,
 }
 
 impl<'a> Module<'a> {
-    /// The parsed module with these types and values of the modules from which it imports.
+    /// Makes a module of a parsed module, and of the types and the values that the module imports.
     pub fn of(
         alloc: Global,
         parsed: ParsedModule<'a>,
@@ -68,7 +71,8 @@ impl<'a> Module<'a> {
         }
     }
 
-    /// The assignment of the type with this index, if the type has a name in the module.
+    /// The type assignment that gives the type with this index its name. `None` if the type has no
+    /// name in this module.
     pub fn assignment(&self, index: usize) -> Option<&TypeAssignment<'a>> {
         let number = (*self.index.assignments.get(index)?)?;
         self.types.get(number)

@@ -1,35 +1,37 @@
-//! Types of Rust for types of the notation.
+//! Rust types for ASN.1 types.
 
 use std::alloc::{AllocError, Global};
 use std::fmt::Write;
 
-/// How the fields of a type are read.
+/// How the field of a Rust type is decoded, if the field is of a given type.
 #[derive(Clone, Copy, Debug, PartialEq, Eq)]
 pub enum RustKind {
-    /// As an element with a tag.
+    /// The field is decoded as an element with a certain tag.
     Element,
-    /// As an element with any tag.
+    /// The field is decoded as an element with any tag.
     Any,
-    /// As one of some alternatives.
+    /// The field is decoded as one of the alternatives of a CHOICE.
     Choice,
 }
 
-/// The type of Rust for a type of the notation.
+/// The Rust type that the compiler uses for an ASN.1 type.
 #[derive(Drop)]
 pub struct RustType {
-    /// Its text.
+    /// The type, as it is written in Rust.
     pub text: String,
-    /// How it is read.
+    /// How a field of this type is decoded.
     pub kind: RustKind,
-    /// Whether it has a lifetime.
+    /// Whether the type has a lifetime parameter.
     pub has_lifetime: bool,
-    /// The arms of a `match` that checks the values of a choice; empty for other types, and for a
-    /// choice that is written by hand, which has a method `is_value`.
+    /// The arms of a Rust `match` that checks a value, if the type is a CHOICE. Empty for all other
+    /// types. A CHOICE that is written by hand has a method `is_value` instead; its arms are empty,
+    /// too.
     pub arms: String,
 }
 
 impl RustType {
-    /// The type with this text; it has a lifetime if the text has one.
+    /// The type that is written as `text` in Rust. It has a lifetime parameter if a lifetime is in
+    /// `text`.
     pub fn new(alloc: Global, text: &str, kind: RustKind) -> Result<Self, AllocError> {
         Ok(RustType {
             text: String::from_str(alloc, text)?,
@@ -39,7 +41,8 @@ impl RustType {
         })
     }
 
-    /// The type of an element with this text; it has a lifetime if the text has one.
+    /// The type that is written as `text` in Rust. Its fields are decoded as elements with a
+    /// certain tag. It has a lifetime parameter if a lifetime is in `text`.
     pub fn element(alloc: Global, text: String) -> Self {
         RustType {
             has_lifetime: text.contains('\''),
@@ -49,12 +52,12 @@ impl RustType {
         }
     }
 
-    /// The same type.
+    /// A copy of this type.
     pub fn copy(&self, alloc: Global) -> Result<Self, AllocError> {
         self.renamed(alloc, self.text.as_str())
     }
 
-    /// The same type under another name.
+    /// A copy of this type that is written as `text` in Rust.
     pub fn renamed(&self, alloc: Global, text: &str) -> Result<Self, AllocError> {
         Ok(RustType {
             text: String::from_str(alloc, text)?,
@@ -64,7 +67,8 @@ impl RustType {
         })
     }
 
-    /// Adds what a value of this type means, as a term of a clause.
+    /// Appends the text that stands for this type in a contract of a generated type: a term that
+    /// describes the encodings of the type.
     pub fn push_alternative(&self, out: &mut String) -> Result<(), AllocError> {
         let text = self.text.as_str();
         match self.kind {
@@ -74,7 +78,8 @@ impl RustType {
         }
     }
 
-    /// Adds the expression which checks that the value `value` is one of this type.
+    /// Appends a Rust expression to `out`. The expression checks whether the variable `value` is a
+    /// valid value of this type.
     pub fn push_check(&self, out: &mut String) -> Result<(), AllocError> {
         let arms = self.arms.as_str();
         if arms.is_empty() {

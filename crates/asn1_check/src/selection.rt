@@ -14,20 +14,30 @@ use used::used_by;
 pub use wanted::not_there;
 use wanted::wanted_of;
 
-/// A module without the assignments that are not compiled.
+/// A module from which the assignments that are not compiled are removed.
 #[derive(Drop)]
 pub struct Selection<'a> {
     /// The module.
     pub parsed: ParsedModule<'a>,
-    /// The assignments that are left out, since something that they have or name is not supported.
+    /// The assignments that are removed because they are not supported, or because they refer to
+    /// something that is not supported. Empty if the caller asked for certain types only.
     pub left_out: Vec<LeftOut<'a>>,
 }
 
-/// Parses the modules of a text, and keeps the assignments that are compiled: those of the types
-/// `only` and of what these name, or all if `only` is empty. Objects and sets of objects are among
-/// them. Left out are assignments of forms that are not supported, of which `known` has those that no
-/// parser sees; assignments which name those; and those which name what is imported from a module that
-/// is not given, or does not have it. Refuses a name of `only` that is left out, or not there.
+/// Parses the modules of a text, and removes the assignments that are not compiled. If `only` is
+/// empty, all assignments are compiled, except for the left out ones below. Otherwise, the types
+/// with the names `only` are compiled, and what they refer to. Information objects and object sets
+/// are kept, too.
+///
+/// An assignment is left out in these cases:
+///
+/// - It has a form that is not supported. `known` tells of the cases that the parser does not
+///   notice.
+/// - It refers to an assignment that is left out.
+/// - It refers to an imported name, but the module of that name is not among `externals`, or does
+///   not have the name because it leaves the name out.
+///
+/// Fails if a name of `only` is left out or does not exist, and if the first module is not valid.
 pub fn select<'a>(
     alloc: Global,
     externals: &Vec<External<'a>>,
@@ -38,8 +48,8 @@ pub fn select<'a>(
     selection_of(alloc, externals, text, only, known, false)
 }
 
-/// The same for the first module of a text alone: of the other ones, what it names is kept. Objects
-/// and sets are not.
+/// Does what [`select`] does, but keeps only the first module of the text, and what it refers to in
+/// the other modules. Information objects and object sets are removed.
 pub fn select_first<'a>(
     alloc: Global,
     externals: &Vec<External<'a>>,

@@ -1,21 +1,21 @@
-//! The tags that values of a type begin with.
+//! Sets of tags that values of a type may begin with.
 ghost use Rattle.std.specs.Prelude.{◌≡◌, true};
 ghost use Rattle.asn1_check.specs.TagSet.{AreDistinct};
 
 use asn1_syntax::{Tag, TagClass};
 use std::alloc::{AllocError, Global};
 
-/// The tags that values of a type may begin with.
+/// The set of tags that values of a type may begin with.
 #[derive(Drop)]
 pub struct TagSet {
-    /// The tags.
+    /// The tags in the set.
     pub tags: Vec<Tag>,
-    /// Whether any other tag may be there too.
+    /// Whether the set has every tag. The set of tags of `ANY` has every tag.
     pub is_any: bool,
 }
 
 impl TagSet {
-    /// No tags.
+    /// The empty set.
     pub fn empty(alloc: Global) -> Self {
         TagSet {
             tags: Vec::new(alloc),
@@ -23,7 +23,7 @@ impl TagSet {
         }
     }
 
-    /// Every tag.
+    /// The set of all tags.
     pub fn any(alloc: Global) -> Self {
         TagSet {
             tags: Vec::new(alloc),
@@ -31,7 +31,7 @@ impl TagSet {
         }
     }
 
-    /// This tag alone.
+    /// The set whose only tag is `tag`.
     pub fn of(alloc: Global, tag: Tag) -> Result<Self, AllocError> {
         Ok(TagSet {
             tags: vec![in alloc; tag]?,
@@ -39,7 +39,7 @@ impl TagSet {
         })
     }
 
-    /// The universal tag with this number alone.
+    /// The set whose only tag is the universal tag with this number.
     pub fn universal(alloc: Global, number: u64) -> Result<Self, AllocError> {
         TagSet::of(
             alloc,
@@ -50,7 +50,7 @@ impl TagSet {
         )
     }
 
-    /// Adds the tags of `other`.
+    /// Adds the tags of `other` to this set.
     pub fn add(&mut self, other: &TagSet) -> Result<(), AllocError> {
         self.is_any = self.is_any || other.is_any;
         for tag in other.tags.iter() {
@@ -59,7 +59,7 @@ impl TagSet {
         Ok(())
     }
 
-    /// Whether no tag is in both sets.
+    /// Whether the two sets have no tag in common.
     pub fn is_distinct_from(&self, other: &TagSet) -> bool
         ensures { result ≡ true → AreDistinct self.now other.now }
     {

@@ -1,5 +1,5 @@
-//! Compiles a module of ASN.1: writes the types of Rust that read and write its values to the folder
-//! of a crate.
+//! The program that compiles an ASN.1 module to Rust types, which decode and encode its values, and
+//! writes them to the folder of a crate. With `--schema` it writes a table of types instead.
 #![tactic(auto)]
 
 use asn1_output::run_compile;

@@ -5,9 +5,10 @@ ghost use Rattle.asn1_contents.specs.Characters.{characters_of, is_in_ranges, ar
 use crate::codes::Codes;
 use ber::Universal;
 
-/// Whether the code of each character of the contents octets of a primitive encoding is in one of the
-/// ranges, both ends included, as a permitted alphabet demands (X.680 51.7). [`Codes`] says which
-/// characters contents have.
+/// Whether the code of each character of a string is in one of `ranges`, as a permitted alphabet
+/// demands (X.680 51.7). Both ends of a range belong to it. `contents` are the contents octets of
+/// the primitive encoding of the string. [`Codes`] describes which octets are the code of a
+/// character.
 pub fn are_characters_in(universal: Universal, contents: &[u8], ranges: &[(u32, u32)]) -> bool
     ensures { result ≡ are_in_ranges ranges.now (characters_of universal contents.now) }
 {

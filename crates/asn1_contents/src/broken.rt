@@ -1,4 +1,4 @@
-//! The first rule that is broken.
+//! Finds the first rule that contents octets break.
 ghost use Rattle.std.specs.Prelude.{◌↔◌, IsTrue, IfSome, IfNone};
 ghost use Rattle.der_base.specs.declared.encoding_rules.EncodingRules.{EncodingRules};
 ghost use Rattle.asn1_contents.specs.Contents.{IsContents, IsNamedBits, Breaks, BreaksNamedBits};
@@ -9,8 +9,9 @@ use crate::contents_rule::ContentsRule;
 use crate::rules::{named_bits_rules, rules_of};
 use ber::Universal;
 
-/// The first rule that the contents octets of a primitive encoding break, if they break one. The rules
-/// of the Basic Encoding Rules come first, so contents that break none of these are BER.
+/// Returns the first rule that the contents octets of a primitive encoding break. `None` means that
+/// they are DER. Rules of the Basic Encoding Rules are checked before the rules that only DER has.
+/// So the contents are BER if [`ContentsRule::is_ber`] is true for the returned rule.
 pub fn broken_rule(universal: Universal, contents: &[u8]) -> Option<ContentsRule>
     ensures allowed { (rules : EncodingRules)
         → IsTrue (allows rules result) ↔ IsContents rules universal contents.now }
@@ -19,7 +20,9 @@ pub fn broken_rule(universal: Universal, contents: &[u8]) -> Option<ContentsRule
     first_broken(rules_of(universal), contents)
 }
 
-/// The first rule that the contents octets of a BIT STRING with named bits break, if they break one.
+/// Returns the first rule that the contents octets of a BIT STRING with named bits break. The rules
+/// are those of [`broken_rule`] for a BIT STRING, and one more that only DER has: there must be no
+/// trailing zero bits.
 pub fn named_bits_rule(contents: &[u8]) -> Option<ContentsRule>
     ensures allowed { (rules : EncodingRules)
         → IsTrue (allows rules result) ↔ IsNamedBits rules contents.now }

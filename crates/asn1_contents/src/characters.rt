@@ -1,4 +1,4 @@
-//! Character strings that `der_asn1` does not have.
+//! Characters of the string types that the crate `der_asn1` does not read.
 ghost use Rattle.std.specs.Prelude.{◌≡◌};
 ghost use Rattle.asn1_contents.specs.Codes.{is_code, universal_form};
 ghost use Rattle.asn1_contents.specs.Small.{are_printing, is_printing};

@@ -1,27 +1,32 @@
-//! The characters of strings, one after the other.
+//! The codes of the characters of a string.
 ghost use Rattle.std.specs.Prelude.{◌≡◌, [], ◌∷◌, IfSome, IfNone};
 ghost use Rattle.std.specs.Str.{chars};
 ghost use Rattle.asn1_contents.specs.Characters.{characters_of, codes_left};
 
 use ber::Universal;
 
-/// The characters of contents octets, as codes, without those that were taken from the front.
+/// The characters of a string that are still to be read. They are taken from its contents octets,
+/// each as a numeric code.
 #[derive(Debug, Clone, Copy)]
 pub enum Codes<'a> {
-    /// Each octet is a code.
+    /// Each octet is the code of a character.
     Octets(&'a [u8]),
-    /// Each two octets are one; an octet after them is none.
+    /// Each pair of octets is the code of a character, the higher octet first. A single octet at
+    /// the end is ignored.
     Pairs(&'a [u8]),
-    /// Each four octets are one; octets after them are none.
+    /// Each group of four octets is the code of a character, the highest octet first. Up to three
+    /// octets at the end are ignored if they are no complete group.
     Fours(&'a [u8]),
-    /// The characters of a text.
+    /// The code of each character of this text is its Unicode code point.
     Text(&'a str),
 }
 
 impl<'a> Codes<'a> {
-    /// The characters of the contents octets of a primitive encoding. Those of a type with escape
-    /// sequences, such as TeletexString, are its octets, and so are those of a UTF8String that is no
-    /// UTF-8.
+    /// The characters of a string of the type `universal`. `contents` are the contents octets of
+    /// its primitive encoding. In these cases, each octet counts as a character:
+    ///
+    /// - The type has escape sequences, as TeletexString has.
+    /// - The string is a UTF8String, but not valid UTF-8.
     pub fn of(universal: Universal, contents: &'a [u8]) -> Self
         ensures { codes_left result ≡ characters_of universal contents.now }
     {
@@ -36,7 +41,8 @@ impl<'a> Codes<'a> {
         }
     }
 
-    /// The first one, and those after it.
+    /// Returns the code of the next character, and the characters after it. `None` if no character
+    /// is left.
     #[inline(always)]
     pub fn split_first(self) -> Option<(u32, Self)>
         ensures some { IfSome result (λ r. codes_left self.entry ≡ r.0 ∷ codes_left r.1) }

@@ -3,128 +3,134 @@ ghost use Rattle.std.specs.Prelude.{◌≡◌};
 
 use std::fmt;
 
-/// A rule of the contents octets of a primitive encoding (X.690 8.2 to 8.26, 11). Each is what the
-/// standard demands, in the section that [`ContentsRule::section`] returns; the rules of a type are
-/// in the order in which they are checked.
+/// A rule for the contents octets of a primitive encoding (X.690 8.2 to 8.26, 11). Each variant
+/// states what the standard demands. [`ContentsRule::section`] returns the section of the standard.
+/// The variants for a type are in the order in which they are checked.
 #[derive(Debug, Clone, Copy, PartialEq, Eq)]
 pub enum ContentsRule {
-    /// A BOOLEAN has one octet.
+    /// A BOOLEAN must have one octet.
     BooleanLength,
-    /// The octet of a BOOLEAN is `0x00` or `0xFF`.
+    /// The octet of a BOOLEAN must be `0x00` or `0xFF`.
     BooleanValue,
-    /// An INTEGER or ENUMERATED has one octet or more.
+    /// An INTEGER or ENUMERATED must have at least one octet.
     IntegerEmpty,
-    /// The first nine bits of an INTEGER or ENUMERATED are not all equal.
+    /// The first nine bits of an INTEGER or ENUMERATED must not all be equal.
     IntegerLong,
-    /// A BIT STRING has an initial octet.
+    /// A BIT STRING must have an initial octet.
     BitStringEmpty,
-    /// The initial octet of a BIT STRING, the number of unused bits, is zero to seven.
+    /// The initial octet of a BIT STRING, which is the number of unused bits, must be at most
+    /// seven.
     UnusedBits,
-    /// The initial octet of a BIT STRING without bits is zero.
+    /// The initial octet of a BIT STRING without bits must be zero.
     UnusedBitsOfNone,
-    /// Each unused bit is zero.
+    /// Each unused bit of a BIT STRING must be zero.
     UnusedBitsNotZero,
-    /// A BIT STRING with named bits has no trailing zero bits.
+    /// A BIT STRING with named bits must have no trailing zero bits.
     TrailingZeroBits,
-    /// A NULL has no octets.
+    /// A NULL must have no octets.
     NullLength,
-    /// An OBJECT IDENTIFIER or RELATIVE-OID has one subidentifier or more.
+    /// An OBJECT IDENTIFIER or RELATIVE-OID must have at least one subidentifier.
     IdentifierEmpty,
-    /// Bit 8 of the last octet of an OBJECT IDENTIFIER or RELATIVE-OID is zero.
+    /// Bit 8 of the last octet of an OBJECT IDENTIFIER or RELATIVE-OID must be zero.
     IdentifierCut,
-    /// No subidentifier begins with octet `0x80`.
+    /// No subidentifier of an OBJECT IDENTIFIER or RELATIVE-OID may begin with the octet `0x80`.
     IdentifierLong,
-    /// A special value of REAL is one octet, `0x40` to `0x43`.
+    /// A special value of REAL must be a single octet from `0x40` to `0x43`.
     RealSpecial,
-    /// The base of a binary REAL is not the reserved one.
+    /// The base of a binary REAL must not be the reserved one.
     RealBase,
-    /// The exponent of a binary REAL has as many octets as are announced; if they are counted,
-    /// there is one at least, and the first nine bits are not all equal.
+    /// The exponent of a binary REAL must have as many octets as the octets before it announce. If
+    /// the number of its octets is given by an octet of its own, that number must be at least one,
+    /// and the first nine bits of the exponent must not all be equal.
     RealExponent,
-    /// A decimal REAL is a number of the form NR1, NR2 or NR3 of ISO 6093.
+    /// A decimal REAL must be a number of the form NR1, NR2 or NR3 of ISO 6093.
     RealDecimal,
-    /// A REAL that is zero has no octets, or is the special value minus zero.
+    /// A REAL that is zero must have no octets, or must be the special value minus zero.
     RealZero,
-    /// A binary REAL has base 2 and scaling factor zero.
+    /// A binary REAL must have base 2 and the scaling factor zero.
     RealBaseTwo,
-    /// The exponent of a binary REAL has the fewest octets, which are counted only if there are
-    /// more than three.
+    /// The exponent of a binary REAL must have the fewest octets possible. The number of its octets
+    /// must be given by an octet of its own only if that number is above three.
     RealExponentLong,
-    /// The mantissa of a binary REAL is odd and has the fewest octets.
+    /// The mantissa of a binary REAL must be odd and have the fewest octets possible.
     RealMantissa,
-    /// A decimal REAL has the form NR3.
+    /// A decimal REAL must have the form NR3 of ISO 6093.
     RealForm,
-    /// The digits of a decimal REAL are `[-]m.E[-]e` or `[-]m.E+0`, where `m` neither begins nor
-    /// ends with 0, and `e` does not begin with 0.
+    /// The digits of a decimal REAL must have the form `[-]m.E[-]e` or `[-]m.E+0`. The number `m`
+    /// must neither begin nor end with 0, and `e` must not begin with 0.
     RealDigits,
-    /// A UTF8String is UTF-8, each character in the fewest octets.
+    /// A UTF8String must be UTF-8, with each character in the fewest octets possible.
     Utf8Characters,
-    /// A NumericString has digits and spaces.
+    /// A NumericString must have only digits and spaces.
     NumericCharacters,
-    /// A PrintableString has letters, digits, spaces and `'()+,-./:=?`.
+    /// A PrintableString must have only letters, digits, spaces and the characters `'()+,-./:=?`.
     PrintableCharacters,
-    /// An IA5String has characters of 7 bits.
+    /// An IA5String must have only characters of 7 bits.
     Ia5Characters,
-    /// A VisibleString has spaces and printing characters of 7 bits.
+    /// A VisibleString must have only spaces and printing characters of 7 bits.
     VisibleCharacters,
-    /// A UniversalString has whole characters of four octets, each at most 10FFFF and no surrogate.
+    /// A UniversalString must have only whole characters of four octets. Each character must be at
+    /// most 10FFFF, and must not be a surrogate.
     UniversalCharacters,
-    /// A BMPString has whole characters of two octets, none of which is a surrogate.
+    /// A BMPString must have only whole characters of two octets. No character may be a surrogate.
     BmpCharacters,
-    /// A UTCTime has the form `YYMMDDhhmm[ss](Z|+hhmm|-hhmm)`.
+    /// A UTCTime must have the form `YYMMDDhhmm[ss](Z|+hhmm|-hhmm)`.
     UtcTimeForm,
-    /// The date, the time and the difference of a UTCTime exist; its year is one from 1950 to 2049,
-    /// and second 60 does not exist.
+    /// The date, the time and the difference from UTC of a UTCTime must exist. Its two digits of
+    /// the year stand for a year from 1950 to 2049. Second 60 does not exist.
     UtcTimeExists,
-    /// A UTCTime ends in Z.
+    /// A UTCTime must end in Z.
     UtcTimeZone,
-    /// A UTCTime has seconds.
+    /// A UTCTime must have seconds.
     UtcTimeSeconds,
-    /// A GeneralizedTime has the form `YYYYMMDDhh[mm[ss]][(.|,)f..][Z|+hh[mm]|-hh[mm]]`.
+    /// A GeneralizedTime must have the form `YYYYMMDDhh[mm[ss]][(.|,)f..][Z|+hh[mm]|-hh[mm]]`.
     GeneralizedTimeForm,
-    /// The date, the time and the difference of a GeneralizedTime exist; second 60 and hour 24 do
-    /// not.
+    /// The date, the time and the difference from UTC of a GeneralizedTime must exist. Second 60
+    /// and hour 24 do not exist.
     GeneralizedTimeExists,
-    /// A GeneralizedTime ends in Z.
+    /// A GeneralizedTime must end in Z.
     GeneralizedTimeZone,
-    /// A GeneralizedTime has seconds.
+    /// A GeneralizedTime must have seconds.
     GeneralizedTimeSeconds,
-    /// A fraction of a second does not end in 0.
+    /// A fraction of a second in a GeneralizedTime must not end in 0.
     GeneralizedTimeFraction,
-    /// A fraction of a second begins with a full stop.
+    /// A fraction of a second in a GeneralizedTime must begin with a full stop.
     GeneralizedTimePoint,
-    /// A TIME has printing characters, one at least. Its form is not checked.
+    /// A TIME must have at least one character, and only printing characters. Its form is not
+    /// checked.
     TimeCharacters,
-    /// A DATE has the form `YYYYMMDD`.
+    /// A DATE must have the form `YYYYMMDD`.
     DateForm,
-    /// The date of a DATE exists, in a year from 1582 on.
+    /// The date of a DATE must exist, and must be in the year 1582 or later.
     DateExists,
-    /// A TIME-OF-DAY has the form `hhmmss`.
+    /// A TIME-OF-DAY must have the form `hhmmss`.
     TimeOfDayForm,
-    /// The time of a TIME-OF-DAY exists; 24:00:00 does, second 60 does not.
+    /// The time of a TIME-OF-DAY must exist. 24:00:00 exists, second 60 does not.
     TimeOfDayExists,
-    /// A DATE-TIME has the form `YYYYMMDDhhmmss`.
+    /// A DATE-TIME must have the form `YYYYMMDDhhmmss`.
     DateTimeForm,
-    /// The date and the time of a DATE-TIME exist, as those of DATE and TIME-OF-DAY.
+    /// The date and the time of a DATE-TIME must exist, by the rules for DATE and TIME-OF-DAY.
     DateTimeExists,
-    /// A DURATION has printing characters, one at least. Its form is not checked.
+    /// A DURATION must have at least one character, and only printing characters. Its form is not
+    /// checked.
     DurationCharacters,
-    /// An OID-IRI or RELATIVE-OID-IRI is UTF-8.
+    /// An OID-IRI or RELATIVE-OID-IRI must be UTF-8.
     IriUtf8,
-    /// An OID-IRI begins with a solidus.
+    /// An OID-IRI must begin with a solidus (`/`).
     IriSolidus,
-    /// A RELATIVE-OID-IRI has one character or more, and does not begin with a solidus.
+    /// A RELATIVE-OID-IRI must have at least one character, and must not begin with a solidus
+    /// (`/`).
     RelativeIriSolidus,
-    /// The type has no primitive encodings: it is SEQUENCE, SET, EXTERNAL, EMBEDDED PDV or
-    /// CHARACTER STRING.
+    /// The encoding must not be primitive, since the type is SEQUENCE, SET, EXTERNAL, EMBEDDED PDV
+    /// or CHARACTER STRING. Every primitive encoding of one of these types breaks this rule.
     Constructed,
 }
 
 impl ContentsRule {
     ghost use Rattle.asn1_contents.specs.Rules.{is_of_der, section_of};
 
-    /// Whether a breach is still BER: only the Distinguished Encoding Rules have the rule. Contents
-    /// that break it, and keep the rules of their type before it, are BER but not DER.
+    /// Whether only the Distinguished Encoding Rules have this rule. Contents that break it are
+    /// then BER but not DER, if they keep all rules of their type that are checked before it.
     pub const fn is_ber(self) -> bool
         ensures { result ≡ is_of_der self }
     {
@@ -147,7 +153,7 @@ impl ContentsRule {
         )
     }
 
-    /// The section that has the rule, with its standard.
+    /// The standard and the section in which the rule is, such as `X.690 8.3.2`.
     pub const fn section(self) -> &'static str
         ensures { result.now ≡ section_of self }
     {
@@ -204,7 +210,7 @@ impl ContentsRule {
     }
 }
 
-/// Prints the rule in a few words.
+/// Prints in a few words what the rule demands.
 impl fmt::Display for ContentsRule {
     ghost use Rattle.std.specs.Prelude.{Some};
     ghost use Rattle.asn1_contents.specs.Words.{words_of};

@@ -1,4 +1,4 @@
-//! REAL in decimal digits.
+//! REAL values that are encoded in decimal digits.
 ghost use Rattle.std.specs.Prelude.{◌≡◌, ◌&&◌, ◌==◌, not, slice_index_or};
 ghost use Rattle.asn1_contents.specs.Decimal.{after_minus, is_shortest_exponent, is_der_exponent};
 ghost use Rattle.asn1_contents.specs.Decimal.{is_der_unsigned, is_number};

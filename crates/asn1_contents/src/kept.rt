@@ -1,4 +1,4 @@
-//! Whether contents keep a rule.
+//! Checks whether contents octets keep a rule.
 ghost use Rattle.std.specs.Prelude.{◌≡◌};
 
 use crate::characters::{is_printing, is_universal};
@@ -30,8 +30,8 @@ use der_asn1::{
 impl ContentsRule {
     ghost use Rattle.asn1_contents.specs.Contents.{keeps};
 
-    /// Whether contents octets keep the rule. The answer has a meaning only for contents that keep the
-    /// rules of their type before this one.
+    /// Whether contents octets keep this rule. The result has a meaning only if the contents keep
+    /// all rules of their type that are checked before this one.
     pub fn is_kept(self, contents: &[u8]) -> bool
         ensures { result ≡ keeps self contents.now }
     {

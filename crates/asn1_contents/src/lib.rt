@@ -1,14 +1,24 @@
-//! Contents octets of primitive encodings, of every universal type (X.690 8.2 to 8.26, 11): the rules
-//! that the Basic and the Distinguished Encoding Rules have for them, and the first one that is broken.
+//! Checks the contents octets of primitive encodings, for every universal type. The rules are those
+//! of the Basic and the Distinguished Encoding Rules (X.690 8.2 to 8.26, 11).
 //!
-//! [`broken_rule`] is for any type, [`named_bits_rule`] for a BIT STRING with named bits. A
-//! [`ContentsRule`] has its section, and says whether contents that break it are still BER.
-//! [`is_in_range`], [`size_of`], [`Codes`] and [`are_characters_in`] read what constraints are about.
+//! [`broken_rule`] finds the first rule that contents octets break, for any type.
+//! [`named_bits_rule`] does this for a BIT STRING with named bits. A [`ContentsRule`] has its
+//! section, and says whether contents that break it are still BER.
+//!
+//! Other functions help to check constraints:
+//!
+//! - [`is_in_range`] checks the bounds of a number.
+//! - [`size_of`] returns the size of a value.
+//! - [`are_characters_in`] checks a permitted alphabet.
+//! - [`Codes`] has the characters of a string.
+//!
 //! Nothing here allocates.
 //!
-//! Proved: the first broken rule is found exactly, so it is known which contents are DER, which are BER
-//! alone, and which are neither; and for each type that `der_asn1` reads, the contents that are DER are
-//! those that it reads.
+//! These statements are proved:
+//!
+//! - The first broken rule is found exactly. So it is known which contents are DER, which are BER
+//!   but not DER, and which are neither.
+//! - For each type that `der_asn1` reads, it accepts the same contents as DER.
 #![tactic(auto)]
 
 mod alphabet;

@@ -5,9 +5,12 @@ ghost use Rattle.std.specs.Option.{SomeIff};
 ghost use Rattle.der_asn1.specs.Integer.{is_negative, turned};
 ghost use Rattle.asn1_contents.specs.Values.{integer_value, IsInRange};
 
-/// Whether the number that the contents octets of an INTEGER or ENUMERATED encode is between two
-/// bounds, both included. The least `i64` stands for MIN, and the greatest for MAX and for every bound
-/// above it. The number may have any size; contents without octets count as 0.
+/// Whether a number is between `low` and `high`, both included. `contents` are the contents octets
+/// of an INTEGER or ENUMERATED, of any length. If `contents` is empty, the number is 0.
+///
+/// - If `low` is the least `i64`, there is no lower bound (MIN).
+/// - If `high` is the greatest `i64`, there is no upper bound. It stands for MAX, and for each
+///   bound above it.
 pub fn is_in_range(contents: &[u8], low: i64, high: i64) -> bool
     ensures { IsTrue result ↔ IsInRange low high (integer_value contents.now) }
 {

@@ -5,8 +5,9 @@ ghost use Rattle.asn1_contents.specs.Rules.{rules_of, named_bits_rules};
 use crate::contents_rule::ContentsRule;
 use ber::Universal;
 
-/// The rules of the contents octets of a type, in the order in which they are checked: those of the
-/// Basic Encoding Rules first. There is no rule for a type with any contents octets.
+/// The rules for the contents octets of a type, in the order in which they are checked. Rules of
+/// the Basic Encoding Rules come before rules that only DER has. Empty for a type that allows any
+/// contents octets.
 pub fn rules_of(universal: Universal) -> &'static [ContentsRule]
     ensures { result.now ≡ rules_of universal }
 {
@@ -82,8 +83,8 @@ pub fn rules_of(universal: Universal) -> &'static [ContentsRule]
     }
 }
 
-/// The rules of the contents octets of a BIT STRING with named bits, in the order in which they are
-/// checked.
+/// The rules for the contents octets of a BIT STRING with named bits, in the order in which they
+/// are checked.
 pub fn named_bits_rules() -> &'static [ContentsRule]
     ensures { result.now ≡ named_bits_rules }
 {

@@ -6,10 +6,16 @@ ghost use Rattle.der_asn1.specs.NamedBits.{bit_count};
 
 use ber::Universal;
 
-/// The size of the contents octets of a primitive encoding, as a size constraint counts it (X.680
-/// 51.5): the bits of a BIT STRING, the characters of a character string, and the octets of any other
-/// type. A string of a type with escape sequences, such as TeletexString, counts by octets, and so
-/// does a UTF8String that is no UTF-8. A size above the greatest `usize` counts as that.
+/// The size of a value, as a size constraint counts it (X.680 51.5). `contents` are the contents
+/// octets of its primitive encoding. The size is:
+///
+/// - the number of bits of a BIT STRING;
+/// - the number of characters of a character string;
+/// - the number of octets of a value of any other type.
+///
+/// Each octet counts as a character if the type has escape sequences, as TeletexString has. Each
+/// octet counts as a character of a UTF8String that is not valid UTF-8, too. A size that does not
+/// fit in a `usize` becomes the greatest `usize`.
 pub fn size_of(universal: Universal, contents: &[u8]) -> usize
     ensures { result ≡ min (size_of universal contents.now) (2 ^ 64 - 1) }
 {

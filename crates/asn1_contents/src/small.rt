@@ -1,4 +1,4 @@
-//! The first and the last of the octets.
+//! Checks of the number of octets, the first octet and the last octet of contents.
 ghost use Rattle.std.specs.Prelude.{◌≡◌};
 ghost use Rattle.asn1_contents.specs.Small.{has_octets, has_one_octet, has_unused_bits};
 ghost use Rattle.asn1_contents.specs.Small.{has_none_unused, ends_whole};

@@ -6,7 +6,8 @@ use crate::rows::{bit_names, name_at};
 use asn1_schema::{Node, Schema};
 use der_asn1::BitStringRef;
 
-/// The names of the bits that are one and that are left, in the order of the table.
+/// An iterator over the names of those bits of a BIT STRING that are one. The names come in the
+/// order of the table of types.
 #[derive(Clone, Copy)]
 pub struct BitNames<'a> {
     schema: &'a Schema<'a>,

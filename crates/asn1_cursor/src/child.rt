@@ -1,10 +1,11 @@
-//! The search for children.
+//! Finds the elements directly inside an element.
 ghost use Rattle.std.specs.Prelude.{◌<◌, ℕ, length, IfSome, IfNone};
 ghost use Rattle.asn1_cursor.specs.Children.{IsChild, IsFirstChild};
 
 use asn1_tree::Entry;
 
-/// The first child of an element from an index on.
+/// The index of the first entry that is directly inside the entry with the index `parent`. Entries
+/// before the index `from` are not searched. `None` if there is no such entry.
 pub(crate) fn next_child(entries: &[Entry], parent: usize, from: usize) -> Option<usize>
     requires { parent < length entries.now }
     ensures some { IfSome result (IsFirstChild entries.now parent from) }

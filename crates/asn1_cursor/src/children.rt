@@ -1,4 +1,4 @@
-//! The children of an element, one after the other.
+//! The elements directly inside an element.
 ghost use Rattle.std.specs.Prelude.{◌≡◌, ◌+◌, ◌-◌, ◌<◌, ℕ, length, MatchOption};
 ghost use Rattle.std.specs.Iterator.{at_most};
 ghost use Rattle.asn1_cursor.specs.Children.{IsChild, IsFirstChild};
@@ -8,8 +8,8 @@ use crate::child::next_child;
 use crate::cursor::Cursor;
 use asn1_tree::Entry;
 
-/// The children of an element that are left, in the order of the input. To go through all takes time
-/// that is linear in the number of elements inside.
+/// An iterator over the elements directly inside an element, in the order of the input. The time
+/// for all of them is linear in the number of elements inside the element, at any depth.
 #[derive(Clone, Copy)]
 pub struct Children<'a> {
     parent: Cursor<'a>,
@@ -17,7 +17,8 @@ pub struct Children<'a> {
 }
 
 impl<'a> Cursor<'a> {
-    /// The elements inside it, without those inside them. A value that a string contains is one.
+    /// The elements directly inside this element. If a string contains an encoded value, the value
+    /// is the element inside the string.
     pub fn children(self) -> Children<'a>
         ensures parent { result.parent ≡ self.entry }
         ensures from { result.from ≡ self.entry.index + 1 }

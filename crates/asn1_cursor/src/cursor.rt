@@ -1,11 +1,12 @@
-//! Elements of a tree.
+//! Cursors, which are elements of a tree.
 ghost use Rattle.std.specs.Prelude.{◌<◌, length};
 
 use crate::part::part_of;
 use asn1_schema::Schema;
 use asn1_tree::{Entry, Tree};
 
-/// An element of a tree.
+/// An element of a tree that `asn1_tree` has read, with the octets and the table of types of the
+/// tree.
 #[derive(Clone, Copy)]
 pub struct Cursor<'a> {
     pub(crate) octets: &'a [u8],
@@ -19,8 +20,8 @@ impl<'a> Cursor<'a> {
     ghost use Rattle.std.specs.Prelude.{◌≡◌, ◌+◌, ◌≤◌, ◌<◌, length, Some, IfSome, IfNone, slice_get};
     ghost use Rattle.asn1_cursor.specs.Cursor.{IsAt, IsOf, part_of};
 
-    /// The element that all octets are, in the tree that `read` made of these octets by this table of
-    /// types; `None` if the tree is empty.
+    /// The outermost element of a tree. The tree must come from `read` of `asn1_tree`, with these
+    /// octets and this table of types. `None` if the tree is empty.
     pub fn root(octets: &'a [u8], schema: &'a Schema<'a>, tree: &'a Tree) -> Option<Self>
         ensures some { IfSome result (λ c. IsOf octets.now schema.now tree.now.entries.items c × (c.index ≡ 0)) }
         ensures none { IfNone result (length tree.now.entries.items ≡ 0) }
@@ -28,8 +29,9 @@ impl<'a> Cursor<'a> {
         Cursor::over(octets, schema, tree.entries.as_slice())
     }
 
-    /// The root, as by `root`, of a tree whose entries `read_into` wrote into memory of the caller; `None` if
-    /// there are none.
+    /// The outermost element of a tree in memory of the caller. `entries` must come from
+    /// `read_into` of `asn1_tree`, with these octets and this table of types. `None` if there are
+    /// no entries.
     pub fn over(octets: &'a [u8], schema: &'a Schema<'a>, entries: &'a [Entry]) -> Option<Self>
         ensures some { IfSome result (λ c. IsOf octets.now schema.now entries.now c × (c.index ≡ 0)) }
         ensures none { IfNone result (length entries.now ≡ 0) }
@@ -45,7 +47,8 @@ impl<'a> Cursor<'a> {
         })
     }
 
-    /// The element with an index in the tree, as departures have it, if there is one.
+    /// The element with this index among the entries of the tree. The `node` of a departure is one
+    /// of these indices. `None` if there is no such element.
     pub fn element(self, index: usize) -> Option<Self>
         ensures some { IfSome result (IsAt self.entry index) }
         ensures none { IfNone result (length self.entry.entries.now ≤ index) }
@@ -71,21 +74,22 @@ impl<'a> Cursor<'a> {
         }
     }
 
-    /// The index of the element in the tree.
+    /// The index of the element among the entries of the tree.
     pub fn index(self) -> usize
         ensures { result ≡ self.entry.index }
     {
         self.index
     }
 
-    /// What the tree says of the element.
+    /// The entry of the tree that describes the element.
     pub fn entry(self) -> Entry
         ensures { slice_get self.entry.entries.now self.entry.index ≡ Some result }
     {
         self.entries[self.index]
     }
 
-    /// The octets of the header and of the contents; none if these are not inside the input.
+    /// The octets of the header and of the contents of the element, without end-of-contents octets.
+    /// Empty if the element does not lie inside the given octets.
     pub fn octets(self) -> &'a [u8]
         ensures { IfSome (slice_get self.entry.entries.now self.entry.index) (λ e.
             result.now ≡ part_of self.entry.octets.now e.offset (e.header_len + e.contents_len)) }
@@ -95,7 +99,8 @@ impl<'a> Cursor<'a> {
         part_of(self.octets, entry.offset, len)
     }
 
-    /// The contents octets; none if they are not inside the input.
+    /// The contents octets of the element. Empty if the element does not lie inside the given
+    /// octets.
     pub fn contents(self) -> &'a [u8]
         ensures { IfSome (slice_get self.entry.entries.now self.entry.index) (λ e.
             result.now ≡ part_of self.entry.octets.now (e.offset + e.header_len) e.contents_len) }
@@ -105,7 +110,7 @@ impl<'a> Cursor<'a> {
         part_of(self.octets, start, entry.contents_len)
     }
 
-    /// The element around it; `None` for the root.
+    /// The element directly around this element. `None` for the outermost element.
     pub fn parent(self) -> Option<Self>
         ensures { IfSome result (λ c. IfSome (slice_get self.entry.entries.now self.entry.index)
             (λ e. IsAt self.entry e.parent c)) }

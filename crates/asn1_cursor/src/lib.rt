@@ -1,11 +1,18 @@
-//! A walk over the elements that `asn1_tree` reads: their names, types, octets and values.
+//! Moves through the elements that `asn1_tree` has read, and gives their names, types, octets and
+//! values.
 //!
-//! [`Cursor::root`] takes the octets, the table of types and the tree that `read` made of them, and
-//! is at the element that all octets are. From there [`Cursor::children`], [`Cursor::field`] and
-//! [`Cursor::at`] lead to those inside, the last by a path such as
-//! `tbsCertificate.extensions[2].extnValue.cA`, which [`Cursor::place`] prints. [`Cursor::integer`],
-//! [`Cursor::text`], [`Cursor::time`] and their kin read the value of an element. Nothing allocates,
-//! and nothing fails for a tree with departures: what is not there is `None`.
+//! [`Cursor::root`] takes octets, a table of types, and the tree that `read` made of them. It
+//! returns the outermost element. These functions lead to the elements inside:
+//!
+//! - [`Cursor::children`] goes through all elements directly inside.
+//! - [`Cursor::field`] finds an element by its name.
+//! - [`Cursor::at`] follows a path, such as `tbsCertificate.extensions[2].extnValue.cA`.
+//!
+//! [`Cursor::place`] prints the path of an element. [`Cursor::integer`], [`Cursor::text`],
+//! [`Cursor::time`] and similar functions read the value of an element.
+//!
+//! Nothing allocates. A tree with departures, which are broken rules, is no error: functions return
+//! `None` for what is not there.
 #![tactic(auto)]
 
 mod bits;

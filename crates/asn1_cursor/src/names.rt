@@ -9,8 +9,8 @@ use crate::rows;
 use asn1_schema::{Node, NodeKind};
 
 impl<'a> Cursor<'a> {
-    /// The name of the field that it is the component of, or of the alternative that it is, if it is of
-    /// no field.
+    /// The name of the element: its name as a component or, if it is not a component, as an
+    /// alternative of a CHOICE. `None` if it is neither of them.
     pub fn name(self) -> Option<&'a str>
         ensures some { IfSome result (λ s. IsNamed (types_in self.entry.schema.now.octets.now)
             self.entry.entries.now s.now self.entry.index) }
@@ -24,7 +24,7 @@ impl<'a> Cursor<'a> {
         }
     }
 
-    /// The name of the alternative of a CHOICE that it is.
+    /// The name of the alternative, if the element is an alternative of a CHOICE; otherwise `None`.
     pub fn alternative(self) -> Option<&'a str>
         ensures some { IfSome result (λ s. IfSome (slice_get self.entry.entries.now self.entry.index)
             (λ e. field_name (types_in self.entry.schema.now.octets.now) e.alternative ≡ Some s.now)) }
@@ -34,8 +34,9 @@ impl<'a> Cursor<'a> {
         rows::field_name(self.schema, self.entry().alternative)
     }
 
-    /// Its type, if it has one in the table. An element that only a value of any type may have, or that
-    /// is unexpected, has none.
+    /// The type of the element, as a node of the table. `None` if the table has no type for the
+    /// element. This is the case inside a value whose type is not known, and for an unexpected
+    /// element.
     pub fn node(self) -> Option<Node>
         ensures row { IfSome (slice_get self.entry.entries.now self.entry.index) (λ e.
             slice_get (types_in self.entry.schema.now.octets.now).nodes e.kind ≡ result) }
@@ -45,7 +46,7 @@ impl<'a> Cursor<'a> {
         rows::node_at(self.schema, self.entry().kind)
     }
 
-    /// What kind of type it has.
+    /// What kind of type the element has. `None` if the table has no type for the element.
     pub fn kind(self) -> Option<NodeKind> {
         match self.node() {
             Some(node) => Some(node.kind),
@@ -53,7 +54,8 @@ impl<'a> Cursor<'a> {
         }
     }
 
-    /// The name of its type; empty if the type has none.
+    /// The name of the type of the element. Empty if the type has no name. `None` if the table has
+    /// no type for the element.
     pub fn type_name(self) -> Option<&'a str>
         ensures some { IfSome result (λ s. IfSome (slice_get self.entry.entries.now self.entry.index)
             (λ e. type_name (types_in self.entry.schema.now.octets.now) e.kind ≡ Some s.now)) }

@@ -2,7 +2,7 @@
 ghost use Rattle.std.specs.Prelude.{◌≡◌};
 ghost use Rattle.asn1_cursor.specs.Cursor.{part_of};
 
-/// So many octets from a place on; none if they are not there.
+/// The `len` octets from the index `start` on. Empty if `octets` does not have all of them.
 pub(crate) fn part_of(octets: &[u8], start: usize, len: usize) -> &[u8]
     ensures { result.now ≡ part_of octets.now start len }
 {

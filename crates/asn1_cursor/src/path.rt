@@ -1,4 +1,4 @@
-//! Paths from an element to one inside it.
+//! Paths that lead from an element to another element inside it.
 ghost use Rattle.std.specs.Prelude.{◌≡◌, ◌↔◌, ◌+◌, ◌<◌, ◌≤◌, ℕ, true, length, IfSome, IfNone};
 ghost use Rattle.asn1_tree.specs.Types.{types_in};
 ghost use Rattle.asn1_cursor.specs.Children.{IsFirstChild, IsNthChild};
@@ -20,7 +20,7 @@ enum Step<'a> {
 }
 
 impl<'a> Cursor<'a> {
-    /// The first child with this name.
+    /// The first element directly inside this element that has this name. `None` if there is none.
     pub fn field(self, name: &str) -> Option<Self>
         ensures some { IfSome result (λ c. IsAt self.entry c.index c
             × IsField (types_in self.entry.schema.now.octets.now) self.entry.entries.now
@@ -62,7 +62,8 @@ impl<'a> Cursor<'a> {
         }
     }
 
-    /// The child after so many others.
+    /// The element with the index `number` among the elements directly inside this element. Indices
+    /// begin at 0. `None` if there are too few elements.
     pub fn item(self, number: usize) -> Option<Self>
         ensures some { IfSome result (λ c. IsAt self.entry c.index c × IsNthChild
             self.entry.entries.now self.entry.index number (self.entry.index + 1) c.index) }
@@ -81,8 +82,9 @@ impl<'a> Cursor<'a> {
         None
     }
 
-    /// The value inside an EXPLICIT tag, or the value that a string contains. Only a primitive string
-    /// contains one: the children of a constructed one are its segments.
+    /// The value inside an EXPLICIT tag, or the encoded value that a string contains. Only a string
+    /// in the primitive form can contain an encoded value. The elements inside a string in the
+    /// constructed form are its segments. `None` if there is no value inside.
     pub fn inner(self) -> Option<Self>
         ensures { IfSome result (λ c. IsAt self.entry c.index c
             × IsFirstChild self.entry.entries.now self.entry.index (self.entry.index + 1) c.index) }
@@ -94,10 +96,14 @@ impl<'a> Cursor<'a> {
         }
     }
 
-    /// The element at the end of a path of names, which a full stop separates, and of items in brackets,
-    /// counted from 0, such as `tbsCertificate.extensions[2].extnValue.cA`. A step leads into the value
-    /// inside an EXPLICIT tag, and into that in a string, by itself. The name of an alternative may
-    /// follow that of a field which is a CHOICE.
+    /// Follows a path from this element to an element inside it, such as
+    /// `tbsCertificate.extensions[2].extnValue.cA`. `None` if there is no element at the end of the
+    /// path, or if the path is not valid.
+    ///
+    /// A path consists of names with full stops between them, and of indices of items in brackets.
+    /// Indices begin at 0. EXPLICIT tags, and strings that contain an encoded value, need no step
+    /// of their own. If a field is a CHOICE, the name of the alternative may follow the name of the
+    /// field.
     pub fn at(self, path: &str) -> Option<Self>
         ensures { IfSome result (λ c. IsAt self.entry c.index c) }
     {

@@ -1,19 +1,20 @@
-//! The places of elements, as paths.
+//! Prints the paths of elements.
 
 use crate::cursor::Cursor;
 use crate::path::LEVELS;
 use asn1_schema::NodeKind;
 use std::fmt;
 
-/// The path of an element from the root, in the form that [`Cursor::at`] reads. A value inside an
-/// EXPLICIT tag or a string has the path of that, and so has an element without a name.
+/// The path from the outermost element to an element. It is printed in the form that [`Cursor::at`]
+/// reads. A part of the path is left out for an element without a name, and for a value inside an
+/// EXPLICIT tag or a string. These elements have the path of the element around them.
 #[derive(Clone, Copy)]
 pub struct Place<'a> {
     element: Cursor<'a>,
 }
 
 impl<'a> Cursor<'a> {
-    /// The place of the element, which prints its path.
+    /// The path from the outermost element to this element, to be printed.
     pub fn place(self) -> Place<'a> {
         Place { element: self }
     }

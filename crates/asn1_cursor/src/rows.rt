@@ -1,4 +1,4 @@
-//! Rows of a table of types, if they are there.
+//! Access to rows of a table of types by an index that may be out of range.
 ghost use Rattle.std.specs.Prelude.{◌≡◌, Some, None, IfSome, IfNone, slice_get};
 ghost use Rattle.asn1_schema.specs.Node.{IsNode};
 ghost use Rattle.asn1_tree.specs.Types.{types_in};
@@ -7,7 +7,7 @@ ghost use Rattle.asn1_cursor.specs.Names.{field_name, type_name};
 use asn1_schema::{Node, NodeKind, Schema, Span};
 use ber::Universal;
 
-/// The node with an index.
+/// The node with this index; `None` if there is none.
 #[tactic(auto, unfolding(asn1_tree::specs::Types::types_in))]
 pub(crate) fn node_at(schema: &Schema<'_>, index: u32) -> Option<Node>
     ensures row { slice_get (types_in schema.now.octets.now).nodes index ≡ result }
@@ -20,7 +20,7 @@ pub(crate) fn node_at(schema: &Schema<'_>, index: u32) -> Option<Node>
     }
 }
 
-/// The name of the field with an index.
+/// The name of the field with this index; `None` if there is none.
 #[tactic(auto, unfolding(asn1_tree::specs::Types::types_in))]
 pub(crate) fn field_name<'a>(schema: &Schema<'a>, index: u32) -> Option<&'a str>
     ensures some { IfSome result (λ s. field_name (types_in schema.now.octets.now) index ≡ Some s.now) }
@@ -33,7 +33,7 @@ pub(crate) fn field_name<'a>(schema: &Schema<'a>, index: u32) -> Option<&'a str>
     }
 }
 
-/// The name of the node with an index.
+/// The name of the node with this index; `None` if there is none.
 #[tactic(auto, unfolding(asn1_tree::specs::Types::types_in))]
 pub(crate) fn type_name<'a>(schema: &Schema<'a>, index: u32) -> Option<&'a str>
     ensures some { IfSome result (λ s. type_name (types_in schema.now.octets.now) index ≡ Some s.now) }
@@ -46,7 +46,8 @@ pub(crate) fn type_name<'a>(schema: &Schema<'a>, index: u32) -> Option<&'a str>
     }
 }
 
-/// The name of a number of an INTEGER or an ENUMERATED.
+/// The name that a number has in an INTEGER or an ENUMERATED type. `None` if the number has no
+/// name.
 pub(crate) fn number_name<'a>(schema: &Schema<'a>, node: Node, number: i64) -> Option<&'a str>
     requires { IsNode schema.now.counts schema.now.pool.now node }
 {
@@ -59,7 +60,7 @@ pub(crate) fn number_name<'a>(schema: &Schema<'a>, node: Node, number: i64) -> O
     }
 }
 
-/// The names of the bits of a BIT STRING.
+/// The range of rows with the names of the bits, if the node is a BIT STRING type.
 pub(crate) fn bit_names(node: Node) -> Span {
     match node.kind {
         NodeKind::Universal(Universal::BitString) => node.parts,
@@ -67,7 +68,8 @@ pub(crate) fn bit_names(node: Node) -> Span {
     }
 }
 
-/// The number and the text of the name with an index.
+/// The number and the name in a row of the section of names. `index` is the index of the row.
+/// `None` if there is no such row.
 pub(crate) fn name_at<'a>(schema: &Schema<'a>, index: u32) -> Option<(i64, &'a str)> {
     if index < schema.counts().names {
         let name = schema.name(index);

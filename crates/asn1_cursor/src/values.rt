@@ -15,10 +15,15 @@ use der_asn1::{
     TimeFormat, UtcTimeFormat,
 };
 
-/// Values. Each function looks inside EXPLICIT tags, and returns `None` if the element is of another
-/// type, is constructed, or has contents that DER does not have.
+/// Reads the value of an element. A function for a value looks inside EXPLICIT tags. It returns
+/// `None` in these cases:
+///
+/// - The element is of another type, or its encoding is constructed.
+/// - DER does not allow the contents of the element. For [`Cursor::boolean`] and [`Cursor::text`],
+///   see there.
 impl<'a> Cursor<'a> {
-    /// The value inside EXPLICIT tags, or the element itself if it has none.
+    /// The value inside all EXPLICIT tags of the element. If the element has no EXPLICIT tag, it is
+    /// the element itself.
     pub fn untagged(self) -> Self
         ensures inside { IsInside self.entry result }
         ensures same { IsAt self.entry result.index result }
@@ -45,8 +50,9 @@ impl<'a> Cursor<'a> {
         }
     }
 
-    /// The universal type of its contents: that of its type in the table, or that of its tag if it has
-    /// none there.
+    /// The universal type of the element. It comes from the type in the table or, if the table has
+    /// no universal type for the element, from its tag. EXPLICIT tags are not looked through: the
+    /// result for an EXPLICIT tag is `None`.
     pub fn universal(self) -> Option<Universal> {
         match self.kind() {
             Some(NodeKind::Universal(universal)) => Some(universal),
@@ -60,7 +66,7 @@ impl<'a> Cursor<'a> {
         }
     }
 
-    /// Whether its encoding is constructed.
+    /// Whether the encoding of the element is constructed. EXPLICIT tags are not looked through.
     pub fn is_constructed(self) -> bool {
         match read_header(self.octets()) {
             Ok(header) => header.constructed,
@@ -80,7 +86,7 @@ impl<'a> Cursor<'a> {
         }
     }
 
-    /// A BOOLEAN. Under BER each octet but 0 is true.
+    /// The value of a BOOLEAN. Each octet other than 0 is read as true, as BER allows.
     pub fn boolean(self) -> Option<bool> {
         match self.primitive(Universal::Boolean)? {
             [octet] => Some(*octet != 0),
@@ -88,21 +94,21 @@ impl<'a> Cursor<'a> {
         }
     }
 
-    /// An INTEGER of any size.
+    /// The value of an INTEGER of any size.
     pub fn integer(self) -> Option<IntRef<'a>>
         ensures { IfSome result (λ v. AreInside self.entry v.octets.now) }
     {
         IntRef::new(self.primitive(Universal::Integer)?)
     }
 
-    /// An ENUMERATED.
+    /// The value of an ENUMERATED.
     pub fn enumerated(self) -> Option<EnumeratedRef<'a>>
         ensures { IfSome result (λ v. AreInside self.entry v.octets.now) }
     {
         EnumeratedRef::new(self.primitive(Universal::Enumerated)?)
     }
 
-    /// The number of an INTEGER or an ENUMERATED, if it has 64 bits at most.
+    /// The number of an INTEGER or an ENUMERATED. `None` if the number does not fit in an `i64`.
     pub fn number(self) -> Option<i64> {
         match self.integer() {
             Some(integer) => integer.to_number(),
@@ -110,28 +116,29 @@ impl<'a> Cursor<'a> {
         }
     }
 
-    /// The name of the number of an INTEGER or an ENUMERATED.
+    /// The name that the type gives to the number of an INTEGER or an ENUMERATED. `None` if the
+    /// number has no name.
     pub fn number_name(self) -> Option<&'a str> {
         let number = self.number()?;
         number_name(self.schema, self.untagged().node()?, number)
     }
 
-    /// An OBJECT IDENTIFIER, which prints its arcs.
+    /// The value of an OBJECT IDENTIFIER. It is printed as its arcs.
     pub fn object_identifier(self) -> Option<ObjectIdentifierRef<'a>>
         ensures { IfSome result (λ v. AreInside self.entry v.octets.now) }
     {
         ObjectIdentifierRef::new(self.primitive(Universal::ObjectIdentifier)?)
     }
 
-    /// A BIT STRING.
+    /// The bits of a BIT STRING.
     pub fn bits(self) -> Option<BitStringRef<'a>>
         ensures { IfSome result (λ v. AreInside self.entry v.octets.now) }
     {
         BitStringRef::new(self.primitive(Universal::BitString)?)
     }
 
-    /// The names of the bits of a BIT STRING that are one, in the order of the table. Bits without a
-    /// name are left out.
+    /// The names of those bits of a BIT STRING that are one, in the order of the table of types.
+    /// Bits without a name are skipped.
     pub fn bit_names(self) -> Option<BitNames<'a>> {
         let bits = self.bits()?;
         Some(BitNames::new(self.schema, self.untagged().node()?, bits))
@@ -144,7 +151,8 @@ impl<'a> Cursor<'a> {
         self.primitive(Universal::OctetString)
     }
 
-    /// The text of a UTF8String, NumericString, PrintableString, IA5String or VisibleString.
+    /// The text of a UTF8String, NumericString, PrintableString, IA5String or VisibleString. It
+    /// must be UTF-8. It is not checked whether the type allows all its characters.
     pub fn text(self) -> Option<&'a str>
         ensures { IfSome result (λ s. AreInside self.entry s.now) }
     {
@@ -159,7 +167,7 @@ impl<'a> Cursor<'a> {
         }
     }
 
-    /// The time of a UTCTime or a GeneralizedTime, without a fraction of a second.
+    /// The time of a UTCTime or a GeneralizedTime. `None` if the time has a fraction of a second.
     pub fn time(self) -> Option<DateTime> {
         match self.primitive(Universal::UtcTime) {
             Some(contents) => UtcTimeFormat::from_contents(contents),

@@ -3,8 +3,9 @@ ghost use Rattle.std.specs.Prelude.{◌<◌};
 
 use std::alloc::{AllocError, Global};
 
-/// The contents octets under DER: unused bits are 0 (X.690 11.2.1), and where bits have names the last one is 1
-/// (11.2.2).
+/// Rewrites the contents octets of a BIT STRING from BER to DER. Unused bits are set to 0 (X.690
+/// 11.2.1). If `named` is true, the bits have names, and zero bits at the end are removed (X.690
+/// 11.2.2).
 pub(crate) fn put_bits(alloc: Global, named: bool, contents: &[u8]) -> Result<Vec<u8>, AllocError> {
     let [unused, octets @ ..] = contents else {
         return contents.to_vec(alloc);

@@ -1,4 +1,4 @@
-//! The writer of components.
+//! Writes the components of a SEQUENCE.
 ghost use Rattle.std.specs.Prelude.{◌≡◌, ◌↔◌, ◌+◌, ◌<◌, ◌≤◌, ◌++◌, ℕ, List, Some, true, slice_get, IfOk};
 ghost use Rattle.asn1_schema.specs.Field.{IsField};
 ghost use Rattle.asn1_schema.specs.Pool.{octets_of};
@@ -19,7 +19,8 @@ use asn1_schema::{Field, Node, Presence, Schema};
 use asn1_tree::walking::{Known, default_of, field_of, find_field};
 use std::alloc::Global;
 
-/// The first field that may follow the components before it, and the OBJECT IDENTIFIER that is known there.
+/// What is known after a component was read: the first field that may come next, and the last
+/// OBJECT IDENTIFIER that was read. That OBJECT IDENTIFIER may choose the type of an open type.
 #[derive(Clone, Copy)]
 struct Passed<'a> {
     index: u32,

@@ -1,4 +1,4 @@
-//! Elements that are written.
+//! Writes elements.
 ghost use Rattle.std.specs.Prelude.{◌≡◌, ◌+◌, true, IfOk};
 ghost use Rattle.ber.specs.declared.length.Length.TheVariants.{Definite};
 ghost use Rattle.asn1_der.specs.Same.{IsElementOf};
@@ -9,7 +9,8 @@ use ber::{Header, Length};
 use der_base::Class;
 use std::alloc::{AllocError, Global};
 
-/// The element with the class and the number of a header, in the constructed form or not, and these contents.
+/// Writes an element with the class and the tag number of `header`, and with these contents. It has
+/// the constructed form if `constructed` is true. Its length is definite, in the fewest octets.
 pub(crate) fn element(
     alloc: Global,
     header: Header,

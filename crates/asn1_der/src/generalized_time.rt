@@ -3,8 +3,13 @@
 use crate::moment::{Moment, digit_count, minutes, put_two, two_at};
 use std::alloc::{AllocError, Global};
 
-/// Those under DER (X.690 11.7): with seconds, in UTC, and a fraction without zeros at its end. A time without a
-/// zone, and one that is before the year 0 or after 9999 in UTC, stay as they were.
+/// Rewrites the contents octets of a GeneralizedTime from BER to DER (X.690 11.7). The result is in
+/// UTC, and has seconds. If it has a fraction of a second, the fraction does not end in 0. The
+/// contents stay as they are in these cases:
+///
+/// - The time has no zone.
+/// - The year is written as `0000`.
+/// - In UTC, the time is after the year 9999.
 pub(crate) fn generalized_time(alloc: Global, contents: &[u8]) -> Result<Vec<u8>, AllocError> {
     let count = digit_count(contents);
     let (time, after) = split(contents, count);

@@ -1,4 +1,4 @@
-//! The writer of lists and of sets.
+//! Writes SEQUENCE OF, SET OF and SET.
 ghost use Rattle.std.specs.Prelude.{◌≡◌, ◌<◌, ◌++◌, ◌∷◌, [], ℕ, true, false, Some, IsSome, IfOk, OnOk, map};
 ghost use Rattle.std.specs.List.{concat};
 ghost use Rattle.asn1_schema.specs.Node.{IsNode as IsRow};

@@ -10,7 +10,9 @@ use asn1_schema::{Node, NodeKind, Schema};
 use asn1_tree::walking::{Known, node_of};
 use ber::{Universal, read_element};
 
-/// What is known after a component of a field, which has this node and these octets.
+/// Returns the last OBJECT IDENTIFIER that was read, after a component. This is the component
+/// itself if it is an OBJECT IDENTIFIER. Otherwise it is `known`, the last one before the
+/// component. `node` is the type of the component, and `octets` is its encoding.
 pub(crate) fn known_after<'a>(
     schema: &Schema<'_>,
     node: u32,

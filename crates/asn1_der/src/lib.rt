@@ -1,20 +1,28 @@
-//! Values under BER, written in DER, by a table of types.
+//! Rewrites values from BER to DER. A table of types describes them.
 //!
-//! [`to_der`] takes a table of types (a `Schema` of `asn1_schema`), the index of a node, and octets that are an encoding
-//! of a value of the node under BER. It writes the value with definite lengths in the fewest octets, strings in one
-//! piece, the elements of each SET and SET OF in order, values of DEFAULTs left out, TRUE as `FF`, named bits without
-//! zeros at their end, and times in UTC with seconds. Octets that are DER are copied.
+//! [`to_der`] takes a table of types (a `Schema` of `asn1_schema`), the index of a node, which is
+//! the type, and octets that are an encoding of a value of the type by BER. Octets that are DER
+//! already are copied. Otherwise it writes the value in these ways:
 //!
-//! # What stays as it was
+//! - Lengths are definite, in the fewest octets, and strings are in the primitive form.
+//! - The elements of each SET and SET OF are in order, and DEFAULT values are left out.
+//! - TRUE is `FF`, and BIT STRINGs with named bits have no zero bits at their end.
+//! - Times are in UTC, with seconds.
 //!
-//! The contents of an OCTET STRING, which may be signed as they are; elements of unknown type, and those of EXTERNAL
-//! and its kin; a REAL; a GeneralizedTime without a zone. What is BER in them stays BER, and [`Written::is_der`] is
-//! false.
+//! # What stays as it is
+//!
+//! - the contents of an OCTET STRING, since they may be signed;
+//! - elements of unknown type, and elements in EXTERNAL, EMBEDDED PDV and CHARACTER STRING;
+//! - a REAL;
+//! - a GeneralizedTime without a zone, and a time that cannot be written in UTC.
+//!
+//! If one of these is not DER, it is not made DER, and [`Written::is_der`] is false.
 //!
 //! # Time and memory
 //!
-//! Each level of elements copies its contents, and a level of indefinite length looks for its end: so the time is that
-//! of at most 64 copies, and of sorting. The memory is a few times the input.
+//! The contents of each element are copied for each level of elements around them, of which there
+//! are at most 64. The end of each indefinite length is searched. Sorting needs time, too. The
+//! memory is a few times the size of the input.
 #![tactic(auto)]
 
 mod bits;

@@ -1,8 +1,8 @@
-//! Minutes of the Gregorian calendar.
+//! Minutes in the Gregorian calendar.
 
 use std::alloc::AllocError;
 
-/// A minute of a day.
+/// A minute of a day in the Gregorian calendar.
 #[derive(Clone, Copy)]
 pub(crate) struct Moment {
     pub year: u32,
@@ -13,8 +13,9 @@ pub(crate) struct Moment {
 }
 
 impl Moment {
-    /// The minute in UTC, where this is the one at the end of a time: a sign, hours and minutes before or after UTC,
-    /// or Z.
+    /// Converts a local time to UTC. `zone` is the zone of the local time: `Z`, or the difference
+    /// from UTC. The difference is a sign, two digits for the hours, and optionally two digits for
+    /// the minutes.
     pub fn in_utc(self, zone: &[u8]) -> Self {
         let minutes = minutes(
             two_at(zone, 1),
@@ -99,7 +100,7 @@ impl Moment {
         }
     }
 
-    /// Appends month, day, hour and minute, of two digits each.
+    /// Appends the month, the day, the hour and the minute, each as two digits.
     pub fn put(self, out: &mut Vec<u8>) -> Result<(), AllocError> {
         put_two(out, self.month)?;
         put_two(out, self.day)?;
@@ -108,7 +109,7 @@ impl Moment {
     }
 }
 
-/// The number of minutes of hours and minutes.
+/// The number of minutes in this many hours and minutes.
 pub(crate) fn minutes(hours: u32, minutes: u32) -> u32 {
     hours.saturating_mul(60).saturating_add(minutes)
 }
@@ -128,7 +129,7 @@ fn days_of(year: u32, month: u32) -> u32 {
     }
 }
 
-/// The number of two digits at an index: 0, if they are not there.
+/// The number that the two decimal digits at the index `at` stand for. A missing digit counts as 0.
 pub(crate) fn two_at(octets: &[u8], at: usize) -> u32 {
     digit_at(octets, at)
         .saturating_mul(10)
@@ -142,7 +143,7 @@ fn digit_at(octets: &[u8], at: usize) -> u32 {
     }
 }
 
-/// Appends two digits.
+/// Appends the last two decimal digits of a number.
 pub(crate) fn put_two(out: &mut Vec<u8>, number: u32) -> Result<(), AllocError> {
     put_digit(out, number / 10)?;
     put_digit(out, number)
@@ -154,7 +155,7 @@ fn put_digit(out: &mut Vec<u8>, number: u32) -> Result<(), AllocError> {
     Ok(())
 }
 
-/// The number of digits at the front.
+/// The number of decimal digits at the front of `octets`.
 pub(crate) fn digit_count(octets: &[u8]) -> usize {
     let mut count = 0usize;
     for octet in octets {

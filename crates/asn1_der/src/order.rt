@@ -1,15 +1,17 @@
-//! Orders of elements.
+//! The orders of elements in a SET and in a SET OF.
 
 use ber::read_header;
 use der_base::Class;
 use std::cmp::Ordering;
 
-/// The order of two encodings in a SET OF, where the shorter has octets 0 after it (X.690 11.6).
+/// Compares two encodings in a SET OF (X.690 11.6). The octets are compared one by one. If one
+/// encoding is the beginning of the other, it comes first.
 pub(crate) fn encoding_order(a: &Vec<u8>, b: &Vec<u8>) -> Ordering {
     a.as_slice().cmp(b.as_slice())
 }
 
-/// The order of two elements in a SET: that of their tags (X.690 10.3). What is no element comes first.
+/// Compares two encoded components of a SET by their tags (X.690 10.3). Octets that are not an
+/// element come first.
 pub(crate) fn tag_order(a: &Vec<u8>, b: &Vec<u8>) -> Ordering {
     tag_of(a.as_slice()).cmp(&tag_of(b.as_slice()))
 }

@@ -10,17 +10,23 @@ use crate::refusal::Refusal;
 use asn1_tree::walking::front_header;
 use ber::{Header, Length, body_len};
 
-/// An element at the front of octets, of definite or of indefinite length.
+/// An element of the input, with a definite or an indefinite length. `contents` do not include
+/// end-of-contents octets, and `rest` are the octets after the element.
 #[derive(Clone, Copy)]
 pub(crate) struct Piece<'a> {
     pub header: Header,
     pub contents: &'a [u8],
-    /// The whole element.
+    /// The octets of the whole element, including its header and its end-of-contents octets.
     pub octets: &'a [u8],
     pub rest: &'a [u8],
 }
 
-/// The element at the front, if so many levels are left for it.
+/// Reads the element at the front of `octets`. `depth` is the number of levels of nesting that are
+/// still allowed.
+///
+/// # Errors
+///
+/// `NotBer`, if no whole element is at the front, or if `depth` is 0.
 pub(crate) fn front(octets: &[u8], depth: usize) -> Result<Piece<'_>, Refusal>
     ensures piece { IfOk result (λ p. IsPiece p) }
     ensures split { IfOk result (λ p. octets.now ≡ p.octets.now ++ p.rest.now) }

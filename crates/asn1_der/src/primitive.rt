@@ -1,4 +1,4 @@
-//! The writer of contents octets.
+//! Writes the contents octets of primitive encodings.
 ghost use Rattle.std.specs.Prelude.{IfOk};
 ghost use Rattle.asn1_tree.specs.Strings.{AreSegments};
 ghost use Rattle.asn1_der.specs.Rewriting.{IsRewritten, IsTruth, rewriting_of};
@@ -12,7 +12,13 @@ use asn1_tree::join_segments;
 use ber::Universal;
 use std::alloc::{AllocError, Global};
 
-/// The text of a string in the constructed form.
+/// Rewrites a string from the constructed form to the primitive form. `contents` are its contents
+/// octets in the constructed form. Returns its contents octets in the primitive form.
+///
+/// # Errors
+///
+/// - `NotBer`, if `contents` are not segments of a string of this type.
+/// - `OutOfMemory`, if there is not enough memory.
 pub(crate) fn joined_text(
     alloc: Global,
     universal: Universal,
@@ -27,8 +33,8 @@ pub(crate) fn joined_text(
     }
 }
 
-/// The contents octets of a value of a universal type under DER, of which these are some under BER. `named` says
-/// whether the bits of a BIT STRING have names.
+/// Rewrites the contents octets of a value of a universal type from BER to DER. For a BIT STRING,
+/// `named` says whether its bits have names.
 pub(crate) fn rewritten(
     alloc: Global,
     universal: Universal,

@@ -1,17 +1,20 @@
-//! Refusals.
+//! Errors of rewriting a value.
 
 use asn1_tree::Full;
 use std::alloc::AllocError;
 
-/// Why a value is not written.
+/// Why a value cannot be rewritten to DER.
 #[derive(Debug, Clone, Copy, PartialEq, Eq)]
 pub enum Refusal {
-    /// There is no memory.
+    /// There is not enough memory.
     OutOfMemory,
-    /// The octets are no BER encoding of a value of the type.
+    /// The octets are not a BER encoding of a value of the type.
     NotBer,
-    /// The contents of an element would have more than 4294967295 octets, or what DER writes keeps no
-    /// constraint of the type, as a size that only zero bits at the end make up for.
+    /// The value cannot be written in DER, for one of these reasons:
+    ///
+    /// - The contents of an element would have more than 4294967295 octets.
+    /// - The value would break a constraint of its type. This happens if DER removes zero bits at
+    ///   the end of a BIT STRING, and the BIT STRING is too short without them.
     Unwritable,
 }
 

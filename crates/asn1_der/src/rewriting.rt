@@ -1,26 +1,28 @@
-//! How contents octets change.
+//! How contents octets are rewritten.
 ghost use Rattle.std.specs.Prelude.{◌≡◌};
 ghost use Rattle.asn1_der.specs.Rewriting.{rewriting_of};
 
 use ber::Universal;
 
-/// What the contents octets of a universal type are under DER, beside those under BER.
+/// How the contents octets of a value of a universal type change from BER to DER.
 #[derive(Clone, Copy)]
 pub(crate) enum Rewriting {
-    /// Those of a BOOLEAN: `FF` for each that is not 0.
+    /// The contents are a BOOLEAN. An octet other than 0 becomes `FF`.
     Boolean,
-    /// Those of a BIT STRING: unused bits and, where bits have names, bits at the end are not 1.
+    /// The contents are a BIT STRING. Unused bits become 0. If the bits have names, zero bits at
+    /// the end are removed.
     Bits,
-    /// Those of a UTCTime.
+    /// The contents are a UTCTime. It is converted to UTC. Missing seconds are added as `00`.
     UtcTime,
-    /// Those of a GeneralizedTime.
+    /// The contents are a GeneralizedTime. It is converted to UTC. Missing minutes and seconds are
+    /// added. The digits 0 at the end of a fraction are removed.
     GeneralizedTime,
-    /// The same.
+    /// The contents stay as they are.
     Same,
 }
 
 impl Rewriting {
-    /// That of a type.
+    /// How the contents octets of this type change from BER to DER.
     pub fn of(universal: Universal) -> Self
         ensures { result ≡ rewriting_of universal }
     {

@@ -3,8 +3,8 @@
 use crate::moment::{Moment, digit_count, minutes, put_two, two_at};
 use std::alloc::{AllocError, Global};
 
-/// Those under DER (X.690 11.8): with seconds, and in UTC. A time that is before 1950 or after 2049 in UTC stays as it
-/// was.
+/// Rewrites the contents octets of a UTCTime from BER to DER (X.690 11.8). The result is in UTC,
+/// and has seconds. A time that is before 1950 or after 2049 in UTC stays as it is.
 pub(crate) fn utc_time(alloc: Global, contents: &[u8]) -> Result<Vec<u8>, AllocError> {
     let moment = utc_moment(contents).in_utc(zone_of(contents));
     if moment.year < 1950 || moment.year > 2049 {

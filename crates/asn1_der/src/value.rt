@@ -1,4 +1,4 @@
-//! The writer of values.
+//! Writes values of the types of a table.
 ghost use Rattle.std.specs.Prelude.{◌≡◌, ◌<◌, ℕ, Some, slice_get, IfOk};
 ghost use Rattle.asn1_schema.specs.Node.{IsNode as IsRow};
 ghost use Rattle.asn1_schema.specs.Table.{IsAscending};

@@ -1,4 +1,4 @@
-//! Values written in DER.
+//! Rewrites values from BER to DER.
 ghost use Rattle.std.specs.Prelude.{◌≡◌, ◌≢◌, ◌↔◌, ◌<◌, ◌⊎◌, true, None, IfOk, IfErr};
 ghost use Rattle.der_base.specs.declared.encoding_rules.EncodingRules.{EncodingRules};
 ghost use Rattle.der_base.specs.declared.encoding_rules.EncodingRules.TheVariants.{Der, Ber};
@@ -19,14 +19,16 @@ use asn1_tree::walking::LEVELS;
 use asn1_tree::{Verdict, verdict_on};
 use std::alloc::Global;
 
-/// Writes the value of a node of a table, of which `octets` are an encoding under BER, in DER. The caller must ensure
-/// that there is such a node. Octets that are DER are copied.
+/// Rewrites a value from BER to DER. `octets` are a BER encoding of a value of the node `node` of a
+/// table. Octets that are DER already are copied. The caller must ensure that the table has a node
+/// with the index `node`.
 ///
 /// # Errors
 ///
-/// - `NotBer`, if the octets are no BER encoding of a value of the node. [`read`](asn1_tree::read) lists why.
-/// - `Unwritable`, if the value cannot be written.
-/// - `OutOfMemory`.
+/// - `NotBer`, if the octets are not a BER encoding of a value of the node.
+///   [`read`](asn1_tree::read) lists why.
+/// - `Unwritable`, if the value cannot be written in DER, as [`Refusal::Unwritable`] says.
+/// - `OutOfMemory`, if there is not enough memory.
 pub fn to_der(
     alloc: Global,
     schema: &Schema<'_>,

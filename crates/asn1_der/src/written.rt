@@ -1,11 +1,16 @@
-//! What is written.
+//! The result of rewriting a value.
 
-/// The octets of a value, and whether they are its encoding under DER.
+/// The result of rewriting a value: its encoding, and whether the encoding is DER.
 #[derive(Drop)]
 pub struct Written {
-    /// An encoding of the value.
+    /// The encoding of the value.
     pub octets: Vec<u8>,
-    /// Whether it is the one of DER. If it is not, then because of an element of unknown type, the contents of
-    /// an OCTET STRING, a time without a zone, or a REAL, which are as they were.
+    /// Whether the encoding is DER. It is not DER if one of these parts of the value, which are
+    /// copied, was not DER before:
+    ///
+    /// - an element of unknown type;
+    /// - the contents of an OCTET STRING;
+    /// - a REAL;
+    /// - a time that cannot be written in DER.
     pub is_der: bool,
 }

@@ -7,28 +7,30 @@ use std::alloc::{AllocError, Global};
 /// A parsed command line.
 #[derive(Drop)]
 pub struct CompileCommand<'a> {
-    /// The path of the folder of the crate to which the types are written; empty if a table is written.
+    /// The path of the folder of the crate to which the types are written. Empty if a table is
+    /// written.
     pub out: &'a str,
-    /// The path of the file to which a table of the types is written; empty if a crate is written.
+    /// The path of the file to which a table of types is written. Empty if a crate is written.
     pub schema: &'a str,
-    /// The path of the file that holds the module.
+    /// The path of the file with the module. If there are several files, the path of the first one.
     pub file: &'a str,
-    /// The paths of all files that hold modules, of which a crate has one.
+    /// The paths of all files with modules. There is exactly one if a crate is written.
     pub files: Vec<&'a str>,
-    /// The types that are compiled; all if it is empty.
+    /// The names of the types to compile. If the list is empty, all types are compiled.
     pub only: Vec<&'a str>,
-    /// The modules that other crates hold.
+    /// The modules that are compiled in other crates.
     pub with: Vec<With<'a>>,
-    /// The folder beneath which the modules are from which the module imports, if there is one.
+    /// The path of a folder with modules, if one is given. Modules from which types are imported
+    /// are searched there.
     pub modules: Option<&'a str>,
 }
 
-/// A module that another crate holds.
+/// A value of the option `--with`: a module that is compiled in another crate.
 #[derive(Clone, Copy)]
 pub struct With<'a> {
-    /// The name of the crate.
+    /// The name of the other crate.
     pub krate: &'a str,
-    /// The path of the file that holds the module.
+    /// The path of the file with the module.
     pub file: &'a str,
 }
 
@@ -40,9 +42,12 @@ const NOT_WHOLE: &str = "give '--out' and one file, or '--schema' and no '--with
 const NO_WITH: &str = "a value of '--with' is not the name of a crate, =, and a file";
 
 impl<'a> CompileCommand<'a> {
-    /// Parses the words of the command line, of which the first one is the name of the program. The
-    /// error is what is printed instead of running the program, which may be its help or this
-    /// version of it.
+    /// Parses the words of the command line. The first word is the name of the program.
+    ///
+    /// # Errors
+    ///
+    /// The text that the program prints instead of running: why the command line is wrong, the
+    /// help, or `version`.
     pub fn parse(alloc: Global, version: &'a str, words: &'a [String]) -> Result<Self, Error> {
         let mut command = command(alloc, version)?;
         let matches = command.try_get_matches_from_mut(words)?;
@@ -84,7 +89,8 @@ impl<'a> CompileCommand<'a> {
         self.out.is_empty() && self.with.is_empty()
     }
 
-    /// The name of the crate: what is after the last slash of the folder's path.
+    /// The name of the crate that is written. It is the part of the path `out` after the last
+    /// slash; a slash at the end of the path is ignored.
     pub fn crate_name(&self) -> &'a str {
         let path = self.out.strip_suffix("/").unwrap_or(self.out);
         match path.rsplit_once('/') {

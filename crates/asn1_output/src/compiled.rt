@@ -1,15 +1,17 @@
-//! What a module is compiled to.
+//! The result of compiling a module.
 
 use crate::output::OutputFile;
 use asn1_syntax::{Item, Warning};
 
-/// The files of a module, and what they leave out.
+/// The files that are compiled from a module, and what of the module is not in them.
 #[derive(Drop)]
 pub struct Compiled<'a> {
-    /// The files.
+    /// The files to be written.
     pub files: Vec<OutputFile>,
-    /// The names of alternatives that are left out, because the library does not know their types.
+    /// The names of the alternatives of CHOICEs that are left out because their types are not
+    /// supported.
     pub left_out: Vec<Item<'a>>,
-    /// What the files do not check or do not have, and names that are others in Rust.
+    /// The warnings about what the Rust types do not check or leave out, and about names that are
+    /// different in Rust.
     pub warnings: Vec<Warning<'a>>,
 }

@@ -1,5 +1,6 @@
-//! What an ASN.1 compiler writes for a module: the types of Rust that read and write its values. And
-//! the compiler as a program, which also writes tables of types.
+//! Compiles ASN.1 modules to Rust: it writes the types that decode and encode the values of a
+//! module. The crate also has the compiler as a program. The program can write a table of types
+//! instead.
 #![tactic(auto)]
 
 mod command;

@@ -1,14 +1,16 @@
-//! Modules that are found by name in the files beneath a folder.
+//! Finds the files of imported modules beneath a folder.
 
 use asn1_syntax::{Failure, ModuleOutline, NameIndex, outline_of, own_names};
 use std::alloc::{AllocError, Global};
 use std::rt::Files;
 use std::{fs, io};
 
-/// The most folders that are read, and the most modules that are wanted.
+/// The greatest number of folders that are read, and the greatest number of modules that are
+/// searched.
 const MOST_FOLDERS: u32 = 100_000;
 
-/// The paths of the files beneath a folder whose names end in `.asn` or `.asn1`, in their order.
+/// The sorted paths of all files beneath a folder, at any depth, whose names end in `.asn` or
+/// `.asn1`.
 pub fn paths_beneath<R: Files + AllocGlobal + Clone + Drop>(
     rt: &R,
     folder: &str,
@@ -52,10 +54,10 @@ fn is_module(name: &str) -> bool {
     }
 }
 
-/// The texts of files, as one.
+/// The texts of several files, joined to one text.
 #[derive(Drop)]
 pub struct Joined {
-    /// The texts one after the other.
+    /// The texts of the files, one after the other. There is a line end between two texts.
     pub text: String,
     parts: Vec<Part>,
 }
@@ -68,7 +70,7 @@ struct Part {
 }
 
 impl Joined {
-    /// The text of one file.
+    /// Starts with the text of one file. `path` is the path of the file.
     pub fn new(alloc: Global, path: &str, text: &str) -> Result<Self, AllocError> {
         let mut joined = Joined {
             text: String::new(alloc),
@@ -78,7 +80,7 @@ impl Joined {
         Ok(joined)
     }
 
-    /// Adds the text of another file, without the mark of UTF-8 that it may begin with.
+    /// Appends the text of another file. A byte order mark at its beginning is removed.
     pub fn push_after(&mut self, alloc: Global, path: &str, text: &str) -> Result<(), AllocError> {
         self.push(alloc, path, text.strip_prefix(MARK).unwrap_or(text))
     }
@@ -94,8 +96,11 @@ impl Joined {
         self.text.push_str(text)
     }
 
-    /// Adds the files that a text imports from, also by way of others, and the names that these get.
-    /// The modules of `given` texts are not looked for.
+    /// Appends the files with the modules from which the text `main` imports, directly or through
+    /// other modules. `paths` and `texts` are the paths and the texts of all files from which it
+    /// can choose. A module that is in one of the `given` texts is not appended.
+    ///
+    /// Then appends the new names that [`asn1_syntax::own_names`] returns for the joined text.
     pub fn add_imports(
         &mut self,
         alloc: Global,
@@ -114,7 +119,7 @@ impl Joined {
         self.text.push_str(names.as_str())
     }
 
-    /// The number of the file that has this index.
+    /// The index of the file that contains the octet at this offset of the joined text.
     pub fn part_at(&self, offset: usize) -> usize {
         let after = self
             .parts
@@ -124,7 +129,7 @@ impl Joined {
         after.saturating_sub(1)
     }
 
-    /// The path of the file with this number.
+    /// The path of the file with this index.
     pub fn path(&self, number: usize) -> &str {
         match self.parts.get(number) {
             Some(part) => part.path.as_str(),
@@ -132,12 +137,12 @@ impl Joined {
         }
     }
 
-    /// The text from the file with this number on.
+    /// The joined text from the start of the file with this index to the end of the joined text.
     pub fn text_from(&self, number: usize) -> &str {
         self.text.as_str().get(self.start(number)..).unwrap_or("")
     }
 
-    /// The index at which the text of the file with this number begins.
+    /// The offset, in the joined text, at which the file with this index begins.
     pub fn start(&self, number: usize) -> usize {
         match self.parts.get(number) {
             Some(part) => part.start,

@@ -1,4 +1,4 @@
-//! The text of the types of Rust.
+//! Compiles a module to the text of Rust types.
 
 mod abilities;
 mod alternatives;
@@ -62,8 +62,10 @@ pub use file::OutputFile;
 pub use rust_names::{pascal_name, snake_name};
 use std::alloc::{AllocError, Global};
 
-/// What other modules may import from a module that the crate `krate` holds. It imports from
-/// modules of other crates, and has another name than they have. What is not supported is left out.
+/// Returns what other modules may import from the module in `text`, which is compiled in the crate
+/// `krate`. `externals` are the modules from which this module may import. Assignments that are not
+/// supported are left out. Fails if the module is not valid, or if `externals` has a module with
+/// the same name.
 pub fn read_external<'a>(
     alloc: Global,
     externals: &Vec<External<'a>>,
@@ -119,10 +121,13 @@ fn is_given(externals: &Vec<External<'_>>, name: &str) -> bool {
     false
 }
 
-/// Compiles a module for the crate `krate`: the files to be written beneath its folder `src/`. It
-/// imports from modules of other crates. Compiled are the types `only` and what they name, or all if
-/// `only` is empty. What is not supported is left out, with a warning; it is refused if it is one of
-/// `only`, or if nothing else is there.
+/// Compiles a module for the crate `krate`. Returns the files to be written beneath the folder of
+/// the crate. `externals` are the modules of other crates from which this module may import.
+///
+/// If `only` is empty, all types are compiled, and what is not supported is left out with a
+/// warning. Otherwise the types with the names `only` are compiled, and what they refer to.
+///
+/// Fails if a type of `only` is not supported, or if nothing of the module is supported.
 pub fn compile<'a>(
     alloc: Global,
     externals: &Vec<External<'a>>,

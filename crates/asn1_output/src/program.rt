@@ -1,4 +1,4 @@
-//! The program as a function of its arguments, files and an output.
+//! The compiler as a program. It is a function of its arguments, the files and its outputs.
 
 use crate::command::CompileCommand;
 use crate::compiled::Compiled;
@@ -17,20 +17,27 @@ use std::{fs, io, str};
 
 const VERSION: &str = "0.3.0";
 
-/// Runs the program with the arguments `given`, of which the first one is the name of the program.
-/// Compiles the module in a file, and writes its types to the folder of a crate. What it imports is
-/// in modules of other crates, each of which may import from those before it, or beneath a folder: then
-/// it is compiled into the same crate. Prints to `errors`
-/// what is wrong, if anything is, and returns the exit status:
+/// Runs the program with the arguments `given`. The first argument is the name of the program.
 ///
-/// With `--schema` it compiles the modules in all files, writes a table of their types, and prints a line to
-/// `out` for each type: the name of its module, a point, its name, and the index of its node.
+/// Without `--schema`, the program compiles the module in a file, and writes its types to the
+/// folder of a crate. Imported modules are in one of these places:
+///
+/// - in another crate, as `--with` says. The module of one `--with` may import from the modules of
+///   the `--with` options before it.
+/// - in a file beneath the folder that `--modules` names. These modules are compiled into the same
+///   crate.
+///
+/// With `--schema`, the program compiles the modules in all files, and writes a table of their
+/// types. It prints a line to `out` for each type, such as `MODULE.NAME 12`: the name of the
+/// module, the name of the type, and the index of its node in the table.
+///
+/// Warnings and errors are printed to `errors`. Returns the exit status:
 ///
 /// - 0 on success, or if the help or the version is printed to `out`;
-/// - 1 if a file cannot be read, if a module is refused, or if a file cannot be written. Nothing is
-///   written for a module that is refused. It is refused if nothing of it is supported, or a type that
-///   `--only` names is not;
-/// - 2 if the arguments after the program's name are not a command.
+/// - 1 if a file cannot be read or written, or if a module is refused. A module is refused if it is
+///   not valid, if nothing of it is supported, or if a type that `--only` names is not supported.
+///   Nothing is written for a refused module.
+/// - 2 if the arguments after the name of the program are not a command.
 ///
 /// Fails if `given` is an error, if an allocation fails, or if writing to `out` or `errors` fails.
 pub fn run_compile<R: Files + AllocGlobal + Clone + Drop, W: Write, E: Write>(
@@ -87,7 +94,8 @@ fn run_command<R: Files + AllocGlobal + Clone + Drop, W: Write>(
     run_with(rt, command, &texts, &joined, out)
 }
 
-/// Adds the modules beneath a folder from which a text imports, unless they are given.
+/// Appends to `joined` the files with the modules from which `text` imports. The files are searched
+/// beneath the folder `folder`. A module that is in one of the `given` texts is not appended.
 pub fn add_imports<R: Files + AllocGlobal + Clone + Drop>(
     rt: &R,
     folder: &str,
@@ -104,14 +112,14 @@ pub fn add_imports<R: Files + AllocGlobal + Clone + Drop>(
     Ok(())
 }
 
-/// Prints that a file or a folder cannot be read or written, and why.
+/// Prints the error of a file or folder that cannot be read or written. Returns the exit status 1.
 pub fn say_file<W: Write>(path: &str, error: &io::Error, out: &mut W) -> Result<u8> {
     write!(out, "error: {path}: {error}\n")?;
     out.flush()?;
     Ok(1)
 }
 
-/// The text in a file.
+/// Reads the text of a file. A file that is not UTF-8 is read as ISO 8859-1.
 pub fn read_text<R: Files + AllocGlobal>(rt: &R, path: &str) -> io::Result<String> {
     let octets = fs::read(rt, path)?;
     match str::from_utf8(octets.as_slice()) {
@@ -147,7 +155,8 @@ fn run_with<'t, R: Files + AllocGlobal, W: Write>(
     run_compiler(rt, command, &externals, joined, out)
 }
 
-/// Reads a module that the crate `krate` holds, and adds it to those in front of it.
+/// Reads a module that is compiled in the crate `krate`, and appends it to `externals`. The module
+/// may import from the modules that are already in `externals`.
 fn add_external<'t>(
     alloc: Global,
     externals: &mut Vec<External<'t>>,
@@ -159,7 +168,7 @@ fn add_external<'t>(
     Ok(())
 }
 
-/// Compiles the module with this text, and writes its files.
+/// Compiles the module at the beginning of `joined`, and writes the files of the crate.
 fn run_compiler<'t, R: Files + AllocGlobal, W: Write>(
     rt: &R,
     command: &CompileCommand<'_>,
@@ -195,7 +204,7 @@ fn write_compiled<R: Files + AllocGlobal, W: Write>(
     }
 }
 
-/// The lines of all warnings.
+/// All warnings of a compiled module, one on each line.
 fn warnings_of(
     alloc: Global,
     compiled: &Compiled<'_>,
@@ -206,7 +215,8 @@ fn warnings_of(
     Ok(lines)
 }
 
-/// Adds the lines of warnings, which ascend by their places.
+/// Appends a line to `lines` for each of `warnings`. The warnings must be sorted by their offsets
+/// in the joined text.
 pub fn push_warnings(
     alloc: Global,
     warnings: &Vec<Warning<'_>>,
@@ -247,7 +257,8 @@ fn left_out_of(
     Ok(lines)
 }
 
-/// The line that is printed for a refusal.
+/// The error message of a refusal, as one line. It begins with the path of the file, the line and
+/// the column.
 pub fn line_of(
     alloc: Global,
     refusal: &Refusal<'_>,
@@ -261,7 +272,7 @@ pub fn line_of(
     inside.line(alloc, joined.path(number), joined.text_from(number))
 }
 
-/// Prints why a module is refused.
+/// Prints why a module is refused, and returns the exit status 1.
 fn say_failure<R: AllocGlobal, W: Write>(
     rt: &R,
     failure: &Failure<'_>,
@@ -277,9 +288,10 @@ fn say_failure<R: AllocGlobal, W: Write>(
     }
 }
 
-/// Writes the files beneath the folder of a crate. Its folders `src/asn1` and `specs/asn1` have no
-/// other files afterwards. Other files of `proofs/asn1` stay, since proofs of a person's own methods
-/// of compiled types are there. The file `src/lib.rt` is written only if there is none.
+/// Writes the files of a crate beneath the folder of the crate. It removes the files in `src/asn1`
+/// and `specs/asn1`, which an earlier run has written. It keeps the files in `proofs/asn1`, since
+/// some of them may be written by hand. It writes `src/lib.rt` only if the crate does not have this
+/// file.
 fn write_files<R: Files + AllocGlobal>(
     rt: &R,
     folder: &str,
@@ -301,7 +313,8 @@ fn has_library<R: Files + AllocGlobal>(rt: &R, folder: &str) -> io::Result<bool>
     fs::exists(rt, library.as_str())
 }
 
-/// Removes what the compiler owns in this part of a crate, if it is there.
+/// Removes the folder `asn1` beneath the folder `part` of a crate. Only the compiler writes files
+/// there. Does nothing if there is no such folder.
 fn remove_own<R: Files + AllocGlobal>(rt: &R, folder: &str, part: &str) -> io::Result<()> {
     let own = format!(in rt.alloc(); "{folder}/{part}/asn1")?;
     if fs::exists(rt, own.as_str())? {

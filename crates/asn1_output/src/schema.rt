@@ -1,4 +1,4 @@
-//! Tables of types as an output of the program.
+//! Compiles modules to a table of types, for the option `--schema` of the program.
 
 use crate::command::CompileCommand;
 use crate::library::Joined;
@@ -15,8 +15,9 @@ const TOO_LARGE: &str = "error: the table has too many types\n";
 
 const NO_TABLE: &str = "error: the compiler has made octets that are no table\n";
 
-/// Compiles the modules in files to a table, writes it to a file, and prints to `out` the index of each type
-/// that was asked for, and to `errors` what the table does not have.
+/// Compiles the modules in files to a table, and writes the table to a file. Prints to `out` the
+/// index of the node of each type that the command asks for. Prints to `errors` the warnings about
+/// what the table leaves out, or why there is no table. Returns the exit status.
 pub fn run_schema<R: Files + AllocGlobal + Clone + Drop, W: Write, E: Write>(
     rt: &R,
     command: &CompileCommand<'_>,

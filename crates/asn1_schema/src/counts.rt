@@ -1,23 +1,25 @@
-//! How many rows the sections of a table have.
+//! Number of rows of each section of a table.
 ghost use Rattle.std.specs.Prelude.{◌≡◌, ◌≤◌, length};
 ghost use Rattle.asn1_schema.specs.Counts.{counts_in, fields_at, limits_at, names_at, opens_at, pool_at, size_of};
 
 use crate::numbers::number_at;
 
-/// How many rows the sections of a table have, and how many octets its pool has.
+/// How many rows each section of a table has, and how many octets its last section, the pool, has.
+/// The documentation of this crate describes the sections.
 #[derive(Debug, Clone, Copy, PartialEq, Eq)]
 pub struct Counts {
-    /// Nodes.
+    /// The number of nodes. Each node is a type.
     pub nodes: u32,
-    /// Fields.
+    /// The number of fields. A field is a component or an alternative of a type.
     pub fields: u32,
-    /// Limits.
+    /// The number of limits. A limit is a range of numbers in a constraint.
     pub limits: u32,
-    /// Names of numbers.
+    /// The number of names of numbers and of bits.
     pub names: u32,
-    /// Types that open types may be.
+    /// The number of rows in the section for open types. Each row has a type that an open type may
+    /// be, and the OBJECT IDENTIFIER that chooses it.
     pub opens: u32,
-    /// Octets of the pool.
+    /// The number of octets of the pool, which holds names, DEFAULT values and OBJECT IDENTIFIERs.
     pub pool: u32,
 }
 

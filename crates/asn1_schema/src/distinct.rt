@@ -1,4 +1,5 @@
-//! Checks that components of which one may be missing where the other is have distinct tags.
+//! Checks that two components have distinct tags if one of them may be absent where the other
+//! follows.
 ghost use Rattle.std.specs.Prelude.{◌≡◌, ℕ, ◌<◌, slice_get, Some, IfOk, IfErr};
 ghost use Rattle.asn1_schema.specs.Span.{IsWithin};
 ghost use Rattle.asn1_schema.specs.NodeKind.{is_choice};

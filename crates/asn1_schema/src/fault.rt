@@ -3,13 +3,13 @@ ghost use Rattle.std.specs.Prelude.{◌≡◌};
 
 use crate::fault_kind::FaultKind;
 
-/// Why octets are no table, and where.
+/// Why octets are not a well-formed table of types, and where.
 #[derive(Debug, Clone, Copy, PartialEq, Eq)]
 pub struct Fault {
     /// What is wrong.
     pub kind: FaultKind,
     /// The offset of the number or the octet at fault, in octets from the start of the table. For
-    /// [`FaultKind::TooShort`] and [`FaultKind::Size`] it is the number of the octets.
+    /// [`FaultKind::TooShort`] and [`FaultKind::Size`] it is the number of octets given.
     pub offset: usize,
 }
 

@@ -1,48 +1,63 @@
 //! Kinds of faults of tables.
 
-/// Why octets are no table.
+/// Why octets are not a well-formed table of types.
 #[derive(Debug, Clone, Copy, PartialEq, Eq)]
 pub enum FaultKind {
-    /// There are fewer octets than a header has.
+    /// There are fewer than 32 octets. The header of a table has 32 octets.
     TooShort,
-    /// The octets do not begin with those of tables.
+    /// The octets do not begin with `YSCH`.
     Magic,
-    /// The version is not the one that is read here.
+    /// The version of the table is not 1.
     Version,
-    /// There are more or fewer octets than the counts ask for.
+    /// There are more or fewer octets than a table with the counts in the header has.
     Size,
-    /// The kind of a node is none.
+    /// The octet for the kind of a node is not the number of a [`NodeKind`](crate::NodeKind).
     Kind,
-    /// The class of a tag is none.
+    /// The octet for the class of a tag has a bit set that is neither bit 8 nor bit 7.
     Class,
-    /// An octet that is 0 or 1 is neither.
+    /// An octet that must be 0 or 1 has another value.
     Flag,
-    /// The octets of a name are no range of the pool, or not UTF-8.
+    /// The name of a node, of a field or of a number is not a range of octets of the pool, or is
+    /// not UTF-8.
     Name,
-    /// A node, which a field or a type of an open type is of, is none.
+    /// The node of a field, or of a type that an open type may be, does not exist: its index is too
+    /// large.
     Node,
-    /// A node has another node inside it though its kind has none, lacks one though its kind has
-    /// one, or names one that there is not.
+    /// The inner node of a node is wrong:
+    ///
+    /// - the node has an inner node, but its kind allows none;
+    /// - the node has no inner node, but its kind needs one;
+    /// - the index of the inner node is too large.
     Inner,
-    /// The parts of a node are no rows of the section that its kind names, or a CHOICE has none.
+    /// The parts of a node are not a range of rows of the section that its kind uses (fields,
+    /// names, or types of open types). Or a CHOICE has no alternative.
     Parts,
-    /// The limits of a node are no rows.
+    /// The limits of a node are not a range of rows of the section of limits.
     Limits,
-    /// The field that chooses an open type is none.
+    /// The number `chooser` of a node is too large:
+    ///
+    /// - For an open type, it must be the index of a field.
+    /// - For a SEQUENCE or a SET with an extension marker, it must not be above the number of its
+    ///   fields.
+    /// - For any other node, it must be 0.
     Chooser,
-    /// A field is neither required, nor optional, nor with a default.
+    /// The number for the presence of a field is not the number of a [`Presence`](crate::Presence).
     Presence,
-    /// The octets of a default are no range of the pool, or are there without a default.
+    /// The DEFAULT value of a field is not a range of octets of the pool, or a field without
+    /// DEFAULT has a range that is not empty.
     Default,
-    /// The kind of a limit is none.
+    /// The number for the kind of a limit is not the number of a [`LimitKind`](crate::LimitKind).
     Limit,
-    /// The octets of an OBJECT IDENTIFIER are no range of the pool.
+    /// The OBJECT IDENTIFIER of a type that an open type may be is not a range of octets of the
+    /// pool.
     Identifier,
-    /// The OBJECT IDENTIFIER of a type of an open type is not after the one before it.
+    /// The rows for an open type are not sorted by OBJECT IDENTIFIER: the contents octets in a row
+    /// are not after the contents octets in the row before, in byte order.
     Order,
-    /// A CHOICE that is an alternative of a CHOICE does not come before it.
+    /// A CHOICE has an alternative that is a CHOICE too. The inner CHOICE must come before the
+    /// outer CHOICE in the table, but does not.
     Choice,
-    /// A component or an alternative begins with a tag with which an earlier one begins that may be
-    /// missing.
+    /// Two fields of a type may begin with the same tag, and the earlier field may be absent where
+    /// the later one follows.
     Tag,
 }

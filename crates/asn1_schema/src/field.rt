@@ -13,16 +13,16 @@ use crate::span::Span;
 /// A component of a SEQUENCE or a SET, or an alternative of a CHOICE.
 #[derive(Debug, Clone, Copy, PartialEq, Eq)]
 pub struct Field {
-    /// Whether it may be absent.
+    /// Whether the component may be absent.
     pub presence: Presence,
-    /// 0 in the root; otherwise the number of the extension addition, counted from 1, to which it
-    /// belongs (X.680 25.1).
+    /// 0 if the component is in the extension root. Otherwise the number, counted from 1, of the
+    /// extension addition to which it belongs (X.680 25.1).
     pub addition: u32,
-    /// The octets of its name, in the pool.
+    /// The octets of the name, as a range of the pool.
     pub name: Span,
-    /// The index of its node.
+    /// The index of the node that is the type of the component.
     pub node: u32,
-    /// The octets of the encoding of its default under DER, in the pool.
+    /// The DER encoding of the DEFAULT value, as a range of octets of the pool.
     pub default: Span,
 }
 

@@ -1,4 +1,4 @@
-//! Lookup of nodes by name, and of the types of open types.
+//! Finds nodes by name. Finds the types that open types may be by OBJECT IDENTIFIER.
 ghost use Rattle.std.specs.Prelude.{◌≡◌, ◌↔◌, ◌≤◌, length, IsTrue, IfSome, IfNone};
 ghost use Rattle.asn1_schema.specs.Counts.{nodes_at, opens_at, pool_at};
 ghost use Rattle.asn1_schema.specs.Span.{IsWithin};

@@ -1,44 +1,60 @@
-//! Types of ASN.1 as data: a table of types in a binary form, read without copying, without memory
-//! and without trust.
+//! Types of ASN.1 as data: a table of types in a binary form. A table is checked before it is used,
+//! and is read without copying and without allocation.
 //!
-//! A [`Schema`] is made of octets by [`Schema::new`], which accepts exactly the well-formed tables, and
-//! otherwise returns a [`Fault`] with its offset. A type is a [`Node`], and nodes name each other by
-//! index, so types may contain themselves. A node has a kind ([`NodeKind`]), a tag, and ranges of
-//! fields ([`Field`]), of limits ([`Limit`]), of names ([`Name`]) or of types that an open type may be
-//! ([`OpenType`]). Nothing here allocates.
+//! [`Schema::new`] makes a [`Schema`] of octets. It accepts exactly the well-formed tables, and
+//! returns a [`Fault`] with an offset for all other octets.
+//!
+//! Each type is a [`Node`], and nodes refer to each other by index, so a type may contain itself. A
+//! node has a kind ([`NodeKind`]), a tag, limits and parts. The limits are a range of rows
+//! ([`Limit`]). The parts are a range of rows too: fields ([`Field`]), names ([`Name`]) or the
+//! types that an open type may be ([`OpenType`]).
 //!
 //! # The form
 //!
-//! Numbers have four octets, the highest first. A header of 32 octets has `YSCH`, the version 1, and the
-//! numbers of nodes, fields, limits, names and types of open types, and of octets of the pool. The
-//! sections follow in this order:
+//! Each number has four octets, the most significant octet first. The header has 32 octets: `YSCH`,
+//! the version 1, and six counts. These are the numbers of nodes, fields, limits, names, types of
+//! open types and octets of the pool. The sections follow in this order:
 //!
 //! | Row | Octets | Columns |
 //! |---|---|---|
-//! | node | 40 | an octet each: kind, class in bits 8 and 7, whether extensible, whether there is a node inside; number of the tag, name, node inside, parts (8 octets), limits (8 octets), chooser |
+//! | node | 40 | an octet each: kind, class in bits 8 and 7, whether extensible, whether there is an inner node; number of the tag, name, inner node, parts (8 octets), limits (8 octets), chooser |
 //! | field | 28 | presence, extension addition, name, node, default |
 //! | limit | 20 | kind, lowest and highest number (8 octets each, two's complement) |
 //! | name | 16 | number (8 octets, two's complement), name |
 //! | type of an open type | 12 | OBJECT IDENTIFIER, node |
 //!
-//! Names, defaults and OBJECT IDENTIFIERs are ranges of the pool, at the end, and ranges of rows and of
-//! octets have a start and a count. The chooser is the index of the field that chooses an open type.
-//! In a SEQUENCE or a SET with an extension marker, it is the number of the fields before the insertion
-//! point: those before the marker and the extension additions. Otherwise it is 0.
+//! The pool comes last. Each name, DEFAULT value and OBJECT IDENTIFIER is a range of its octets. A
+//! range of rows or octets is a start and a count.
 //!
-//! A CHOICE has an alternative, and a CHOICE that is an alternative of another one comes before it in
-//! the table. So no CHOICE is an alternative of itself, at any depth.
+//! What the chooser of a node means depends on its kind:
+//!
+//! - For an open type, it is the index in the table of the field whose value chooses the type.
+//! - For a SEQUENCE or a SET with an extension marker, it is the number of fields before the
+//!   insertion point. These are the fields before the marker and the extension additions.
+//! - For any other node, it is 0.
+//!
+//! A CHOICE has at least one alternative. A CHOICE that is an alternative of another CHOICE comes
+//! before that one in the table. So no CHOICE is an alternative of itself, at any depth.
 //!
 //! # Tags
 //!
-//! Where one field may be missing and the other is read in its place, their tags are distinct: those of
-//! the alternatives of a CHOICE (X.680 29.3), of the components of a SET (27.3), and in a SEQUENCE of an
-//! OPTIONAL or DEFAULT component or an extension addition and the later ones up to the first of the
-//! root that is required (25.6, 25.7). Any type and an open type begin with every tag. So
-//! [`Schema::select`] finds the only node of which a value with a tag is one.
+//! Two fields of a type have distinct tags if one of them may be absent where the other follows:
 //!
-//! Proved: octets are accepted exactly if they are a table; each row by its index; all that a row names
-//! is there; what a tag selects.
+//! - any two alternatives of a CHOICE (X.680 29.3);
+//! - any two components of a SET (27.3);
+//! - in a SEQUENCE, a component that is OPTIONAL, has a DEFAULT or is an extension addition, and
+//!   each later component, up to and with the first required component of the extension root (25.6,
+//!   25.7).
+//!
+//! ANY and an open type count as beginning with every tag. So a tag determines at most one type
+//! that a value may have, and [`Schema::select`] returns the node of this type.
+//!
+//! These statements are proved:
+//!
+//! - Octets are accepted if and only if they are a table.
+//! - Each row is found by its index.
+//! - All nodes, rows and octets to which a row refers exist.
+//! - [`Schema::select`] finds what a tag selects.
 #![tactic(auto)]
 
 mod counts;

@@ -7,15 +7,15 @@ use crate::fault_kind::FaultKind;
 use crate::limit_kind::LimitKind;
 use crate::numbers::{number_at, signed_at};
 
-/// A limit of the values of a type: one range of a constraint. The ranges of one kind that a node has
-/// are alternatives.
+/// A range of numbers in a constraint on the values of a type. A node may have several limits of
+/// one kind. A value then need only be within one of them.
 #[derive(Debug, Clone, Copy, PartialEq, Eq)]
 pub struct Limit {
-    /// What it limits.
+    /// What the range limits: a value, a size, or the characters of a string.
     pub kind: LimitKind,
-    /// The lowest number; -9223372036854775808 for MIN.
+    /// The lowest number allowed; -9223372036854775808 for MIN.
     pub low: i64,
-    /// The highest number; 9223372036854775807 for MAX, and for numbers above it.
+    /// The highest number allowed. 9223372036854775807 stands for MAX and for each number above it.
     pub high: i64,
 }
 

@@ -2,19 +2,20 @@
 ghost use Rattle.std.specs.Prelude.{◌≡◌};
 ghost use Rattle.asn1_schema.specs.LimitKind.{limit_kind_at};
 
-/// What a limit limits.
+/// What a limit of a type applies to. A table stores the kind as a number.
 #[derive(Debug, Clone, Copy, PartialEq, Eq)]
 pub enum LimitKind {
-    /// The value of an INTEGER (X.680 51.4), number 0.
+    /// The limit is for the value of an INTEGER (X.680 51.4). Its number is 0.
     Value,
-    /// The number of octets, bits, characters or items (X.680 51.5), number 1.
+    /// The limit is for the number of octets, bits, characters or items of a value (X.680 51.5).
+    /// Its number is 1.
     Size,
-    /// The numbers of the characters of a text (X.680 51.7), number 2.
+    /// The limit is for the number of each character of a string (X.680 51.7). Its number is 2.
     Alphabet,
 }
 
 impl LimitKind {
-    /// The kind with this number, if there is one.
+    /// Returns the kind that has this number in a table, if there is one.
     pub fn from_number(number: u32) -> Option<Self>
         ensures { result ≡ limit_kind_at number }
     {

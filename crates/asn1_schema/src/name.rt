@@ -1,4 +1,4 @@
-//! Names of numbers.
+//! Names of numbers and of bits.
 ghost use Rattle.std.specs.Prelude.{◌≡◌, ◌+◌, ◌≤◌, length, IfOk, IfErr};
 ghost use Rattle.asn1_schema.specs.Name.{name_at, IsNameRow, IsNameFault};
 
@@ -8,12 +8,13 @@ use crate::numbers::signed_at;
 use crate::pool::is_text;
 use crate::span::Span;
 
-/// A number of an INTEGER, an item of an ENUMERATED or a bit of a BIT STRING, with its name.
+/// A name of a number of an INTEGER, of an item of an ENUMERATED or of a bit of a BIT STRING, with
+/// the number that it stands for.
 #[derive(Debug, Clone, Copy, PartialEq, Eq)]
 pub struct Name {
-    /// The number, or the number of the bit.
+    /// The number of an INTEGER or an ENUMERATED, or the index of the bit, from 0.
     pub number: i64,
-    /// The octets of the name, in the pool.
+    /// The octets of the name, as a range of the pool.
     pub name: Span,
 }
 

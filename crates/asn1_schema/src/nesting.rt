@@ -1,4 +1,4 @@
-//! Checks that a CHOICE that is an alternative comes before the CHOICE that it is in.
+//! Checks that each CHOICE that is an alternative comes before the CHOICE around it.
 ghost use Rattle.std.specs.Prelude.{◌≡◌, ℕ, ◌<◌, slice_get, Some, IfOk, IfErr};
 ghost use Rattle.asn1_schema.specs.Span.{IsWithin};
 ghost use Rattle.asn1_schema.specs.Table.{table_in};

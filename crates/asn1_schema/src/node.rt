@@ -11,28 +11,41 @@ use crate::pool::is_text;
 use crate::span::Span;
 use der_base::Class;
 
-/// A type.
+/// A type of the table.
 #[derive(Debug, Clone, Copy, PartialEq, Eq)]
 pub struct Node {
     /// What kind of type it is.
     pub kind: NodeKind,
-    /// The class of its tag. For a CHOICE, any type and an open type, class and number mean nothing.
+    /// The class of the tag. It means nothing for a CHOICE, ANY or an open type: they have no tag
+    /// of their own.
     pub class: Class,
-    /// The number of its tag.
+    /// The number of the tag. It means nothing for a CHOICE, ANY or an open type.
     pub number: u32,
-    /// Whether it has an extension marker.
+    /// Whether the type has an extension marker.
     pub extensible: bool,
-    /// The octets of its name, in the pool.
+    /// The octets of the name of the type, as a range of the pool.
     pub name: Span,
-    /// The index of the node inside it: of the items of a SEQUENCE OF or a SET OF, of the type inside
-    /// an EXPLICIT tag, and of the type whose encoding a string contains.
+    /// The index of the inner node, which is one of these types:
+    ///
+    /// - for a SEQUENCE OF or a SET OF, the type of its items;
+    /// - for a type inside an EXPLICIT tag, that type;
+    /// - for an OCTET STRING or a BIT STRING that contains an encoding, the type of the encoded
+    ///   value.
+    ///
+    /// `None` for other nodes.
     pub inner: Option<u32>,
-    /// Its fields, names or types.
+    /// The rows that belong to the node: the fields of a SEQUENCE, a SET or a CHOICE, the names of
+    /// an INTEGER, an ENUMERATED or a BIT STRING, or the types that an open type may be. Empty for
+    /// other kinds of nodes.
     pub parts: Span,
-    /// Its limits.
+    /// The rows of the limits of the node.
     pub limits: Span,
-    /// The index of the field that chooses an open type. Of a SEQUENCE or a SET with an extension
-    /// marker, the number of its fields before the insertion point. Otherwise 0.
+    /// A number whose meaning depends on the kind of the node:
+    ///
+    /// - open type: the index in the table of the field whose OBJECT IDENTIFIER chooses the type;
+    /// - SEQUENCE or SET with an extension marker: the number of its fields before the insertion
+    ///   point;
+    /// - any other node: 0.
     pub chooser: u32,
 }
 
@@ -56,8 +69,9 @@ impl Node {
         }
     }
 
-    /// How many of its fields come before its extension insertion point (X.680 25.1), where a value may
-    /// have components that are not known. Only a SEQUENCE or a SET with an extension marker has one.
+    /// How many fields of a SEQUENCE or a SET come before its extension insertion point (X.680
+    /// 25.1), where a value may have unknown components. `None` for other kinds of types, and for a
+    /// type without an extension marker.
     #[inline(always)]
     pub fn insertion(self) -> Option<u32>
         ensures { result ≡ insertion_of self }

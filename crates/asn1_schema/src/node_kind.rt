@@ -5,11 +5,11 @@ ghost use Rattle.asn1_schema.specs.NodeKind.{kind_at, parts_room, chooser_room, 
 use crate::counts::Counts;
 use ber::Universal;
 
-/// What kind of type a node is.
+/// What kind of type a node is. A table stores the kind as a number.
 #[derive(Debug, Clone, Copy, PartialEq, Eq)]
 pub enum NodeKind {
-    /// A type with a universal tag, such as `INTEGER` or `SEQUENCE`, but no `SEQUENCE OF` or
-    /// `SET OF`. The number in a table is that of its tag.
+    /// A type with a universal tag, such as `INTEGER` or `SEQUENCE`, but not `SEQUENCE OF` or `SET
+    /// OF`. Its number in a table is the number of the universal tag.
     Universal(Universal),
     /// `SEQUENCE OF`, number 64.
     SequenceOf,
@@ -19,14 +19,15 @@ pub enum NodeKind {
     Choice,
     /// A type inside an EXPLICIT tag, number 67.
     Explicit,
-    /// Any type, number 68.
+    /// `ANY`: a value of any type, number 68.
     Any,
-    /// An open type, which an OBJECT IDENTIFIER chooses, number 69.
+    /// An open type: its actual type is chosen by an OBJECT IDENTIFIER elsewhere in the value.
+    /// Number 69.
     Open,
 }
 
 impl NodeKind {
-    /// The kind with this number, if there is one.
+    /// Returns the kind that has this number in a table, if there is one.
     pub fn from_octet(octet: u8) -> Option<Self>
         ensures { result ≡ kind_at octet }
     {

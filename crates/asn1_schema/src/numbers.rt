@@ -1,4 +1,4 @@
-//! Numbers in octets.
+//! Reading of numbers from octets.
 ghost use Rattle.std.specs.Prelude.{◌≡◌, ◌+◌, ◌≤◌, length};
 ghost use Rattle.asn1_schema.specs.Numbers.{number_at, signed_at};
 

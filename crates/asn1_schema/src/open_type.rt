@@ -8,12 +8,12 @@ use crate::fault_kind::FaultKind;
 use crate::numbers::number_at;
 use crate::span::Span;
 
-/// A type that an open type may be, and the OBJECT IDENTIFIER that chooses it.
+/// A type that an open type may be, with the OBJECT IDENTIFIER that chooses it.
 #[derive(Debug, Clone, Copy, PartialEq, Eq)]
 pub struct OpenType {
-    /// The contents octets of the OBJECT IDENTIFIER (X.690 8.19), in the pool.
+    /// The contents octets of the OBJECT IDENTIFIER (X.690 8.19), as a range of the pool.
     pub identifier: Span,
-    /// The index of the node.
+    /// The index of the node that is the type.
     pub node: u32,
 }
 

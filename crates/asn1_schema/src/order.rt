@@ -1,4 +1,4 @@
-//! Checks that the types of open types ascend.
+//! Checks that the types that an open type may be are sorted by OBJECT IDENTIFIER.
 ghost use Rattle.std.specs.Prelude.{◌≡◌, ◌↔◌, ◌+◌, ◌*◌, ◌<◌, ◌≤◌, length, IsTrue, IfOk, IfErr};
 ghost use Rattle.asn1_schema.specs.Counts.{nodes_at, opens_at, pool_at};
 ghost use Rattle.asn1_schema.specs.Span.{IsWithin};

@@ -2,19 +2,19 @@
 ghost use Rattle.std.specs.Prelude.{◌≡◌};
 ghost use Rattle.asn1_schema.specs.Presence.{presence_at, default_room};
 
-/// Whether a field may be absent (X.680 25.1).
+/// Whether a field may be absent (X.680 25.1). A table stores the presence as a number.
 #[derive(Debug, Clone, Copy, PartialEq, Eq)]
 pub enum Presence {
-    /// It is there, number 0; also the alternatives of a CHOICE.
+    /// The field must be present. Alternatives of a CHOICE have this presence too. Its number is 0.
     Required,
-    /// It is `OPTIONAL`, number 1.
+    /// The field is `OPTIONAL`. The number of this presence is 1.
     Optional,
-    /// It has a `DEFAULT`, number 2.
+    /// The field has a `DEFAULT` value. The number of this presence is 2.
     Default,
 }
 
 impl Presence {
-    /// The presence with this number, if there is one.
+    /// Returns the presence that has this number in a table, if there is one.
     pub fn from_number(number: u32) -> Option<Self>
         ensures { result ≡ presence_at number }
     {

@@ -1,4 +1,4 @@
-//! The rows of a table, each of which is well-formed.
+//! The rows of a table. Each row is well-formed.
 ghost use Rattle.std.specs.Prelude.{◌≡◌, length};
 ghost use Rattle.std.proofs.Props.{props};
 ghost use Rattle.asn1_schema.specs.Counts.{counts_in, size_of};

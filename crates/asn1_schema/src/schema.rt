@@ -60,11 +60,11 @@ impl<'a> Schema<'a> {
     ghost use Rattle.asn1_schema.specs.Numbered.{IsFirstNamed, NoneHasNumber};
     ghost use Rattle.asn1_schema.specs.Allowed.{IsAllowed};
 
-    /// Reads a table of types.
+    /// Reads a table of types from all of `octets`.
     ///
     /// # Errors
     ///
-    /// A fault that the octets have, with its offset, if they are no table.
+    /// The octets are not a well-formed table. The [`Fault`] says why, and at which offset.
     pub fn new(octets: &'a [u8]) -> Result<Self, Fault>
         ensures ok { IfOk result (λ s. IsSchema octets.now (table_in s.octets.now)) }
         ensures same { IfOk result (λ s. s.octets.now ≡ octets.now) }
@@ -87,8 +87,8 @@ impl<'a> Schema<'a> {
             pool,
         })
     }
-    /// How many rows each section has, and how many octets the pool has. The contract also says that
-    /// the octets of a `Schema` are a table.
+    /// Returns how many rows each section has, and how many octets the pool has. The contract of
+    /// this function also states that the octets of a `Schema` are always a well-formed table.
     #[inline(always)]
     pub fn counts(&self) -> Counts
         ensures value { result ≡ counts_of (table_in self.now.octets.now) }
@@ -98,7 +98,7 @@ impl<'a> Schema<'a> {
         self.counts
     }
 
-    /// The node with this index. The caller must ensure that there is one.
+    /// The node with this index, from 0. The caller must ensure that there is one.
     #[inline(always)]
     pub fn node(&self, index: u32) -> Node
         requires { index < self.now.counts.nodes }
@@ -109,7 +109,8 @@ impl<'a> Schema<'a> {
         Node::read(self.octets, 32 + 40 * index as usize)
     }
 
-    /// The field with this index. The caller must ensure that there is one.
+    /// The field with this index, from 0, among all fields of the table. The caller must ensure
+    /// that there is one.
     #[inline(always)]
     pub fn field(&self, index: u32) -> Field
         requires { index < self.now.counts.fields }
@@ -119,7 +120,8 @@ impl<'a> Schema<'a> {
         Field::read(self.octets, self.counts.fields_at() + 28 * index as usize)
     }
 
-    /// The limit with this index. The caller must ensure that there is one.
+    /// The limit with this index, from 0, among all limits of the table. The caller must ensure
+    /// that there is one.
     #[inline(always)]
     pub fn limit(&self, index: u32) -> Limit
         requires { index < self.now.counts.limits }
@@ -128,7 +130,8 @@ impl<'a> Schema<'a> {
         Limit::read(self.octets, self.counts.limits_at() + 20 * index as usize)
     }
 
-    /// The name with this index. The caller must ensure that there is one.
+    /// The name with this index, from 0, among all names of numbers of the table. The caller must
+    /// ensure that there is one.
     #[inline(always)]
     pub fn name(&self, index: u32) -> Name
         requires { index < self.now.counts.names }
@@ -138,7 +141,8 @@ impl<'a> Schema<'a> {
         Name::read(self.octets, self.counts.names_at() + 16 * index as usize)
     }
 
-    /// The type of an open type with this index. The caller must ensure that there is one.
+    /// The row with this index, from 0, of the section of types that open types may be. The caller
+    /// must ensure that there is one.
     #[inline(always)]
     pub fn open_type(&self, index: u32) -> OpenType
         requires { index < self.now.counts.opens }
@@ -148,7 +152,7 @@ impl<'a> Schema<'a> {
         OpenType::read(self.octets, self.counts.opens_at() + 12 * index as usize)
     }
 
-    /// The index of the first node with this name.
+    /// The index of the first node with this name, if there is one.
     pub fn find_node(&self, name: &str) -> Option<u32>
         ensures found { IfSome result
             (λ i. IsNamed self.now.counts self.now.octets.now name.now i) }
@@ -158,9 +162,12 @@ impl<'a> Schema<'a> {
         find_node(self.octets, self.counts, self.pool, name.as_bytes())
     }
 
-    /// The type that the contents octets of an OBJECT IDENTIFIER choose among the types of an open type,
-    /// which are its parts. The caller must ensure that these are a range of types that ascend, as
-    /// [`Schema::node`] promises.
+    /// Finds the type that an OBJECT IDENTIFIER chooses for an open type. `None` if no type has
+    /// this OBJECT IDENTIFIER. `types` are the `parts` of the node of the open type. `identifier`
+    /// has the contents octets of the OBJECT IDENTIFIER.
+    ///
+    /// The caller must ensure that `types` is a range of rows sorted by OBJECT IDENTIFIER. The
+    /// parts of an open type that [`Schema::node`] returns are sorted.
     pub fn find_open_type(&self, types: Span, identifier: &[u8]) -> Option<OpenType>
         requires there { IsWithin types self.now.counts.opens }
         requires ascending { Ascends self.now.counts self.now.octets.now types }
@@ -177,9 +184,13 @@ impl<'a> Schema<'a> {
         find_open_type(self.octets, self.counts, self.pool, types, identifier)
     }
 
-    /// The node of which a value of a node is one, if the value begins with this tag; the field is the
-    /// alternative through which a CHOICE selects it. The caller must ensure that there is a node with
-    /// this index.
+    /// Finds the type of a value by the tag with which the value begins. `index` is the node that
+    /// the value must belong to; the caller must ensure that there is one.
+    ///
+    /// - For a CHOICE, returns the alternative with this tag. If that alternative is a CHOICE,
+    ///   returns the alternative inside.
+    /// - For any other type, returns the node `index` itself.
+    /// - Returns `None` if no value of the node begins with this tag.
     #[inline(always)]
     pub fn select(&self, index: u32, class: Class, number: u32) -> Option<Selected>
         requires { index < self.now.counts.nodes }
@@ -199,8 +210,10 @@ impl<'a> Schema<'a> {
         find_selected(&rows, index, Sought::tag(class, number))
     }
 
-    /// The first name of a number among the names of an ENUMERATED, an INTEGER or the bits of a
-    /// BIT STRING, which are its parts. The caller must ensure that these are a range of names.
+    /// Returns the first name that stands for `number` among the rows `names`. These rows are the
+    /// `parts` of the node of an ENUMERATED, an INTEGER or a BIT STRING. The bits of a BIT STRING
+    /// are counted from 0. The caller must ensure that `names` is a range of rows of the section of
+    /// names.
     pub fn name_of_number(&self, names: Span, number: i64) -> Option<Name>
         requires { IsWithin names self.now.counts.names }
         ensures found { IfSome result
@@ -218,8 +231,9 @@ impl<'a> Schema<'a> {
         None
     }
 
-    /// Whether the limits of a node allow a number: one limit of this kind does, or there is none of
-    /// this kind. The caller must ensure that these are a range of limits.
+    /// Whether the limits of a node allow a number. The result is true if one of the `limits` is of
+    /// this `kind` and has the number in its range. It is also true if none of the `limits` is of
+    /// this kind. The caller must ensure that `limits` is a range of rows of the section of limits.
     pub fn is_within_limits(&self, limits: Span, kind: LimitKind, number: i64) -> bool
         requires { IsWithin limits self.now.counts.limits }
         ensures { IsTrue result ↔ IsAllowed (table_in self.now.octets.now) limits kind number }
@@ -237,8 +251,8 @@ impl<'a> Schema<'a> {
         !limited
     }
 
-    /// The octets of a range of the pool. The caller must ensure that it is one, as those of this
-    /// table are.
+    /// The octets of a range of the pool. The caller must ensure that `span` is within the pool.
+    /// All ranges of octets in the rows of this table are within the pool.
     #[inline(always)]
     pub fn octets_of(&self, span: Span) -> &'a [u8]
         requires { IsWithin span (length self.now.pool.now) }
@@ -247,8 +261,8 @@ impl<'a> Schema<'a> {
         octets_of(self.pool, span)
     }
 
-    /// The text of a range of the pool. The caller must ensure that it is one, as those of the names
-    /// of this table are.
+    /// The text of a range of the pool. The caller must ensure that `span` is within the pool and
+    /// that its octets are UTF-8. Both hold for all names in the rows of this table.
     #[inline(always)]
     pub fn text_of(&self, span: Span) -> &'a str
         requires { IsText self.now.pool.now span }

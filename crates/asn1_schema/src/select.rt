@@ -1,4 +1,4 @@
-//! The node that a tag selects.
+//! Finds the node that a tag selects.
 ghost use Rattle.std.specs.Prelude.{◌≡◌, ◌≢◌, ◌<◌, slice_get, Some, IfSome, IfNone};
 ghost use Rattle.asn1_schema.specs.Span.{IsWithin};
 ghost use Rattle.asn1_schema.specs.Table.{table_in};

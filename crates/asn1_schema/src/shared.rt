@@ -1,4 +1,4 @@
-//! Whether values of two types may begin with one tag.
+//! Checks whether values of two types may begin with the same tag.
 ghost use Rattle.std.specs.Prelude.{◌≡◌, ◌≢◌, ◌↔◌, ◌<◌, slice_get, Some, IsTrue};
 ghost use Rattle.asn1_schema.specs.Span.{IsWithin};
 ghost use Rattle.asn1_schema.specs.Table.{table_in};

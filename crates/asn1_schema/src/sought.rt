@@ -1,4 +1,4 @@
-//! A tag that is sought, or any.
+//! The tag to look for. It may also stand for any tag.
 ghost use Rattle.std.specs.Prelude.{◌≡◌};
 ghost use Rattle.asn1_schema.specs.Tags.{is_untagged};
 

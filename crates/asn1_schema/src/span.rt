@@ -7,9 +7,9 @@ use crate::numbers::number_at;
 /// A range of rows of a section, or of octets of the pool.
 #[derive(Debug, Clone, Copy, PartialEq, Eq)]
 pub struct Span {
-    /// The index of the first.
+    /// The index, from 0, of the first row or octet.
     pub start: u32,
-    /// How many there are.
+    /// The number of rows or octets.
     pub count: u32,
 }
 

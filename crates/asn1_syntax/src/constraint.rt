@@ -3,18 +3,22 @@
 use crate::item::Item;
 use crate::range::Range;
 
-/// What a type's values are restricted to.
+/// A restriction of the values of a type.
 #[derive(Clone, Copy, Debug)]
 pub enum Constraint<'a> {
-    /// These numbers, or this value.
+    /// The type has only the numbers in this range. A single value is a range with equal ends.
     Range(Range<'a>),
-    /// So many characters, octets or elements.
+    /// The type has only values whose number of characters, octets, bits or elements is in this
+    /// range.
     Size(Range<'a>),
-    /// Contents that are the encoding of a value of the type with this index.
+    /// `CONTAINING`: the contents of the string are an encoding of another type. The number is the
+    /// index of that type among the `nodes` of the module.
     Containing(usize),
-    /// The values of a table: of the field of a class in the objects of a set. It is the table with
-    /// this index.
+    /// A table constraint (X.682, 10). It allows the values that the objects of an object set have
+    /// in one field of their class. The number is the index of the constraint among the `tables` of
+    /// the module.
     Table(usize),
-    /// A constraint of another form, which begins with this item, and is not read.
+    /// A constraint of another form, which the parser skips. The `Item` is the first lexical item
+    /// of the constraint.
     Unread(Item<'a>),
 }

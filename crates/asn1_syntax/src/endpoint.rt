@@ -2,23 +2,25 @@
 
 use crate::item::Item;
 
-/// A number, or an end of a range.
+/// A number, or one end of a range.
 #[derive(Clone, Copy, Debug)]
 pub enum Endpoint<'a> {
-    /// The least value.
+    /// `MIN`: the least value of the type.
     Min,
-    /// The greatest value.
+    /// `MAX`: the greatest value of the type.
     Max,
     /// A number that is 0 or more.
     Number(u64),
-    /// A number below 0, without its sign.
+    /// A number below 0. The `u64` is its absolute value.
     Negative(u64),
-    /// The value with this name.
+    /// The number that the module assigns to this name. The name is not looked up yet.
     Name(Item<'a>),
 }
 
 impl<'a> Endpoint<'a> {
-    /// Whether this number is at most another one, as far as that is known without values of names.
+    /// Whether this number is less than or equal to `other`. `MIN` is less than all others, and
+    /// `MAX` is greater than all others. The value of a name is not known here. A comparison of a
+    /// name with a number, or with another name, returns true.
     pub fn is_at_most(self, other: Endpoint<'a>) -> bool {
         match (self, other) {
             (Endpoint::Min, _) | (_, Endpoint::Max) => true,
@@ -31,7 +33,8 @@ impl<'a> Endpoint<'a> {
         }
     }
 
-    /// Whether both are the same number.
+    /// Whether this number and `other` are equal. The value of a name is not known here, so a name
+    /// counts as equal to every number and to every name.
     pub fn is_same(self, other: Endpoint<'a>) -> bool {
         self.is_at_most(other) && other.is_at_most(self)
     }

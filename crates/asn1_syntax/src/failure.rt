@@ -1,16 +1,16 @@
-//! Why compiling stops.
+//! Why no module is compiled.
 
 use crate::refusal::Refusal;
 use std::alloc::{AllocError, AllocFailed};
 
-/// Why there is no result.
+/// Why the compiler returns no result.
 #[derive(Debug, Drop)]
 pub enum Failure<'a> {
-    /// The module is wrong.
+    /// The module is not valid ASN.1.
     Refused(Refusal<'a>),
-    /// It has a form that is not supported.
+    /// The module uses a form of ASN.1 that this compiler does not support.
     Unsupported(Refusal<'a>),
-    /// An allocation failed.
+    /// A memory allocation failed.
     OutOfMemory,
 }
 

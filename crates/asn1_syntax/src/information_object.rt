@@ -3,35 +3,37 @@
 use crate::item::Item;
 use crate::value::Value;
 
-/// An object: what is in the fields of its class.
+/// An information object (X.681): the settings of the fields of its class.
 #[derive(Drop)]
 pub struct InformationObject<'a> {
-    /// The name. An object without one has its whole text as its name.
+    /// The name of the object. An object that is written directly in a set has no name. Then this
+    /// is the whole text of the object, with its braces.
     pub name: Item<'a>,
-    /// The index of the first one of the types that are in it.
+    /// The index, among the `nodes` of the module, of the first type that is written in the object.
     pub first: usize,
-    /// The index after the last one.
+    /// The index after the last type that is written in the object, among the `nodes` of the
+    /// module. It equals `first` if no type is written in the object.
     pub end: usize,
-    /// What is in its fields.
+    /// What the object sets the fields of its class to.
     pub fields: Vec<ObjectField<'a>>,
 }
 
-/// A field of an object.
+/// What an information object sets one field of its class to.
 #[derive(Drop)]
 pub struct ObjectField<'a> {
-    /// The name, without `&`.
+    /// The name of the field, without `&`.
     pub name: Item<'a>,
-    /// What is in it.
+    /// What the object sets the field to.
     pub setting: Setting<'a>,
 }
 
-/// What is in a field of an object.
+/// What an object sets a field of its class to.
 #[derive(Drop)]
 pub enum Setting<'a> {
-    /// The type with this index.
+    /// The type with this index among the `nodes` of the module.
     Type(usize),
-    /// A value, or an object.
+    /// This value. For a field that takes an object, it is the name or the text of that object.
     Value(Value<'a>),
-    /// A set, which is not read.
+    /// A set of values or of objects. The parser skips it.
     Set,
 }

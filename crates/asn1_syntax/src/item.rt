@@ -2,21 +2,22 @@
 
 use crate::item_kind::ItemKind;
 
-/// A lexical item with its place in the text.
+/// A lexical item (X.680, 12) with its offset in the text of the module.
 #[derive(Clone, Copy, Debug)]
 pub struct Item<'a> {
-    /// What it is.
+    /// The kind of the item.
     pub kind: ItemKind,
-    /// The characters of the item; none at the end of the text.
+    /// The characters of the item. Empty for the item that stands for the end of the text.
     pub text: &'a str,
-    /// The index of its first octet.
+    /// The index of the first octet of the item in the text of the module. Where the parser reads a
+    /// type in place of a name, all items of the type have the offset of the name instead.
     pub offset: usize,
-    /// The text between the item before and this one: white space and comments.
+    /// The white space and the comments between the previous item and this item.
     pub comments: &'a str,
 }
 
 impl<'a> Item<'a> {
-    /// The end of a text.
+    /// The item that stands for the end of a text.
     pub const END: Item<'static> = Item {
         kind: ItemKind::End,
         text: "",
@@ -24,7 +25,7 @@ impl<'a> Item<'a> {
         comments: "",
     };
 
-    /// Whether this is the reserved word or the symbol `text`.
+    /// Whether this item is the reserved word `text` or the symbol `text`.
     pub fn is(&self, text: &str) -> bool {
         match self.kind {
             ItemKind::UpperName | ItemKind::Symbol => self.text == text,

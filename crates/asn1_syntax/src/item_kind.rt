@@ -16,9 +16,10 @@ pub enum ItemKind {
     HexString,
     /// A string of characters, as `"abc"`.
     CharacterString,
-    /// One of the symbols `::=`, `...`, `..`, `[[` and `]]`, or a single character.
+    /// One of the symbols `::=`, `...`, `..`, `[[` and `]]`, or a symbol of one character, such as
+    /// `{`.
     Symbol,
-    /// A comment of either form.
+    /// A comment, of the form that begins with `--` or of the form that begins with `/*`.
     Comment,
     /// The end of the text.
     End,

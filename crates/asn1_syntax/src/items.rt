@@ -18,8 +18,9 @@ const NO_CHARACTER: &str = "a character of the notation";
 
 const SYMBOLS: &[u8] = b"{}[]()<>,;:.|-@!^*&";
 
-/// The items of a text in their order, and `End` as the last one. Comments are kept with the item
-/// after them.
+/// Returns the lexical items of a text in their order. The last item has the kind `End`. A comment
+/// is no item of its own: it is in the field `comments` of the item after it. Fails where no
+/// lexical item begins, and where a string or a comment is not closed.
 pub fn items_of<'a>(alloc: Global, text: &'a str) -> Result<Vec<Item<'a>>, Failure<'a>> {
     let octets = text.as_bytes();
     let mut items = Vec::new(alloc);

@@ -6,8 +6,9 @@ use crate::refusal::Refusal;
 /// An assignment that is not compiled, and why.
 #[derive(Clone, Copy, Debug)]
 pub struct LeftOut<'a> {
-    /// The name of the type, the value, the class, the object or the set.
+    /// The name of the type, value, class, object or set that is assigned.
     pub name: Item<'a>,
-    /// The form that is not supported, or a name in the assignment that stands for one.
+    /// Why the assignment is not compiled: it is not valid, it has a form that is not supported, or
+    /// it refers to a name that is not compiled.
     pub refusal: Refusal<'a>,
 }

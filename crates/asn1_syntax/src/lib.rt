@@ -1,5 +1,5 @@
-//! The notation of X.680: the lexical items of a text, and the tree of a module. Names are not
-//! looked up.
+//! A parser for the notation of X.680. It splits a text into lexical items, and parses a module
+//! into a tree. It does not look up what a name stands for.
 #![tactic(auto)]
 
 mod component;

@@ -12,44 +12,52 @@ use crate::value::Value;
 use crate::warning::Warning;
 use std::alloc::{AllocError, Global};
 
-/// A module as it is written: what its names stand for is not looked up.
+/// A module as the parser returns it. The parser does not look up what a name in the module stands
+/// for.
 #[derive(Drop)]
 pub struct ParsedModule<'a> {
-    /// The name.
+    /// The name of the module.
     pub name: Item<'a>,
-    /// What it says of its tags.
+    /// Whether the module has explicit, implicit or automatic tags.
     pub tags: TagDefault,
-    /// The index of the first octet after it. What is there is of modules from which it imports.
+    /// The index, in the text, of the first octet of the `END` of the module. The modules from
+    /// which the module imports come after this `END`.
     pub end: usize,
-    /// The names that it imports, and those that the modules after it import, from others than these.
+    /// The names that this module, and the modules after it in the text, import from modules that
+    /// are not in the text.
     pub imports: Vec<Import<'a>>,
-    /// The names that it exports.
+    /// The names that the module exports.
     pub exports: Vec<Item<'a>>,
-    /// The types that it names, in their order.
+    /// The type assignments, in the order of the text.
     pub types: Vec<TypeAssignment<'a>>,
-    /// The values that it names, in their order.
+    /// The value assignments, in the order of the text.
     pub values: Vec<ValueAssignment<'a>>,
-    /// The objects of classes that it has, in their order.
+    /// The information objects, in the order of the text.
     pub objects: Vec<InformationObject<'a>>,
-    /// The sets of objects that it names.
+    /// The information object sets that have a name.
     pub sets: Vec<ObjectSet<'a>>,
-    /// What constraints say of fields of classes.
+    /// The table constraints of all types. A [`Constraint::Table`](crate::Constraint::Table) has an
+    /// index into this list.
     pub tables: Vec<TableUse<'a>>,
-    /// All types of the module, also those without a name.
+    /// All types that the module contains, with or without a name. Other fields refer to a type by
+    /// its index here.
     pub nodes: Vec<TypeNode<'a>>,
-    /// Where it has what it names.
+    /// Finds the type, the value or the import that has a given name.
     pub index: ModuleIndex<'a>,
-    /// The assignments that have a form which is not supported.
+    /// The assignments that are not compiled. Their form is not supported, or they are invalid
+    /// assignments of a module after the first one.
     pub left_out: Vec<LeftOut<'a>>,
-    /// The names of the classes, the macros, and the objects and other assignments with parameters, which
-    /// are read where they are used, and of objects and their sets.
+    /// The names of the assignments that are neither in `types` nor in `values`:
+    ///
+    /// - classes, macros and assignments with parameters, which are read only where they are used;
+    /// - information objects and object sets.
     pub passed: NameIndex<'a>,
-    /// What the parser warns of.
+    /// The warnings of the parser.
     pub warnings: Vec<Warning<'a>>,
 }
 
 impl<'a> ParsedModule<'a> {
-    /// Looks up where the module has what it names.
+    /// Sets the field `index`, with which the types, the values and the imports are found by name.
     pub fn look_up_names(&mut self, alloc: Global) -> Result<(), AllocError> {
         let mut index = ModuleIndex::new(alloc);
         index.add_types(&self.types, self.nodes.len())?;
@@ -63,32 +71,36 @@ impl<'a> ParsedModule<'a> {
 /// A name that is imported.
 #[derive(Clone, Copy, Debug)]
 pub struct Import<'a> {
-    /// The name.
+    /// The imported name.
     pub name: Item<'a>,
-    /// The name of the module that defines it.
+    /// The name of the module from which it is imported.
     pub module: Item<'a>,
 }
 
-/// A type with a name.
+/// A type assignment: a name and its type.
 #[derive(Clone, Copy, Debug)]
 pub struct TypeAssignment<'a> {
-    /// The name, with the comments in front of it.
+    /// The name that is assigned. Its field `comments` holds the comments in front of the
+    /// assignment.
     pub name: Item<'a>,
     /// The index of the assigned type among the `nodes` of the module.
     pub of: usize,
-    /// The index of the first one of the types that it is made of.
+    /// The index, among the `nodes` of the module, of the first type that this assignment contains.
+    /// The assignment contains the types from `first` to `of`, both included.
     pub first: usize,
 }
 
-/// A value with a name.
+/// A value assignment: a name, its type and its value.
 #[derive(Drop)]
 pub struct ValueAssignment<'a> {
-    /// The name, with the comments in front of it.
+    /// The name that is assigned. Its field `comments` holds the comments in front of the
+    /// assignment.
     pub name: Item<'a>,
-    /// The index of the assigned type among the `nodes` of the module.
+    /// The index of the type of the value among the `nodes` of the module.
     pub of: usize,
-    /// The index of the first one of the types that this is made of.
+    /// The index, among the `nodes` of the module, of the first type that this assignment contains.
+    /// The assignment contains the types from `first` to `of`, both included.
     pub first: usize,
-    /// The value.
+    /// The assigned value.
     pub value: Value<'a>,
 }

@@ -1,19 +1,22 @@
-//! Where a module has what it names.
+//! Lookup of the names of a module.
 
 use crate::module::{Import, TypeAssignment, ValueAssignment};
 use crate::name_index::NameIndex;
 use std::alloc::{AllocError, Global};
 
-/// Where a module has what it names. Of two assignments of one name, the first one counts.
+/// Maps from names to the types, the values and the imports of a module. If a name is assigned
+/// twice, the map has the first assignment.
 #[derive(Drop)]
 pub struct ModuleIndex<'a> {
-    /// The index of each type that has a name in the module.
+    /// Maps the name of each type assignment to the index of its type among the `nodes` of the
+    /// module.
     pub types: NameIndex<'a>,
-    /// The number of the assignment of each value.
+    /// Maps the name of each value assignment to its index among the `values` of the module.
     pub values: NameIndex<'a>,
-    /// The number of each import.
+    /// Maps each imported name to the index of its import among the `imports` of the module.
     pub imports: NameIndex<'a>,
-    /// The number of the assignment of each type, by the index of the type.
+    /// The type assignment that gives each type its name. The list has an entry for each type among
+    /// the `nodes` of the module: an index among its `types`, or `None` for a type without a name.
     pub assignments: Vec<Option<usize>>,
 }
 
@@ -28,7 +31,8 @@ impl<'a> ModuleIndex<'a> {
         }
     }
 
-    /// Adds these names of types, of which the module has so many.
+    /// Adds the type assignments `types` of a module. `count` is the number of `nodes` of the
+    /// module.
     pub fn add_types(
         &mut self,
         types: &Vec<TypeAssignment<'a>>,
@@ -46,7 +50,7 @@ impl<'a> ModuleIndex<'a> {
         Ok(())
     }
 
-    /// Adds these names of values.
+    /// Adds these value assignments of a module.
     pub fn add_values(&mut self, values: &Vec<ValueAssignment<'a>>) -> Result<(), AllocError> {
         for (number, assigned) in values.iter().enumerate() {
             self.values.add(assigned.name.text, number)?;
@@ -54,7 +58,7 @@ impl<'a> ModuleIndex<'a> {
         Ok(())
     }
 
-    /// Adds these names that are imported.
+    /// Adds these imports of a module.
     pub fn add_imports(&mut self, imports: &Vec<Import<'a>>) -> Result<(), AllocError> {
         for (number, import) in imports.iter().enumerate() {
             self.imports.add(import.name.text, number)?;

@@ -1,9 +1,9 @@
-//! Indices by names.
+//! A map from names to indices.
 
 use std::alloc::{AllocError, Global};
 use std::collections::HashMap;
 
-/// Names, each with an index.
+/// A map from names to indices, which keeps the order in which the names were added.
 #[derive(Drop)]
 pub struct NameIndex<'a> {
     /// The names, in the order in which they were added.
@@ -12,7 +12,7 @@ pub struct NameIndex<'a> {
 }
 
 impl<'a> NameIndex<'a> {
-    /// No names.
+    /// A map without names.
     pub fn new(alloc: Global) -> Self {
         NameIndex {
             names: Vec::new(alloc),
@@ -20,7 +20,8 @@ impl<'a> NameIndex<'a> {
         }
     }
 
-    /// Adds a name with its index, unless the name is there; whether it was not.
+    /// Adds a name with its index, unless the map has this name already. Returns whether it was
+    /// added.
     pub fn add(&mut self, name: &'a str, index: usize) -> Result<bool, AllocError> {
         if self.has(name) {
             return Ok(false);
@@ -30,12 +31,12 @@ impl<'a> NameIndex<'a> {
         Ok(true)
     }
 
-    /// The index of this name.
+    /// The index that was added with this name; `None` if the map does not have the name.
     pub fn find(&self, name: &str) -> Option<usize> {
         self.places.get(name).copied()
     }
 
-    /// Whether this name is there.
+    /// Whether the map has this name.
     pub fn has(&self, name: &str) -> bool {
         self.places.contains_key(name)
     }

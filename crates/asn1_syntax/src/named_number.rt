@@ -8,8 +8,9 @@ use crate::item::Item;
 pub struct NamedNumber<'a> {
     /// The name.
     pub name: Item<'a>,
-    /// The number; `None` if none is written, as an ENUMERATED allows.
+    /// The number of the name, or the index of the bit. `None` if only a name is written, which
+    /// X.680 allows in an ENUMERATED.
     pub number: Option<Endpoint<'a>>,
-    /// Whether it is after an extension mark.
+    /// Whether this item of an ENUMERATED is written after the extension marker (`...`).
     pub is_addition: bool,
 }

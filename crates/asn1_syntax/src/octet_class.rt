@@ -24,21 +24,21 @@ pub fn is_digit(octet: u8) -> bool
     b'0' <= octet && octet <= b'9'
 }
 
-/// Whether the octet may be in a name.
+/// Whether the octet may be in an ASN.1 name: a letter, a digit or a hyphen.
 pub fn is_name_octet(octet: u8) -> bool
     ensures { result ≡ is_name_octet octet }
 {
     is_upper(octet) || is_lower(octet) || is_digit(octet) || octet == b'-'
 }
 
-/// Whether the octet may be in a word of Rust.
+/// Whether the octet may be in a Rust identifier: a letter, a digit or `_`.
 pub fn is_word_octet(octet: u8) -> bool
     ensures { result ≡ is_word_octet octet }
 {
     is_upper(octet) || is_lower(octet) || is_digit(octet) || octet == b'_'
 }
 
-/// Whether the octet is white space.
+/// Whether the octet is white space: a space or one of the octets 9 to 13.
 pub fn is_space(octet: u8) -> bool
     ensures { result ≡ is_space octet }
 {

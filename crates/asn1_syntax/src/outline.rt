@@ -1,27 +1,29 @@
-//! What a text has before its assignments are parsed.
+//! The modules of a text, before their assignments are parsed.
 
 use crate::item::Item;
 use crate::module::Import;
 use crate::name_index::NameIndex;
 use crate::tagging::TagDefault;
 
-/// A module whose assignments are found, and not parsed.
+/// A module of which only the header and the names of the assignments are read.
 #[derive(Drop)]
 pub struct ModuleOutline<'a> {
-    /// The name.
+    /// The name of the module.
     pub name: Item<'a>,
-    /// What it says of its tags.
+    /// Whether the module has explicit, implicit or automatic tags.
     pub tags: TagDefault,
-    /// The names that it exports.
+    /// The names that the module exports.
     pub exports: Vec<Item<'a>>,
-    /// The names that it imports.
+    /// The names that the module imports.
     pub imports: Vec<Import<'a>>,
-    /// The number of the first import of each name.
+    /// Maps each imported name to the index of its first import among `imports`.
     pub imported: NameIndex<'a>,
-    /// The number of the item that begins the first assignment.
+    /// The index, among the lexical items of the text, of the first item of the first assignment.
     pub start: usize,
-    /// The index of the first octet of its `END`, or the end of the text.
+    /// The index, in the text, of the first octet of the `END` of the module, or the length of the
+    /// text if there is no `END`.
     pub end: usize,
-    /// The number of the item that is the name of each assignment.
+    /// Maps the name of each assignment to the index of that name among the lexical items of the
+    /// text.
     pub definitions: NameIndex<'a>,
 }

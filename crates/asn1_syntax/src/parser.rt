@@ -35,10 +35,11 @@ use digits::check_digits;
 use places::Frame;
 use std::alloc::{AllocError, Global};
 
-/// The greatest number of types around a type.
+/// The greatest number of types that may be nested in one another. The outermost type counts.
 const MAX_DEPTH: u32 = 64;
 
-/// A walk over the items of a text.
+/// The state of the parser: the lexical items of a text, the index of the next one, and what was
+/// read.
 #[derive(Drop)]
 struct Parser<'a> {
     alloc: Global,
@@ -70,10 +71,16 @@ struct Parser<'a> {
     tables: Vec<TableUse<'a>>,
 }
 
-/// Parses the first module of a text, with the modules after it, from which it may import. What
-/// these have gets other names where the first module, or one in front, has the same: those that
-/// [`own_names`] returns, which are after the last module. Names are not looked up. What is wrong
-/// in an assignment of another module than the first one is left out.
+/// Parses the first module of a text, and the modules after it, from which the first module may
+/// import. It does not look up what a name stands for.
+///
+/// If two modules of the text assign the same name, one of the assignments gets a new name. The
+/// text must have the new names at its end, as the lines that [`own_names`] returns.
+///
+/// # Errors
+///
+/// The first fault of the first module. An invalid assignment of a later module is left out
+/// instead.
 pub fn parse_module<'a>(alloc: Global, text: &'a str) -> Result<ParsedModule<'a>, Failure<'a>> {
     let mut parser = parser_of(alloc, text)?;
     parser.outline()?;
@@ -101,15 +108,19 @@ pub fn parse_module<'a>(alloc: Global, text: &'a str) -> Result<ParsedModule<'a>
     Ok(module)
 }
 
-/// The modules of a text, whose assignments are not parsed.
+/// Finds the modules of a text. It parses their headers, but not their assignments.
 pub fn outline_of<'a>(alloc: Global, text: &'a str) -> Result<Vec<ModuleOutline<'a>>, Failure<'a>> {
     let mut parser = parser_of(alloc, text)?;
     parser.outline()?;
     Ok(parser.modules)
 }
 
-/// The names that assignments of a text get since a module in front has the same: comments, each on
-/// a line. They have to be after the last module.
+/// Returns new names, of the form `name-Module`, for names that several modules of a text assign.
+/// One module keeps the name: the module that defines what the name means in the first module,
+/// otherwise the first module that assigns the name. Each of the other modules gets a new name.
+///
+/// Each new name is an ASN.1 comment on a line of its own. Before a call of [`parse_module`], the
+/// caller must append these lines to the text, after the last module.
 pub fn own_names<'a>(alloc: Global, text: &'a str) -> Result<String, Failure<'a>> {
     let mut parser = parser_of(alloc, text)?;
     parser.outline()?;
@@ -164,23 +175,24 @@ fn parser_of<'a>(alloc: Global, text: &'a str) -> Result<Parser<'a>, Failure<'a>
     })
 }
 
-/// The failure of an item that is where something else is expected.
+/// The failure which says that `item` was found where `expected` was expected.
 fn refused<'a>(item: Item<'a>, expected: &'static str) -> Failure<'a> {
     Failure::Refused(Refusal::of(item, expected))
 }
 
-/// The failure of an item that stands for what is not supported.
+/// The failure for something that is not supported, and that begins with `item` or has `item` as
+/// its name. `expected` says what is supported instead.
 fn unsupported<'a>(item: Item<'a>, expected: &'static str) -> Failure<'a> {
     Failure::Unsupported(Refusal::of(item, expected))
 }
 
 impl<'a> Parser<'a> {
-    /// The item at this place.
+    /// The next lexical item.
     fn peek(&self) -> Item<'a> {
         self.item_at(self.at)
     }
 
-    /// The item after that at this place.
+    /// The lexical item after the next one.
     fn peek_second(&self) -> Item<'a> {
         self.item_at(self.at.saturating_add(1))
     }
@@ -204,14 +216,14 @@ impl<'a> Parser<'a> {
         }
     }
 
-    /// The item at this place, and moves past it.
+    /// Returns the next lexical item, and moves past it.
     fn next(&mut self) -> Item<'a> {
         let item = self.peek();
         self.at = self.at.saturating_add(1);
         item
     }
 
-    /// Whether this word or symbol is here; if so, moves past it.
+    /// Moves past the next lexical item if it is the word or symbol `text`. Returns whether it is.
     fn takes(&mut self, text: &str) -> bool {
         let is_here = self.peek().is(text);
         if is_here {
@@ -220,7 +232,7 @@ impl<'a> Parser<'a> {
         is_here
     }
 
-    /// Moves past this word or symbol.
+    /// Moves past the next lexical item. Fails if that item is not the word or symbol `text`.
     fn expect(&mut self, text: &'static str) -> Result<(), Failure<'a>> {
         if self.takes(text) {
             return Ok(());
@@ -228,7 +240,8 @@ impl<'a> Parser<'a> {
         Err(refused(self.peek(), text))
     }
 
-    /// Moves past an item of this kind, and returns it.
+    /// Moves past the next lexical item, and returns it. Fails if the kind of the item is not
+    /// `kind`.
     fn expect_kind(
         &mut self,
         kind: ItemKind,
@@ -242,7 +255,8 @@ impl<'a> Parser<'a> {
         Err(refused(item, expected))
     }
 
-    /// Moves past an item that gets a warning.
+    /// Moves past the next lexical item, and adds a warning about this item. `text` is the text of
+    /// the warning.
     fn mark(&mut self, text: &'static str) -> Result<(), Failure<'a>> {
         let mark = self.next();
         let warning = Warning::of(self.alloc, mark, text)?;

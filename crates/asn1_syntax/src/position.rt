@@ -14,8 +14,8 @@ pub struct Position {
 }
 
 impl Position {
-    /// The position of the octet at the index `offset`; that after the last octet for an index
-    /// past the end.
+    /// The position of the octet at the index `offset` of `text`. If `offset` is past the end of
+    /// the text, the position after the last octet.
     pub fn of(text: &[u8], offset: usize) -> Self
         ensures line { result.line ≡ line_after (take offset text.now) }
         ensures column { result.column ≡ column_after (take offset text.now) }
@@ -39,7 +39,7 @@ impl Position {
         }
     }
 
-    /// The position after these octets, of which this one is at the front.
+    /// The position after `octets`, if `self` is the position of their first octet.
     pub fn after(self, octets: &[u8]) -> Self {
         let after = Position::at_end_of(octets);
         let column = if after.line == 1 {

@@ -3,16 +3,16 @@
 use crate::endpoint::Endpoint;
 use crate::item::Item;
 
-/// The numbers from one end to the other, both included.
+/// A range of numbers: from one end to the other, both included.
 #[derive(Clone, Copy, Debug)]
 pub struct Range<'a> {
-    /// The first item.
+    /// The first lexical item of the range.
     pub item: Item<'a>,
     /// The least number.
     pub low: Endpoint<'a>,
     /// The greatest number.
     pub high: Endpoint<'a>,
-    /// Whether an extension mark is after it.
+    /// Whether an extension marker (`...`) is written after the range.
     pub is_extensible: bool,
 }
 
@@ -47,12 +47,14 @@ impl<'a> Range<'a> {
         !self.low.is_at_most(self.high)
     }
 
-    /// Whether a number is in the range.
+    /// Whether `number` is in the range. If an end of the range is a name, that end excludes no
+    /// number, since the value of the name is not known here.
     pub fn has(&self, number: Endpoint<'a>) -> bool {
         self.low.is_at_most(number) && number.is_at_most(self.high)
     }
 
-    /// Both ends, if they are 0 or more.
+    /// The low and the high end, if both are written as numbers and are not negative; otherwise
+    /// `None`.
     pub fn numbers(&self) -> Option<(u64, u64)> {
         match (self.low, self.high) {
             (Endpoint::Number(low), Endpoint::Number(high)) => Some((low, high)),

@@ -8,16 +8,16 @@ use std::alloc::{AllocError, Global};
 /// What is wrong with a module, and where.
 #[derive(Clone, Copy, Debug)]
 pub struct Refusal<'a> {
-    /// The index of the first octet that is wrong.
+    /// The index, in the text, of the first octet that is wrong.
     pub offset: usize,
-    /// The text found at this place.
+    /// The lexical item at `offset`.
     pub found: &'a str,
-    /// What may be at this place.
+    /// A description of what was expected at `offset`.
     pub expected: &'static str,
 }
 
 impl<'a> Refusal<'a> {
-    /// The refusal of an item.
+    /// A refusal that says that this lexical item was found, and what was expected instead.
     pub fn of(item: Item<'a>, expected: &'static str) -> Self {
         let found = match item.kind {
             ItemKind::End => "the end of the file",
@@ -30,7 +30,8 @@ impl<'a> Refusal<'a> {
         }
     }
 
-    /// The line that is printed for this refusal of the file `name` with the contents `text`.
+    /// The error message of this refusal, as one line: the file `name`, the line and the column in
+    /// `text`, what was found and what was expected. `text` is the contents of the file.
     pub fn line(&self, alloc: Global, name: &str, text: &str) -> Result<String, AllocError> {
         let position = Position::of(text.as_bytes(), self.offset);
         let Refusal {

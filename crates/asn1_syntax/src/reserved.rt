@@ -61,7 +61,8 @@ WITH
 ANY
 DEFINED";
 
-/// Whether a word is reserved by the notation (X.680, 12.38), and the name of no built-in type.
+/// Whether the notation reserves a word (X.680, 12.38). The result is false for the built-in types
+/// that [`SimpleType::of`](crate::SimpleType::of) knows, such as `BOOLEAN`.
 pub fn is_reserved(word: &str) -> bool {
     match word.as_bytes() {
         [_, second, ..] if is_lower(*second) => false,

@@ -3,7 +3,8 @@ ghost use Rattle.std.specs.Prelude.{◌≡◌, ◌<◌, ◌≤◌, ◌+◌, leng
 
 use crate::octet_class::{is_digit, is_name_octet, is_space};
 
-/// The index of the first octet from `from` on that is not white space.
+/// The index of the first octet, at or after `from`, that is not white space; the length of `text`
+/// if there is none.
 pub fn end_of_space(text: &[u8], from: usize) -> usize
     requires { from ≤ length text.now }
     ensures low { from ≤ result }
@@ -17,7 +18,8 @@ pub fn end_of_space(text: &[u8], from: usize) -> usize
     text.len()
 }
 
-/// The index of the first octet from `from` on that is not a digit.
+/// The index of the first octet, at or after `from`, that is not a digit; the length of `text` if
+/// there is none.
 pub fn end_of_number(text: &[u8], from: usize) -> usize
     requires { from ≤ length text.now }
     ensures low { from ≤ result }
@@ -31,8 +33,9 @@ pub fn end_of_number(text: &[u8], from: usize) -> usize
     text.len()
 }
 
-/// The end of a name whose octets go on at `from`: a name has no two hyphens in a row, and no
-/// hyphen at its end, since two hyphens begin a comment (X.680, 12.2).
+/// The index after the last octet of a name. The octet before `from` belongs to the name. Two
+/// hyphens in a row, and a hyphen at the end, do not belong to the name, since two hyphens begin a
+/// comment (X.680, 12.2).
 pub fn end_of_name(text: &[u8], from: usize) -> usize
     requires { from ≤ length text.now }
     ensures low { from ≤ result }
@@ -56,8 +59,9 @@ fn is_name_after(text: &[u8], at: usize) -> bool
     }
 }
 
-/// The end of a comment that begins with two hyphens: at the end of the line, or after the next
-/// two hyphens (X.680, 12.6.3). `from` is after the first two.
+/// The index after a comment that begins with two hyphens. The comment ends at the end of its line
+/// or after the next two hyphens, whichever comes first (X.680, 12.6.3). `from` is the index after
+/// the first two hyphens.
 pub fn end_of_line_comment(text: &[u8], from: usize) -> usize
     requires { from ≤ length text.now }
     ensures low { from ≤ result }
@@ -74,8 +78,8 @@ pub fn end_of_line_comment(text: &[u8], from: usize) -> usize
     text.len()
 }
 
-/// The end of a comment that begins with `/*` at `from`, in which other such comments may be
-/// (X.680, 12.6.4); `None` if it has no end.
+/// The index after the comment that begins with `/*` at `from`. Such comments may be nested (X.680,
+/// 12.6.4). `None` if the comment is not closed.
 pub fn end_of_block_comment(text: &[u8], from: usize) -> Option<usize>
     requires { from ≤ length text.now }
     ensures { IfSome result (λ end. (from < end) × (end ≤ length text.now)) }
@@ -99,7 +103,7 @@ pub fn end_of_block_comment(text: &[u8], from: usize) -> Option<usize>
     None
 }
 
-/// The index after the next octet `mark` from `from` on; `None` if there is none.
+/// The index after the first octet, at or after `from`, that is `mark`. `None` if there is none.
 pub fn end_of_quoted(text: &[u8], from: usize, mark: u8) -> Option<usize>
     requires { from ≤ length text.now }
     ensures { IfSome result (λ end. (from < end) × (end ≤ length text.now)) }
@@ -112,8 +116,8 @@ pub fn end_of_quoted(text: &[u8], from: usize, mark: u8) -> Option<usize>
     None
 }
 
-/// The number of octets of the symbol at `at`: 3 for `::=` and `...`, 2 for `..`, `[[` and `]]`,
-/// and 1 for any other.
+/// The number of octets of the symbol that begins at the index `at`: 3 for `::=` and `...`, 2 for
+/// `..`, `[[` and `]]`, and 1 for any other symbol.
 pub fn symbol_len(text: &[u8], at: usize) -> usize
     requires { at < length text.now }
     ensures low { 0 < result }

@@ -1,6 +1,6 @@
-//! Types that have no parts.
+//! Built-in types that are not made of other types.
 
-/// A type that is one reserved word or two, with its universal tag.
+/// A built-in type that is not made of other types, such as `BOOLEAN` or `OCTET STRING`.
 #[derive(Clone, Copy, Debug, PartialEq, Eq)]
 pub enum SimpleType {
     Boolean,
@@ -16,16 +16,16 @@ pub enum SimpleType {
     BmpString,
     UtcTime,
     GeneralizedTime,
-    /// A type that the library does not know, with the number of its universal tag.
+    /// Another built-in type, such as `REAL`. The `u8` is the number of its universal tag.
     Unknown(u8),
-    /// A SEQUENCE whose contents are not read.
+    /// A SEQUENCE whose components are not known, as `SEQUENCE { ... }`.
     Unread,
-    /// Any type.
+    /// `ANY`: a value of any type.
     Any,
 }
 
 impl SimpleType {
-    /// The type of this reserved word; `None` for another word.
+    /// The type that is written as the single word `word`; `None` for any other word.
     pub fn of(word: &str) -> Option<Self> {
         match word {
             "BOOLEAN" => Some(SimpleType::Boolean),
@@ -51,7 +51,7 @@ impl SimpleType {
         }
     }
 
-    /// The number of the universal tag (X.680, 8.4); `None` for any type.
+    /// The number of the universal tag of the type (X.680, 8.4); `None` for `ANY`.
     pub fn tag_number(self) -> Option<u64> {
         match self {
             SimpleType::Boolean => Some(1),
@@ -73,7 +73,8 @@ impl SimpleType {
         }
     }
 
-    /// Whether compiled crates have a type for it.
+    /// Whether the compiler supports the type everywhere. If this is false, only an alternative of
+    /// a CHOICE may have the type. The compiler leaves that alternative out.
     pub fn is_compiled(self) -> bool {
         match self {
             SimpleType::Unknown(number) => matches!(number, 9 | 13 | 21 | 27),
@@ -81,7 +82,8 @@ impl SimpleType {
         }
     }
 
-    /// Whether values are written as characters in quotation marks.
+    /// Whether values of the type are written as characters in quotation marks. Also true for
+    /// `Unread`, whose values are not checked.
     pub fn is_text(self) -> bool {
         match self {
             SimpleType::Boolean

@@ -8,16 +8,19 @@ use crate::tagging::Tagging;
 pub struct Tag {
     /// The class.
     pub class: TagClass,
-    /// The number.
+    /// The number of the tag.
     pub number: u64,
 }
 
-/// A tag in front of a type, with what it says of the tags after it.
+/// A tag that is written in front of a type, and whether it is explicit or implicit.
 #[derive(Clone, Copy, Debug)]
 pub struct TagPrefix {
     /// The tag.
     pub tag: Tag,
-    /// Whether the tag of the type after it is kept. `None` says that it is not, unless the type has
-    /// none: neither word is written, and the module does not say that tags are explicit.
+    /// Whether the tag is explicit or implicit. If neither word is written:
+    ///
+    /// - `Some(Tagging::Explicit)`, if the module has explicit tags;
+    /// - `None`, if the module has implicit or automatic tags. Then the tag is explicit in front of
+    ///   a type that has no tag of its own, and otherwise implicit.
     pub tagging: Option<Tagging>,
 }

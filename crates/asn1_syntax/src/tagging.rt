@@ -3,19 +3,21 @@
 /// How a tag is put in front of a type (X.680, 31.2).
 #[derive(Clone, Copy, Debug, PartialEq, Eq)]
 pub enum Tagging {
-    /// The tag is put in front of that of the type.
+    /// The encoding begins with this tag. Its contents are the whole encoding of the type, with the
+    /// type's own tag.
     Explicit,
-    /// The tag replaces that of the type.
+    /// This tag replaces the tag of the type.
     Implicit,
 }
 
-/// What a module says of its tags (X.680, 13.2).
+/// Which tags a module has where neither EXPLICIT nor IMPLICIT is written (X.680, 13.2).
 #[derive(Clone, Copy, Debug, PartialEq, Eq)]
 pub enum TagDefault {
-    /// Tags are explicit where no word is written.
+    /// `EXPLICIT TAGS`, or no word: tags are explicit.
     Explicit,
-    /// Tags are implicit where no word is written.
+    /// `IMPLICIT TAGS`: tags are implicit.
     Implicit,
-    /// As implicit; and components without tags are numbered (25.2).
+    /// `AUTOMATIC TAGS`: tags are implicit, and components that are written without tags get tags
+    /// with ascending numbers (25.2).
     Automatic,
 }

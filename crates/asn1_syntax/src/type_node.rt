@@ -7,41 +7,44 @@ use crate::named_number::NamedNumber;
 use crate::simple_type::SimpleType;
 use crate::tag::TagPrefix;
 
-/// A type and its first item. Its components have smaller indices.
+/// A type. The types of its components or items have smaller indices among the `nodes` of the
+/// module.
 #[derive(Drop)]
 pub struct TypeNode<'a> {
-    /// The first item.
+    /// The first lexical item of the type.
     pub item: Item<'a>,
-    /// How the type is made.
+    /// Which kind of type this is, and what the type is made of.
     pub form: TypeForm<'a>,
-    /// The constraints after it, and the size in front of the items of a list.
+    /// The constraints written after the type. For a SEQUENCE OF or a SET OF, also the size
+    /// constraint that is written before `OF`.
     pub constraints: Vec<Constraint<'a>>,
-    /// The extension mark of an ENUMERATED, a SEQUENCE, a SET or a CHOICE, if it has one.
+    /// The extension marker of an ENUMERATED, a SEQUENCE, a SET or a CHOICE, if it has one.
     pub mark: Option<Mark<'a>>,
 }
 
-/// An extension mark.
+/// An extension marker (`...`).
 #[derive(Clone, Copy, Debug)]
 pub struct Mark<'a> {
-    /// The item.
+    /// The lexical item `...`.
     pub item: Item<'a>,
-    /// The number of components in front of the place where a SEQUENCE may have others, which its
-    /// module does not name (X.680, 25.1).
+    /// The number of components before the extension insertion point (X.680, 25.1), where values of
+    /// later versions of the module may have more components. Always 0 in an ENUMERATED.
     pub insertion: usize,
 }
 
-/// How a type is made.
+/// The kind of a type, and what the type is made of. Each index of a type is an index among the
+/// `nodes` of the module.
 #[derive(Drop)]
 pub enum TypeForm<'a> {
-    /// Without parts.
+    /// A built-in type that is not made of other types.
     Simple(SimpleType),
-    /// An INTEGER with these named numbers.
+    /// An INTEGER with these named numbers, of which there may be none.
     Integer(Vec<NamedNumber<'a>>),
     /// An ENUMERATED with these items.
     Enumerated(Vec<NamedNumber<'a>>),
-    /// A BIT STRING with these named bits.
+    /// A BIT STRING with these named bits, of which there may be none.
     BitString(Vec<NamedNumber<'a>>),
-    /// The type with the name that is its item.
+    /// A reference to the type whose name is the first item of the [`TypeNode`].
     Reference,
     /// A SEQUENCE of these components.
     Sequence(Vec<Component<'a>>),
@@ -53,6 +56,6 @@ pub enum TypeForm<'a> {
     SequenceOf(usize),
     /// A SET OF the type with this index.
     SetOf(usize),
-    /// The type with this index after a tag.
+    /// A tag in front of the type with this index.
     Tagged(TagPrefix, usize),
 }

@@ -5,31 +5,36 @@ use crate::item_kind::ItemKind;
 use crate::simple_type::SimpleType;
 use crate::type_node::TypeForm;
 
-/// A value with its first item.
+/// A value, as it is written.
 #[derive(Drop)]
 pub struct Value<'a> {
-    /// The first item.
+    /// The first lexical item of the value.
     pub item: Item<'a>,
-    /// What follows from it.
+    /// How the value is written.
     pub form: ValueForm<'a>,
 }
 
 /// How a value is written.
 #[derive(Drop)]
 pub enum ValueForm<'a> {
-    /// As one item: a number, a name, a string, `TRUE`, `FALSE` or `NULL`.
+    /// The value is one lexical item: a number, a name, a string, `TRUE`, `FALSE` or `NULL`.
     Item,
-    /// As a number after a minus sign.
+    /// The value is a minus sign and this number.
     Negative(u64),
-    /// As items in braces.
+    /// The value is a pair of braces with these lexical items in between.
     Braces(Vec<Item<'a>>),
-    /// In another form, which is not read.
+    /// The value has another form. The parser skips the value.
     Unread,
 }
 
 impl<'a> Value<'a> {
-    /// Whether values of a type that is made so are written like this one, apart from names of
-    /// values.
+    /// Whether values of a type of this `form` can be written in the way of this value. The
+    /// following cases are not checked here:
+    ///
+    /// - The answer is true if the parser skips the value.
+    /// - The answer is true if the type is ANY, or [`SimpleType::Unknown`].
+    /// - The answer is false for numbers, TRUE and FALSE, for an OBJECT IDENTIFIER, and for the
+    ///   name of a value. The caller must check these.
     pub fn is_written_for(&self, form: &TypeForm<'a>) -> bool {
         match (&self.form, form) {
             (_, TypeForm::Simple(SimpleType::Any | SimpleType::Unknown(_))) => true,

@@ -1,22 +1,23 @@
-//! What is not checked or not written.
+//! Warnings of what is not checked or not compiled.
 
 use crate::item::Item;
 use crate::position::Position;
 use std::alloc::{AllocError, Global};
 
-/// What a module says that its types of Rust do not check, or do not have, and where.
+/// A warning about something in a module that the generated Rust types do not check, or leave out.
 #[derive(Drop)]
 pub struct Warning<'a> {
-    /// The index of the first octet.
+    /// The index, in the text, of the first octet that the warning is about.
     pub offset: usize,
-    /// The text found at this place.
+    /// The lexical item at `offset`.
     pub found: &'a str,
-    /// What becomes of it.
+    /// A sentence that says what the compiler makes of this part of the module, or does not check
+    /// in it.
     pub text: String,
 }
 
 impl<'a> Warning<'a> {
-    /// The warning of an item.
+    /// A warning about this lexical item. `text` says what the compiler does.
     pub fn of(alloc: Global, item: Item<'a>, text: &str) -> Result<Self, AllocError> {
         Ok(Warning {
             offset: item.offset,
@@ -25,7 +26,8 @@ impl<'a> Warning<'a> {
         })
     }
 
-    /// The line that is printed for this warning, which is at this position of the file `name`.
+    /// The warning as one line to print, with a line end. `name` is the name of the file, and
+    /// `position` is the position in the file that the line shows.
     pub fn line(
         &self,
         alloc: Global,

@@ -1,4 +1,4 @@
-//! Types that OBJECT IDENTIFIERs choose.
+//! Comments that say which types OBJECT IDENTIFIERs choose for open types.
 
 use crate::directives::type_in;
 use crate::identifiers::oid_octets;
@@ -12,20 +12,22 @@ const NO_IDENTIFIER: &str = "an OBJECT IDENTIFIER after a comment `Schema type:`
 
 const TWICE: &str = "an OBJECT IDENTIFIER that has no other type in this open type";
 
-/// A type that an OBJECT IDENTIFIER chooses.
+/// A type that an OBJECT IDENTIFIER chooses for an open type. A comment `Schema type:` in front of
+/// the OBJECT IDENTIFIER says so.
 #[derive(Drop)]
 pub struct Choice<'a> {
-    /// The name of the open type; empty for that of each `ANY`.
+    /// The name of the open type. Empty if the type is chosen for each `ANY` that has no name.
     pub table: &'a str,
     /// The contents octets of the OBJECT IDENTIFIER.
     pub identifier: Vec<u8>,
-    /// The index of the type.
+    /// The index of the chosen type among the `nodes` of the module.
     pub of: usize,
-    /// The name of the value.
+    /// The name of the OBJECT IDENTIFIER in its module.
     name: Item<'a>,
 }
 
-/// The types that comments of modules give to OBJECT IDENTIFIERs, in the order of their contents octets.
+/// The types that OBJECT IDENTIFIERs choose for open types, as the comments in the modules say. The
+/// list is sorted by the contents octets of the OBJECT IDENTIFIERs.
 pub fn choices_of<'a>(alloc: Global, library: &Library<'a>) -> Result<Vec<Choice<'a>>, Wrong<'a>> {
     let mut choices = Vec::new(alloc);
     for assigned in library.module.values.iter() {

@@ -1,25 +1,27 @@
-//! What modules are compiled to.
+//! The result of compiling modules.
 
 use asn1_syntax::Warning;
 
-/// A table, and what is not in it.
+/// A table of types, and warnings about what the table leaves out.
 #[derive(Drop)]
 pub struct CompiledTable<'a> {
-    /// The octets of the table.
+    /// The octets of the table, in the form that the crate `asn1_schema` reads.
     pub octets: Vec<u8>,
-    /// The types that were asked for, in their order.
+    /// The types that the caller asked for, in the order of the request.
     pub roots: Vec<Root<'a>>,
-    /// The assignments that are left out, and what the table does not say, in the order of their places.
+    /// The warnings, sorted by their offsets in the text. There is one for each assignment that is
+    /// left out, if the caller asked for all types. There is one for each DEFAULT value that the
+    /// table does not have.
     pub warnings: Vec<Warning<'a>>,
 }
 
-/// A type that was asked for.
+/// A type that the caller asked for, with its node in the table.
 #[derive(Clone, Copy, Debug)]
 pub struct Root<'a> {
-    /// The name of its module.
+    /// The name of the module in which the type is.
     pub module: &'a str,
-    /// Its name.
+    /// The name of the type.
     pub name: &'a str,
-    /// The index of its node.
+    /// The index of the node of the type in the table.
     pub node: u32,
 }

@@ -1,4 +1,4 @@
-//! Contents octets of values without parts.
+//! Contents octets of values that are not made of other values.
 
 use crate::identifiers::oid_octets;
 use crate::integers::integer_octets;
@@ -9,7 +9,8 @@ use asn1_check::Constant;
 use asn1_syntax::{Endpoint, Item, ItemKind, NamedNumber, SimpleType};
 use std::alloc::{AllocError, Global};
 
-/// The contents of a value of a type without parts; `None` for one that is not known.
+/// The contents octets of a value of a built-in type that is not made of other types. `None` if the
+/// compiler does not know how to encode the value.
 pub fn simple_contents(
     alloc: Global,
     library: &Library<'_>,
@@ -72,7 +73,8 @@ fn text(alloc: Global, simple: SimpleType, item: Item<'_>) -> Result<Option<Vec<
     Ok(Some(octets))
 }
 
-/// The contents of an INTEGER or an ENUMERATED with these names of numbers.
+/// The contents octets of a value of an INTEGER or an ENUMERATED. `names` are the named numbers of
+/// the type. `None` if the compiler does not know the number.
 pub fn number_contents<'a>(
     alloc: Global,
     library: &Library<'a>,
@@ -108,7 +110,8 @@ fn number_of<'a>(
     library.module.constants.find(item.text)?.number()
 }
 
-/// The contents of a BIT STRING with these names of bits.
+/// The contents octets of a value of a BIT STRING. `names` are the named bits of the type. `None`
+/// if the compiler does not know how to encode the value.
 pub fn bit_contents(
     alloc: Global,
     names: &Vec<NamedNumber<'_>>,

@@ -1,4 +1,4 @@
-//! The encodings of defaults.
+//! Encodings of DEFAULT values.
 
 use crate::contents::{bit_contents, number_contents, simple_contents};
 use crate::fields::wanted_of;
@@ -11,10 +11,12 @@ use crate::wrong::Wrong;
 use asn1_syntax::{Component, Item, Presence, SimpleType, TypeForm, Value};
 use std::alloc::{AllocError, Global};
 
-/// The greatest number of values around a value, counted with names and tags.
+/// The greatest depth to which values may be nested. Each name and each tag that is followed counts
+/// as one level.
 const MAX_DEPTH: u32 = 64;
 
-/// The encoding under DER of a default, `None` for one that is not known.
+/// The DER encoding of a DEFAULT value. `None` if the compiler does not know how to encode the
+/// value.
 pub fn default_of<'a>(
     alloc: Global,
     library: &Library<'a>,

@@ -1,4 +1,4 @@
-//! What comments say of a table.
+//! Comments that say which types the open types of a module have.
 
 use asn1_syntax::comment_text;
 
@@ -6,12 +6,14 @@ const TYPE: &str = "Schema type:";
 
 const OPENS: &str = "Schema opens:";
 
-/// Whether the line of a comment, without its marks, says something of a table.
+/// Whether a line of a comment begins with `Schema type:` or `Schema opens:`. The comment marks
+/// must already be removed from the line.
 pub fn is_schema_line(line: &str) -> bool {
     line.starts_with(TYPE) || line.starts_with(OPENS)
 }
 
-/// The name of the open type that a component is, as the comment in front of it says.
+/// The name after `Schema opens:` in the comments in front of a component. It is the name of the
+/// open type that the component has, or that the string of the component contains.
 pub fn opens<'a>(comments: &'a str) -> Option<&'a str> {
     for line in comments.lines() {
         if let Some(rest) = comment_text(line).strip_prefix(OPENS) {
@@ -21,7 +23,8 @@ pub fn opens<'a>(comments: &'a str) -> Option<&'a str> {
     None
 }
 
-/// The type and the name of the open type, which may be empty, that the line of a comment names.
+/// Parses a comment line of the form `Schema type: TYPE in NAME`. Returns TYPE, and the name of an
+/// open type, NAME. NAME is empty if `in NAME` is missing. `None` if the line is not of this form.
 pub fn type_in<'a>(line: &'a str) -> Option<(&'a str, &'a str)> {
     let rest = comment_text(line).strip_prefix(TYPE)?;
     match rest.trim().split_once(" in ") {
@@ -30,7 +33,8 @@ pub fn type_in<'a>(line: &'a str) -> Option<(&'a str, &'a str)> {
     }
 }
 
-/// The type that a component has, as the comment in front of it says.
+/// The name of the type after `Schema type:` in the comments in front of a component. The component
+/// has this type in place of the written one.
 pub fn own_type<'a>(comments: &'a str) -> Option<&'a str> {
     for line in comments.lines() {
         if let Some((name, _)) = type_in(line) {

@@ -1,4 +1,4 @@
-//! The fields of types.
+//! Fields of types, which are components and alternatives.
 
 use crate::defaults::default_of;
 use crate::directives::{opens, own_type};
@@ -19,7 +19,8 @@ use std::alloc::Global;
 const NOT_COMPUTED: &str =
     "this default is not checked by the table, which has an OPTIONAL component in its place";
 
-/// The fields of components or of alternatives.
+/// Adds a field to the table for each component or alternative of a type. Returns the range of
+/// these fields.
 pub fn fields_of<'a>(
     alloc: Global,
     library: &Library<'a>,
@@ -46,8 +47,10 @@ pub fn fields_of<'a>(
     Ok(span)
 }
 
-/// The node of the component with this index, of components whose fields begin at `start`; the field `chooser`
-/// chooses its open types, unless a constraint says another one.
+/// Describes the node that the component with this index needs. `start` is the index of the field
+/// of the first component. `chooser` is the index of the field whose value chooses the type of an
+/// open type in the component. If a table constraint names another component, the field of that
+/// component chooses.
 pub fn wanted_of<'a>(
     library: &Library<'a>,
     components: &Vec<Component<'a>>,

@@ -1,4 +1,4 @@
-//! The order of nodes: a CHOICE that is an alternative comes before the CHOICE that it is in.
+//! The order of nodes in a table. A CHOICE that is an alternative of another CHOICE comes first.
 
 use crate::rows::{Rows, count_of};
 use crate::wrong::Wrong;
@@ -6,13 +6,14 @@ use asn1_schema::{Node, NodeKind};
 use asn1_syntax::Refusal;
 use std::alloc::{AllocError, Global};
 
-/// The greatest number of CHOICEs around a CHOICE.
+/// The greatest depth to which CHOICEs may be nested as alternatives.
 const MAX_HEIGHT: u32 = 64;
 
 const IN_ITSELF: &str = "a CHOICE that is not an alternative of itself";
 
-/// The indices of the nodes in their order. Refuses more than 64 CHOICEs that are alternatives of each
-/// other, which is so if one is its own.
+/// Returns the indices of the nodes in the order in which a table has them. A CHOICE comes after
+/// each of its alternatives that is a CHOICE. Fails if CHOICEs are nested more than 64 deep, and if
+/// a CHOICE is an alternative of itself.
 pub fn order_of<'a>(alloc: Global, rows: &Rows<'a>) -> Result<Vec<usize>, Wrong<'a>> {
     let mut heights = vec![in alloc; 0u32; rows.nodes.len()]?;
     for _ in 0..=MAX_HEIGHT {
@@ -36,7 +37,7 @@ fn too_high<'a>(rows: &Rows<'a>, heights: &Vec<u32>) -> Wrong<'a> {
     Wrong::OutOfMemory
 }
 
-/// The place of each node in this order.
+/// The position of each node in `order`. The place in the result is the index of the node.
 pub fn places_of(alloc: Global, order: &Vec<usize>) -> Result<Vec<u32>, AllocError> {
     let mut places = vec![in alloc; 0u32; order.len()]?;
     for (place, index) in order.iter().enumerate() {

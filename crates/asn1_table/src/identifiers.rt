@@ -1,10 +1,11 @@
-//! The octets of OBJECT IDENTIFIERs.
+//! Contents octets of OBJECT IDENTIFIERs.
 ghost use Rattle.std.specs.Prelude.{◌≡◌, ◌<◌, ◌%◌};
 
 use std::alloc::{AllocError, Global};
 
-/// The contents of an OBJECT IDENTIFIER with these arcs (X.690, 8.19): the first two are one
-/// number, and each number is written in groups of seven bits. None for fewer than two arcs.
+/// The contents octets of the OBJECT IDENTIFIER with these arcs (X.690, 8.19). The first two arcs
+/// become one number, and each number is encoded in groups of seven bits. Empty if there are fewer
+/// than two arcs.
 pub fn oid_octets(alloc: Global, arcs: &Vec<u64>) -> Result<Vec<u8>, AllocError> {
     let mut octets = Vec::new(alloc);
     if let [first, second, rest @ ..] = arcs.as_slice() {
@@ -16,7 +17,8 @@ pub fn oid_octets(alloc: Global, arcs: &Vec<u64>) -> Result<Vec<u8>, AllocError>
     Ok(octets)
 }
 
-/// The most groups of a number: those of 41 times 18446744073709551615.
+/// The greatest number of groups of seven bits that a number has. The number 41 times
+/// 18446744073709551615 has as many groups.
 const GROUPS: u32 = 11;
 
 fn push_number(octets: &mut Vec<u8>, number: u128) -> Result<(), AllocError> {

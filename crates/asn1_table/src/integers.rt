@@ -3,8 +3,7 @@
 use asn1_syntax::Endpoint;
 use std::alloc::{AllocError, Global};
 
-/// The contents octets of a number (X.690, 8.3): as few as possible, of which the first bit is the
-/// sign.
+/// The contents octets of an INTEGER (X.690, 8.3): two's complement, in as few octets as possible.
 pub fn integer_octets(alloc: Global, number: Endpoint<'_>) -> Result<Vec<u8>, AllocError> {
     match number {
         Endpoint::Number(number) => octets_of(alloc, number, 0),

@@ -1,4 +1,4 @@
-//! What is the same for types that have one node.
+//! Keys of nodes. Types with the same key share a node.
 
 use crate::library::Library;
 use crate::opener::Opener;
@@ -8,7 +8,7 @@ use crate::wanted::Wanted;
 use asn1_syntax::{SimpleType, TypeForm};
 use std::alloc::{AllocError, Global};
 
-/// The node without what means nothing for its type.
+/// Removes from the description of a node the properties that mean nothing for its type.
 pub fn settled<'a>(library: &Library<'a>, wanted: Wanted<'a>) -> Wanted<'a> {
     let Some(node) = library.node(wanted.index) else {
         return wanted;
@@ -28,8 +28,13 @@ pub fn settled<'a>(library: &Library<'a>, wanted: Wanted<'a>) -> Wanted<'a> {
     }
 }
 
-/// What is the same for types that have one node: types without names and parts, and one type at the same
-/// place under the same tag, in the same component.
+/// Returns a text as the key of a node. Two types get the same key if and only if they share a
+/// node:
+///
+/// - A built-in type without a name, and without named numbers, shares a node with each equal type
+///   that has the same tag and limits.
+/// - Any other type shares a node only with itself: the same type of the same module, with the same
+///   tag. The properties that come from the component around it must be the same, too.
 pub fn key_of(
     alloc: Global,
     library: &Library<'_>,

@@ -1,29 +1,38 @@
-//! The types of modules as a table of the crate `asn1_schema`, whose page says its form.
+//! Compiles types of ASN.1 modules to a table of types. The crate `asn1_schema` describes the
+//! binary form of the table.
 //!
-//! [`table_of`] makes it of a text with modules. What one imports is looked up by name among the others. A type that
-//! is asked for has a node, and so has each type that it is made of. A node has the last name of its type: that of
-//! the assignment that does not give another name.
+//! [`table_of`] makes the table of a text with one or more modules. It looks up the names that a
+//! module imports in the other modules. The caller asks for types. Each of these types gets a node,
+//! and so does each type of which they are made. A type may be defined by the name of another type,
+//! in several steps. Then its node has the last of these names.
 //!
 //! # Open types
 //!
-//! The notation does not say which type an `ANY` or the contents of a string have. Comments do, in a line of their own:
+//! ASN.1 does not say which type an `ANY` or the contents of a string have. Comments can say this,
+//! each in a line of its own:
 //!
 //! | In front of | Line | What it says |
 //! |---|---|---|
-//! | a value that is an OBJECT IDENTIFIER | `Schema type: TYPE` | it chooses this type in each `ANY` |
-//! | | `Schema type: TYPE in NAME` | it does so in the open type of this name, and nowhere else |
-//! | a component | `Schema opens: NAME` | its `ANY`, or the contents of its string, is the open type of this name |
-//! | a component | `Schema type: TYPE` | it has this type after its tags, in place of that which is written |
+//! | a value that is an OBJECT IDENTIFIER | `Schema type: TYPE` | the OBJECT IDENTIFIER chooses this type in each `ANY` that is an open type without a name |
+//! | a value that is an OBJECT IDENTIFIER | `Schema type: TYPE in NAME` | the OBJECT IDENTIFIER chooses this type in the open type with this name, and nowhere else |
+//! | a component | `Schema opens: NAME` | the `ANY` of the component, or the contents of its string, is the open type with this name |
+//! | a component | `Schema type: TYPE` | the component has this type, after its tags, in place of the written type |
 //!
-//! A TYPE is a name of the module, of one that it imports, or `MODULE.NAME`. A line is passed over if that module is
-//! not given. An open type is chosen by the first component in front of it that is an OBJECT IDENTIFIER.
+//! A TYPE is `MODULE.NAME`, or a name that the module defines or imports. A line is ignored if the
+//! text does not have its TYPE.
+//!
+//! The first component in front of an open type that is an OBJECT IDENTIFIER chooses the type. If a
+//! table constraint names another component (`{@name}`), that component and the information objects
+//! of the constraint choose the type instead.
 //!
 //! # What a table does not have
 //!
-//! A constraint of another form than a range or a size is not checked by the table, nor is a default of which the
-//! compiler does not know the encoding: the component is OPTIONAL then. Each has a warning.
+//! A table does not check constraints other than ranges and sizes. There is no warning about these.
+//! Where the compiler cannot encode a DEFAULT value, the component is OPTIONAL in the table. There
+//! is a warning about each of these values.
 //!
-//! Nothing is proved of a table but that making it is safe and ends. That it is one is tested when it is made.
+//! It is proved that the code which makes a table is safe and ends. It is not proved that the
+//! result is a table: this is tested at each call.
 #![tactic(auto)]
 
 mod choices;

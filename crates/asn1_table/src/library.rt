@@ -1,4 +1,4 @@
-//! Modules that name each other.
+//! The modules of a text, which may import from each other.
 
 use crate::wrong::Wrong;
 use asn1_check::{Module, Selection, link_module, select};
@@ -14,17 +14,18 @@ const NOT_THERE: &str = "a type that this module defines or imports, and that is
 /// The modules of a text.
 #[derive(Drop)]
 pub struct Library<'a> {
-    /// The assignments of all modules, whose names are those of no other module.
+    /// All modules of the text, joined to one module. If two modules assign the same name, one of
+    /// the two assignments has a new name here.
     pub module: Module<'a>,
-    /// What is left out of them.
+    /// The assignments that are not compiled.
     pub left_out: Vec<LeftOut<'a>>,
-    /// The objects of classes.
+    /// The information objects of all modules.
     pub objects: Vec<InformationObject<'a>>,
-    /// The sets of objects.
+    /// The information object sets of all modules.
     pub sets: Vec<ObjectSet<'a>>,
-    /// What constraints say of fields of classes.
+    /// The table constraints of all modules.
     pub tables: Vec<TableUse<'a>>,
-    /// The modules.
+    /// The modules of the text, each with its header and the names of its assignments.
     pub outlines: Vec<ModuleOutline<'a>>,
     // The number of each module by its name, and the index of each type of a module by its name there.
     numbers: NameIndex<'a>,
@@ -34,7 +35,11 @@ pub struct Library<'a> {
 }
 
 impl<'a> Library<'a> {
-    /// The modules of a text. What is `known` not to be supported is left out.
+    /// Parses the modules of a text, and finds what the names in them stand for. An assignment is
+    /// left out if it is not supported, or if a fault in `known` is in it. `known` holds faults
+    /// that a former call, or a later step of the compiler, has found.
+    ///
+    /// Fails if the modules are not valid.
     pub fn of(alloc: Global, text: &'a str, known: &Vec<Refusal<'a>>) -> Result<Self, Wrong<'a>> {
         let externals = Vec::new(alloc);
         let Selection {
@@ -72,12 +77,12 @@ impl<'a> Library<'a> {
         Ok(())
     }
 
-    /// The object with this name.
+    /// The information object with this name.
     pub fn object(&self, name: &str) -> Option<&InformationObject<'a>> {
         self.objects.get(self.object_numbers.find(name)?)
     }
 
-    /// The set of objects with this name.
+    /// The information object set with this name.
     pub fn set(&self, name: &str) -> Option<&ObjectSet<'a>> {
         self.sets.get(self.set_numbers.find(name)?)
     }
@@ -103,7 +108,8 @@ impl<'a> Library<'a> {
         self.module.nodes.get(index)
     }
 
-    /// The name of the assignment of the type with this index, as it is written; empty if there is none.
+    /// The name of the type with this index, as its module writes it. Empty if the type has no
+    /// name.
     pub fn name_at(&self, index: usize) -> &'a str {
         match self.module.assignment(index) {
             Some(assigned) => written_name(&self.outlines, assigned.name),
@@ -111,7 +117,7 @@ impl<'a> Library<'a> {
         }
     }
 
-    /// The name of the module with the item at this offset.
+    /// The name of the module that contains the octet at this offset of the text.
     pub fn module_at(&self, offset: usize) -> &'a str {
         match self.outlines.get(number_at(&self.outlines, offset)) {
             Some(outline) => outline.name.text,
@@ -119,7 +125,7 @@ impl<'a> Library<'a> {
         }
     }
 
-    /// The index of the type with the name that an item is.
+    /// The index of the type with this name. Fails if there is no type with this name.
     pub fn named(&self, name: Item<'a>) -> Result<usize, Wrong<'a>> {
         match self.module.index.types.find(name.text) {
             Some(index) => Ok(index),
@@ -127,8 +133,9 @@ impl<'a> Library<'a> {
         }
     }
 
-    /// The index of the type with this name where it is in the comment at an offset, with the name of a
-    /// module in front or without.
+    /// The index of the type that a comment names. The name may be `MODULE.NAME`. Any other name is
+    /// looked up in the module that contains the comment. `offset` is the offset of the comment in
+    /// the text. `None` if there is no type with this name.
     pub fn commented(&self, offset: usize, name: &str) -> Option<usize> {
         match name.split_once('.') {
             Some((of, name)) => self.types.get(self.numbers.find(of)?)?.find(name),
@@ -148,7 +155,7 @@ impl<'a> Library<'a> {
             .find(name)
     }
 
-    /// The index of the type with this name in some module.
+    /// The index of the type with this name, in the first module of the text that has it.
     pub fn find_anywhere(&self, name: &str) -> Option<usize> {
         for types in self.types.iter() {
             if let Some(index) = types.find(name) {
@@ -173,8 +180,8 @@ fn number_at(outlines: &Vec<ModuleOutline<'_>>, offset: usize) -> usize {
     after.saturating_sub(1)
 }
 
-/// The name of an assignment as its module writes it. If an earlier module has the same name, the compiler
-/// appends the name of the module; this removes it.
+/// The name of an assignment, as its module writes it. The parser appends the name of the module to
+/// some names that several modules assign. This function removes it.
 pub fn written_name<'a>(outlines: &Vec<ModuleOutline<'a>>, name: Item<'a>) -> &'a str {
     match outlines.get(number_at(outlines, name.offset)) {
         Some(outline) if !outline.definitions.has(name.text) => {

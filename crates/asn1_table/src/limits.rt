@@ -2,12 +2,13 @@
 
 use asn1_syntax::{Constraint, Endpoint, NamedNumber, Range, TypeNode};
 
-/// The numbers and sizes that the values of a type have, as far as constraints say so.
+/// The limits that constraints set for the values of a type.
 #[derive(Clone, Copy, Debug)]
 pub struct Limits<'a> {
-    /// The numbers.
+    /// The range of numbers that are allowed; `None` if no constraint limits them.
     pub value: Option<Range<'a>>,
-    /// The numbers of octets, bits, characters or items.
+    /// The range of sizes that are allowed, in octets, bits, characters or items; `None` if no
+    /// constraint limits the size.
     pub size: Option<Range<'a>>,
 }
 
@@ -18,7 +19,9 @@ impl<'a> Limits<'a> {
         size: None,
     };
 
-    /// These limits, which are after those of this type, and both hold (X.680, 50.8).
+    /// Adds the limits that the constraints of `node` set. Both these and the present limits must
+    /// hold. The present limits must come from constraints that are written after the type `node`
+    /// (X.680, 50.8).
     pub fn after(self, node: &TypeNode<'a>) -> Self {
         let mut found = self;
         for constraint in node.constraints.iter().rev() {
@@ -42,8 +45,8 @@ fn both<'a>(after: Option<Range<'a>>, range: Range<'a>) -> Range<'a> {
     }
 }
 
-/// The lowest and the highest number of a range, in which names are those of these numbers. None if it is
-/// no limit, or has another name.
+/// The lowest and the highest number of a range. An end of the range may be one of the `names`.
+/// `None` if the range allows all numbers, or if an end is a name that is not among `names`.
 pub fn ends_of(range: &Range<'_>, names: &Vec<NamedNumber<'_>>) -> Option<(i64, i64)> {
     let low = number_of(range.low, names)?;
     let high = number_of(range.high, names)?;
@@ -68,7 +71,8 @@ fn number_of(end: Endpoint<'_>, names: &Vec<NamedNumber<'_>>) -> Option<i64> {
     }
 }
 
-/// The number of an end that is no name; the nearest one for a number of more than 64 bits with a sign.
+/// The number of one end of a range. For a number outside of `i64`, it is the nearest `i64`. `None`
+/// if the end is a name.
 pub fn known_number(end: Endpoint<'_>) -> Option<i64> {
     match end {
         Endpoint::Min => Some(i64::MIN),

@@ -1,4 +1,4 @@
-//! The nodes of types.
+//! Makes the nodes of a table, one for each type.
 
 use crate::choices::Choice;
 use crate::fields::fields_of;
@@ -17,7 +17,8 @@ use ber::Universal;
 use der_base::Class;
 use std::alloc::{AllocError, Global};
 
-/// The index of the node of the type with this index.
+/// Returns the index of the node for the type with this index. Adds the node if the table does not
+/// have it yet.
 pub fn node_at<'a>(
     alloc: Global,
     library: &Library<'a>,
@@ -29,7 +30,8 @@ pub fn node_at<'a>(
     Ok(add(alloc, library, rows, wanted)?)
 }
 
-/// The index of a node, which is added if it is not there.
+/// Returns the index of the node that `wanted` describes. Adds the node if the table does not have
+/// it yet. The caller must fill an added node later with [`lay`].
 pub fn add<'a>(
     alloc: Global,
     library: &Library<'a>,
@@ -41,7 +43,8 @@ pub fn add<'a>(
     rows.add_node(key, wanted)
 }
 
-/// Fills the node with this index.
+/// Fills the node with this index: its kind, tag, name, parts and limits. The node must have been
+/// added.
 pub fn lay<'a>(
     alloc: Global,
     library: &Library<'a>,

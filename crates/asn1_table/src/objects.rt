@@ -1,4 +1,4 @@
-//! Types that objects of classes name (X.681).
+//! Types that information objects give to OBJECT IDENTIFIERs (X.681).
 
 use crate::identifiers::oid_octets;
 use crate::library::Library;
@@ -8,8 +8,9 @@ use asn1_syntax::{
 };
 use std::alloc::{AllocError, Global};
 
-/// The index of what a constraint in the type with this index says of a class and of another component, if
-/// there is one: in the type itself, or in its items or its contents.
+/// Finds a table constraint with a component relation (`{@name}`) in the type with this index: on
+/// the type itself, on its items or on its contents. Returns the index of the constraint among the
+/// `tables`; `None` if there is none.
 pub fn use_in(library: &Library<'_>, index: usize) -> Option<usize> {
     let mut index = index;
     for _ in 0..=library.module.nodes.len() {
@@ -42,9 +43,11 @@ fn use_at(library: &Library<'_>, node: &TypeNode<'_>) -> Option<usize> {
     None
 }
 
-/// The contents octets of the OBJECT IDENTIFIERs of the objects that a constraint names, in ascending order,
-/// each once, with the types in the field of the constraint. Objects without an OBJECT IDENTIFIER, and those of
-/// which something is left out, are passed over.
+/// The types among which a table constraint chooses, by the information objects of the constraint.
+/// There is a pair for each object: the contents octets of the OBJECT IDENTIFIER of the object, and
+/// the index of the type that the object has in the field of the constraint. The pairs are sorted
+/// by the octets, and equal octets occur once. An object is skipped if it has no OBJECT IDENTIFIER,
+/// or if it refers to something that is left out.
 pub fn types_by<'a>(
     alloc: Global,
     library: &Library<'a>,

@@ -1,11 +1,12 @@
-//! The octets of a table.
+//! Writes the octets of a table.
 
 use crate::rows::{Rows, count_of};
 use asn1_schema::{Field, Limit, LimitKind, Name, Node, NodeKind, OpenType, Presence, Span};
 use der_base::Class;
 use std::alloc::{AllocError, Global};
 
-/// The octets of a table, whose nodes get these indices in place of theirs, which `order` has.
+/// The octets of a table with these rows. The nodes are written in the order `order`. `places` has
+/// the position of each node in `order`, at the index of the node.
 pub fn octets_of(
     alloc: Global,
     rows: &Rows<'_>,
@@ -30,7 +31,7 @@ pub fn octets_of(
     Ok(out)
 }
 
-/// The new index of a node.
+/// The position at which the node with this index is written.
 pub fn place_of(places: &Vec<u32>, index: u32) -> u32 {
     match places.get(index as usize) {
         Some(place) => *place,

@@ -1,22 +1,26 @@
-//! What chooses open types.
+//! How the types of open types are chosen.
 
-/// What chooses the open types in a component.
+/// How the types of the open types in a component are chosen.
 #[derive(Clone, Copy, Debug)]
 pub struct Opener<'a> {
-    /// The index of the field that does, if there is one.
+    /// The index in the table of the field whose value chooses the type. `None` if there is no such
+    /// field.
     pub chooser: Option<u32>,
-    /// The name of the open type; empty for that of each `ANY`.
+    /// The name of the open type. Empty for an `ANY` without a name.
     pub table: &'a str,
-    /// The index of what a constraint says of the objects that name the types, in place of a name.
+    /// The index of the table constraint whose information objects choose the type. `None` if
+    /// comments in the module say which types are chosen.
     pub objects: Option<usize>,
-    /// Whether the contents of a string are this open type.
+    /// Whether the component is a string, and the contents of the string are an encoding of the
+    /// open type.
     pub is_string: bool,
-    /// The index of the type that a component has after its tags, if a comment says so.
+    /// The index of the type that a comment in front of the component gives. The component has this
+    /// type, after its tags, in place of the written type.
     pub own: Option<usize>,
 }
 
 impl<'a> Opener<'a> {
-    /// Nothing.
+    /// There is no open type whose type is chosen.
     pub const NONE: Opener<'static> = Opener {
         chooser: None,
         table: "",
@@ -25,7 +29,7 @@ impl<'a> Opener<'a> {
         own: None,
     };
 
-    /// The same, with this type of a component.
+    /// A copy in which `own` is the type that a comment gives the component.
     pub fn with_own(self, own: Option<usize>) -> Self {
         Opener { own, ..self }
     }

@@ -1,4 +1,4 @@
-//! Names of numbers and limits of types.
+//! Named numbers and limits of types.
 
 use crate::limits::{ends_of, known_number};
 use crate::rows::{Rows, span_from};
@@ -7,7 +7,8 @@ use asn1_schema::{LimitKind, Name, Span};
 use asn1_syntax::{NamedNumber, Range, TypeForm, TypeNode};
 use std::alloc::AllocError;
 
-/// The lowest and the highest number or size that constraints allow, if they do not allow all.
+/// The lowest and the highest number or size that the constraints of a type allow. `None` if the
+/// constraints allow all numbers and sizes.
 pub fn limit_of(wanted: &Wanted<'_>, node: &TypeNode<'_>) -> Option<(i64, i64)> {
     match (&node.form, wanted.limits.value, wanted.limits.size) {
         (TypeForm::Integer(names) | TypeForm::Enumerated(names), Some(range), _) => {
@@ -30,7 +31,8 @@ fn range_ends(range: &Range<'_>) -> Option<(i64, i64)> {
     Some((low, high))
 }
 
-/// The rows of the names of a type.
+/// Adds rows for the named numbers, the named bits or the items of a type. Returns the range of
+/// these rows.
 pub fn names_of<'a>(rows: &mut Rows<'a>, node: &TypeNode<'a>) -> Result<Span, AllocError> {
     let start = rows.names.len();
     match &node.form {
@@ -54,7 +56,8 @@ fn add_names<'a>(rows: &mut Rows<'a>, names: &Vec<NamedNumber<'a>>) -> Result<()
     Ok(())
 }
 
-/// The rows of the limits of a type.
+/// Adds a row for the limits of a type, if the type has limits. Returns the range with this row;
+/// the range is empty if the type has none.
 pub fn limits_of<'a>(
     rows: &mut Rows<'a>,
     wanted: &Wanted<'a>,

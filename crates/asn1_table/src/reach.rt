@@ -1,4 +1,4 @@
-//! Types after their names and tags.
+//! Follows references and tags to the type behind them.
 
 use crate::library::Library;
 use crate::limits::Limits;
@@ -9,8 +9,9 @@ use asn1_syntax::{Refusal, SimpleType, Tag, TagPrefix, Tagging, TypeForm, TypeNo
 
 const LOOP: &str = "a type that is not made of its own name";
 
-/// The node of the type with this index, under a tag in place of its own or without: what is after the
-/// names and the implicit tags of the type.
+/// Describes the node that the type with this index needs. References (names of types) and implicit
+/// tags are followed to the type behind them. If `tag` is given, it replaces the tag of the type.
+/// Fails if the definition of a type leads back to its own name.
 pub fn reach<'a>(
     library: &Library<'a>,
     index: usize,
@@ -68,7 +69,8 @@ fn is_implicit(library: &Library<'_>, after: usize, prefix: TagPrefix) -> bool {
     prefix.tagging != Some(Tagging::Explicit) && !has_no_tag(library, after)
 }
 
-/// Whether the type with this index is a CHOICE or `ANY` without a tag, under any names.
+/// Whether the type with this index has no tag of its own, as a CHOICE and `ANY` have none.
+/// References are followed.
 pub fn has_no_tag(library: &Library<'_>, index: usize) -> bool {
     let mut index = index;
     for _ in 0..=library.module.nodes.len() {

@@ -1,4 +1,4 @@
-//! The types that are asked for.
+//! The types for which a table is made.
 
 use crate::compiled_table::Root;
 use crate::library::{Library, written_name};
@@ -9,8 +9,9 @@ use crate::wrong::Wrong;
 use asn1_check::not_there;
 use std::alloc::Global;
 
-/// The indices of the types with these names, each with the name of its module in front or without, or of
-/// all types if there are no names. Refuses modules of which all types are left out.
+/// The indices of the types with the names `only`, or of all types if `only` is empty. A name may
+/// be `MODULE.NAME`. Fails if a name does not exist or its type is left out. Also fails if all
+/// types are asked for and all are left out.
 pub fn types_of<'a>(
     alloc: Global,
     library: &Library<'a>,
@@ -52,7 +53,8 @@ fn type_of<'a>(library: &Library<'a>, name: &str) -> Result<usize, Wrong<'a>> {
     Err(Wrong::Refused(not_there(library.module.name)))
 }
 
-/// The root with this index, whose node is added.
+/// Adds the node of the type with this index. Returns the node, the name of the type and the name
+/// of its module.
 pub fn root_at<'a>(
     alloc: Global,
     library: &Library<'a>,

@@ -1,4 +1,4 @@
-//! The rows of a table.
+//! The rows of a table while it is made.
 
 use crate::wanted::Wanted;
 use asn1_schema::{Field, Limit, LimitKind, Name, Node, NodeKind, OpenType, Presence, Span};
@@ -7,7 +7,7 @@ use der_base::Class;
 use std::alloc::{AllocError, Global};
 use std::collections::HashMap;
 
-/// The rows of a table, and what is known of them.
+/// The rows of a table while the table is made, and what is needed to fill them.
 #[derive(Drop)]
 pub struct Rows<'a> {
     pub nodes: Vec<Node>,
@@ -16,11 +16,12 @@ pub struct Rows<'a> {
     pub names: Vec<Name>,
     pub opens: Vec<OpenType>,
     pub pool: Vec<u8>,
-    /// The type of each node.
+    /// The type for which each node was added. The place in the list is the index of the node.
     pub wanted: Vec<Wanted<'a>>,
-    /// The name of each field, where it stands.
+    /// The name of the component or alternative of each field, as a lexical item of the text. The
+    /// place in the list is the index of the field.
     pub components: Vec<Item<'a>>,
-    /// What the table does not say.
+    /// The warnings about DEFAULT values that the table does not have.
     pub warnings: Vec<Warning<'a>>,
     // The index of the node for each key.
     keys: HashMap<String, u32>,
@@ -32,10 +33,10 @@ pub struct Rows<'a> {
     types: Vec<Span>,
 }
 
-/// No rows or octets.
+/// The empty range.
 pub const EMPTY: Span = Span { start: 0, count: 0 };
 
-/// A node that is not filled.
+/// What a node has from when it is added until it is filled.
 const NO_NODE: Node = Node {
     kind: NodeKind::Any,
     class: Class::Universal,
@@ -48,7 +49,7 @@ const NO_NODE: Node = Node {
     chooser: 0,
 };
 
-/// A field that is not filled.
+/// What a field has from when it is added until it is filled.
 const NO_FIELD: Field = Field {
     presence: Presence::Required,
     addition: 0,
@@ -58,7 +59,7 @@ const NO_FIELD: Field = Field {
 };
 
 impl<'a> Rows<'a> {
-    /// No rows.
+    /// A table without rows.
     pub fn new(alloc: Global) -> Self {
         Rows {
             nodes: Vec::new(alloc),
@@ -78,7 +79,8 @@ impl<'a> Rows<'a> {
         }
     }
 
-    /// The index of the node with this key, which is that of a type. It is added if it is not there.
+    /// Returns the index of the node with this key. If there is no node with this key, adds one for
+    /// the type `wanted`. An added node must be filled later.
     pub fn add_node(&mut self, key: String, wanted: Wanted<'a>) -> Result<u32, AllocError> {
         if let Some(index) = self.keys.get(key.as_str()) {
             return Ok(*index);
@@ -90,7 +92,7 @@ impl<'a> Rows<'a> {
         Ok(index)
     }
 
-    /// Adds so many fields after the others, which are filled later.
+    /// Adds `count` fields at the end, and returns their range. The fields must be filled later.
     pub fn add_fields(&mut self, count: usize) -> Result<Span, AllocError> {
         let start = self.fields.len();
         for _ in 0..count {
@@ -100,7 +102,8 @@ impl<'a> Rows<'a> {
         Ok(span_from(start, count))
     }
 
-    /// Adds a limit, unless it is none.
+    /// Adds a limit of this kind. `ends` are the lowest and the highest number that it allows. Adds
+    /// nothing if `ends` is `None`.
     pub fn add_limit(
         &mut self,
         kind: LimitKind,
@@ -112,7 +115,8 @@ impl<'a> Rows<'a> {
         Ok(())
     }
 
-    /// The range of a text in the pool.
+    /// Returns the range of the pool that has this text. Adds the text to the pool if the pool does
+    /// not have it yet.
     pub fn text(&mut self, text: &'a str) -> Result<Span, AllocError> {
         if text.is_empty() {
             return Ok(EMPTY);
@@ -128,19 +132,21 @@ impl<'a> Rows<'a> {
         Ok(range)
     }
 
-    /// The range of octets, which are added to the pool.
+    /// Adds octets to the pool, and returns their range.
     pub fn octets(&mut self, octets: &[u8]) -> Result<Span, AllocError> {
         let start = self.pool.len();
         self.pool.extend_from_slice(octets)?;
         Ok(span_from(start, octets.len()))
     }
 
-    /// The rows of the open type with this name, if they are there.
+    /// The range of rows that [`Rows::add_types`] has added for the open type with this name, if
+    /// any.
     pub fn types_of(&self, table: &str) -> Option<Span> {
         self.types.get(self.tables.find(table)?).copied()
     }
 
-    /// Adds the rows of an open type.
+    /// Adds rows for an open type, one row for each type that it may be. Returns the range of these
+    /// rows.
     pub fn add_rows(&mut self, types: &Vec<OpenType>) -> Result<Span, AllocError> {
         let span = span_from(self.opens.len(), types.len());
         for of in types.iter() {
@@ -149,7 +155,8 @@ impl<'a> Rows<'a> {
         Ok(span)
     }
 
-    /// Adds the rows of the open type with this name.
+    /// Adds rows for the open type with the name `table`, one row for each type that it may be.
+    /// Returns the range of these rows.
     pub fn add_types(&mut self, table: &'a str, types: Vec<OpenType>) -> Result<Span, AllocError> {
         let span = self.add_rows(&types)?;
         self.tables.add(table, self.types.len())?;
@@ -158,12 +165,13 @@ impl<'a> Rows<'a> {
     }
 }
 
-/// A number of rows or octets. One that has more than 32 bits is refused when the table is read.
+/// A number of rows or octets as a `u32`. A number that does not fit becomes the greatest `u32`.
+/// The check of the finished table fails in that case.
 pub fn count_of(count: usize) -> u32 {
     u32::try_from(count).unwrap_or(u32::MAX)
 }
 
-/// The range of so many rows or octets from this one on; of none, the empty one at 0.
+/// The range of `count` rows or octets from `start` on. An empty range starts at 0.
 pub fn span_from(start: usize, count: usize) -> Span {
     if count == 0 {
         return EMPTY;

@@ -1,4 +1,4 @@
-//! From the texts of modules to a table.
+//! Compiles the texts of modules to a table.
 
 use crate::choices::{Choice, choices_of};
 use crate::compiled_table::{CompiledTable, Root};
@@ -13,18 +13,23 @@ use asn1_schema::{Fault, FaultKind, Schema};
 use asn1_syntax::{LeftOut, Refusal, Warning};
 use std::alloc::{AllocError, Global};
 
-/// The greatest number of nodes.
+/// The greatest number of nodes that a table may have.
 const MAX_NODES: usize = 1048576;
 
 const TAG: &str = "a component whose tag no other one has where both may be";
 
-/// Compiles the modules of a text to a table of the types `only`, or of all that are supported if `only` is
-/// empty. A name of `only` may have the name of its module and a point in front. The names that
-/// [`asn1_syntax::own_names`] returns have to be after the last module.
+/// Compiles the modules of a text to a table. The table has the types with the names `only`, or all
+/// supported types if `only` is empty. A name may be `MODULE.NAME`. After its last module, the text
+/// must have the lines that [`asn1_syntax::own_names`] returns for it.
 ///
 /// # Errors
 ///
-/// A module that is wrong; a name of `only` that is not there, or whose type is not supported.
+/// - `Refused`, if the modules are not valid.
+/// - `Refused`, if a name of `only` does not exist, or its type is not supported.
+/// - `Unsupported`, if CHOICEs are nested more than 64 deep.
+/// - `TooLarge`, if the table has more than 1048576 nodes.
+/// - `OutOfMemory`, if a memory allocation fails.
+/// - `NoTable`, if the compiler has an error.
 pub fn table_of<'a>(
     alloc: Global,
     text: &'a str,

@@ -1,33 +1,35 @@
-//! Values as they are written.
+//! Values as lists of lexical items.
 
 use crate::library::Library;
 use asn1_syntax::{Item, ItemKind, Value, ValueForm};
 use std::alloc::{AllocError, Global};
 
-/// A value as it is written.
+/// A value, as the lexical items that are written for it.
 #[derive(Drop)]
 pub struct Words<'a> {
-    /// How it is written.
+    /// Whether the value is one item, a negative number, or items in braces.
     pub form: WordsForm,
-    /// Its items: the one, or those between braces.
+    /// The lexical items of the value, without the braces around them. Of a negative number, it may
+    /// have only the minus sign.
     pub items: Vec<Item<'a>>,
 }
 
 /// How a value is written.
 #[derive(Clone, Copy, Debug)]
 pub enum WordsForm {
-    /// As one item.
+    /// The value is one lexical item.
     Item,
-    /// As a number after a minus sign.
+    /// The value is a minus sign and this number.
     Negative(u64),
-    /// In braces.
+    /// The value is a pair of braces with lexical items in between.
     Braces,
-    /// In another form.
+    /// The value has another form, which the compiler does not read.
     Unread,
 }
 
 impl<'a> Words<'a> {
-    /// The value that these items are.
+    /// Makes a value of all its lexical items. If the value is written in braces, `items` include
+    /// the braces.
     pub fn of(alloc: Global, items: &[Item<'a>]) -> Result<Self, AllocError> {
         let form = form_of(items);
         let inside = match form {
@@ -37,7 +39,8 @@ impl<'a> Words<'a> {
         Words::new(alloc, form, inside)
     }
 
-    /// A value in this form.
+    /// Makes a value of this form. `items` are copied. If the value is written in braces, `items`
+    /// are the items between the braces.
     pub fn new(alloc: Global, form: WordsForm, items: &[Item<'a>]) -> Result<Self, AllocError> {
         let mut copies = Vec::new(alloc);
         for item in items {
@@ -49,7 +52,8 @@ impl<'a> Words<'a> {
         })
     }
 
-    /// A value.
+    /// Makes a value of a value that the parser has read. If the value is a negative number, or if
+    /// the parser has skipped it, only its first lexical item is kept.
     pub fn of_value(alloc: Global, value: &Value<'a>) -> Result<Self, AllocError> {
         let one = [value.item];
         match &value.form {
@@ -60,7 +64,7 @@ impl<'a> Words<'a> {
         }
     }
 
-    /// The one item that the value is.
+    /// The lexical item of the value, if the value is one item; otherwise `None`.
     pub fn item(&self) -> Option<Item<'a>> {
         match self.form {
             WordsForm::Item => self.items.first().copied(),
@@ -78,7 +82,7 @@ impl<'a> Words<'a> {
         self.is_braces() && self.items.is_empty()
     }
 
-    /// The name that the value is.
+    /// The name, if the value is the name of another value or of a number; otherwise `None`.
     pub fn name(&self) -> Option<Item<'a>> {
         let item = self.item()?;
         if item.kind == ItemKind::LowerName {
@@ -87,7 +91,8 @@ impl<'a> Words<'a> {
         None
     }
 
-    /// The items of the component with this name.
+    /// The lexical items of one component of a value in braces, such as `{a 1, b 2}`. They come
+    /// after the name of the component. `None` if there is no component with this name.
     pub fn component(&self, name: &str) -> Option<&[Item<'a>]> {
         let mut start = 0usize;
         for at in 0..=self.items.len() {
@@ -141,7 +146,7 @@ fn form_of(items: &[Item<'_>]) -> WordsForm {
     }
 }
 
-/// The value with this name.
+/// The value that is assigned to this name; `None` if there is none.
 pub fn value_named<'l, 'a>(library: &'l Library<'a>, name: &str) -> Option<&'l Value<'a>> {
     let number = library.module.index.values.find(name)?;
     match library.module.values.get(number) {

@@ -1,31 +1,38 @@
-//! Nodes that a table needs.
+//! Types that need a node in a table.
 
 use crate::limits::Limits;
 use crate::opener::Opener;
 use asn1_check::contained;
 use asn1_syntax::{Tag, TagClass, TypeNode};
 
-/// A node that a table needs: a type after its names and the tags that take the place of others.
+/// The description of a type that needs a node in the table. It is the type to which references
+/// (names of types) and implicit tags lead, with the name, the tag and the limits that they give
+/// the type.
 #[derive(Clone, Copy, Debug)]
 pub struct Wanted<'a> {
-    /// The index of the type; that after the last one for any type.
+    /// The index of the type among the `nodes` of the module; `usize::MAX` for `ANY`.
     pub index: usize,
-    /// Its last name, or none.
+    /// The name of the type. If several references were followed, it is the last name. Empty if the
+    /// type has no name.
     pub name: &'a str,
-    /// The tag in place of its own, if it has another one.
+    /// A tag that is written in front of the type, or that its component gets from AUTOMATIC TAGS.
+    /// `None` if the type has only the tag of its own.
     pub tag: Option<Tag>,
-    /// Whether that tag is around it.
+    /// Whether `tag` is put around the type, as an EXPLICIT tag is. Otherwise `tag` replaces the
+    /// type's own tag.
     pub is_around: bool,
-    /// The limits of the constraints in front of it.
+    /// The limits that constraints set, both after the type and after the references to it that
+    /// were followed.
     pub limits: Limits<'a>,
-    /// The index of the type of the value in it, if a constraint CONTAINING says one.
+    /// The index of the type that a string contains, if the type is a string with a constraint
+    /// CONTAINING.
     pub contained: Option<usize>,
-    /// What chooses the open types in it.
+    /// How the types of the open types in this type are chosen.
     pub opener: Opener<'a>,
 }
 
 impl<'a> Wanted<'a> {
-    /// The node of any type, which an OBJECT IDENTIFIER may choose.
+    /// The description of `ANY`, or of the open type for which `opener` has a chooser.
     pub fn any(opener: Opener<'a>) -> Self {
         Wanted {
             index: usize::MAX,
@@ -38,7 +45,7 @@ impl<'a> Wanted<'a> {
         }
     }
 
-    /// The type with this index and name, in its place.
+    /// A copy of this description for another type. It has this index, name and opener.
     pub fn named(self, index: usize, name: &'a str, opener: Opener<'a>) -> Self {
         Wanted {
             index,
@@ -48,7 +55,8 @@ impl<'a> Wanted<'a> {
         }
     }
 
-    /// The type with this index, after a tag that it has unless there is another one.
+    /// A copy of this description for the type with this index, which is behind the implicit tag
+    /// `tag`. The copy gets this tag, unless it already has a tag that is written before it.
     pub fn under(self, tag: Tag, index: usize) -> Self {
         Wanted {
             index,
@@ -57,7 +65,8 @@ impl<'a> Wanted<'a> {
         }
     }
 
-    /// The same, with the constraints of its type.
+    /// A copy of this description with the constraints of `node`. That is the type itself, or a
+    /// reference that was followed to it.
     pub fn after(self, node: &TypeNode<'a>) -> Self {
         Wanted {
             limits: self.limits.after(node),
@@ -66,7 +75,8 @@ impl<'a> Wanted<'a> {
         }
     }
 
-    /// The number of the class of its tag, and the number of the tag; `own` is the number of its universal tag.
+    /// The tag that the node has: its class as a number from 0 to 3, and its number. `own` is the
+    /// number of the type's own universal tag. The node has that tag if no tag replaces it.
     pub fn tag_or(&self, own: u32) -> (u32, u32) {
         match self.tag {
             Some(tag) => numbers_of(tag),
@@ -75,7 +85,8 @@ impl<'a> Wanted<'a> {
     }
 }
 
-/// The numbers of the class of a tag, and of the tag; the greatest one for a number of more than 32 bits.
+/// The class of a tag, as a number from 0 to 3, and the number of the tag. A number that does not
+/// fit in a `u32` becomes the greatest `u32`.
 pub fn numbers_of(tag: Tag) -> (u32, u32) {
     let class = match tag.class {
         TagClass::Universal => 0,

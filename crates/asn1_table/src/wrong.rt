@@ -1,21 +1,21 @@
-//! Why there is no table.
+//! Why no table is made.
 
 use asn1_schema::Fault;
 use asn1_syntax::{Failure, Refusal};
 use std::alloc::{AllocError, AllocFailed};
 
-/// Why there is no table.
+/// Why the compiler makes no table of modules.
 #[derive(Debug, Drop)]
 pub enum Wrong<'a> {
-    /// A module is wrong, or a type that is asked for is not supported or not there.
+    /// A module is not valid, or a type that is asked for is not supported or does not exist.
     Refused(Refusal<'a>),
-    /// A type is not supported.
+    /// A type that others refer to is not supported.
     Unsupported(Refusal<'a>),
     /// The table has more than 1048576 nodes.
     TooLarge,
-    /// What was made is no table: an error of the compiler.
+    /// The compiler wrote octets that are not a table. This is an error of the compiler.
     NoTable(Fault),
-    /// An allocation failed.
+    /// A memory allocation failed.
     OutOfMemory,
 }
 

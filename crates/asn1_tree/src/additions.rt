@@ -1,4 +1,4 @@
-//! The reader of extension additions that a type does not have.
+//! Reads unknown extension additions: elements that no field of a SEQUENCE describes.
 ghost use Rattle.std.specs.Prelude.{◌≡◌, ◌↔◌, ◌+◌, ◌<◌, ◌≤◌, ℕ, true, false, IsTrue, length, IfOk, OnOk};
 ghost use Rattle.asn1_schema.specs.Span.{IsWithin as IsRange};
 ghost use Rattle.asn1_schema.specs.Tags.{IsFieldOf};
@@ -21,8 +21,9 @@ use crate::untyped::any;
 use crate::verdict::Verdict;
 use asn1_schema::{Node, Schema};
 
-/// Reads the extension additions that a SEQUENCE does not have, before the field with an index: none,
-/// if its extension insertion point is elsewhere.
+/// Reads the unknown extension additions of a SEQUENCE that are in front of the field with this
+/// index. Reads nothing if the extension insertion point of the SEQUENCE is not directly before
+/// that field.
 pub(crate) fn additions<'a>(
     notes: &mut Notes<'_>,
     schema: &Schema<'_>,

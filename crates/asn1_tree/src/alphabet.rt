@@ -18,7 +18,9 @@ use asn1_contents::Codes;
 use asn1_schema::{Limit, LimitKind, Schema, Span};
 use ber::Universal;
 
-/// The constraint of a node that contents of a restricted character string break.
+/// Returns the constraint that a restricted character string breaks: the size constraint, or the
+/// permitted alphabet. `None` if the string breaks neither. The string is given by its contents
+/// octets.
 pub(crate) fn text_rule(
     schema: &Schema<'_>,
     limits: Span,

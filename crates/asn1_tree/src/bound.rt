@@ -4,23 +4,24 @@ ghost use Rattle.asn1_tree.specs.Constraints.{bound_of};
 
 use ber::Universal;
 
-/// What the constraints of a universal type are about.
+/// What the constraints of a universal type limit.
 #[derive(Clone, Copy)]
 pub(crate) enum Bound {
-    /// The number of an INTEGER.
+    /// The constraints limit the number of an INTEGER.
     Numbers,
-    /// That of an ENUMERATED.
+    /// The constraints limit the number of an ENUMERATED.
     Items,
-    /// The size of a BIT STRING, and its named bits.
+    /// The constraints limit the size of a BIT STRING. A BIT STRING may also have named bits.
     Bits,
-    /// The size of a restricted character string, and its characters.
+    /// The constraints limit the number of characters of a restricted character string, and which
+    /// characters it has.
     Characters,
-    /// The size of another type.
+    /// The constraints limit the size of a value of any other type.
     Sizes,
 }
 
 impl Bound {
-    /// The constraints of a type.
+    /// What the constraints of this universal type limit.
     pub fn of(universal: Universal) -> Self
         ensures { result ≡ bound_of universal }
     {

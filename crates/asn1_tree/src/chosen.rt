@@ -1,4 +1,4 @@
-//! The type of an open type.
+//! Finds the actual type of an open type.
 ghost use Rattle.std.specs.Prelude.{◌≡◌, ◌<◌, ℕ, IfSome, IfNone};
 ghost use Rattle.asn1_schema.specs.Table.{IsAscending};
 ghost use Rattle.asn1_tree.specs.Types.{types_in};
@@ -10,7 +10,12 @@ use crate::known::Known;
 use crate::types::find_type;
 use asn1_schema::{Node, NodeKind, Schema};
 
-/// The node that the OBJECT IDENTIFIER chooses for an open type.
+/// Returns the index of the node that an OBJECT IDENTIFIER chooses for an open type. `known` is the
+/// last OBJECT IDENTIFIER that was read. Returns `None` in these cases:
+///
+/// - `node` is not an open type.
+/// - `known` is not from the field that chooses the type of `node`.
+/// - The OBJECT IDENTIFIER chooses no type of the table.
 pub fn chosen(schema: &Schema<'_>, node: &Node, known: Option<Known<'_>>) -> Option<u32>
     requires fits { IsNode schema.now.counts schema.now.pool.now node.now }
     requires ascending { IsAscending schema.now.counts schema.now.octets.now node.now }

@@ -1,4 +1,4 @@
-//! The reader of components and items.
+//! Reads the components of a SEQUENCE, and the items of a SEQUENCE OF or a SET OF.
 ghost use Rattle.std.specs.Prelude.{◌≡◌, ◌+◌, ◌<◌, ◌≤◌, ℕ, [], Option, Some, None, slice_get, length, IsSome, IfOk, OnOk};
 ghost use Rattle.asn1_tree.specs.Types.{types_in};
 ghost use Rattle.asn1_schema.specs.Node.{IsNode as IsRow};

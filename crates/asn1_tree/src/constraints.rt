@@ -21,7 +21,8 @@ use asn1_contents::{is_in_range, named_bits_rule, size_of};
 use asn1_schema::{Limit, LimitKind, Node, Schema, Span};
 use ber::Universal;
 
-/// Whether the number that contents encode is in one of the value ranges of a node.
+/// Whether the number that `contents` encode is in one of the value ranges among the rows `limits`.
+/// True if there is no value range among these rows.
 pub(crate) fn is_allowed_value(schema: &Schema<'_>, limits: Span, contents: &[u8]) -> bool
     requires { IsWithin limits schema.now.counts.limits }
     ensures { IsTrue result
@@ -40,7 +41,7 @@ pub(crate) fn is_allowed_value(schema: &Schema<'_>, limits: Span, contents: &[u8
     !limited
 }
 
-/// The index after the last row of a range, which is one of so many rows.
+/// The index after the last row of the range `span`. `rows` is the number of rows of the section.
 pub(crate) fn end_of(span: Span, rows: u32) -> u32
     requires { span.start + span.count ≤ rows }
     ensures { result ≡ span.start + span.count }
@@ -84,7 +85,8 @@ fn is_item(schema: &Schema<'_>, node: Node, contents: &[u8]) -> bool
     node.extensible || node.parts.count == 0 || is_listed(schema, node.parts, contents)
 }
 
-/// The constraint of a node that contents of a primitive encoding break.
+/// Returns the constraint of a node that the contents octets of a primitive encoding break. `None`
+/// if they break no constraint.
 pub(crate) fn constraint_rule(
     schema: &Schema<'_>,
     node: Node,
@@ -146,7 +148,8 @@ fn size_rule(
     }
 }
 
-/// Whether the size of contents is one of the sizes of a node.
+/// Whether the size of a value is in one of the size ranges among the rows `limits`. True if there
+/// is no size range among these rows. The value is given by its contents octets.
 pub(crate) fn has_allowed_size(
     schema: &Schema<'_>,
     limits: Span,
@@ -185,7 +188,7 @@ fn names_rule(names: u32, contents: &[u8]) -> Option<Rule>
     }
 }
 
-/// The constraint that a number of values breaks.
+/// Returns the size constraint if a list with `count` items breaks it; otherwise `None`.
 pub(crate) fn count_rule(schema: &Schema<'_>, limits: Span, count: usize) -> Option<Rule>
     requires { IsWithin limits schema.now.counts.limits }
     ensures { (rules : EncodingRules) → (holds rules (verdict_of_option result) ≡ true)

@@ -1,20 +1,24 @@
-//! Departures.
+//! Departures: places where octets break a rule.
 
 use crate::rule::Rule;
 
-/// A place where octets break a rule.
+/// A departure: a place where octets break a rule.
 #[derive(Debug, Clone, Copy, PartialEq, Eq)]
 pub struct Departure {
-    /// The rule.
+    /// The rule that the octets break.
     pub rule: Rule,
-    /// The offset of the element, in octets from the start of the input.
+    /// Where the rule is broken, in octets from the start of the input. It is the offset of the
+    /// element that breaks the rule, or the offset at which an element is expected.
     pub offset: usize,
-    /// The index of the node of the tree that it is in.
+    /// The index, among the entries of the tree, of the element to which the departure belongs.
+    /// This is the element that breaks the rule, or the element around the place where the rule is
+    /// broken.
     pub node: usize,
 }
 
 impl Departure {
-    /// What memory holds before a departure is noted in it.
+    /// A value that stands for no departure. It fills the memory of the caller before departures
+    /// are stored there.
     pub const NONE: Departure = Departure {
         rule: Rule::Header,
         offset: 0,

@@ -1,4 +1,4 @@
-//! Nodes of a tree.
+//! The elements of a tree.
 
 ghost use Rattle.std.specs.Prelude.{◌≡◌, ◌-◌, length};
 ghost use Rattle.ber.specs.Header.{IsNext};
@@ -7,30 +7,35 @@ use crate::place::Place;
 use crate::role::{NO_INDEX, Role};
 use ber::Header;
 
-/// An element of the input. At most 40 octets of memory.
+/// An element of the input, and its type in the table. It takes at most 40 octets of memory.
 #[repr(C)]
 #[derive(Debug, Clone, Copy, PartialEq, Eq)]
 pub struct Entry {
-    /// Its offset, in octets from the start of the input.
+    /// The offset of the element, in octets from the start of the input.
     pub offset: usize,
-    /// The number of its contents octets.
+    /// The number of contents octets of the element, without end-of-contents octets.
     pub contents_len: usize,
-    /// The index of the node around it, or its own.
+    /// The index, among the entries of the tree, of the element around this element. The outermost
+    /// element has its own index here.
     pub parent: usize,
-    /// The index of its type in the table; 4294967295 if it has none there.
+    /// The index, in the table, of the node that is the type of the element. 4294967295 if the
+    /// table has no type for the element.
     pub kind: u32,
-    /// The index of the field that it is the component of, in the table; 4294967295 if it is of none.
+    /// The index, in the table, of the field whose component the element is. 4294967295 if the
+    /// element is not a component.
     pub field: u32,
-    /// The index of the field that it is the alternative of, in a CHOICE; 4294967295 if it is of none.
+    /// The index, in the table, of the field that is the alternative of a CHOICE, if the element is
+    /// a value of a CHOICE. Otherwise 4294967295.
     pub alternative: u32,
-    /// The number of octets of its header.
+    /// The number of octets of the header of the element.
     pub header_len: u8,
-    /// How many elements it is inside.
+    /// The number of elements around the element.
     pub depth: u8,
 }
 
 impl Entry {
-    /// What memory holds before an element is read into it.
+    /// A value that stands for no element. It fills the memory of the caller before elements are
+    /// stored there.
     pub const NONE: Entry = Entry {
         offset: 0,
         contents_len: 0,

@@ -1,4 +1,4 @@
-//! Elements at the front.
+//! Reads the element at the front of octets.
 ghost use Rattle.std.specs.Prelude.{◌≡◌, ◌≢◌, ◌<◌, ◌≤◌, length, IfOk, IfErr, OnOk};
 ghost use Rattle.ber.specs.Der.{HasReservedTag};
 ghost use Rattle.ber.specs.Header.{IsNext, end_header, label_of_header};
@@ -16,8 +16,17 @@ use crate::role::Role;
 use crate::rule::Rule;
 use ber::{Header, is_end_of_contents, read_header};
 
-/// The header of an element at the front, if so many levels are left for it; otherwise the rule that is
-/// broken.
+/// Returns the header of the element at the front of `octets`. `depth` is the number of levels of
+/// nesting that are still allowed.
+///
+/// # Errors
+///
+/// The rule that is broken, in one of these cases:
+///
+/// - There is no valid header at the front.
+/// - End-of-contents octets are at the front.
+/// - The tag is reserved.
+/// - `depth` is 0.
 #[inline(always)]
 pub fn front_header(octets: &[u8], depth: usize) -> Result<Header, Rule>
     ensures next { IfOk result (λ h. IsNext h octets.now) }
@@ -43,8 +52,8 @@ pub fn front_header(octets: &[u8], depth: usize) -> Result<Header, Rule>
     Ok(header)
 }
 
-/// Notes that, by this rule, no element begins here, and answers the octets after it: none if there is no
-/// header, or no level is left.
+/// Stores a departure which says that no element can be read here, since `rule` is broken. Returns
+/// the octets after the element if its header shows where the element ends; otherwise no octets.
 pub(crate) fn pass<'a>(
     notes: &mut Notes<'_>,
     rule: Rule,

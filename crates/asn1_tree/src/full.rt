@@ -1,5 +1,5 @@
-//! Memory that is full.
+//! The error of memory that is full.
 
-/// The memory that the caller gave has no room for what is found.
+/// The error which says that memory given by the caller is too small.
 #[derive(Debug, Clone, Copy, PartialEq, Eq)]
 pub struct Full;

@@ -1,4 +1,4 @@
-//! The text of a string in the constructed form.
+//! Joins strings in the constructed form.
 ghost use Rattle.std.specs.Prelude.{ℕ, List, IfOk, IfSome, IfNone};
 ghost use Rattle.asn1_tree.specs.Strings.{AreSegments};
 ghost use Rattle.asn1_tree.specs.Text.{text_of};
@@ -14,13 +14,14 @@ use crate::strings::joined;
 use crate::text::Text;
 use ber::Universal;
 
-/// Joins the segments that the contents of a string in the constructed form are, in memory of the caller: the
-/// contents of the primitive encoding of its value. `None` if the contents are no segments, nested at most 64
-/// deep.
+/// Joins the segments of a string in the constructed form. `contents` are the contents octets of
+/// the constructed encoding. Returns the contents octets that a primitive encoding of the same
+/// value has, in the memory `room`. `None` if `contents` are not segments of a string of this type
+/// by BER, or are nested more than 64 deep.
 ///
 /// # Errors
 ///
-/// There is no room. The text has at most one octet more than the contents.
+/// `room` is too small. It is large enough if it has one octet more than `contents`.
 pub fn join_segments<'t>(
     universal: Universal,
     contents: &[u8],

@@ -11,16 +11,19 @@ use crate::types::node_of;
 use asn1_schema::{Node, NodeKind, Schema};
 use ber::{Universal, read_element};
 
-/// The last component that is an OBJECT IDENTIFIER.
+/// An OBJECT IDENTIFIER that may choose the type of an open type. It is the last component before
+/// the open type that is an OBJECT IDENTIFIER.
 #[derive(Clone, Copy)]
 pub struct Known<'a> {
-    /// The index of its field.
+    /// The index, in the table, of the field of the component.
     pub field: u32,
-    /// Its contents octets.
+    /// The contents octets of the OBJECT IDENTIFIER.
     pub identifier: &'a [u8],
 }
 
-/// What is known after a component, which these octets encode.
+/// Returns the last OBJECT IDENTIFIER that was read, after a component with the encoding `octets`.
+/// This is the component itself if it is an OBJECT IDENTIFIER. Otherwise it is `known`, the last
+/// one before the component.
 pub(crate) fn known_after<'a>(
     schema: &Schema<'_>,
     node: u32,

@@ -1,36 +1,51 @@
-//! Values of any type of ASN.1, read by a table of types, by DER and by BER.
+//! Reads values of any ASN.1 type by DER and by BER. A table describes the types.
 //!
-//! [`read`] takes a table of types (a `Schema` of `asn1_schema`), the index of a node, and octets.
-//! It reads the octets as a value of that node, goes on after each departure, and returns a
-//! [`Tree`]: an [`Entry`] for each element, in the order of the input, and a [`Departure`] for each
-//! [`Rule`] that is broken. [`Rule::verdict`] says whether octets that break a rule are still BER.
+//! [`read`] takes a table of types (a `Schema` of `asn1_schema`), the index of the node that is the
+//! expected type, and octets. It reads the octets as a value of that type, and does not stop at
+//! errors. It returns a [`Tree`]: an [`Entry`] for each element, in the order of the input, and a
+//! [`Departure`] for each place where a [`Rule`] is broken. [`Rule::verdict`] says whether octets
+//! that break a rule are still BER.
 //!
 //! # Use
 //!
-//! To lint a certificate, make a table with the types of X.509 by `Schema::new`, find the node
-//! `Certificate` by `find_node`, and call `read` with the octets. If `departures` is empty, they are
-//! the DER encoding of a certificate. Otherwise show each departure at its offset. If each has the
-//! verdict [`Verdict::Ber`], the octets are a BER encoding of a certificate. To print fields, go
-//! through `entries`: each has its type and its field, by index in the table, and the element
-//! around it. [`is_der`] and [`is_ber`] give the same answers without a tree.
+//! To check a certificate, do these steps:
 //!
-//! [`read_into`] and [`judge`] do the same and allocate nothing: they write into memory of the caller, as a
-//! WebAssembly module or a program in C wants it. `read` is `read_into` with more memory after each call that
-//! finds too little.
+//! - Make a table with the types of X.509 by `Schema::new`, and find the node `Certificate` by
+//!   `find_node`.
+//! - Call `read` with the octets. If `departures` is empty, they are the DER encoding of a
+//!   certificate.
+//! - Otherwise show each departure at its offset. If each departure has the verdict
+//!   [`Verdict::Ber`], the octets are a BER encoding of a certificate.
+//! - To print fields, go through `entries`. Each entry has its type and its field, by index in the
+//!   table, and the element around it.
+//!
+//! [`is_der`] and [`is_ber`] give the same answers without a tree. [`read_into`] and [`judge`] do
+//! the same and allocate nothing. They write into memory of the caller, as a WebAssembly module or
+//! a program in C needs it.
 //!
 //! # What it does not do
 //!
-//! It does not check CONTAINING in a BIT STRING or in a string in the constructed form. The contents
-//! of EXTERNAL and its kin are read as elements of any type. Among these a string in the constructed
-//! form is no encoding, though BER allows it. An alternative of a CHOICE that the table does not have is a
-//! wrong tag, also after an extension marker. The OBJECT IDENTIFIER that chooses an open type has to be
-//! in the innermost SEQUENCE around it. Sizes are counted up to 2^63 - 1. Values are nested at most 64
-//! deep.
+//! - CONTAINING is not checked in a BIT STRING, nor in a string in the constructed form.
+//! - The contents of EXTERNAL, EMBEDDED PDV and CHARACTER STRING are read as elements of any type.
+//! - Where elements may be of any type, a string in the constructed form is refused, though BER
+//!   allows it.
+//! - An alternative of a CHOICE that the table does not have is a wrong tag, even if the CHOICE has
+//!   an extension marker.
+//! - The OBJECT IDENTIFIER that chooses an open type must be in the innermost SEQUENCE around the
+//!   open type.
+//! - Sizes are counted up to 2^63 - 1.
+//! - Values that are nested more than 64 deep are refused.
 //!
-//! Proved: there is no departure exactly if the octets are the DER encoding of a value of the node,
-//! and none but of rules that DER alone has exactly if they are a BER encoding of one. Each is at one
-//! of the octets, or at their end, and each element is inside them. Not proved: which rule a departure
-//! names, at which octet it is, and the rows of the tree beyond that.
+//! These statements are proved:
+//!
+//! - There are no departures if and only if the octets are the DER encoding of a value of the node.
+//! - All departures have the verdict [`Verdict::Ber`] if and only if the octets are a BER encoding
+//!   of a value of the node.
+//! - The offset of each departure is that of one of the octets, or their end. Each element is
+//!   inside the octets.
+//!
+//! These facts are not proved: which rule a departure names, at which octet it is, and the other
+//! fields of the entries.
 #![tactic(auto)]
 
 mod additions;

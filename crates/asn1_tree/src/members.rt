@@ -1,4 +1,4 @@
-//! The reader of a SET.
+//! Reads the components of a SET.
 ghost use Rattle.std.specs.Prelude.{◌≡◌, ◌↔◌, ◌⊎◌, ◌+◌, ◌<◌, ◌≤◌, ℕ, true, false, List, [], ◌++◌, Option, Some, None, slice_get, length, IsTrue, IfOk, IfSome, IfNone, OnOk};
 ghost use Rattle.der_base.specs.declared.encoding_rules.EncodingRules.{EncodingRules};
 ghost use Rattle.ber.specs.declared.universal.Universal.TheVariants.{Set};

@@ -1,4 +1,4 @@
-//! Notes of a walk.
+//! The elements and departures that are stored while a value is read.
 ghost use Rattle.std.specs.Prelude.{◌≡◌, ◌≤◌, true, length, take};
 ghost use Rattle.asn1_tree.specs.Departures.{are_inside};
 ghost use Rattle.asn1_tree.specs.Entries.{are_placed};
@@ -6,17 +6,20 @@ ghost use Rattle.asn1_tree.specs.Entries.{are_placed};
 use crate::departure::Departure;
 use crate::entry::Entry;
 
-/// The elements and the departures that a walk has met, in memory of the caller, if it keeps them.
+/// The elements and departures (broken rules) that were found so far while a value is read. If
+/// `kept` is true, they are stored in memory of the caller.
 #[derive(Drop)]
 pub(crate) struct Notes<'n> {
     pub entries: &'n mut [Entry],
     pub departures: &'n mut [Departure],
-    /// How many of these are kept so far.
+    /// The number of elements that are stored in `entries`.
     pub entry_count: usize,
+    /// The number of departures that are stored in `departures`.
     pub departure_count: usize,
-    /// How many departures there was no room for, or more than can be counted.
+    /// The number of departures for which the memory had no room. It does not count beyond the
+    /// greatest `usize`.
     pub lost: usize,
-    /// Whether they are kept.
+    /// Whether elements and departures are stored. If this is false, only the verdict is computed.
     pub kept: bool,
     /// The number of octets of the input.
     pub end: usize,

@@ -1,4 +1,4 @@
-//! What a walk notes.
+//! Stores elements and departures while a value is read.
 ghost use Rattle.std.specs.Prelude.{◌≡◌, ◌↔◌, ◌+◌, ◌++◌, ◌∷◌, ◌<◌, ◌≤◌, true, [], length, IfOk, OnOk};
 ghost use Rattle.der_base.specs.declared.encoding_rules.EncodingRules.{EncodingRules};
 ghost use Rattle.asn1_tree.specs.Verdict.{holds};
@@ -18,7 +18,8 @@ use crate::verdict::Verdict;
 use ber::Header;
 
 impl<'n> Notes<'n> {
-    /// No notes yet.
+    /// Makes an empty list of elements and an empty list of departures, which are stored in memory
+    /// of the caller. `end` is the number of octets of the input.
     pub fn new(
         entries: &'n mut [Entry],
         departures: &'n mut [Departure],
@@ -43,7 +44,8 @@ impl<'n> Notes<'n> {
         }
     }
 
-    /// Notes a departure.
+    /// Stores a departure, and returns the verdict of its rule. If there is no room for the
+    /// departure, it is only counted.
     pub fn depart(&mut self, rule: Rule, offset: usize, node: usize) -> Result<Verdict, Full>
         requires { offset ≤ self.old.end }
         ensures verdict { IfOk result (λ v. v ≡ verdict_of_rule rule) }
@@ -88,7 +90,8 @@ impl<'n> Notes<'n> {
         self.departure_count += 1;
     }
 
-    /// Notes a departure, if there is one.
+    /// Stores a departure if `rule` is `Some`, which means that this rule is broken. Returns the
+    /// verdict of the rule; [`Verdict::Der`] if `rule` is `None`.
     pub fn judge(&mut self, rule: Option<Rule>, offset: usize, node: usize) -> Result<Verdict, Full>
         requires { offset ≤ self.old.end }
         ensures verdict { IfOk result (λ v. v ≡ verdict_of_option rule) }
@@ -101,7 +104,8 @@ impl<'n> Notes<'n> {
         }
     }
 
-    /// Notes what a length departs in from DER.
+    /// Stores a departure if the length of a header is indefinite, or is not in the fewest octets.
+    /// DER forbids both.
     pub fn judge_lengths(
         &mut self,
         header: Header,
@@ -123,7 +127,8 @@ impl<'n> Notes<'n> {
         Ok(Verdict::Der)
     }
 
-    /// Notes an element, and returns its index; 0 if none is kept.
+    /// Stores an element, and returns its index. Fails if there is no room for the element. If
+    /// elements are not kept, nothing is stored, and the result is 0.
     pub fn enter(&mut self, entry: Entry) -> Result<usize, Full>
         requires { entry.offset + entry.header_len + entry.contents_len ≤ self.old.end }
         ensures log { OnOk result (Logs Der self.old self.new) }
@@ -164,7 +169,8 @@ impl<'n> Notes<'n> {
         Ok(())
     }
 
-    /// Notes how many contents octets an element has, after which this is the rest.
+    /// Sets the number of contents octets of a stored element, after its contents were read. `rest`
+    /// are the octets that follow the element.
     pub fn leave(&mut self, index: usize, entry: Entry, opened: Opened<'_>, rest: &[u8])
         requires { entry.offset + entry.header_len + length opened.inside.octets.now ≤ self.old.end }
         ensures log { Logs Der self.old self.new }

@@ -9,7 +9,7 @@ use crate::place::Place;
 use ber::{Header, Length, is_end_of_contents};
 
 impl<'a> Opened<'a> {
-    /// What is left of them, if octets were read.
+    /// These contents after a part of them was read. `rest` is the part that is still to be read.
     #[inline(always)]
     pub fn at(self, rest: &'a [u8]) -> Self
         requires { length rest.now ≤ length self.inside.octets.now }
@@ -26,7 +26,8 @@ impl<'a> Opened<'a> {
         }
     }
 
-    /// Whether no element can begin there: nothing is left, or the end-of-contents octets are next.
+    /// Whether the contents are read to their end: no octets are left, or end-of-contents octets
+    /// come next.
     #[inline(always)]
     pub fn is_ended(self) -> bool
         ensures { IsTrue result ↔ IsEnded self.entry.marked self.entry.inside.octets.now }
@@ -35,7 +36,8 @@ impl<'a> Opened<'a> {
     }
 }
 
-/// The contents after this header at the front, unless they are cut off.
+/// The contents that follow `header`, which is at the front of `place`. `None` if the octets of
+/// `place` end before the end of the contents.
 pub(crate) fn after_header<'a>(header: Header, place: Place<'a>) -> Option<Opened<'a>>
     requires { IsNext header place.octets.now }
     ensures some { IfSome result (λ o. IsOpened header place.entry.octets.now o) }
@@ -75,7 +77,8 @@ pub(crate) fn after_header<'a>(header: Header, place: Place<'a>) -> Option<Opene
     }
 }
 
-/// The octets after the element of a header at the front; none if it is cut or its length is indefinite.
+/// The octets after an element. Its `header` is at the front of `place`. Empty if the octets of
+/// `place` end within the element, or if the length of the element is indefinite.
 pub(crate) fn skipped<'a>(header: Header, place: Place<'a>) -> &'a [u8]
     requires { IsNext header place.octets.now }
     ensures { length result.now < length place.entry.octets.now }

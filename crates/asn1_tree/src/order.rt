@@ -7,7 +7,9 @@ ghost use Rattle.asn1_tree.specs.Items.{not_after, IsInOrder};
 
 use crate::rule::Rule;
 
-/// The rule that an encoding breaks after another one, in a SET OF under DER.
+/// Checks the order of two items of a SET OF. `octets` is the encoding of an item, and `before` is
+/// the encoding of the item directly before it. Returns [`Rule::SetOrder`] if DER requires another
+/// order. `None` if the order is right, or if the list need not be sorted (if `sorted` is false).
 pub(crate) fn order_rule(sorted: bool, before: &[u8], octets: &[u8]) -> Option<Rule>
     ensures { (rules : EncodingRules) → (holds rules (verdict_of_option result) ≡ true)
         ↔ IsInOrder rules sorted before.now octets.now }
@@ -21,7 +23,8 @@ pub(crate) fn order_rule(sorted: bool, before: &[u8], octets: &[u8]) -> Option<R
     Some(Rule::SetOrder)
 }
 
-/// Whether octets are not after others, where the shorter have octets 0 after them.
+/// Whether `a` is less than or equal to `b` in the order of DER (X.690 11.6). The octets are
+/// compared one by one. The shorter one of `a` and `b` is padded at its end with octets 0.
 fn is_not_after(a: &[u8], b: &[u8]) -> bool
     ensures { result ≡ not_after a.now b.now }
 {

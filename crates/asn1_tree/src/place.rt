@@ -1,7 +1,7 @@
-//! Places.
+//! Octets with their offset in the input.
 ghost use Rattle.std.specs.Prelude.{◌≡◌, ◌-◌, ◌≤◌, length};
 
-/// Octets of the input, and the offset at which they end.
+/// A part of the input: its octets, and the offset of its end from the start of the input.
 #[derive(Clone, Copy)]
 pub(crate) struct Place<'a> {
     pub octets: &'a [u8],
@@ -10,7 +10,7 @@ pub(crate) struct Place<'a> {
 }
 
 impl<'a> Place<'a> {
-    /// The offset at which they begin.
+    /// The offset at which the octets begin, from the start of the input.
     #[inline(always)]
     pub fn offset(self) -> usize
         ensures { result ≡ self.entry.end - length self.entry.octets.now }
@@ -18,7 +18,7 @@ impl<'a> Place<'a> {
         self.end - self.octets.len()
     }
 
-    /// The rest of these octets.
+    /// The part of the input that consists of `rest`. The octets of this part must end with `rest`.
     #[inline(always)]
     pub fn at(self, rest: &'a [u8]) -> Self
         requires { length rest.now ≤ length self.octets.now }

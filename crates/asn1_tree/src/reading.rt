@@ -18,17 +18,24 @@ use crate::walk::{judge, read_into};
 use asn1_schema::Schema;
 use std::alloc::{AllocError, Global};
 
-/// How often the room is made larger. No memory is left long before.
+/// The greatest number of times that a value is read again with more memory. The memory of any
+/// machine ends before that.
 const TRIES: u32 = 32;
 
-/// Reads octets as a value of a node of a table, and goes on after each departure. There is none exactly
-/// if the octets are the DER encoding of such a value, and none but of rules that DER alone has exactly
-/// if they are a BER encoding of one. Each is at one of the octets, or at their end, and each element of
-/// the tree is inside them. The caller must ensure that there is such a node.
+/// Reads octets as a value of the node `node` of a table. It does not stop where a rule is broken:
+/// it stores a [`Departure`] and goes on. The contract of this function states these facts:
+///
+/// - There are no departures if and only if the octets are the DER encoding of a value of the node.
+/// - All departures are from rules that only DER has if and only if the octets are a BER encoding
+///   of a value of the node.
+/// - The offset of each departure is that of one of the octets, or their end.
+/// - Each element of the tree is inside the octets.
+///
+/// The caller must ensure that the table has a node with the index `node`.
 ///
 /// # Errors
 ///
-/// There is no memory for the tree.
+/// There is not enough memory for the tree.
 pub fn read(
     alloc: Global,
     schema: &Schema<'_>,
@@ -102,13 +109,13 @@ fn read_in(
     }))
 }
 
-/// Whether octets are the DER encoding of a value of a node of a table. No tree is made: memory is
-/// needed only for the text of a string in the constructed form, and for a SET. The caller must ensure
-/// that there is such a node.
+/// Whether octets are the DER encoding of a value of the node `node` of a table. No tree is made.
+/// Memory is allocated only for strings in the constructed form, and for SETs. The caller must
+/// ensure that the table has a node with the index `node`.
 ///
 /// # Errors
 ///
-/// There is no such memory.
+/// There is not enough memory.
 pub fn is_der(
     alloc: Global,
     schema: &Schema<'_>,
@@ -122,12 +129,13 @@ pub fn is_der(
     Ok(verdict.is_der())
 }
 
-/// Whether octets are a BER encoding of a value of a node of a table. Memory is needed as for [`is_der`].
-/// The caller must ensure that there is such a node.
+/// Whether octets are a BER encoding of a value of the node `node` of a table. No tree is made.
+/// Memory is allocated only for strings in the constructed form, and for SETs. The caller must
+/// ensure that the table has a node with the index `node`.
 ///
 /// # Errors
 ///
-/// There is no such memory.
+/// There is not enough memory.
 pub fn is_ber(
     alloc: Global,
     schema: &Schema<'_>,
@@ -141,12 +149,14 @@ pub fn is_ber(
     Ok(verdict.is_ber())
 }
 
-/// The verdict on octets as a value of a node of a table. Memory is needed as for [`is_der`]. The caller must
-/// ensure that there is such a node.
+/// Returns whether octets are an encoding of a value of the node `node` of a table by DER, by BER
+/// but not by DER, or by neither. No tree is made. Memory is allocated only for strings in the
+/// constructed form, and for SETs. The caller must ensure that the table has a node with the index
+/// `node`.
 ///
 /// # Errors
 ///
-/// There is no such memory.
+/// There is not enough memory.
 pub fn verdict_on(
     alloc: Global,
     schema: &Schema<'_>,

@@ -1,4 +1,4 @@
-//! Rules.
+//! Rules that octets may break.
 ghost use Rattle.std.specs.Prelude.{◌≡◌};
 ghost use Rattle.asn1_tree.specs.Rule.{verdict_of_rule, verdict_of_contents, section_of_rule};
 
@@ -6,57 +6,61 @@ use crate::verdict::Verdict;
 use asn1_contents::ContentsRule;
 use std::fmt;
 
-/// A rule that octets break. [`Rule::section`] says where it stands.
+/// A rule that octets break. Each variant states how they break it. [`Rule::section`] says in which
+/// section of a standard the rule is.
 #[derive(Debug, Clone, Copy, PartialEq, Eq)]
 pub enum Rule {
-    /// A length has more octets than needed.
+    /// A length is encoded in more octets than needed, which DER forbids.
     LongLength,
-    /// A length is indefinite.
+    /// A length is indefinite, which DER forbids.
     IndefiniteLength,
-    /// The encodings in a SET OF are not in ascending order.
+    /// The encodings of the items of a SET OF are not in ascending order, as DER requires.
     SetOrder,
-    /// The components of a SET are not in the order of their tags.
+    /// The components of a SET are not in the order of their tags, as DER requires.
     ComponentOrder,
-    /// The value of a DEFAULT is encoded.
+    /// A component is encoded though its value is the DEFAULT value, which DER forbids.
     DefaultEncoded,
-    /// A string is constructed.
+    /// A string is in the constructed form, which DER forbids.
     ConstructedString,
-    /// A segment of a BIT STRING follows one with unused bits.
+    /// In a BIT STRING in the constructed form, a segment other than the last one has unused bits.
     UnusedBits,
-    /// There is no header.
+    /// There is no valid header where an element should begin.
     Header,
-    /// The contents of an element are cut off.
+    /// The octets end within the contents of an element.
     Truncated,
-    /// End-of-contents octets where an element should be.
+    /// There are end-of-contents octets where an element should be.
     EndOfContents,
-    /// The end-of-contents octets of an indefinite length are missing.
+    /// The end-of-contents octets after contents of indefinite length are missing.
     Unended,
-    /// The encoding is primitive where the type is constructed, or the other way round.
+    /// An encoding is primitive where the type must be constructed, or constructed where the type
+    /// must be primitive.
     Form,
-    /// Contents of a primitive encoding break a rule of their type.
+    /// The contents octets of a primitive encoding break this rule of their type.
     Contents(ContentsRule),
-    /// The tag is none of the type.
+    /// An element has a tag that its type does not have.
     Tag,
-    /// A component of a SET is there twice.
+    /// A SET has the same component twice.
     Duplicate,
-    /// A component is missing.
+    /// A required component is missing.
     Missing,
-    /// An element follows the last component, or the value.
+    /// There is an element after the last component of a value, or after the outermost value.
     Unexpected,
-    /// A number is in none of the value ranges.
+    /// A number is in none of the ranges that the constraints allow.
     ValueRange,
-    /// A size is none of the sizes.
+    /// The size of a value is in none of the ranges that the constraints allow.
     Size,
-    /// A character is none of the permitted alphabet.
+    /// A character of a string is not in the permitted alphabet.
     Alphabet,
-    /// The number of an ENUMERATED is none of its items.
+    /// The number of an ENUMERATED is not the number of one of its items.
     Unlisted,
-    /// Elements are nested more than 64 deep: a limit of the reader.
+    /// Elements are nested more than 64 deep. No standard has this rule: it is a limit of this
+    /// crate.
     Depth,
 }
 
 impl Rule {
-    /// What is left of octets that break it.
+    /// Whether octets that break this rule are still BER. Returns [`Verdict::Ber`] if only DER has
+    /// the rule, otherwise [`Verdict::Neither`].
     pub fn verdict(self) -> Verdict
         ensures { result ≡ verdict_of_rule self }
     {
@@ -72,7 +76,7 @@ impl Rule {
         }
     }
 
-    /// The section that has the rule, with its standard.
+    /// The standard and the section in which the rule is, such as `X.690 10.1`.
     pub const fn section(self) -> &'static str
         ensures { result.now ≡ section_of_rule self }
     {
@@ -103,7 +107,7 @@ impl Rule {
     }
 }
 
-/// Prints how octets break the rule, in a few words.
+/// Prints in a few words how octets break the rule.
 impl fmt::Display for Rule {
     fn fmt<W: fmt::Write>(&self, f: &mut fmt::Formatter<W>) -> fmt::Result {
         let words = match self {

@@ -1,9 +1,9 @@
-//! The fields of a SET that were there.
+//! The fields of a SET that were already read.
 ghost use Rattle.std.specs.Prelude.{◌≡◌, ◌++◌, ◌∷◌, ◌≤◌, [], if◌then◌else◌, length, is_ok};
 
 use crate::full::Full;
 
-/// The indices of fields, in memory of the caller.
+/// The indices of the fields of a SET that were already read, in memory of the caller.
 #[derive(Drop)]
 pub(crate) struct Seen<'s> {
     places: &'s mut [u32],
@@ -14,21 +14,21 @@ pub(crate) struct Seen<'s> {
 impl<'s> Seen<'s> {
     ghost use Rattle.asn1_tree.specs.Seen.{fields_of};
 
-    /// No field yet.
+    /// An empty list of fields, with `places` as its memory.
     pub fn new(places: &'s mut [u32]) -> Self
         ensures none { fields_of result ≡ [] }
     {
         Seen { places, count: 0 }
     }
 
-    /// The fields in the order in which they were added.
+    /// The indices of the fields, in the order in which they were added.
     pub fn as_slice(&self) -> &[u32]
         ensures value { result.now ≡ fields_of self.now }
     {
         &self.places[..self.count]
     }
 
-    /// Adds a field, if there is room.
+    /// Adds the index of a field. Fails if there is no room.
     pub fn push(&mut self, index: u32) -> Result<(), Full>
         ensures items { fields_of self.new
             ≡ (if is_ok result then fields_of self.old ++ index ∷ [] else fields_of self.old) }

@@ -1,4 +1,4 @@
-//! Tags at the front.
+//! Finds fields by the tag at the front of octets.
 ghost use Rattle.std.specs.Prelude.{◌≡◌, ◌<◌, ◌≤◌, ℕ, IsTrue, IfSome, IfNone, false};
 ghost use Rattle.asn1_schema.specs.Span.{IsWithin as IsRange};
 ghost use Rattle.asn1_schema.specs.Tags.{IsFieldOf};
@@ -11,7 +11,7 @@ use crate::types::{field_of, select};
 use asn1_schema::{Node, Schema};
 use ber::{is_end_of_contents, read_header};
 
-/// Whether octets begin with a header that a value of a node may have.
+/// Whether octets begin with a header, and a value of the node may have the tag of that header.
 pub(crate) fn begins(schema: &Schema<'_>, node: u32, octets: &[u8]) -> bool
     requires { node < schema.now.counts.nodes }
     ensures found { IsTrue result → IsBegun (types_in schema.now.octets.now) node octets.now }
@@ -31,7 +31,8 @@ pub(crate) fn begins(schema: &Schema<'_>, node: u32, octets: &[u8]) -> bool
     }
 }
 
-/// The first field of a node, from a field on, with a tag that octets begin with.
+/// Returns the index of the first field of a node whose type may have the tag at the front of
+/// `octets`. Fields before the field `first` are not searched. `None` if no field has such a type.
 pub fn find_field(schema: &Schema<'_>, node: Node, first: u32, octets: &[u8]) -> Option<u32>
     requires there { IsRange node.parts schema.now.counts.fields }
     requires part { node.parts.start ≤ first }

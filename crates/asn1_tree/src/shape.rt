@@ -1,33 +1,34 @@
-//! Shapes of contents.
+//! What the contents of a value consist of.
 ghost use Rattle.std.specs.Prelude.{◌≡◌, true, false};
 ghost use Rattle.asn1_tree.specs.Value.{shape_of, is_constructed};
 
 use asn1_schema::NodeKind;
 use ber::Universal;
 
-/// What the contents of a value are.
+/// What the contents of a value consist of. It depends on the kind of the type.
 #[derive(Clone, Copy)]
 pub enum Shape {
-    /// The components of a SEQUENCE.
+    /// The contents are the components of a SEQUENCE.
     Components,
-    /// The elements of a SET.
+    /// The contents are the components of a SET, in any order.
     Members,
-    /// Those of another universal type.
+    /// The contents are the contents octets of a value of this universal type, which is neither
+    /// SEQUENCE nor SET.
     Of(Universal),
-    /// The values of a SEQUENCE OF.
+    /// The contents are the items of a SEQUENCE OF.
     Items,
-    /// The values of a SET OF.
+    /// The contents are the items of a SET OF, which DER sorts.
     SortedItems,
-    /// The value inside an EXPLICIT tag.
+    /// The contents are the value inside an EXPLICIT tag.
     Inner,
-    /// Those of any type.
+    /// The type is ANY or an open type, so it does not say what the contents are.
     Untyped,
-    /// A CHOICE has no contents of its own.
+    /// The type is a CHOICE, which has no contents of its own.
     Nothing,
 }
 
 impl Shape {
-    /// The shape of the values of a kind.
+    /// What the contents of a value consist of, if its type is of this kind.
     pub fn of(kind: NodeKind) -> Self
         ensures { result ≡ shape_of kind }
     {
@@ -44,7 +45,8 @@ impl Shape {
         }
     }
 
-    /// Whether an encoding is primitive, though such contents are constructed.
+    /// Whether an encoding is primitive though its contents need a constructed encoding.
+    /// `constructed` says whether the encoding is constructed.
     pub fn has_wrong_form(self, constructed: bool) -> bool
         ensures right { (result ≡ false) → is_constructed self ≡ true → constructed ≡ true }
         ensures wrong { (result ≡ true) → (is_constructed self ≡ true) × (constructed ≡ false) }

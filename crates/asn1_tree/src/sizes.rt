@@ -1,6 +1,7 @@
-//! Sizes of memory.
+//! Amounts of memory for reading a value.
 
-/// How many elements, departures, marks and octets of text there is room for.
+/// How much memory is allocated for reading a value: numbers of elements, of departures, of fields
+/// of SETs, and of octets of a string.
 #[derive(Clone, Copy)]
 pub(crate) struct Sizes {
     pub entries: usize,
@@ -10,7 +11,8 @@ pub(crate) struct Sizes {
 }
 
 impl Sizes {
-    /// Enough for most inputs of this length. A text has at most one octet more than the input.
+    /// An amount of memory that is enough for most inputs of `len` octets. The memory for strings
+    /// is always enough: a joined string has at most one octet more than the input.
     pub fn first(len: usize) -> Self {
         Sizes {
             entries: (len / 4).min(65536).saturating_add(64),
@@ -20,7 +22,7 @@ impl Sizes {
         }
     }
 
-    /// Four times as much, but for the text.
+    /// Four times as much memory. Only the memory for strings stays the same.
     pub fn larger(self) -> Self {
         Sizes {
             entries: self.entries.saturating_mul(4),

@@ -1,4 +1,4 @@
-//! The reader of constructed strings.
+//! Reads strings in the constructed form.
 ghost use Rattle.std.specs.Prelude.{◌≡◌, ◌↔◌, ◌+◌, ◌<◌, ◌≤◌, ℕ, true, false, List, [], ◌∷◌, ◌++◌, length, IfOk, IfErr, OnOk};
 ghost use Rattle.der_base.specs.declared.encoding_rules.EncodingRules.TheVariants.{Ber};
 ghost use Rattle.ber.specs.Header.{IsNext};
@@ -27,7 +27,8 @@ use crate::verdict::Verdict;
 use ber::{Header, Universal};
 use der_base::Class;
 
-/// A verdict on the contents of a constructed string, the octets that follow, and the text.
+/// The result of reading the contents of a string in the constructed form. It has the verdict, the
+/// octets after the string, and the contents octets of the primitive encoding of the same string.
 #[derive(Drop)]
 pub(crate) struct JoinedText<'a, 't> {
     pub verdict: Verdict,
@@ -35,7 +36,7 @@ pub(crate) struct JoinedText<'a, 't> {
     pub text: Text<'t>,
 }
 
-/// Reads the contents of a constructed string.
+/// Reads the segments of a string in the constructed form, and joins them in the memory `room`.
 pub(crate) fn joined<'a, 't>(
     notes: &mut Notes<'_>,
     room: &'t mut [u8],

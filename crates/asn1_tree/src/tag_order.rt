@@ -1,4 +1,4 @@
-//! The order of a SET.
+//! The order of the components of a SET.
 ghost use Rattle.std.specs.Prelude.{◌≡◌, ◌↔◌, true};
 ghost use Rattle.der_base.specs.Class.{class_number};
 ghost use Rattle.der_base.specs.declared.encoding_rules.EncodingRules.{EncodingRules};
@@ -10,7 +10,9 @@ use crate::rule::Rule;
 use ber::{Header, read_header};
 use der_base::Class;
 
-/// The rule that an element breaks after another one, in a SET under DER.
+/// Checks the order of two components of a SET. `octets` is the encoding of a component, and
+/// `before` is the encoding of the component directly before it. Returns [`Rule::ComponentOrder`]
+/// if DER requires another order.
 pub(crate) fn tag_order_rule(before: &[u8], octets: &[u8]) -> Option<Rule>
     ensures { (rules : EncodingRules) → (holds rules (verdict_of_option result) ≡ true)
         ↔ IsTagAfter rules before.now octets.now }

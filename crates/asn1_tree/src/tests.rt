@@ -1,4 +1,4 @@
-//! Tests of components and forms.
+//! Checks of DEFAULT values and of the form of encodings.
 ghost use Rattle.std.specs.Prelude.{◌≡◌, ◌↔◌, true};
 ghost use Rattle.der_base.specs.declared.encoding_rules.EncodingRules.{EncodingRules};
 ghost use Rattle.asn1_tree.specs.Types.{types_in};
@@ -18,7 +18,7 @@ use asn1_contents::broken_rule;
 use asn1_schema::{Field, Presence, Schema};
 use ber::{Form, Universal};
 
-/// The rule that a component breaks if it has the value of its DEFAULT.
+/// Returns [`Rule::DefaultEncoded`] if `octets` are the encoding of the DEFAULT value of the field.
 pub(crate) fn default_rule(schema: &Schema<'_>, field: Field, octets: &[u8]) -> Option<Rule>
     requires { IsField schema.now.counts schema.now.pool.now field }
     ensures { (rules : EncodingRules) → (holds rules (verdict_of_option result) ≡ true)
@@ -42,7 +42,7 @@ fn is_same(a: &[u8], b: &[u8]) -> bool
     a == b
 }
 
-/// The rule that a constructed encoding of a universal type breaks.
+/// Returns [`Rule::Form`] if encodings of this universal type must not be constructed.
 pub(crate) fn form_rule(universal: Option<Universal>) -> Option<Rule>
     ensures { (rules : EncodingRules) → (holds rules (verdict_of_option result) ≡ true)
         ↔ MayBeConstructed universal }
@@ -56,7 +56,8 @@ pub(crate) fn form_rule(universal: Option<Universal>) -> Option<Rule>
     }
 }
 
-/// The rule that the contents of a primitive encoding of a universal type break.
+/// Returns the rule that the contents octets of a primitive encoding of this universal type break.
+/// It is [`Rule::Form`] if encodings of the type must be constructed. `None` if no rule is broken.
 pub(crate) fn primitive_rule(universal: Option<Universal>, contents: &[u8]) -> Option<Rule>
     ensures { (rules : EncodingRules) → (holds rules (verdict_of_option result) ≡ true)
         ↔ IsPrimitive rules universal contents.now }
@@ -73,7 +74,8 @@ pub(crate) fn primitive_rule(universal: Option<Universal>, contents: &[u8]) -> O
     }
 }
 
-/// Whether a component of a SEQUENCE may be absent.
+/// Whether a component of a SEQUENCE may be absent. It may be absent if it is OPTIONAL, has a
+/// DEFAULT, or is an extension addition.
 pub(crate) fn may_be_absent(field: Field) -> bool
     ensures { result ≡ may_be_missing (Universally Sequence) field }
 {
@@ -83,7 +85,8 @@ pub(crate) fn may_be_absent(field: Field) -> bool
     }
 }
 
-/// The rule that contents of a universal type break.
+/// Returns the rule that the contents octets of a primitive encoding of this universal type break.
+/// `None` if no rule is broken.
 pub(crate) fn contents_rule(universal: Universal, contents: &[u8]) -> Option<Rule>
     ensures { (rules : EncodingRules) → (holds rules (verdict_of_option result) ≡ true)
         ↔ IsContents rules universal contents.now }

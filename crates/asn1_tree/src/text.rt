@@ -1,9 +1,10 @@
-//! The text of a constructed string.
+//! The joined contents of a string in the constructed form.
 ghost use Rattle.std.specs.Prelude.{◌≡◌, ◌++◌, ◌∷◌, ◌<◌, ◌≤◌, ℕ, List, [], if◌then◌else◌, length, is_ok};
 
 use crate::full::Full;
 
-/// The text so far, in memory of the caller.
+/// The contents octets of the segments of a string in the constructed form, joined in memory of the
+/// caller.
 #[derive(Drop)]
 pub struct Text<'t> {
     octets: &'t mut [u8],
@@ -14,7 +15,7 @@ pub struct Text<'t> {
 impl<'t> Text<'t> {
     ghost use Rattle.asn1_tree.specs.Text.{text_of};
 
-    /// No text yet.
+    /// An empty text, with `octets` as its memory.
     pub fn new(octets: &'t mut [u8]) -> Self
         ensures none { text_of result ≡ [] }
     {
@@ -28,7 +29,7 @@ impl<'t> Text<'t> {
         &self.octets[..self.count]
     }
 
-    /// Appends octets, if there is room.
+    /// Appends octets. Fails if there is no room.
     pub fn extend(&mut self, more: &[u8]) -> Result<(), Full>
         ensures items { text_of self.new
             ≡ (if is_ok result then text_of self.old ++ more.now else text_of self.old) }
@@ -42,7 +43,7 @@ impl<'t> Text<'t> {
         Ok(())
     }
 
-    /// The first octet.
+    /// The first octet. The caller must ensure that there is one.
     pub fn first(&self) -> u8
         requires { 0 < length (text_of self.now) }
         ensures { (x : ℕ) (xs : List ℕ) → text_of self.now ≡ x ∷ xs → result ≡ x }
@@ -50,7 +51,7 @@ impl<'t> Text<'t> {
         self.octets[0]
     }
 
-    /// Puts an octet in the place of the first.
+    /// Replaces the first octet. The caller must ensure that there is one.
     pub fn set_first(&mut self, octet: u8)
         requires { 0 < length (text_of self.old) }
         ensures { (x : ℕ) (xs : List ℕ) → text_of self.old ≡ x ∷ xs → text_of self.new ≡ octet ∷ xs }

@@ -1,4 +1,4 @@
-//! Constructed strings of a node.
+//! Strings in the constructed form, and the constraints of their types.
 ghost use Rattle.std.specs.Prelude.{◌≡◌, ◌+◌, ◌≤◌, length, IfOk, OnOk};
 ghost use Rattle.asn1_schema.specs.Node.{IsNode as IsRow};
 ghost use Rattle.asn1_schema.specs.Span.{IsWithin as IsRange};
@@ -19,7 +19,8 @@ use crate::tests::contents_rule;
 use asn1_schema::{Node, Schema};
 use ber::{Form, Universal};
 
-/// Whether an encoding is that of a string in the constructed form.
+/// Whether an encoding is a string in the constructed form: the encoding is constructed, and its
+/// universal type is a string type.
 pub fn is_joined(constructed: bool, universal: Universal) -> bool
     ensures { result ≡ is_joined constructed universal }
 {
@@ -36,7 +37,7 @@ fn is_string(form: Form) -> bool
     }
 }
 
-/// Reads the contents of a constructed string.
+/// Reads a string in the constructed form, and checks the rules and the constraints of its type.
 pub(crate) fn joined_text<'a>(
     notes: &mut Notes<'_>,
     room: &mut [u8],

@@ -1,12 +1,13 @@
-//! Trees.
+//! The result of reading a value.
 
 use crate::departure::Departure;
 use crate::entry::Entry;
 
-/// What was read: the elements of the input in their order, and each departure.
+/// The result of reading a value: the elements of the input, and the departures, which are the
+/// places where the octets break a rule.
 #[derive(Drop)]
 pub struct Tree {
-    /// The elements, each after the one around it.
+    /// The elements in the order of the input. Each element comes after the element around it.
     pub entries: Vec<Entry>,
     /// The departures, in the order in which they were found.
     pub departures: Vec<Departure>,

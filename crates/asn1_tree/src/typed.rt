@@ -1,4 +1,4 @@
-//! The reader of values.
+//! Reads values of the types of a table.
 ghost use Rattle.std.specs.Prelude.{◌≡◌, ◌≢◌, ◌↔◌, ◌+◌, ◌<◌, ◌≤◌, ℕ, true, false, [], Option, Some, None, slice_get, length, IsSome, IfOk, OnOk};
 ghost use Rattle.der_base.specs.declared.encoding_rules.EncodingRules.{EncodingRules};
 ghost use Rattle.ber.specs.Der.{HasReservedTag};

@@ -1,4 +1,4 @@
-//! Rows of a table of types.
+//! Access to the rows of a table of types.
 ghost use Rattle.std.specs.Prelude.{◌≡◌, ◌↔◌, ◌<◌, pos, IsTrue, Some, slice_get, IfSome, IfNone};
 ghost use Rattle.asn1_schema.specs.Field.{IsField};
 ghost use Rattle.asn1_schema.specs.Node.{IsNode};
@@ -16,7 +16,7 @@ ghost use Rattle.asn1_tree.specs.Types.{types_in};
 use asn1_schema::{Field, Limit, LimitKind, Name, Node, OpenType, Schema, Selected, Span};
 use der_base::Class;
 
-/// The node with an index.
+/// The node with this index. The caller must ensure that there is one.
 #[tactic(auto, unfolding(crate::specs::Types::types_in))]
 pub fn node_of(schema: &Schema<'_>, index: u32) -> Node
     requires { index < schema.now.counts.nodes }
@@ -27,7 +27,7 @@ pub fn node_of(schema: &Schema<'_>, index: u32) -> Node
     schema.node(index)
 }
 
-/// The field with an index.
+/// The field with this index. The caller must ensure that there is one.
 #[tactic(auto, unfolding(crate::specs::Types::types_in))]
 pub fn field_of(schema: &Schema<'_>, index: u32) -> Field
     requires { index < schema.now.counts.fields }
@@ -37,7 +37,7 @@ pub fn field_of(schema: &Schema<'_>, index: u32) -> Field
     schema.field(index)
 }
 
-/// The octets of the default of a field.
+/// The DER encoding of the DEFAULT value of a field. The caller must ensure that the field has one.
 #[tactic(auto, unfolding(crate::specs::Types::types_in))]
 pub fn default_of<'a>(schema: &Schema<'a>, field: Field) -> &'a [u8]
     requires fits { IsField schema.now.counts schema.now.pool.now field }
@@ -47,7 +47,8 @@ pub fn default_of<'a>(schema: &Schema<'a>, field: Field) -> &'a [u8]
     schema.octets_of(field.default)
 }
 
-/// The node that a tag selects.
+/// Calls `Schema::select`. Returns the node that is the type of a value, if the value belongs to
+/// the node `index` and begins with this tag.
 #[tactic(auto, unfolding(crate::specs::Types::types_in))]
 pub fn select(schema: &Schema<'_>, index: u32, class: Class, number: u32) -> Option<Selected>
     requires { index < schema.now.counts.nodes }
@@ -59,7 +60,8 @@ pub fn select(schema: &Schema<'_>, index: u32, class: Class, number: u32) -> Opt
     schema.select(index, class, number)
 }
 
-/// The type that an OBJECT IDENTIFIER chooses for an open type.
+/// The type that an OBJECT IDENTIFIER chooses for an open type. `identifier` has the contents
+/// octets of the OBJECT IDENTIFIER.
 #[tactic(auto, unfolding(crate::specs::Types::types_in))]
 pub(crate) fn find_type(schema: &Schema<'_>, node: &Node, identifier: &[u8]) -> Option<OpenType>
     requires kind { node.now.kind ≡ Open }
@@ -79,7 +81,7 @@ pub(crate) fn find_type(schema: &Schema<'_>, node: &Node, identifier: &[u8]) -> 
     }
 }
 
-/// The limit with an index.
+/// The limit with this index. The caller must ensure that there is one.
 #[tactic(auto, unfolding(crate::specs::Types::types_in))]
 pub(crate) fn limit_of(schema: &Schema<'_>, index: u32) -> Limit
     requires { index < schema.now.counts.limits }
@@ -88,7 +90,8 @@ pub(crate) fn limit_of(schema: &Schema<'_>, index: u32) -> Limit
     schema.limit(index)
 }
 
-/// The name with an index.
+/// The row with this index in the section of names of numbers. The caller must ensure that there is
+/// one.
 #[tactic(auto, unfolding(crate::specs::Types::types_in))]
 pub(crate) fn name_of(schema: &Schema<'_>, index: u32) -> Name
     requires { index < schema.now.counts.names }
@@ -97,7 +100,8 @@ pub(crate) fn name_of(schema: &Schema<'_>, index: u32) -> Name
     schema.name(index)
 }
 
-/// Whether a size is one of the sizes of a node. The greatest that is counted is 2^63 - 1.
+/// Whether a size is in one of the size ranges among the rows `limits`. True if there is no size
+/// range among these rows. A size above 2^63 - 1 counts as 2^63 - 1.
 #[tactic(auto, unfolding(crate::specs::Types::types_in))]
 pub(crate) fn is_size_allowed(schema: &Schema<'_>, limits: Span, size: usize) -> bool
     requires { IsWithin limits schema.now.counts.limits }
@@ -106,7 +110,8 @@ pub(crate) fn is_size_allowed(schema: &Schema<'_>, limits: Span, size: usize) ->
     schema.is_within_limits(limits, LimitKind::Size, saturated(size))
 }
 
-/// Whether the code of a character is in the permitted alphabet of a node.
+/// Whether the code of a character is in the permitted alphabet that the rows `limits` describe.
+/// True if these rows describe no permitted alphabet.
 #[tactic(auto, unfolding(crate::specs::Types::types_in))]
 pub(crate) fn is_code_allowed(schema: &Schema<'_>, limits: Span, code: u32) -> bool
     requires { IsWithin limits schema.now.counts.limits }

@@ -1,4 +1,4 @@
-//! The reader of values of any type.
+//! Reads elements whose type is not known.
 ghost use Rattle.std.specs.Prelude.{◌≡◌, ◌*◌, ◌+◌, ◌<◌, ◌≤◌, false, [], length, IfOk, OnOk};
 ghost use Rattle.asn1_tree.specs.Items.{IsAnyCount, SomeItems};
 ghost use Rattle.asn1_tree.specs.Value.{IsAny, IsUnknownType};

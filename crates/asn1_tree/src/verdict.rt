@@ -1,16 +1,16 @@
-//! Verdicts.
+//! Which encoding rules octets keep.
 ghost use Rattle.std.specs.Prelude.{◌≡◌};
 ghost use Rattle.der_base.specs.declared.encoding_rules.EncodingRules.TheVariants.{Der, Ber};
 ghost use Rattle.asn1_tree.specs.Verdict.{holds, worst};
 
-/// What octets are.
+/// Which encoding rules octets keep, if they are read as a value of a type.
 #[derive(Debug, Clone, Copy, PartialEq, Eq)]
 pub enum Verdict {
-    /// An encoding by DER, and so by BER.
+    /// The octets are an encoding of a value by DER. Each encoding by DER is also one by BER.
     Der,
-    /// An encoding by BER, but none by DER.
+    /// The octets are an encoding of a value by BER, but not by DER.
     Ber,
-    /// No encoding.
+    /// The octets are not an encoding of a value, by DER or by BER.
     Neither,
 }
 

@@ -1,4 +1,4 @@
-//! Reading of values into memory of the caller.
+//! Reads values into memory of the caller.
 ghost use Rattle.std.specs.Prelude.{◌≡◌, ◌↔◌, ◌<◌, ◌≤◌, true, None, length, take, IfOk, OnOk};
 ghost use Rattle.der_base.specs.declared.encoding_rules.EncodingRules.{EncodingRules};
 ghost use Rattle.asn1_schema.specs.Table.{table_in};
@@ -23,16 +23,19 @@ use crate::untyped::finish;
 use crate::verdict::Verdict;
 use asn1_schema::Schema;
 
-/// Reads octets as a value of a node of a table, as [`read`](crate::read) does, into memory of the caller: the
-/// elements and the departures. `marks` and `text` are room for what is needed on the way: a mark for each field
-/// of each SET around an element, and the text of a string in the constructed form. Nothing is allocated.
-/// Departures for which there is no room are counted, and the verdict is exact all the same.
-/// The caller must ensure that there is such a node.
+/// Reads octets as a value of the node `node` of a table. It does what [`read`](crate::read) does,
+/// but allocates nothing: it writes the elements and the departures into memory of the caller.
+/// Departures for which there is no room are only counted. The verdict does not depend on this. The
+/// caller must ensure that the table has a node with the index `node`.
+///
+/// The caller also gives memory that is used while reading: `marks` for the fields of SETs, and
+/// `text` for a string in the constructed form.
 ///
 /// # Errors
 ///
-/// There is no room for an element, or none on the way. Then try again with more: there are at most as many marks as the table
-/// has fields, for each of 64 levels, and the text has at most one octet more than the input.
+/// `entries`, `marks` or `text` is too small. The caller can try again with more memory. `marks` is
+/// large enough with 64 times as many places as the table has fields. `text` is large enough with
+/// one octet more than the input.
 pub fn read_into(
     schema: &Schema<'_>,
     node: u32,
@@ -67,12 +70,14 @@ pub fn read_into(
     })
 }
 
-/// The verdict on octets as a value of a node of a table, with room as for [`read_into`]. The caller must ensure
-/// that there is such a node.
+/// Returns whether octets are an encoding of a value of the node `node` of a table by DER, by BER
+/// but not by DER, or by neither. The caller must ensure that the table has a node with the index
+/// `node`. The caller also gives memory that is used while reading: `marks` for the fields of SETs,
+/// and `text` for a string in the constructed form.
 ///
 /// # Errors
 ///
-/// One of the two has no more room.
+/// `marks` or `text` is too small. [`read_into`] says how much memory is enough.
 pub fn judge(
     schema: &Schema<'_>,
     node: u32,

@@ -1,5 +1,10 @@
-//! Steps of a walk over octets by a table of types, for crates that walk over them too: rows of the table, the
-//! header at the front, the field or the type that it selects, and the OBJECT IDENTIFIER that chooses an open type.
+//! The steps of reading octets by a table of types, for other crates that read octets by such a
+//! table:
+//!
+//! - the rows of the table;
+//! - the header at the front of the octets;
+//! - the field or the type that a tag selects;
+//! - the OBJECT IDENTIFIER that chooses an open type.
 
 pub use crate::chosen::chosen;
 pub use crate::front::front_header;

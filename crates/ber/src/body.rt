@@ -1,4 +1,4 @@
-//! The extent of contents of indefinite length.
+//! Where contents of indefinite length end.
 ghost use Rattle.std.specs.Prelude.{◌≡◌, ◌≢◌, ◌+◌, ◌^◌, ◌≤◌, ℕ, List, ◌++◌, length, IfOk, IfErr};
 ghost use Rattle.ber.specs.Body.{IsBody, IsBodyFault, AreBodies, IsStep, IsStepFault};
 
@@ -6,13 +6,18 @@ use crate::body_fault::BodyFault;
 use crate::element::{is_end_of_contents, read_element};
 use crate::element_fault::ElementFault;
 
-/// The number of octets of the body at the front of `octets`: what follows a header of indefinite
-/// length, up to and including the end-of-contents octets that close it (X.690 8.1.3.6). Contents
-/// of definite length are passed unread; bodies may be nested at any depth.
+/// Returns where contents of indefinite length end: the number of octets from the start of `octets`
+/// to the end of the end-of-contents octets that close them (X.690 8.1.3.6). `octets` must begin
+/// directly after the header that has the indefinite length. The counted octets are called the
+/// body. Elements of indefinite length may be nested at any depth. Contents of definite length are
+/// skipped unread.
 ///
 /// # Errors
 ///
-/// The first header that is missing, or whose contents are truncated, with its offset.
+/// The first of these faults:
+///
+/// - `NoHeader`, if no valid header begins where an element must begin.
+/// - `Truncated`, if the octets end within the contents of an element of definite length.
 pub fn body_len(octets: &[u8]) -> Result<usize, BodyFault>
     ensures found { IfOk result (λ n. (body rest : List ℕ) × IsBody body
         × (octets.now ≡ body ++ rest) × (n ≡ length body)) }

@@ -1,24 +1,24 @@
-//! Why octets do not begin with a body.
+//! Why the end of contents of indefinite length is not found.
 
 use crate::fault::Fault;
 use crate::header::Header;
 
-/// Why octets do not begin with the body of an indefinite length, and where. Offsets are in octets
-/// from the start of the body.
+/// Why [`body_len`](crate::body_len) finds no end of contents of indefinite length, and where.
+/// Offsets count octets from the start of the octets that it reads.
 #[derive(Debug, Clone, Copy, PartialEq, Eq)]
 pub enum BodyFault {
-    /// There is no header where one should begin.
+    /// There is no valid header where an element should begin.
     NoHeader {
-        /// Where it should begin.
+        /// The offset at which the header should begin.
         at: usize,
-        /// Why there is none; its own offset is in octets from `at`.
+        /// Why there is no valid header. The offset in this fault counts octets from `at`.
         fault: Fault,
     },
-    /// The octets end within the contents of a header.
+    /// The octets end within the contents of an element of definite length.
     Truncated {
-        /// Where the header begins.
+        /// The offset at which the header of the element begins.
         at: usize,
-        /// The header.
+        /// The header of the element.
         header: Header,
     },
 }

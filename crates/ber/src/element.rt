@@ -8,14 +8,14 @@ use crate::element_fault::ElementFault;
 use crate::header::{Header, read_header};
 use crate::length::Length;
 
-/// An element of definite length (X.690 8.1.1) at the front of octets.
+/// An element of definite length (X.690 8.1.1), read from the front of a slice.
 #[derive(Debug, Clone, Copy, PartialEq, Eq)]
 pub struct Element<'a> {
     /// The header.
     pub header: Header,
     /// The contents octets.
     pub contents: &'a [u8],
-    /// The octets after the element.
+    /// The octets of the slice after the element.
     pub rest: &'a [u8],
 }
 
@@ -23,9 +23,11 @@ pub struct Element<'a> {
 ///
 /// # Errors
 ///
-/// - `NoHeader`, if the octets do not begin with a header, with its first fault.
-/// - `Indefinite`, if they begin with a header of indefinite length.
-/// - `Truncated`, if they end within the contents.
+/// - `NoHeader`, if the octets do not begin with a valid header. The error holds the first fault of
+///   the header.
+/// - `Indefinite`, if the octets begin with a header of indefinite length. The error holds the
+///   header.
+/// - `Truncated`, if the octets end within the contents of the element. The error holds the header.
 #[inline(always)]
 pub fn read_element(octets: &[u8]) -> Result<Element<'_>, ElementFault>
     ensures found { IfOk result (λ e. (x : List ℕ) × IsElement e.header e.contents.now x

@@ -6,10 +6,10 @@ use crate::header::Header;
 /// Why octets do not begin with an element of definite length.
 #[derive(Debug, Clone, Copy, PartialEq, Eq)]
 pub enum ElementFault {
-    /// They do not begin with a header.
+    /// The octets do not begin with a valid header. The `Fault` is the first fault of the header.
     NoHeader(Fault),
-    /// They begin with this header, whose length is indefinite.
+    /// The octets begin with this header, whose length is indefinite.
     Indefinite(Header),
-    /// They begin with this header, and end within the contents.
+    /// The octets begin with this header, and end before all contents that its length announces.
     Truncated(Header),
 }

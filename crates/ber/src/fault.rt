@@ -9,7 +9,7 @@ pub struct Fault {
     /// What is wrong.
     pub kind: FaultKind,
     /// The offset of the octet at fault, in octets from the start of the header. For
-    /// [`FaultKind::Truncated`] it is the number of the octets.
+    /// [`FaultKind::Truncated`] it is the number of octets given.
     pub offset: usize,
 }
 

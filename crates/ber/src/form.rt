@@ -1,21 +1,23 @@
-//! Forms of encodings.
+//! Primitive and constructed encodings.
 ghost use Rattle.std.specs.Prelude.{◌≡◌};
 
-/// The form that an encoding has (X.690 8.1.2.5).
+/// Whether the encodings of a type are primitive or constructed (X.690 8.1.2.5).
 #[derive(Debug, Clone, Copy, PartialEq, Eq)]
 pub enum Form {
-    /// Primitive.
+    /// Encodings of the type are always primitive.
     Primitive,
-    /// Constructed.
+    /// Encodings of the type are always constructed.
     Constructed,
-    /// Primitive or constructed, at the choice of the sender: a string type.
+    /// Encodings of the type are primitive or constructed, as the sender chooses. The string types
+    /// have this form.
     Either,
 }
 
 impl Form {
     ghost use Rattle.ber.specs.Form.{allows};
 
-    /// Whether an encoding of this form may be constructed, or primitive.
+    /// Whether this form allows a constructed encoding (if `constructed` is true) or a primitive
+    /// one (if it is false).
     pub const fn allows(self, constructed: bool) -> bool
         ensures { result ≡ allows self constructed }
     {

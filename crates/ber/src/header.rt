@@ -19,13 +19,14 @@ use der_base::Class;
 pub struct Header {
     /// The class of the tag.
     pub class: Class,
-    /// Whether the contents are constructed (8.1.2.5).
+    /// Whether the encoding is constructed; otherwise it is primitive (X.690 8.1.2.5).
     pub constructed: bool,
     /// The number of the tag.
     pub number: u32,
     /// The length of the contents.
     pub length: Length,
-    /// Whether a definite length is in the fewest octets (10.1); true for the indefinite form.
+    /// Whether a definite length is encoded in the fewest octets possible (X.690 10.1). True if the
+    /// length is indefinite.
     pub minimal: bool,
     /// The number of octets of the header, 2 to 133.
     pub header_len: usize,
@@ -35,8 +36,8 @@ impl Header {
     ghost use Rattle.ber.specs.Header.{label_of_header};
     ghost use Rattle.ber.specs.Der.{type_of, HasReservedTag, HasWrongForm, IsConstructedString, IsDer};
 
-    /// The type that has the tag in class UNIVERSAL. It is `None` for another class, and for a
-    /// reserved number.
+    /// Returns the universal type that has this tag. It is `None` if the tag is of another class
+    /// than UNIVERSAL, or if its number is reserved.
     pub const fn universal(self) -> Option<Universal>
         ensures { result ≡ type_of (label_of_header self) }
     {
@@ -46,24 +47,25 @@ impl Header {
         }
     }
 
-    /// Whether the tag is of class UNIVERSAL and has a reserved number (X.680 8.6, table 1). The
-    /// tag of end-of-contents octets is one. The rules for encodings say nothing of such tags, so
-    /// this is no departure.
+    /// Whether the tag is of class UNIVERSAL and its number is reserved (X.680 8.6, table 1).
+    /// Number 0, which end-of-contents octets have, is reserved. The encoding rules do not forbid
+    /// reserved tags, so [`Header::is_der`] accepts them.
     pub const fn has_reserved_tag(self) -> bool
         ensures { IsTrue result ↔ HasReservedTag (label_of_header self) }
     {
         matches!(self.class, Class::Universal) && matches!(self.universal(), None)
     }
 
-    /// Whether the length is indefinite, which the Distinguished Encoding Rules forbid (10.1).
+    /// Whether the length is indefinite. The Distinguished Encoding Rules forbid this (X.690 10.1).
     pub const fn is_indefinite(self) -> bool
         ensures { IsTrue result ↔ (self.length ≡ Length.Indefinite) }
     {
         matches!(self.length, Length::Indefinite)
     }
 
-    /// Whether the encoding is constructed though its universal type is primitive, or primitive
-    /// though it is constructed (8.2 to 8.26). The Basic Encoding Rules forbid both.
+    /// Whether the tag is that of a universal type and the encoding has the wrong form: it is
+    /// constructed where this type must be primitive, or primitive where this type must be
+    /// constructed (X.690 8.2 to 8.26). The Basic Encoding Rules forbid both.
     pub const fn has_wrong_form(self) -> bool
         ensures { IsTrue result ↔ HasWrongForm (label_of_header self) }
     {
@@ -73,8 +75,8 @@ impl Header {
         }
     }
 
-    /// Whether this is a string of a universal type in the constructed form, which the
-    /// Distinguished Encoding Rules forbid (10.2).
+    /// Whether the tag is that of a universal string type and the encoding is constructed, which
+    /// the Distinguished Encoding Rules forbid (X.690 10.2).
     pub const fn is_constructed_string(self) -> bool
         ensures { IsTrue result ↔ IsConstructedString (label_of_header self) }
     {
@@ -84,9 +86,10 @@ impl Header {
         }
     }
 
-    /// Whether the header departs in nothing from the Distinguished Encoding Rules, as far as it
-    /// shows. A string with a tag of another class may still be in the constructed form. A reserved
-    /// tag is no departure.
+    /// Whether the header breaks none of the Distinguished Encoding Rules that can be checked
+    /// without knowing the type: the length is definite and minimal, and the encoding has the form
+    /// of its universal type. A constructed string is not noticed if its tag is not of class
+    /// UNIVERSAL. A reserved tag is accepted.
     pub const fn is_der(self) -> bool
         ensures { IsTrue result ↔ IsDer self }
     {
@@ -97,12 +100,14 @@ impl Header {
     }
 }
 
-/// The header at the front of `octets`.
+/// Reads the header at the front of `octets`.
 ///
 /// # Errors
 ///
-/// The first fault, if the octets do not begin with a header. A reserved tag, and a form that the
-/// type of the tag does not have, are no faults.
+/// The first fault, if the octets do not begin with a header. These are no faults:
+///
+/// - a reserved tag;
+/// - a constructed encoding of a primitive type, or a primitive encoding of a constructed type.
 #[inline(always)]
 pub fn read_header(octets: &[u8]) -> Result<Header, Fault>
     ensures found { IfOk result (λ h. IsNext h octets.now) }

@@ -1,17 +1,23 @@
 //! Headers and elements of the Basic Encoding Rules (X.690 section 8), read from slices.
 //!
 //! [`read_header`] reads an identifier of any class and number, and a length in any form. It
-//! returns the first fault, with its offset, if the octets do not begin with a header. A [`Header`]
-//! says what it departs in from the Distinguished Encoding Rules. [`read_element`] reads an element
-//! of definite length. Contents of indefinite length are left to the caller, who walks over them
-//! with [`is_end_of_contents`], or passes them with [`body_len`]. [`Universal`] has the universal
-//! types of X.680.
+//! returns the first fault, with its offset, if the octets do not begin with a header. The methods
+//! of [`Header`] say which of the Distinguished Encoding Rules a header breaks. [`read_element`]
+//! reads an element of definite length. It does not read contents of indefinite length:
+//! [`body_len`] finds their end. A caller can also read their elements one by one until
+//! [`is_end_of_contents`]. [`Universal`] has the universal types of X.680.
 //!
 //! Numbers of tags and lengths go up to 4294967295. Nothing here allocates.
 //!
-//! Proved: a header is returned exactly if the octets begin with it, and a fault exactly if they
-//! have it; each departure; no header, element or body is a prefix of another one; headers without
-//! departures are those of the Distinguished Encoding Rules, for each tag of `der_base`.
+//! These statements are proved:
+//!
+//! - [`read_header`] returns a header if and only if the octets begin with it, and a fault if and
+//!   only if the octets have it.
+//! - The methods of [`Header`] answer correctly which Distinguished Encoding Rules are broken.
+//! - No header is a prefix of another header. The same holds for elements, and for bodies (contents
+//!   of indefinite length with the octets that close them).
+//! - For each tag of `der_base`, the headers that break none of the Distinguished Encoding Rules
+//!   are the headers that these rules allow.
 #![tactic(auto)]
 
 mod body;

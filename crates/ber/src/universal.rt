@@ -197,8 +197,8 @@ impl Universal {
         }
     }
 
-    /// The name of the type in the notation of X.680. `EXTERNAL` is also the name of number 8 for
-    /// `INSTANCE OF`, `SEQUENCE` for `SEQUENCE OF`, and `SET` for `SET OF`.
+    /// The name of the type in the notation of X.680. Types with one tag share a name: `EXTERNAL`
+    /// is also returned for `INSTANCE OF`, `SEQUENCE` for `SEQUENCE OF`, and `SET` for `SET OF`.
     pub const fn name(self) -> &'static str
         ensures { result.now ≡ name_of self }
     {

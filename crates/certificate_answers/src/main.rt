@@ -1,4 +1,5 @@
-//! Prints the subject, the names, the end and the role of the certificate in the file mine.pem.
+//! Prints facts about the certificate in the file mine.pem: its subject, the end of its validity,
+//! its alternative names, and whether it may issue certificates.
 #![tactic(auto)]
 
 use der::DecodeBytes;

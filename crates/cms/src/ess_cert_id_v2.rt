@@ -1,5 +1,6 @@
-//! The identifier of a certificate, whose first field may be absent and has the tag of the last one.
-//! The first two fields are a pair: as the second is always there, the tag decides.
+//! ESSCertIDv2 (RFC 5035, 4). Its first field, which may be absent, has the same tag as its last
+//! field. The second field has another tag and is always present. So the first two fields are read
+//! as a pair: the next tag decides whether the first field is present.
 ghost use Rattle.std.specs.Prelude.{◌≡◌};
 ghost use Rattle.std.proofs.Common.{arith, refl};
 ghost use Rattle.der.specs.Prelude.{map_ok};
@@ -20,7 +21,8 @@ use der_asn1::{
 use spki::AlgorithmIdentifierRef;
 use std::alloc::Global;
 
-/// What identifies a certificate (RFC 5035, 4), borrowed from the input.
+/// ESSCertIDv2 (RFC 5035, 4), borrowed from the input. It identifies a certificate by a hash, and
+/// optionally also by the issuer and the serial number of the certificate.
 #[derive(Drop)]
 pub struct EssCertIdV2<'a> {
     /// The algorithm of the hash. The default is SHA-256 without parameters.
@@ -64,7 +66,7 @@ impl<'a> Sequence for EssCertIdV2<'a> {
     ghost fits = { (refl, refl) };
 }
 
-/// Decodes the fields one after the other, with the errors of every [`Sequence`].
+/// Decodes the fields one after the other. The errors are those that [`Sequence`] lists.
 impl<'a, R: Lends<Borrowed = &'a [u8]>> DecodeValue<R> for EssCertIdV2<'a> {
     type Error = Error;
 
@@ -90,7 +92,7 @@ impl<'a> IsValue for EssCertIdV2<'a> {
     }
 }
 
-/// Writes the fields one after the other, with the errors of every [`Sequence`].
+/// Writes the fields one after the other. The errors are those that [`Sequence`] lists.
 impl<'a> HasFields for EssCertIdV2<'a> {
     ghost fields_size = { λ v. ⟦<EssCertIdV2Fields<'a> as Encode>⟧.size
         (⟦<EssCertIdV2<'a> as FromFields<EssCertIdV2Fields<'a>>>⟧.fields v) };

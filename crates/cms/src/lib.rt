@@ -1,13 +1,13 @@
 //! Messages that are signed, encrypted, authenticated or compressed (RFC 5652, RFC 5083, RFC 3274),
-//! attributes of signatures (RFC 5035), and timestamps (RFC 3161), borrowed from the input. Each type
-//! is lawful: decoding succeeds exactly if the octets are the encoding of a value. Nothing is
-//! allocated. The types are compiled from `asn1/cms.asn1`; `asn1::values` has the identifiers of
+//! attributes of signatures (RFC 5035), and timestamps (RFC 3161), borrowed from the input. Each
+//! type is lawful: decoding succeeds if and only if the octets are the encoding of a value. Nothing
+//! is allocated. The types are compiled from `asn1/cms.asn1`. `asn1::values` has the identifiers of
 //! contents and attributes.
 //!
-//! Decoding checks the form alone: no signature, code or digest is verified, and nothing is decrypted
-//! or decompressed. Under the Basic Encoding Rules (`from_ber`) each length may be indefinite, and a
-//! content may be in segments ([`Segmented`], [`EncryptedOctets`]); the items of lists must still be
-//! DER and in order.
+//! Decoding checks the syntax only. No signature, authentication code or digest is verified, and
+//! nothing is decrypted or decompressed. Under the Basic Encoding Rules (`from_ber`), lengths may
+//! be indefinite, and a content may be in segments ([`Segmented`], [`EncryptedOctets`]). The items
+//! of lists must still be DER and in order.
 #![tactic(auto)]
 
 pub mod asn1;

@@ -1,11 +1,11 @@
-//! The default of the hashes of certificates.
+//! The default hash algorithm of an ESSCertIDv2.
 ghost use Rattle.std.specs.Prelude.{[], ◌∷◌};
 
 use der::IsValue;
 use der_asn1::{Checked, DefaultEncoding, DefaultOf, Optional, has_contents};
 use spki::AlgorithmIdentifierRef;
 
-/// SHA-256 without parameters, the default of the hashes of certificates (RFC 5035, 4).
+/// The default hash algorithm of an ESSCertIDv2 (RFC 5035, 4): SHA-256 without parameters.
 #[derive(Clone, Copy)]
 pub struct Sha256Default;
 

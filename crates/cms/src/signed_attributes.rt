@@ -10,13 +10,15 @@ use der::{Encode, Error};
 use x509::Attributes;
 
 impl<'a> SignerInfo<'a> {
-    /// Writes the signed attributes as the signature covers them: with the tag of a SET OF in place
-    /// of the tag 0 (RFC 5652, 5.4). Returns the octets written at the start of the buffer, or `None`
-    /// if there are no signed attributes: the signature covers the content itself then.
+    /// Writes the signed attributes to the start of `buffer` as the signature covers them: with the
+    /// tag of a SET OF in place of the tag `[0]` (RFC 5652, 5.4). Returns the octets written.
+    /// Returns `None` if there are no signed attributes; then the signature covers the content
+    /// itself.
     ///
     /// # Errors
     ///
-    /// The errors of [`Encode::encode_to_slice`]: `Overlength` if the buffer is too short.
+    /// The errors of [`Encode::encode_to_slice`]. One of them is `Overlength`, if the buffer is too
+    /// short.
     pub fn signed_attributes_der<'b>(&self, buffer: &'b mut [u8]) -> Result<Option<&'b [u8]>, Error>
         ensures ok { IfOk result (λ r. option_map (λ s. s.now) r ≡ covered_octets self.now) }
         ensures absent { self.now.signed_attrs.0 ≡ None → result ≡ Ok None }

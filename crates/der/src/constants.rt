@@ -5,7 +5,7 @@ ghost use Rattle.der.specs.BytesRef.{reference_octets};
 
 use crate::bytes::BytesRef;
 
-/// Returns [`BytesRef::EMPTY`]; the contract states that it has no octets.
+/// Returns [`BytesRef::EMPTY`]. The contract of this function states that it has no octets.
 fn empty() -> BytesRef<'static>
     ensures { reference_octets result ≡ [] }
 {

@@ -3,7 +3,7 @@
 //! 0.8.3.
 //!
 //! This crate re-exports all of `der_base` and `der_core`. It adds byte strings, texts, and the
-//! module [`example`]. The `specs/` of each crate define the words that its contracts use.
+//! module [`example`]. The terms in the contracts of a crate are defined in its folder `specs`.
 #![tactic(auto)]
 
 mod bytes;

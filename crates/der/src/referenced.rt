@@ -1,4 +1,4 @@
-//! Conversions between borrowed octets and boxed ones.
+//! Conversions between octets that are borrowed as a slice and octets that are owned in a box.
 ghost use Rattle.std.specs.Prelude.{◌≡◌, Ok};
 ghost use Rattle.std.specs.Box.{boxed_slice_items};
 ghost use Rattle.der_core.specs.Outcome.{map_ok};

@@ -1,4 +1,5 @@
-//! Lists that are assembled from their items, in buffers of the caller.
+//! Making a SEQUENCE OF or a SET OF from its items: their encodings are written into a buffer of
+//! the caller.
 
 mod lists;
 mod written_item;

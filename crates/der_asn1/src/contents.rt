@@ -1,4 +1,6 @@
-//! Types that a check of their contents gives, compared and printed by their contents.
+//! ASN.1 types that are described by a tag and a check of the contents octets (see
+//! [`Checked`](crate::Checked)). Values of ASN.1 types are compared and printed by their contents
+//! octets.
 
 pub(crate) mod checked;
 pub(crate) mod comparisons;

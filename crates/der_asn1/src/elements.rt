@@ -1,4 +1,4 @@
-//! Elements of any type, NULL, and SEQUENCEs that are kept as their contents.
+//! Elements of any type, NULL, and SEQUENCEs whose contents are not decoded.
 
 pub(crate) mod any;
 pub(crate) mod decode_as;

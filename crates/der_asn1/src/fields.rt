@@ -1,4 +1,6 @@
-//! Components of SEQUENCEs: tagged, optional, alternatives of a CHOICE, and those that a type does not have.
+//! Components of SEQUENCEs: tagged components, OPTIONAL components, CHOICEs, and unknown elements.
+//! A type with an extension mark keeps unknown elements, because a later version of the type may
+//! define them.
 
 pub(crate) mod additions;
 pub(crate) mod choice;

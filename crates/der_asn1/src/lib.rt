@@ -1,8 +1,9 @@
 //! Types of ASN.1 on top of the crate `der`: optional and DEFAULT fields, elements of any tag,
 //! types given by a check of their contents, lists, and SEQUENCEs of named fields.
 //!
-//! `specs/Follow.antt` states what may follow a field, and `specs/Meaning.antt` composes fields: a
-//! SEQUENCE of fields that are read as they are written is lawful.
+//! For proofs, `specs/Follow.antt` states what may follow a field so that the field is read as it
+//! was written. `specs/Meaning.antt` composes the specification of a SEQUENCE from those of its
+//! fields: if each field is read as it was written, the SEQUENCE is [`Lawful`](der::Lawful).
 #![tactic(auto)]
 
 pub mod assembly;

@@ -109,12 +109,12 @@ pub enum ErrorKind {
     EncodingRules,
     /// The reader or writer had already failed, in an earlier call.
     Failed,
-    /// The input, or the nested part that is being read, ends too early. Both fields count octets
-    /// from the start of the input.
+    /// The input, or the contents of the element that is being read, end too early. Both fields
+    /// count octets from the start of the input.
     Incomplete {
         /// The position up to which octets are required. Octets after it may be required too.
         expected_len: Length,
-        /// The position where the input or nested part ends.
+        /// The position where the input, or the contents of that element, end.
         actual_len: Length,
     },
     /// An indefinite length occurs where none is allowed, or is not closed by two end-of-contents
@@ -167,7 +167,7 @@ pub enum ErrorKind {
     TrailingData {
         /// The number of octets that were read since the start of the input.
         decoded: Length,
-        /// The number of unread octets, up to the end of the input or of the contents.
+        /// The number of unread octets, up to the end of the input or of the element's contents.
         remaining: Length,
     },
     /// A text is not UTF-8.

@@ -171,8 +171,9 @@ impl Tag {
         }
     }
 
-    /// The number of identifier octets (X.690 8.1.2), 1 to 6. A tag number up to 30 needs one
-    /// octet. A greater tag number needs one octet, and one more for each of its base-128 digits.
+    /// The number of identifier octets (X.690 8.1.2), 1 to 6. A tag number up to 30 takes one
+    /// octet. A greater tag number takes one octet, and one more for each of its digits in base
+    /// 128.
     pub const fn octet_count(self) -> u32
         ensures octets { result ≡ length (tag_octets self) }
         ensures most { result ≤ 6 }

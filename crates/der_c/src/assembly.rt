@@ -13,16 +13,19 @@ ghost use Rattle.std.specs.Prelude.{◌&&◌};
 use der_c_assembly::DerCertificateParts;
 use der_c_core::{DerError, DerWriter};
 
-/// Writes a level of a name with one attribute, a RelativeDistinguishedName (RFC 5280, 4.1.2.4): a SET
-/// with a SEQUENCE of the type and the value. `identifier` are the contents octets of the type's OBJECT
-/// IDENTIFIER. `text` are the contents of the value, a string of the type `string_type`, which is a word as
-/// `der_read_text` takes it. A name is a SEQUENCE of such levels.
+/// Writes a RelativeDistinguishedName with one attribute (RFC 5280, 4.1.2.4). It is a SET of one
+/// SEQUENCE, which has the type and the value of the attribute. A Name is a SEQUENCE of
+/// RelativeDistinguishedNames.
 ///
-/// `writer` has failed after an error. Fails with:
+/// `identifier` are the contents octets of the OBJECT IDENTIFIER that is the type. The value is a
+/// string of the type `string_type`, and `text` are its contents octets. `string_type` is one of
+/// the tag words that `der_read_text` names.
+///
+/// After an error, `writer` has failed. Fails with:
 ///
 /// - `Value` with the tag SET, without a position, if `identifier` are not contents of an OBJECT
-///   IDENTIFIER, if `text` are not characters of the type, or if `string_type` is not the word of a string
-///   type;
+///   IDENTIFIER, if `text` are not characters of the type, or if `string_type` is not the tag word
+///   of a string type;
 /// - the errors of `der_write_element`.
 #[unsafe(no_mangle)]
 pub extern "C" fn der_write_name_attribute<'a>(
@@ -39,14 +42,17 @@ pub extern "C" fn der_write_name_attribute<'a>(
     der_c_assembly::der_write_name_attribute(writer, identifier, string_type, text)
 }
 
-/// Writes an extension of a certificate, a request or a revocation list (RFC 5280, 4.1). `identifier` are
-/// the contents octets of its OBJECT IDENTIFIER, and `value` is the encoding of its value, which is written
-/// as the contents of an OCTET STRING and not checked. Extensions are a SEQUENCE of such elements.
+/// Writes an extension of a certificate, a request or a revocation list (RFC 5280, 4.1). A list of
+/// extensions is a SEQUENCE of elements that this function writes.
 ///
-/// `writer` has failed after an error. Fails with:
+/// `identifier` are the contents octets of the OBJECT IDENTIFIER that is the type of the extension.
+/// `value` is the encoding of the value of the extension. It becomes the contents of an OCTET
+/// STRING, and is not checked.
 ///
-/// - `Value` with the tag SEQUENCE, without a position, if `identifier` are not contents of an OBJECT
-///   IDENTIFIER;
+/// After an error, `writer` has failed. Fails with:
+///
+/// - `Value` with the tag SEQUENCE, without a position, if `identifier` are not contents of an
+///   OBJECT IDENTIFIER;
 /// - the errors of `der_write_element`.
 #[unsafe(no_mangle)]
 pub extern "C" fn der_write_extension<'a>(
@@ -64,13 +70,13 @@ pub extern "C" fn der_write_extension<'a>(
 }
 
 /// Writes an AlgorithmIdentifier (RFC 5280, 4.1.1.2). `identifier` are the contents octets of the
-/// algorithm's OBJECT IDENTIFIER. Its parameters are NULL if `null_parameters`, as RSA has them, and else
-/// absent, as ECDSA and Ed25519 have them.
+/// OBJECT IDENTIFIER of the algorithm. If `null_parameters` is true, the parameters are NULL, which
+/// is usual for RSA. Otherwise they are absent, which is usual for ECDSA and Ed25519.
 ///
-/// `writer` has failed after an error. Fails with:
+/// After an error, `writer` has failed. Fails with:
 ///
-/// - `Value` with the tag SEQUENCE, without a position, if `identifier` are not contents of an OBJECT
-///   IDENTIFIER;
+/// - `Value` with the tag SEQUENCE, without a position, if `identifier` are not contents of an
+///   OBJECT IDENTIFIER;
 /// - the errors of `der_write_element`.
 #[unsafe(no_mangle)]
 pub extern "C" fn der_write_algorithm(
@@ -86,12 +92,15 @@ pub extern "C" fn der_write_algorithm(
     der_c_assembly::der_write_algorithm(writer, identifier, null_parameters)
 }
 
-/// Writes a CertificationRequestInfo (PKCS #10; RFC 2986, 4.1), the part of a request that is signed.
-/// `subject` is the encoding of a Name, `public_key` that of a SubjectPublicKeyInfo. `extensions` is the
-/// encoding of the Extensions that are requested (RFC 2985, 5.4.2); a request without octets of
-/// `extensions` has no attributes. All three are written as they are, and not checked.
+/// Writes a CertificationRequestInfo (PKCS #10; RFC 2986, 4.1). It is the part of a request that is
+/// signed. The arguments are encodings, which are written as they are and are not checked:
 ///
-/// Fails with the errors of `der_write_element`; `writer` has failed then.
+/// - `subject` is a Name.
+/// - `public_key` is a SubjectPublicKeyInfo.
+/// - `extensions` is the list of extensions that the certificate is to have (RFC 2985, 5.4.2). If
+///   it has no octets, the request has no attributes.
+///
+/// Fails with the errors of `der_write_element`. After an error, `writer` has failed.
 #[unsafe(no_mangle)]
 pub extern "C" fn der_write_request_part<'a>(
     writer: &mut DerWriter<'_>,
@@ -107,12 +116,16 @@ pub extern "C" fn der_write_request_part<'a>(
     der_c_assembly::der_write_request_part(writer, subject, public_key, extensions)
 }
 
-/// Writes a Validity (RFC 5280, 4.1.2.5): a SEQUENCE of two times, each in seconds since
-/// 1970-01-01T00:00:00Z. A time from 1950 to 2049 is a UTCTime, and another one a GeneralizedTime. That
-/// `not_before` comes first is not checked.
+/// Writes a Validity (RFC 5280, 4.1.2.5), which is a SEQUENCE of two times. `not_before` and
+/// `not_after` are these times, in seconds since 1970-01-01T00:00:00Z. A time from 1950 to 2049 is
+/// written as a UTCTime, and any other time as a GeneralizedTime. Does not check that `not_before`
+/// is before `not_after`.
 ///
-/// `writer` has failed after an error; octets of the element that were written remain. Fails with the errors
-/// of `der_write_header`, and of `der_write_time_seconds` of each time.
+/// After an error, `writer` has failed, and the octets that were already written remain. Fails
+/// with:
+///
+/// - the errors of `der_write_header`;
+/// - the errors of `der_write_time_seconds` for each time.
 #[unsafe(no_mangle)]
 pub extern "C" fn der_write_validity(
     writer: &mut DerWriter<'_>,
@@ -126,13 +139,14 @@ pub extern "C" fn der_write_validity(
     der_c_assembly::der_write_validity(writer, not_before, not_after)
 }
 
-/// Writes a TBSCertificate (RFC 5280, 4.1) of version 3, the part of a certificate that is signed, without
-/// unique identifiers. The parts are written as they are.
+/// Writes a TBSCertificate of version 3 without unique identifiers (RFC 5280, 4.1). It is the part
+/// of a certificate that is signed. The serial number is checked. All other `parts` are written as
+/// they are, and are not checked.
 ///
-/// `writer` has failed after an error. Fails with:
+/// After an error, `writer` has failed. Fails with:
 ///
-/// - `Value` with the tag SEQUENCE, without a position, if the serial number has no octets or not the
-///   fewest;
+/// - `Value` with the tag SEQUENCE, without a position, if the serial number has no octets, or more
+///   than its number needs;
 /// - the errors of `der_write_element`.
 #[unsafe(no_mangle)]
 pub extern "C" fn der_write_certificate_part(
@@ -147,12 +161,14 @@ pub extern "C" fn der_write_certificate_part(
     der_c_assembly::der_write_certificate_part(writer, parts)
 }
 
-/// Writes a Certificate, a CertificateList (RFC 5280, 4.1 and 5.1) or a CertificationRequest (RFC 2986,
-/// 4.2): a SEQUENCE of the part that is signed, the algorithm, and a BIT STRING with the octets of the
-/// signature. `part` and `algorithm` are written as they are: each must be the encoding of one element,
-/// which is not checked.
+/// Writes a signed value: a Certificate, a CertificateList (RFC 5280, 4.1 and 5.1) or a
+/// CertificationRequest (RFC 2986, 4.2). Each is a SEQUENCE of the signed part, the algorithm, and
+/// a BIT STRING with the octets of the signature.
 ///
-/// Fails with the errors of `der_write_element`; `writer` has failed then.
+/// `part` and `algorithm` must each be the encoding of one element, with its header. They are
+/// written as they are, and are not checked.
+///
+/// Fails with the errors of `der_write_element`. After an error, `writer` has failed.
 #[unsafe(no_mangle)]
 pub extern "C" fn der_write_signed<'a>(
     writer: &mut DerWriter<'_>,

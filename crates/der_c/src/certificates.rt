@@ -35,12 +35,13 @@ use x509::{
 /// A call that fails leaves `certificate` unchanged. Fails with:
 ///
 /// - `Overflow` without a position, if there are more than 4294967295 octets;
-/// - the error of the first octets that are not those of a certificate; its position, if it
-///   has one, counts from the start of `octets`;
+/// - the error of decoding, if `octets` do not begin with a certificate. Its position, if it has
+///   one, is counted from the start of `octets`;
 /// - `TrailingData`, if octets follow the certificate.
 ///
-/// The errors are exactly those of `x509::Certificate::from_der`, but for `Incomplete` where the contents of the value are
-/// cut: it is at their start, and says where they would end.
+/// The errors are the same as of `x509::Certificate::from_der`, with one exception. If the contents
+/// of the outermost element are cut, the error is `Incomplete` at the start of these contents, and
+/// its `first` is the position at which they would end.
 #[unsafe(no_mangle)]
 pub extern "C" fn der_certificate_read<'a>(
     alloc: Global,
@@ -63,12 +64,13 @@ pub extern "C" fn der_certificate_read<'a>(
 /// A call that fails leaves `key` unchanged. Fails with:
 ///
 /// - `Overflow` without a position, if there are more than 4294967295 octets;
-/// - the error of the first octets that are not those of a public key; its position, if it
-///   has one, counts from the start of `octets`;
+/// - the error of decoding, if `octets` do not begin with a public key. Its position, if it has
+///   one, is counted from the start of `octets`;
 /// - `TrailingData`, if octets follow the key.
 ///
-/// The errors are exactly those of `spki::SubjectPublicKeyInfoRef::from_der`, but for `Incomplete` where the contents of the value are
-/// cut: it is at their start, and says where they would end.
+/// The errors are the same as of `spki::SubjectPublicKeyInfoRef::from_der`, with one exception. If
+/// the contents of the outermost element are cut, the error is `Incomplete` at the start of these
+/// contents, and its `first` is the position at which they would end.
 #[unsafe(no_mangle)]
 pub extern "C" fn der_public_key_read<'a>(
     alloc: Global,
@@ -91,12 +93,13 @@ pub extern "C" fn der_public_key_read<'a>(
 /// A call that fails leaves `request` unchanged. Fails with:
 ///
 /// - `Overflow` without a position, if there are more than 4294967295 octets;
-/// - the error of the first octets that are not those of a request; its position, if it
-///   has one, counts from the start of `octets`;
+/// - the error of decoding, if `octets` do not begin with a request. Its position, if it has one,
+///   is counted from the start of `octets`;
 /// - `TrailingData`, if octets follow the request.
 ///
-/// The errors are exactly those of `x509::CertReq::from_der`, but for `Incomplete` where the contents of the value are
-/// cut: it is at their start, and says where they would end.
+/// The errors are the same as of `x509::CertReq::from_der`, with one exception. If the contents of
+/// the outermost element are cut, the error is `Incomplete` at the start of these contents, and its
+/// `first` is the position at which they would end.
 #[unsafe(no_mangle)]
 pub extern "C" fn der_request_read<'a>(
     alloc: Global,
@@ -113,18 +116,19 @@ pub extern "C" fn der_request_read<'a>(
     der_c_x509::der_request_read(alloc, octets, request)
 }
 
-/// Reads a private key with its algorithm into `key`. `octets` must be the DER encoding of one
-/// PrivateKeyInfo, which RFC 5958, 2, calls OneAsymmetricKey too.
+/// Reads a private key and its algorithm into `key`. `octets` must be the DER encoding of one
+/// PrivateKeyInfo. RFC 5958, 2, also calls this type OneAsymmetricKey.
 ///
 /// A call that fails leaves `key` unchanged. Fails with:
 ///
 /// - `Overflow` without a position, if there are more than 4294967295 octets;
-/// - the error of the first octets that are not those of a private key; its position, if it
-///   has one, counts from the start of `octets`;
+/// - the error of decoding, if `octets` do not begin with a private key. Its position, if it has
+///   one, is counted from the start of `octets`;
 /// - `TrailingData`, if octets follow the key.
 ///
-/// The errors are exactly those of `pkcs8::PrivateKeyInfo::from_der`, but for `Incomplete` where the contents of the value are
-/// cut: it is at their start, and says where they would end.
+/// The errors are the same as of `pkcs8::PrivateKeyInfo::from_der`, with one exception. If the
+/// contents of the outermost element are cut, the error is `Incomplete` at the start of these
+/// contents, and its `first` is the position at which they would end.
 #[unsafe(no_mangle)]
 pub extern "C" fn der_private_key_read<'a>(
     alloc: Global,
@@ -139,18 +143,19 @@ pub extern "C" fn der_private_key_read<'a>(
     der_c_x509::der_private_key_read(alloc, octets, key)
 }
 
-/// Reads a certificate revocation list into `list`. `octets` must be the DER encoding of one list
-/// (RFC 5280, 5.1). Every entry is checked, as `der_next_revoked` does.
+/// Reads a certificate revocation list into `list`. `octets` must be the DER encoding of one
+/// revocation list (RFC 5280, 5.1). Every entry is checked as `der_next_revoked` checks it.
 ///
 /// A call that fails leaves `list` unchanged. Fails with:
 ///
 /// - `Overflow` without a position, if there are more than 4294967295 octets;
-/// - the error of the first octets that are not those of a list; its position, if it
-///   has one, counts from the start of `octets`;
-/// - `TrailingData`, if octets follow the list.
+/// - the error of decoding, if `octets` do not begin with a revocation list. Its position, if it
+///   has one, is counted from the start of `octets`;
+/// - `TrailingData`, if octets follow the revocation list.
 ///
-/// The errors are exactly those of `x509::CertificateList::from_der`, but for `Incomplete` where the contents of the value are
-/// cut: it is at their start, and says where they would end.
+/// The errors are the same as of `x509::CertificateList::from_der`, with one exception. If the
+/// contents of the outermost element are cut, the error is `Incomplete` at the start of these
+/// contents, and its `first` is the position at which they would end.
 #[unsafe(no_mangle)]
 pub extern "C" fn der_revocation_list_read<'a>(
     alloc: Global,
@@ -166,11 +171,12 @@ pub extern "C" fn der_revocation_list_read<'a>(
     der_c_x509::der_revocation_list_read(alloc, octets, list)
 }
 
-/// Reads the next extension of a list into `extension`. `reader` reads the contents of the list, as
-/// `der_certificate_read` returns them.
+/// Reads the next extension of a list into `extension`. `reader` must read the contents of a list
+/// of extensions, such as the list that `der_certificate_read` stores in `extensions`.
 ///
-/// Every error makes the reader fail, except `TagUnexpected`, which leaves it unchanged. A call
-/// that fails leaves `extension` unchanged. At the end of the list the error is `Incomplete`.
+/// A call that fails leaves `extension` unchanged. At the end of the list, the error is
+/// `Incomplete`. After `TagUnexpected`, `reader` is unchanged; after any other error, `reader` has
+/// failed.
 #[unsafe(no_mangle)]
 pub extern "C" fn der_next_extension<'a>(
     alloc: Global,
@@ -189,12 +195,13 @@ pub extern "C" fn der_next_extension<'a>(
     der_c_x509::der_next_extension(alloc, reader, extension)
 }
 
-/// Reads the next attribute of one level of a name into `attribute`. A name is a SEQUENCE OF
-/// levels, and each level is a SET OF attributes (RFC 5280, 4.1.2.4). `reader` reads the contents
-/// of such a SET, which `der_enter` enters.
+/// Reads the next attribute of a RelativeDistinguishedName into `attribute`. A Name is a SEQUENCE
+/// of RelativeDistinguishedNames, and each of them is a SET of attributes (RFC 5280, 4.1.2.4).
+/// `reader` must read the contents of the SET, for example after `der_enter`.
 ///
-/// Every error makes the reader fail, except `TagUnexpected`, which leaves it unchanged. A call
-/// that fails leaves `attribute` unchanged. At the end of the SET the error is `Incomplete`.
+/// A call that fails leaves `attribute` unchanged. At the end of the SET, the error is
+/// `Incomplete`. After `TagUnexpected`, `reader` is unchanged; after any other error, `reader` has
+/// failed.
 #[unsafe(no_mangle)]
 pub extern "C" fn der_next_attribute<'a>(
     alloc: Global,
@@ -213,12 +220,12 @@ pub extern "C" fn der_next_attribute<'a>(
     der_c_x509::der_next_attribute(alloc, reader, attribute)
 }
 
-/// Reads the next name of a list into `name`. `reader` reads the contents of GeneralNames, as
-/// `der_subject_alternative_name`, `der_authority_key_identifier` and `der_next_distribution_point`
-/// return them.
+/// Reads the next name of a list of general names into `name`. `reader` must read the contents of a
+/// list that `der_subject_alternative_name`, `der_authority_key_identifier` or
+/// `der_next_distribution_point` has found.
 ///
-/// Every error makes the reader fail, except `TagUnexpected`, which leaves it unchanged. A call
-/// that fails leaves `name` unchanged. At the end of the list the error is `Incomplete`.
+/// A call that fails leaves `name` unchanged. At the end of the list, the error is `Incomplete`.
+/// After `TagUnexpected`, `reader` is unchanged; after any other error, `reader` has failed.
 #[unsafe(no_mangle)]
 pub extern "C" fn der_next_general_name<'a>(
     alloc: Global,
@@ -237,11 +244,11 @@ pub extern "C" fn der_next_general_name<'a>(
     der_c_x509::der_next_general_name(alloc, reader, name)
 }
 
-/// Reads the next entry of a revocation list into `entry`. `reader` reads the contents of the list
-/// of entries, as `der_revocation_list_read` returns them.
+/// Reads the next entry of a revocation list into `entry`. `reader` must read the contents of a
+/// list of entries that `der_revocation_list_read` has found.
 ///
-/// Every error makes the reader fail, except `TagUnexpected`, which leaves it unchanged. A call
-/// that fails leaves `entry` unchanged. At the end of the list the error is `Incomplete`.
+/// A call that fails leaves `entry` unchanged. At the end of the list, the error is `Incomplete`.
+/// After `TagUnexpected`, `reader` is unchanged; after any other error, `reader` has failed.
 #[unsafe(no_mangle)]
 pub extern "C" fn der_next_revoked<'a>(
     alloc: Global,

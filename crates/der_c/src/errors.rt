@@ -6,10 +6,11 @@ ghost use Rattle.der_c_core.specs.ErrorText.{WritesErrorText};
 use der_c_core::DerError;
 
 /// Writes the text of `error` to the start of `text`, and a zero octet after it. If `text` is too
-/// short, writes only as many octets of the error's text as fit before the zero octet; writes
-/// nothing if `text` has no octets. Returns how many octets were written, without the zero octet.
-/// The text is `no error` if the kind of `error` is 0 or `Utf8` (20), or if no error has the C form
-/// `error`.
+/// short, truncates the text of `error` so that the zero octet still fits. Writes nothing if `text`
+/// has no octets. Returns the number of octets written, without the zero octet.
+///
+/// The text is `no error` if the kind of `error` is 0 or `Utf8` (20). The text is also `no error`
+/// if no function of this library can return `error`.
 #[unsafe(no_mangle)]
 pub extern "C" fn der_error_text(error: DerError, text: &mut [u8]) -> usize
     ensures { WritesErrorText error text.old result text.new }

@@ -30,16 +30,17 @@ use x509::{
     GeneralName,
 };
 
-/// Finds keyUsage in the contents of a list of extensions, and reads it into `usage`. It is not an
-/// error if the extension is absent.
+/// Finds the extension keyUsage and reads it into `usage`. `extensions` are the contents octets of
+/// a list of extensions. It is not an error if the extension is absent.
 ///
 /// A call that fails leaves `usage` unchanged. Fails with:
 ///
-/// - the error of the first extension of the list that cannot be decoded; there is none in the
-///   contents that `der_certificate_read` returns;
+/// - the error of decoding an extension, if the list has an extension that cannot be decoded. A
+///   list that `der_certificate_read` has set has no such extension;
 /// - `SetDuplicate` without a position, if the list has the extension more than once;
-/// - the error of decoding the value of the extension, whose position counts from the start of this
-///   value; `Incomplete` says where the value would end, if its contents are cut.
+/// - the error of decoding the value of the extension, if the value cannot be decoded. The position
+///   of the error is counted from the start of the value. If the contents of the value are cut, the
+///   error is `Incomplete`, and its `first` is the position at which the value would end.
 #[unsafe(no_mangle)]
 pub extern "C" fn der_key_usage<'a>(
     alloc: Global,
@@ -57,11 +58,12 @@ pub extern "C" fn der_key_usage<'a>(
     der_c_x509::der_key_usage(alloc, extensions, usage)
 }
 
-/// Finds keyUsage as `der_key_usage` does, but its contents may be BER: the bits may have zero bits after them. Sets
-/// `is_der` to whether the contents are DER, and to true if the extension is absent.
+/// Finds the extension keyUsage and reads it into `usage`, as `der_key_usage` does, but decodes its
+/// value under BER. For example, the BIT STRING may have zero bits at its end. Sets `is_der` to
+/// true if the value is DER or the extension is absent, and otherwise to false.
 ///
-/// A call that fails leaves `usage` and `is_der` unchanged. Fails as `der_key_usage` does, with the error of decoding
-/// the value under BER.
+/// A call that fails leaves `usage` and `is_der` unchanged. Fails as `der_key_usage` does, except
+/// that the error of decoding the value is the error under BER.
 #[unsafe(no_mangle)]
 pub extern "C" fn der_key_usage_lenient<'a>(
     alloc: Global,
@@ -83,17 +85,19 @@ pub extern "C" fn der_key_usage_lenient<'a>(
     der_c_x509::der_key_usage_lenient(alloc, extensions, usage, is_der)
 }
 
-/// Finds basicConstraints in the contents of a list of extensions, and reads it into `constraints`.
-/// It is not an error if the extension is absent.
+/// Finds the extension basicConstraints and reads it into `constraints`. `extensions` are the
+/// contents octets of a list of extensions. It is not an error if the extension is absent.
 ///
 /// A call that fails leaves `constraints` unchanged. Fails with:
 ///
-/// - the error of the first extension of the list that cannot be decoded; there is none in the
-///   contents that `der_certificate_read` returns;
+/// - the error of decoding an extension, if the list has an extension that cannot be decoded. A
+///   list that `der_certificate_read` has set has no such extension;
 /// - `SetDuplicate` without a position, if the list has the extension more than once;
-/// - the error of decoding the value of the extension, whose position counts from the start of this
-///   value; `Incomplete` says where the value would end, if its contents are cut;
-/// - `Value` with the tag INTEGER, without a position, if the limit is negative or above 2^64 - 1.
+/// - the error of decoding the value of the extension, if the value cannot be decoded. The position
+///   of the error is counted from the start of the value. If the contents of the value are cut, the
+///   error is `Incomplete`, and its `first` is the position at which the value would end;
+/// - `Value` with the tag INTEGER, without a position, if the limit for the length of a chain is
+///   negative or above 2^64 - 1.
 #[unsafe(no_mangle)]
 pub extern "C" fn der_basic_constraints<'a>(
     alloc: Global,
@@ -112,11 +116,13 @@ pub extern "C" fn der_basic_constraints<'a>(
     der_c_x509::der_basic_constraints(alloc, extensions, constraints)
 }
 
-/// Finds basicConstraints as `der_basic_constraints` does, but its contents may be BER: a field may be written though it
-/// has its default. Sets `is_der` to whether the contents are DER, and to true if the extension is absent.
+/// Finds the extension basicConstraints and reads it into `constraints`, as `der_basic_constraints`
+/// does, but decodes its value under BER. For example, a field with its default value may be
+/// present. Sets `is_der` to true if the value is DER or the extension is absent, and otherwise to
+/// false.
 ///
-/// A call that fails leaves `constraints` and `is_der` unchanged. Fails as `der_basic_constraints` does, with the error
-/// of decoding the value under BER.
+/// A call that fails leaves `constraints` and `is_der` unchanged. Fails as `der_basic_constraints`
+/// does, except that the error of decoding the value is the error under BER.
 #[unsafe(no_mangle)]
 pub extern "C" fn der_basic_constraints_lenient<'a>(
     alloc: Global,
@@ -139,17 +145,18 @@ pub extern "C" fn der_basic_constraints_lenient<'a>(
     der_c_x509::der_basic_constraints_lenient(alloc, extensions, constraints, is_der)
 }
 
-/// Finds subjectAltName in the contents of a list of extensions, and stores its names in `names`.
-/// It is not an error if the extension is absent. Each name is checked, as
-/// `der_next_general_name` does.
+/// Finds the extension subjectAltName and stores its names in `names`. `extensions` are the
+/// contents octets of a list of extensions. It is not an error if the extension is absent. Each
+/// name is checked as `der_next_general_name` checks it.
 ///
 /// A call that fails leaves `names` unchanged. Fails with:
 ///
-/// - the error of the first extension of the list that cannot be decoded; there is none in the
-///   contents that `der_certificate_read` returns;
+/// - the error of decoding an extension, if the list has an extension that cannot be decoded. A
+///   list that `der_certificate_read` has set has no such extension;
 /// - `SetDuplicate` without a position, if the list has the extension more than once;
-/// - the error of decoding the value of the extension, whose position counts from the start of this
-///   value; `Incomplete` says where the value would end, if its contents are cut.
+/// - the error of decoding the value of the extension, if the value cannot be decoded. The position
+///   of the error is counted from the start of the value. If the contents of the value are cut, the
+///   error is `Incomplete`, and its `first` is the position at which the value would end.
 #[unsafe(no_mangle)]
 pub extern "C" fn der_subject_alternative_name<'a>(
     alloc: Global,
@@ -169,18 +176,19 @@ pub extern "C" fn der_subject_alternative_name<'a>(
     der_c_x509::der_subject_alternative_name(alloc, extensions, names)
 }
 
-/// Finds extKeyUsage (RFC 5280, 4.2.1.12) in the contents of a list of extensions, and stores its
-/// purposes in `purposes`, for `der_next_key_purpose`. It is not an error if the extension is
-/// absent. Each purpose is checked, as `der_next_key_purpose` does. That there is at least one is
-/// not checked.
+/// Finds the extension extKeyUsage (RFC 5280, 4.2.1.12). `extensions` are the contents octets of a
+/// list of extensions. Stores the contents octets of the list of purposes in `purposes`, for
+/// `der_next_key_purpose`. It is not an error if the extension is absent, or if its list is empty.
+/// Each purpose is checked as `der_next_key_purpose` checks it.
 ///
 /// A call that fails leaves `purposes` unchanged. Fails with:
 ///
-/// - the error of the first extension of the list that cannot be decoded; there is none in the
-///   contents that `der_certificate_read` returns;
+/// - the error of decoding an extension, if the list has an extension that cannot be decoded. A
+///   list that `der_certificate_read` has set has no such extension;
 /// - `SetDuplicate` without a position, if the list has the extension more than once;
-/// - the error of decoding the value of the extension, whose position counts from the start of this
-///   value; `Incomplete` says where the value would end, if its contents are cut.
+/// - the error of decoding the value of the extension, if the value cannot be decoded. The position
+///   of the error is counted from the start of the value. If the contents of the value are cut, the
+///   error is `Incomplete`, and its `first` is the position at which the value would end.
 #[unsafe(no_mangle)]
 pub extern "C" fn der_extended_key_usage<'a>(
     alloc: Global,
@@ -200,12 +208,12 @@ pub extern "C" fn der_extended_key_usage<'a>(
     der_c_x509::der_extended_key_usage(alloc, extensions, purposes)
 }
 
-/// Reads the next purpose of extKeyUsage into `purpose`: the contents octets of the OBJECT
-/// IDENTIFIER (KeyPurposeId; RFC 5280, 4.2.1.12). `reader` reads the purposes, as
-/// `der_extended_key_usage` returns them.
+/// Reads the next purpose of extKeyUsage into `purpose`: the contents octets of an OBJECT
+/// IDENTIFIER (KeyPurposeId; RFC 5280, 4.2.1.12). `reader` must read the contents of a list that
+/// `der_extended_key_usage` has found.
 ///
-/// Every error makes the reader fail, except `TagUnexpected`, which leaves it unchanged. A call
-/// that fails leaves `purpose` unchanged. At the end of the list the error is `Incomplete`.
+/// A call that fails leaves `purpose` unchanged. At the end of the list, the error is `Incomplete`.
+/// After `TagUnexpected`, `reader` is unchanged; after any other error, `reader` has failed.
 #[unsafe(no_mangle)]
 pub extern "C" fn der_next_key_purpose<'a>(
     alloc: Global,
@@ -225,17 +233,19 @@ pub extern "C" fn der_next_key_purpose<'a>(
     der_c_x509::der_next_key_purpose(alloc, reader, purpose)
 }
 
-/// Finds subjectKeyIdentifier (RFC 5280, 4.2.1.2) in the contents of a list of extensions, and
-/// stores the octets of the identifier in `identifier`. It is not an error if the extension is
-/// absent. That the identifier is that of the certificate's key is not checked.
+/// Finds the extension subjectKeyIdentifier (RFC 5280, 4.2.1.2), and stores the octets of the
+/// identifier in `identifier`. `extensions` are the contents octets of a list of extensions. It is
+/// not an error if the extension is absent. It is not checked that the identifier belongs to the
+/// certificate's key.
 ///
 /// A call that fails leaves `identifier` unchanged. Fails with:
 ///
-/// - the error of the first extension of the list that cannot be decoded; there is none in the
-///   contents that `der_certificate_read` returns;
+/// - the error of decoding an extension, if the list has an extension that cannot be decoded. A
+///   list that `der_certificate_read` has set has no such extension;
 /// - `SetDuplicate` without a position, if the list has the extension more than once;
-/// - the error of decoding the value of the extension, whose position counts from the start of this
-///   value; `Incomplete` says where the value would end, if its contents are cut.
+/// - the error of decoding the value of the extension, if the value cannot be decoded. The position
+///   of the error is counted from the start of the value. If the contents of the value are cut, the
+///   error is `Incomplete`, and its `first` is the position at which the value would end.
 #[unsafe(no_mangle)]
 pub extern "C" fn der_subject_key_identifier<'a>(
     alloc: Global,
@@ -254,17 +264,19 @@ pub extern "C" fn der_subject_key_identifier<'a>(
     der_c_x509::der_subject_key_identifier(alloc, extensions, identifier)
 }
 
-/// Finds authorityKeyIdentifier in the contents of a list of extensions, and reads it into `key`.
-/// It is not an error if the extension is absent, nor if it has names without a serial number, or a
-/// serial number without names. Each name is checked, as `der_next_general_name` does.
+/// Finds the extension authorityKeyIdentifier and reads it into `key`. `extensions` are the
+/// contents octets of a list of extensions. It is not an error if the extension is absent, or if it
+/// has only one of the names and the serial number. Each name is checked as `der_next_general_name`
+/// checks it.
 ///
 /// A call that fails leaves `key` unchanged. Fails with:
 ///
-/// - the error of the first extension of the list that cannot be decoded; there is none in the
-///   contents that `der_certificate_read` returns;
+/// - the error of decoding an extension, if the list has an extension that cannot be decoded. A
+///   list that `der_certificate_read` has set has no such extension;
 /// - `SetDuplicate` without a position, if the list has the extension more than once;
-/// - the error of decoding the value of the extension, whose position counts from the start of this
-///   value; `Incomplete` says where the value would end, if its contents are cut.
+/// - the error of decoding the value of the extension, if the value cannot be decoded. The position
+///   of the error is counted from the start of the value. If the contents of the value are cut, the
+///   error is `Incomplete`, and its `first` is the position at which the value would end.
 #[unsafe(no_mangle)]
 pub extern "C" fn der_authority_key_identifier<'a>(
     alloc: Global,
@@ -284,18 +296,20 @@ pub extern "C" fn der_authority_key_identifier<'a>(
     der_c_x509::der_authority_key_identifier(alloc, extensions, key)
 }
 
-/// Finds authorityInfoAccess (RFC 5280, 4.2.2.1) in the contents of a list of extensions, and
-/// stores its list in `descriptions`, for `der_next_access_description`. It is not an error if the
-/// extension is absent. Each access description is checked, as `der_next_access_description` does.
-/// That there is at least one is not checked.
+/// Finds the extension authorityInfoAccess (RFC 5280, 4.2.2.1). `extensions` are the contents
+/// octets of a list of extensions. Stores the contents octets of the list of access descriptions in
+/// `descriptions`, for `der_next_access_description`. It is not an error if the extension is
+/// absent, or if its list is empty. Each access description is checked as
+/// `der_next_access_description` checks it.
 ///
 /// A call that fails leaves `descriptions` unchanged. Fails with:
 ///
-/// - the error of the first extension of the list that cannot be decoded; there is none in the
-///   contents that `der_certificate_read` returns;
+/// - the error of decoding an extension, if the list has an extension that cannot be decoded. A
+///   list that `der_certificate_read` has set has no such extension;
 /// - `SetDuplicate` without a position, if the list has the extension more than once;
-/// - the error of decoding the value of the extension, whose position counts from the start of this
-///   value; `Incomplete` says where the value would end, if its contents are cut.
+/// - the error of decoding the value of the extension, if the value cannot be decoded. The position
+///   of the error is counted from the start of the value. If the contents of the value are cut, the
+///   error is `Incomplete`, and its `first` is the position at which the value would end.
 #[unsafe(no_mangle)]
 pub extern "C" fn der_authority_information_access<'a>(
     alloc: Global,
@@ -316,11 +330,12 @@ pub extern "C" fn der_authority_information_access<'a>(
     der_c_x509::der_authority_information_access(alloc, extensions, descriptions)
 }
 
-/// Reads the next access description of a list into `description`. `reader` reads the list, as
-/// `der_authority_information_access` returns it.
+/// Reads the next access description of a list into `description`. `reader` must read the contents
+/// of a list that `der_authority_information_access` has found.
 ///
-/// Every error makes the reader fail, except `TagUnexpected`, which leaves it unchanged. A call
-/// that fails leaves `description` unchanged. At the end of the list the error is `Incomplete`.
+/// A call that fails leaves `description` unchanged. At the end of the list, the error is
+/// `Incomplete`. After `TagUnexpected`, `reader` is unchanged; after any other error, `reader` has
+/// failed.
 #[unsafe(no_mangle)]
 pub extern "C" fn der_next_access_description<'a>(
     alloc: Global,
@@ -340,18 +355,19 @@ pub extern "C" fn der_next_access_description<'a>(
     der_c_x509::der_next_access_description(alloc, reader, description)
 }
 
-/// Finds cRLDistributionPoints (RFC 5280, 4.2.1.13) in the contents of a list of extensions, and
-/// stores its list in `points`, for `der_next_distribution_point`. It is not an error if the
-/// extension is absent. Each point is checked, as `der_next_distribution_point` does. That there is
-/// at least one is not checked.
+/// Finds the extension cRLDistributionPoints (RFC 5280, 4.2.1.13). `extensions` are the contents
+/// octets of a list of extensions. Stores in `points` whether the extension is present, and the
+/// contents octets of its list of distribution points, for `der_next_distribution_point`. The list
+/// may be empty. Each distribution point is checked as `der_next_distribution_point` checks it.
 ///
 /// A call that fails leaves `points` unchanged. Fails with:
 ///
-/// - the error of the first extension of the list that cannot be decoded; there is none in the
-///   contents that `der_certificate_read` returns;
+/// - the error of decoding an extension, if the list has an extension that cannot be decoded. A
+///   list that `der_certificate_read` has set has no such extension;
 /// - `SetDuplicate` without a position, if the list has the extension more than once;
-/// - the error of decoding the value of the extension, whose position counts from the start of this
-///   value; `Incomplete` says where the value would end, if its contents are cut.
+/// - the error of decoding the value of the extension, if the value cannot be decoded. The position
+///   of the error is counted from the start of the value. If the contents of the value are cut, the
+///   error is `Incomplete`, and its `first` is the position at which the value would end.
 #[unsafe(no_mangle)]
 pub extern "C" fn der_distribution_points<'a>(
     alloc: Global,
@@ -371,12 +387,12 @@ pub extern "C" fn der_distribution_points<'a>(
     der_c_x509::der_distribution_points(alloc, extensions, points)
 }
 
-/// Reads the next distribution point of a list into `point`. `reader` reads the list, as
-/// `der_distribution_points` returns it. It is not an error if the point has neither a place nor an
-/// issuer.
+/// Reads the next distribution point of a list into `point`. `reader` must read the contents of a
+/// list that `der_distribution_points` has found. It is not an error if the point has neither a
+/// name of the place nor an issuer of the revocation list.
 ///
-/// Every error makes the reader fail, except `TagUnexpected`, which leaves it unchanged. A call
-/// that fails leaves `point` unchanged. At the end of the list the error is `Incomplete`.
+/// A call that fails leaves `point` unchanged. At the end of the list, the error is `Incomplete`.
+/// After `TagUnexpected`, `reader` is unchanged; after any other error, `reader` has failed.
 #[unsafe(no_mangle)]
 pub extern "C" fn der_next_distribution_point<'a>(
     alloc: Global,

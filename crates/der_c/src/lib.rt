@@ -1,8 +1,8 @@
-//! The calls of `bindings/c/der.h`: each calls the function of the same name in a library below,
-//! and has its clauses.
+//! The C functions that `bindings/c/yotremul/der.h` and `der_tree.h` declare. Each function calls
+//! the function with the same name in one of the crates `der_c_*`, and has the same contract.
 //!
-//! No function allocates. The caller must ensure only that each pointer and length describe octets,
-//! and that each struct was made by the functions here.
+//! No function allocates memory. The caller must ensure only that each pointer and length describe
+//! octets, and that each struct was set by a function of this crate.
 #![tactic(auto)]
 
 mod assembly;

@@ -9,20 +9,23 @@ use der_c_core::DerError;
 use std::alloc::Global;
 use x509::RelativeDistinguishedName;
 
-/// Writes a name as RFC 4514 does, and a final zero octet, to the start of `text`, as
-/// `CN=example.org,O=Example,C=DE`: the last level first. Sets `count` to the number of octets of
-/// the text, without the zero octet. `name` are the contents octets of a Name, as the structs of
-/// certificates, requests and revocation lists have them.
+/// Writes a distinguished name in the form of RFC 4514, such as `CN=example.org,O=Example,C=DE`.
+/// The last RelativeDistinguishedName comes first. `name` are the contents octets of a Name, such
+/// as the `subject` of a certificate that `der_certificate_read` has read.
 ///
-/// A type without a short name in RFC 4514 or RFC 4519 is written as its OBJECT IDENTIFIER. Its
-/// value, and one that is no string, is `#` and the octets of its encoding in hexadecimal. Control
-/// characters of ASCII are escaped too. So `text` has no other zero octet.
+/// The text and a final zero octet are written to the start of `text`. `count` is set to the number
+/// of octets of the text, without the zero octet.
+///
+/// An attribute type without a short name in RFC 4514 or RFC 4519 is written as its OBJECT
+/// IDENTIFIER. The value of an attribute of this type is written as `#` and the octets of its
+/// encoding in hexadecimal, and so is any value that is not a string. ASCII control characters are
+/// escaped, so that the text contains no zero octet.
 ///
 /// A call that fails leaves `count` unchanged. Fails with:
 ///
-/// - the error of the first level that cannot be decoded, at its position; then `text` is
-///   unchanged;
-/// - `Overlength` without a position, if there is no room in `text`.
+/// - the error of the first RelativeDistinguishedName that cannot be decoded. Its position is
+///   counted from the start of `name`, and `text` is unchanged;
+/// - `Overlength` without a position, if `text` is too short.
 #[unsafe(no_mangle)]
 pub extern "C" fn der_name_text<'a>(
     alloc: Global,

@@ -19,11 +19,11 @@ ghost use Rattle.std.specs.Prelude.{IsTrue, length, ◌<◌, ◌^◌, ◌↔◌,
 
 use der_c_core::{DerElement, DerError, DerHeader, DerNode, DerReader, DerSpan};
 
-/// Makes `reader` a reader of `octets` from their start, under the Basic Encoding Rules if `ber` is
-/// true, otherwise under the Distinguished Encoding Rules.
+/// Makes `reader` a reader of `octets`, from their start. If `ber` is true, the reader reads under
+/// the Basic Encoding Rules, otherwise under the Distinguished Encoding Rules.
 ///
-/// Fails with `Overflow` without a position if there are more than 4294967295 octets; `reader` is
-/// unchanged then.
+/// Fails with `Overflow` without a position if there are more than 4294967295 octets. `reader` is
+/// unchanged after this error.
 #[unsafe(no_mangle)]
 pub extern "C" fn der_reader_init<'a>(
     octets: &'a [u8],
@@ -47,7 +47,7 @@ pub extern "C" fn der_position(reader: &DerReader<'_>) -> usize
     der_c_core::der_position(reader)
 }
 
-/// Returns true if `reader` is at the end of the octets that it reads, whether or not it has
+/// Returns true if `reader` is at the end of its octets. It does not matter whether `reader` has
 /// failed.
 #[unsafe(no_mangle)]
 pub extern "C" fn der_is_finished(reader: &DerReader<'_>) -> bool
@@ -56,10 +56,12 @@ pub extern "C" fn der_is_finished(reader: &DerReader<'_>) -> bool
     der_c_core::der_is_finished(reader)
 }
 
-/// Succeeds if the reader is at its end and has not failed.
+/// Succeeds if `reader` is at its end and has not failed. `reader` is unchanged.
 ///
-/// Fails with `Failed` if the reader has failed, and with `TrailingData` if octets are left. The
-/// position of the error is that of the reader.
+/// Each error is at the position of `reader`. Fails with:
+///
+/// - `Failed`, if `reader` has failed;
+/// - `TrailingData`, if octets are left.
 #[unsafe(no_mangle)]
 pub extern "C" fn der_finish(reader: &DerReader<'_>) -> DerError
     ensures { result ≡ answer_code (finish_answer (reader_state reader.now)) }
@@ -67,11 +69,13 @@ pub extern "C" fn der_finish(reader: &DerReader<'_>) -> DerError
     der_c_core::der_finish(reader)
 }
 
-/// Reads a header, as `der_core::decode_header` does, and stores it in `header`.
+/// Reads the header of the next element into `header`, as `der_core::decode_header` does. The
+/// contents are not consumed. Under the Basic Encoding Rules, the contents of an indefinite length
+/// are scanned to find their end.
 ///
-/// Fails with `Failed`, `Overflow`, `Incomplete`, `TagUnknown`, `TagNumberInvalid`,
-/// `IndefiniteLength`, `Length` and `NestingDepth`. A call that fails leaves `header` unchanged, and
-/// `reader` has failed after it.
+/// A call that fails leaves `header` unchanged, and `reader` has failed after it. Fails with
+/// `Failed`, `Overflow`, `Incomplete`, `TagUnknown`, `TagNumberInvalid`, `IndefiniteLength`,
+/// `Length` and `NestingDepth`.
 #[unsafe(no_mangle)]
 pub extern "C" fn der_read_header(reader: &mut DerReader<'_>, header: &mut DerHeader) -> DerError
     ensures same { Same (reader_state reader.old) (reader_state reader.new) }
@@ -100,10 +104,10 @@ pub extern "C" fn der_read_element<'a>(
     der_c_core::der_read_element(reader, element)
 }
 
-/// Consumes the next element and stores nothing of it. Consumes the header, the contents, and the
-/// end-of-contents octets of an indefinite length.
+/// Consumes the next element without storing it: the header, the contents, and the end-of-contents
+/// octets of an indefinite length.
 ///
-/// Fails with the errors of `der_read_element`, and `reader` has failed then.
+/// Fails with the errors of `der_read_element`. After an error, `reader` has failed.
 #[unsafe(no_mangle)]
 pub extern "C" fn der_skip(reader: &mut DerReader<'_>) -> DerError
     ensures same { Same (reader_state reader.old) (reader_state reader.new) }
@@ -112,19 +116,17 @@ pub extern "C" fn der_skip(reader: &mut DerReader<'_>) -> DerError
     der_c_core::der_skip(reader)
 }
 
-/// Stores the tag of the next element in `tag`, a word as in
-/// `DerElement::tag`. Only its identifier is read, and `reader` is
-/// unchanged, also after an error.
+/// Sets `tag` to the tag word of the next element (see
+/// `DerElement::tag`). Only the identifier of the element is read.
+/// `reader` is unchanged, also after an error.
 ///
-/// A call that fails leaves `tag` unchanged. Fails with the errors of reading the identifier, and
-/// with their positions:
+/// A call that fails leaves `tag` unchanged. Fails with:
 ///
-/// - `Failed` at the position of `reader`, if it has failed;
-/// - `Incomplete` at the end of `reader`, if the identifier is cut, as at the end of the octets, or
-///   `Overflow` without a position, if that end is at 4294967295;
-/// - `TagUnknown` at the position after the first octet, if no tag begins with it;
-/// - `TagNumberInvalid` at the position after the octet with which the identifier is no longer that
-///   of a tag.
+/// - `Failed` at the position of `reader`, if `reader` has failed;
+/// - `Incomplete` at the end of `reader`, if the identifier is cut or no octets are left. If this
+///   end is at position 4294967295, the error is `Overflow` without a position instead;
+/// - `TagUnknown` at the position after the first octet, if no tag begins with this octet;
+/// - `TagNumberInvalid` at the position after the octet that makes the tag number invalid.
 #[unsafe(no_mangle)]
 pub extern "C" fn der_peek(reader: &DerReader<'_>, tag: &mut u64) -> DerError
     ensures peeks { PeeksTag (reader_state reader.now) result tag.old tag.new }
@@ -132,11 +134,12 @@ pub extern "C" fn der_peek(reader: &DerReader<'_>, tag: &mut u64) -> DerError
     der_c_core::der_peek(reader, tag)
 }
 
-/// Whether the next element has the tag `tag`, a word as in
-/// `DerElement::tag`. Only its identifier is read.
+/// Whether the next element has the tag word `tag` (see
+/// `DerElement::tag`). Only the identifier of the element is read.
+/// `reader` is unchanged.
 ///
-/// The result is false if `reader` has failed or is at its end, if the next octets are no
-/// identifier, and if `tag` is the word of no tag. `reader` is unchanged.
+/// The result is false if `reader` has failed or is at its end, if the next octets are not a valid
+/// identifier, or if `tag` is not a valid tag word.
 #[unsafe(no_mangle)]
 pub extern "C" fn der_next_is(reader: &DerReader<'_>, tag: u64) -> bool
     ensures { IsTrue result ↔ HasNextTag tag (reader_state reader.now) }
@@ -144,16 +147,17 @@ pub extern "C" fn der_next_is(reader: &DerReader<'_>, tag: u64) -> bool
     der_c_core::der_next_is(reader, tag)
 }
 
-/// Reads the next element into `element`. The tag of this element must be `tag`, a word as in
-/// `DerElement::tag`.
+/// Reads the next element into `element`. This element must have the tag word `tag` (see
+/// `DerElement::tag`).
 ///
 /// A call that fails leaves `element` unchanged. Fails with:
 ///
-/// - the errors of `der_read_element`; `reader` has failed then;
-/// - `TagUnexpected` at the position of `reader`, if the next element has another tag; `reader` is
-///   unchanged then;
-/// - `TagNumberInvalid` without a position, if there is a next element and `tag` is the word of no
-///   tag; `reader` has failed then.
+/// - the errors of `der_read_element`;
+/// - `TagUnexpected` at the position of `reader`, if the next element has another tag;
+/// - `TagNumberInvalid` without a position, if `tag` is not a valid tag word and there is a next
+///   element.
+///
+/// After `TagUnexpected`, `reader` is unchanged. After any other error, `reader` has failed.
 #[unsafe(no_mangle)]
 pub extern "C" fn der_expect<'a>(
     reader: &mut DerReader<'a>,
@@ -167,14 +171,16 @@ pub extern "C" fn der_expect<'a>(
     der_c_core::der_expect(reader, tag, element)
 }
 
-/// Reads the next element into `element` and sets `present` to true, if the tag of this element is
-/// `tag`, a word as in `DerElement::tag`. Sets `present` to false if `reader` is at its end or the
-/// next element has another tag; `reader` and `element` are unchanged then.
+/// Reads the next element into `element` if it has the tag word `tag` (see `DerElement::tag`),
+/// and sets `present` to true. If the next element has another tag, or if `reader` is at its end,
+/// sets `present` to false, and leaves `reader` and `element` unchanged.
 ///
 /// A call that fails leaves `element` and `present` unchanged, and `reader` has failed after it.
-/// Fails with the errors of `der_read_element`, also if the header of an element with another tag
-/// is faulty; and with `TagNumberInvalid` without a position, if there is a next element and `tag`
-/// is the word of no tag.
+/// Fails with:
+///
+/// - the errors of `der_read_element`; a faulty header is an error even if it has another tag;
+/// - `TagNumberInvalid` without a position, if `tag` is not a valid tag word and there is a next
+///   element.
 #[unsafe(no_mangle)]
 pub extern "C" fn der_optional<'a>(
     reader: &mut DerReader<'a>,
@@ -189,16 +195,16 @@ pub extern "C" fn der_optional<'a>(
     der_c_core::der_optional(reader, tag, element, present)
 }
 
-/// Consumes the next element, and makes `inside` a reader of its contents. The tag of this element
-/// must be `tag`, a word as in `DerElement::tag`.
+/// Consumes the next element, and makes `inside` a reader of its contents. This element must have
+/// the tag word `tag` (see `DerElement::tag`).
 ///
-/// A call that fails leaves `inside` unchanged. It fails with the errors of
-/// `der_expect` for the same octets, and with:
+/// A call that fails leaves `inside` unchanged. Fails with:
 ///
-/// - `NestingDepth` at the position after the header, if the whole element is there and `reader` is
-///   inside 64 elements.
+/// - the errors of `der_expect`;
+/// - `NestingDepth` at the start of the contents, if `reader` is already inside 64 nested elements.
+///   All octets of the element must be there; otherwise the error is an error of `der_expect`.
 ///
-/// After any error but `TagUnexpected`, `reader` has failed.
+/// After `TagUnexpected`, `reader` is unchanged. After any other error, `reader` has failed.
 #[unsafe(no_mangle)]
 pub extern "C" fn der_enter<'a>(
     reader: &mut DerReader<'a>,
@@ -213,15 +219,15 @@ pub extern "C" fn der_enter<'a>(
 }
 
 /// Makes `inside` a reader of the contents of `element`. `element` must have been read by `reader`
-/// or by a copy of `reader`. `reader` does not move.
+/// or by a copy of `reader`. The position of `reader` does not change.
 ///
 /// A call that fails leaves `inside` unchanged. Fails with:
 ///
 /// - `Failed` at the position of `reader`, if `reader` has failed;
-/// - `Reader` without a position, if `element` does not lie in the octets of `reader`; `reader` is
-///   unchanged then;
-/// - `NestingDepth` at the start of the contents, if `reader` is inside 64 nested elements; `reader`
-///   has failed then.
+/// - `Reader` without a position, if `element` does not lie in the octets of `reader`. `reader` is
+///   unchanged after this error;
+/// - `NestingDepth` at the start of the contents, if `reader` is already inside 64 nested elements.
+///   `reader` has failed after this error.
 #[unsafe(no_mangle)]
 pub extern "C" fn der_open<'a>(
     reader: &mut DerReader<'a>,
@@ -234,9 +240,9 @@ pub extern "C" fn der_open<'a>(
     der_c_core::der_open(reader, element, inside)
 }
 
-/// Sets `octets` to the whole octets of `element`: its header, its contents, and the
-/// end-of-contents octets of an indefinite length. They are borrowed from the input of `reader`.
-/// `element` must have been read from this input.
+/// Sets `octets` to all octets of `element`: its header, its contents, and the end-of-contents
+/// octets of an indefinite length. `octets` are borrowed from the input of `reader`. `element` must
+/// have been read from this input.
 ///
 /// A call that fails leaves `octets` unchanged. Fails with:
 ///
@@ -255,8 +261,8 @@ pub extern "C" fn der_element_octets<'a>(
 
 /// Consumes indefinite-length contents and the end-of-contents octets that close them (X.690
 /// 8.1.3.6). Sets `count` to the number of octets consumed, end-of-contents octets included. Before
-/// the call, `reader` must be just after the length octet `0x80`; after the call it is just after
-/// the end-of-contents octets.
+/// the call, `reader` must be just after the length octet `0x80`. After the call, `reader` is just
+/// after the end-of-contents octets.
 ///
 /// A call that fails leaves `count` unchanged, and `reader` has failed after it. Fails with:
 ///
@@ -270,16 +276,16 @@ pub extern "C" fn der_scan(reader: &mut DerReader<'_>, count: &mut u32) -> DerEr
     der_c_core::der_scan(reader, count)
 }
 
-/// Reads into `nodes` all elements that are left in `reader`, and all elements inside constructed
-/// elements. Each element comes before the elements inside it. Sets `count` to the number of nodes
-/// stored, also if the call fails. If 32 other elements enclose a constructed element, the elements
-/// inside it are not read: the constructed element is one node, whatever its contents.
+/// Reads all elements that are left in `reader`, and all elements inside constructed elements.
+/// Stores them in `nodes`: each element comes before the elements inside it. Sets `count` to the
+/// number of nodes stored, also if the call fails. If 32 other elements enclose a constructed
+/// element, the elements inside it are not read, and it is a single node.
 ///
-/// After a call that fails, `reader` has failed, at the start of the element that was not read.
-/// Fails with:
+/// After a call that fails, `reader` has failed, and its position is the start of the element that
+/// could not be read. Fails with:
 ///
 /// - the errors of `der_read_element`;
-/// - `Overlength` without a position, if there are more elements than `nodes` has places.
+/// - `Overlength` without a position, if there are more elements than `nodes` has items.
 #[unsafe(no_mangle)]
 pub extern "C" fn der_read_tree(
     reader: &mut DerReader<'_>,
@@ -292,16 +298,16 @@ pub extern "C" fn der_read_tree(
     der_c_core::der_read_tree(reader, nodes, count)
 }
 
-/// Compares the encodings of two elements, `first` and `second`, octet by octet, as the elements of
-/// a SET OF are ordered (X.690 11.6). Sets `order` to -1 if `first` is less than `second`, to 0 if
-/// they are equal, and to 1 if `first` is greater than `second`.
+/// Compares the encodings of two elements, `first` and `second`, octet by octet. This is the order
+/// in which a SET OF has its elements (X.690 11.6). Sets `order` to -1 if `first` is less than
+/// `second`, to 0 if they are equal, and to 1 if `first` is greater than `second`.
 ///
 /// Each of `first` and `second` must be exactly one element under the Distinguished Encoding Rules.
 /// `first` is checked before `second`. A call that fails leaves `order` unchanged. Fails with:
 ///
 /// - the errors of `der_read_element`;
-/// - `Overflow` without a position, if the checked argument has more than 4294967295 octets;
-/// - `TrailingData`, if octets follow the element.
+/// - `Overflow` without a position, if `first` or `second` has more than 4294967295 octets;
+/// - `TrailingData`, if octets follow the element in `first` or `second`.
 #[unsafe(no_mangle)]
 pub extern "C" fn der_compare(first: &[u8], second: &[u8], order: &mut i32) -> DerError
     ensures { Compares first.now second.now result order.old order.new }

@@ -11,27 +11,32 @@ use asn1_tree::Entry;
 use der_c_core::DerSpan;
 use der_c_tree::DerTreeFound;
 
-/// How many octets are enough for the table of the known types.
+/// A size of memory that is enough for the table that `der_known_types` writes.
 #[unsafe(no_mangle)]
 pub extern "C" fn der_known_types_room() -> usize {
     der_c_tree::der_known_types_room()
 }
 
-/// Puts the table of the types that the library knows into `table`, and returns how many octets it has.
+/// Writes the table of the ASN.1 types that the library knows to the start of `table`. Returns the
+/// number of octets written. `der_known_types_room` octets are always enough. If `table` is too
+/// short, writes only the first part of the table, which cannot be used.
 #[unsafe(no_mangle)]
 pub extern "C" fn der_known_types(table: &mut [u8]) -> usize {
     der_c_tree::der_known_types(table)
 }
 
-/// The index of the type of this name in a table, as `asn1_compile --schema` writes it; `NONE` if it has none, or if
-/// the octets are no table.
+/// Returns the index of the type with the name `name` in `table`. `table` is a table of types, such
+/// as `asn1_compile --schema` writes. Returns `NONE` if the table has no type with this name, or
+/// if `table` is not a table of types.
 #[unsafe(no_mangle)]
 pub extern "C" fn der_type_find(table: &[u8], name: &[u8]) -> u32 {
     der_c_tree::der_type_find(table, name)
 }
 
-/// The number of the kind of a value, by the table of the known types; `NONE` if it is of none, and `FULL` if there
-/// is no room.
+/// Returns the number of the kind of the value in `octets`, such as a certificate or a private key.
+/// `table` must be the table that `der_known_types` writes. `entries`, `marks` and `text` are
+/// working memory. Returns `NONE` if the value is of no known kind, and `FULL` if there is too
+/// little working memory.
 #[unsafe(no_mangle)]
 pub extern "C" fn der_kind_find(
     table: &[u8],
@@ -43,29 +48,39 @@ pub extern "C" fn der_kind_find(
     der_c_tree::der_kind_find(table, octets, entries, marks, text)
 }
 
-/// The number of the kind that the label of a PEM block promises; `NONE` for another label.
+/// Returns the number of the kind of value that a PEM block with the label `label` should contain.
+/// Returns `NONE` if the label stands for no known kind.
 #[unsafe(no_mangle)]
 pub extern "C" fn der_kind_of_label(label: &[u8]) -> u32 {
     der_c_tree::der_kind_of_label(label)
 }
 
-/// The index of the type of a kind in the table of the known types; that of any value if the number is of no kind.
+/// Returns the index of a type in the table that `der_known_types` writes. It is the type of the
+/// kind with the number `kind`. If no kind has this number, it is the type of any element.
 #[unsafe(no_mangle)]
 pub extern "C" fn der_kind_type(kind: u32) -> u32 {
     der_c_tree::der_kind_type(kind)
 }
 
-/// Writes the word for a kind, as the option `--as` of `der_show` has it, and a zero octet; `elements` if the number is
-/// of no kind. Returns how many octets the word has, or the greatest number if there is no room.
+/// Writes the word for the kind with the number `kind`, and a zero octet. It is the word that the
+/// option `--as` of `der_show` takes, or `elements` if no kind has this number. Returns the number
+/// of octets of the word, without the zero octet. Returns `SIZE_MAX` if `text` is too short.
 #[unsafe(no_mangle)]
 pub extern "C" fn der_kind_word(kind: u32, text: &mut [u8]) -> usize {
     der_c_tree::der_kind_word(kind, text)
 }
 
-/// Reads `octets` as a value of the type `node` of a table: puts its elements into `entries`, and what else was found into
-/// `found`. Prints into `list` the departures as JSON, as `der_show --json` does, with the index of the element of each;
-/// nothing if they do not fit. Returns false, and leaves `found` as it was, if there is no room, no table, or no such
-/// type.
+/// Reads `octets` as a value of a type. `node` is the index of the type in `table`, a table of
+/// types. Stores the elements in `entries`, and sets `found`. `marks` and `text` are working
+/// memory.
+///
+/// A departure is a place at which the octets break a rule of DER. Reading continues after a
+/// departure. The departures are printed into `list` as JSON, in the form of `der_show --json`.
+/// Each has the index of its element. If the departures do not fit, the octets of `list` are
+/// unspecified.
+///
+/// Returns false, and leaves `found` unchanged, if `entries`, `marks` or `text` is too short, if
+/// `table` is not a table of types, or if it has no type with this index.
 #[unsafe(no_mangle)]
 pub extern "C" fn der_tree_read(
     table: &[u8],
@@ -89,9 +104,13 @@ pub extern "C" fn der_tree_read(
     der_c_tree::der_tree_read(table, node, octets, entries, marks, text, list, found)
 }
 
-/// The index of the element at the end of a path from the element `from`: names of fields with full stops between them,
-/// and items of lists in brackets, counted from 0, such as `tbsCertificate.extensions[2].extnValue.cA`. The greatest
-/// number if there is none.
+/// Follows `path` from the element with the index `from`, and returns the index of the element at
+/// its end. A path consists of names of fields, with full stops between them. A number in brackets
+/// selects an item of a list, counted from 0. An example is
+/// `tbsCertificate.extensions[2].extnValue.cA`.
+///
+/// `entries` is the tree that `der_tree_read` has read from `octets` with `table`. Returns
+/// `SIZE_MAX` if there is no such element, or if `table` is not a table of types.
 #[unsafe(no_mangle)]
 pub extern "C" fn der_tree_find<'a>(
     table: &'a [u8],
@@ -105,7 +124,10 @@ pub extern "C" fn der_tree_find<'a>(
     der_c_tree::der_tree_find(table, octets, entries, from, path)
 }
 
-/// The index of the element inside of `parent` that so many others come before; the greatest number if there is none.
+/// Returns the index of an element directly inside the element with the index `parent`. `number` is
+/// the position of the element among all elements directly inside, counted from 0. `entries` is the
+/// tree that `der_tree_read` has read from `octets` with `table`. Returns `SIZE_MAX` if there is no
+/// such element, or if `table` is not a table of types.
 #[unsafe(no_mangle)]
 pub extern "C" fn der_tree_child<'a>(
     table: &'a [u8],
@@ -119,8 +141,8 @@ pub extern "C" fn der_tree_child<'a>(
     der_c_tree::der_tree_child(table, octets, entries, parent, number)
 }
 
-/// Sets `part` to the octets of the element with this index, header and contents. Returns false, and leaves `part` as it
-/// was, if there is no such element.
+/// Sets `part` to all octets of the element with the index `index`: its header and its contents.
+/// Returns false, and leaves `part` unchanged, if there is no element with this index.
 #[unsafe(no_mangle)]
 pub extern "C" fn der_tree_octets<'a>(
     octets: &'a [u8],
@@ -134,8 +156,8 @@ pub extern "C" fn der_tree_octets<'a>(
     der_c_tree::der_tree_octets(octets, entries, index, part)
 }
 
-/// Sets `part` to the contents octets of the element with this index. Returns false, and leaves `part` as it was, if
-/// there is no such element.
+/// Sets `part` to the contents octets of the element with the index `index`. Returns false, and
+/// leaves `part` unchanged, if there is no element with this index.
 #[unsafe(no_mangle)]
 pub extern "C" fn der_tree_contents<'a>(
     octets: &'a [u8],
@@ -149,8 +171,10 @@ pub extern "C" fn der_tree_contents<'a>(
     der_c_tree::der_tree_contents(octets, entries, index, part)
 }
 
-/// Writes the name of the field or of the alternative that an element is, and a zero octet; no name if it has none.
-/// Returns how many octets the name has, or the greatest number if there is no room, no table or no such element.
+/// Writes the name of the element with the index `index`, and a zero octet. It is the name of the
+/// field or of the CHOICE alternative; the name is empty if there is none. Returns the number of
+/// octets of the name, without the zero octet. Returns `SIZE_MAX` if `text` is too short, if
+/// `table` is not a table of types, or if there is no element with this index.
 #[unsafe(no_mangle)]
 pub extern "C" fn der_tree_name<'a>(
     table: &'a [u8],
@@ -162,8 +186,10 @@ pub extern "C" fn der_tree_name<'a>(
     der_c_tree::der_tree_name(table, octets, entries, index, text)
 }
 
-/// Writes the name of the type of an element, and a zero octet; no name if it has none. Returns how many octets the
-/// name has, or the greatest number if there is no room, no table or no such element.
+/// Writes the name of the type of the element with the index `index`, and a zero octet. The name is
+/// empty if the type has no name. Returns the number of octets of the name, without the zero octet.
+/// Returns `SIZE_MAX` if `text` is too short, if `table` is not a table of types, or if there is no
+/// element with this index.
 #[unsafe(no_mangle)]
 pub extern "C" fn der_tree_type<'a>(
     table: &'a [u8],
@@ -175,9 +201,15 @@ pub extern "C" fn der_tree_type<'a>(
     der_c_tree::der_tree_type(table, octets, entries, index, text)
 }
 
-/// Writes the text of the value of an element, and a zero octet: that of a primitive value, of a name, or of the OBJECT
-/// IDENTIFIER that the element begins with, and none for another element. Returns how many octets the text has, or the
-/// greatest number if there is no room, no table or no such element.
+/// Writes a text for the element with the index `index`, and a zero octet. The text is:
+///
+/// - for a primitive element, its value;
+/// - for a distinguished name, the name;
+/// - for any other element that begins with an OBJECT IDENTIFIER, this OBJECT IDENTIFIER;
+/// - for any other element, empty.
+///
+/// Returns the number of octets of the text, without the zero octet. Returns `SIZE_MAX` if `text`
+/// is too short, if `table` is not a table of types, or if there is no element with this index.
 #[unsafe(no_mangle)]
 pub extern "C" fn der_tree_text<'a>(
     table: &'a [u8],

@@ -19,14 +19,14 @@ ghost use Rattle.std.specs.Prelude.{false, ◌^◌};
 use der_c_core::{DerBits, DerError, DerReader, DerSpan};
 use der_c_values::{DerText, DerTime};
 
-/// Reads a BOOLEAN (X.690 8.2, 11.1) into `value`. The tag of the next element must be `tag`, a
-/// word as `der_expect` takes it.
+/// Reads a BOOLEAN (X.690 8.2, 11.1) into `value`. The next element must have the tag word `tag`
+/// (see `DerElement::tag`).
 ///
 /// A call that fails leaves `value` unchanged. Fails with:
 ///
 /// - the errors of `der_expect`;
-/// - `Value` with the tag `tag`, at the position after the element, if the contents are not one
-///   octet `0x00` or `0xFF`.
+/// - `Value` with the tag `tag`, at the position after the element, if the contents are not exactly
+///   one octet, `0x00` or `0xFF`.
 #[unsafe(no_mangle)]
 pub extern "C" fn der_read_boolean(
     reader: &mut DerReader<'_>,
@@ -40,14 +40,14 @@ pub extern "C" fn der_read_boolean(
     der_c_values::der_read_boolean(reader, tag, value)
 }
 
-/// Reads an INTEGER from 0 to 18446744073709551615 (X.690 8.3) into `value`. The tag of the next
-/// element must be `tag`, a word as `der_expect` takes it.
+/// Reads an INTEGER from 0 to 18446744073709551615 (X.690 8.3) into `value`. The next element must
+/// have the tag word `tag` (see `DerElement::tag`).
 ///
 /// A call that fails leaves `value` unchanged. Fails with:
 ///
 /// - the errors of `der_expect`;
 /// - `Value` with the tag `tag`, at the position after the element, if the contents are empty, if
-///   they are not the shortest for their number, or if this number is out of range.
+///   they have more octets than the number needs, or if the number is out of range.
 #[unsafe(no_mangle)]
 pub extern "C" fn der_read_uint64(reader: &mut DerReader<'_>, tag: u64, value: &mut u64) -> DerError
     ensures same { Same (reader_state reader.old) (reader_state reader.new) }
@@ -58,14 +58,14 @@ pub extern "C" fn der_read_uint64(reader: &mut DerReader<'_>, tag: u64, value: &
 }
 
 /// Reads an INTEGER from -9223372036854775808 to 9223372036854775807 (X.690 8.3) into `value`. The
-/// tag of the next element must be `tag`, a word as `der_expect` takes it. With the tag ENUMERATED
-/// it reads an ENUMERATED (X.690 8.4).
+/// next element must have the tag word `tag` (see `DerElement::tag`). If `tag` is the tag word of
+/// ENUMERATED, the function reads an ENUMERATED (X.690 8.4).
 ///
 /// A call that fails leaves `value` unchanged. Fails with:
 ///
 /// - the errors of `der_expect`;
 /// - `Value` with the tag `tag`, at the position after the element, if the contents are empty, if
-///   they are not the shortest for their number, or if this number is out of range.
+///   they have more octets than the number needs, or if the number is out of range.
 #[unsafe(no_mangle)]
 pub extern "C" fn der_read_int64(reader: &mut DerReader<'_>, tag: u64, value: &mut i64) -> DerError
     ensures same { Same (reader_state reader.old) (reader_state reader.new) }
@@ -75,15 +75,15 @@ pub extern "C" fn der_read_int64(reader: &mut DerReader<'_>, tag: u64, value: &m
     der_c_values::der_read_int64(reader, tag, value)
 }
 
-/// Reads an INTEGER of any size (X.690 8.3), and sets `value` to its contents: at least one octet,
-/// a number in two's complement, the most significant octet first, in the fewest octets. The tag of
-/// the next element must be `tag`, a word as `der_expect` takes it.
+/// Reads an INTEGER of any size (X.690 8.3), and sets `value` to its contents. They are a number in
+/// two's complement, the most significant octet first, with as few octets as possible, but at least
+/// one. The next element must have the tag word `tag` (see `DerElement::tag`).
 ///
 /// A call that fails leaves `value` unchanged. Fails with:
 ///
 /// - the errors of `der_expect`;
 /// - `Value` with the tag `tag`, at the position after the element, if the contents are empty or
-///   not the shortest for their number.
+///   have more octets than the number needs.
 #[unsafe(no_mangle)]
 pub extern "C" fn der_read_integer<'a>(
     reader: &mut DerReader<'a>,
@@ -97,14 +97,15 @@ pub extern "C" fn der_read_integer<'a>(
     der_c_values::der_read_integer(reader, tag, value)
 }
 
-/// Reads a BIT STRING (X.690 8.6, 11.2) into `bits`. The tag of the next element must be `tag`, a
-/// word as `der_expect` takes it. The encoding must be primitive: segments are not joined.
+/// Reads a BIT STRING (X.690 8.6, 11.2) into `bits`. The next element must have the tag word `tag`
+/// (see `DerElement::tag`). The encoding must be primitive: segments are not joined.
 ///
 /// A call that fails leaves `bits` unchanged. Fails with:
 ///
 /// - the errors of `der_expect`;
 /// - `Value` with the tag `tag`, at the position after the element, if the contents are empty, if
-///   they give more than 7 unused bits, or any without octets, or if an unused bit is not zero.
+///   they state more than 7 unused bits, if they state unused bits but have no octets for bits, or
+///   if an unused bit is not zero.
 #[unsafe(no_mangle)]
 pub extern "C" fn der_read_bit_string<'a>(
     reader: &mut DerReader<'a>,
@@ -118,13 +119,12 @@ pub extern "C" fn der_read_bit_string<'a>(
     der_c_values::der_read_bit_string(reader, tag, bits)
 }
 
-/// Reads a NULL (X.690 8.8). The tag of the next element must be `tag`, a word as `der_expect`
-/// takes it.
+/// Reads a NULL (X.690 8.8). The next element must have the tag word `tag` (see `DerElement::tag`).
 ///
 /// Fails with:
 ///
 /// - the errors of `der_expect`;
-/// - `Value` with the tag `tag`, at the position after the element, if there are contents.
+/// - `Value` with the tag `tag`, at the position after the element, if the element has contents.
 #[unsafe(no_mangle)]
 pub extern "C" fn der_read_null(reader: &mut DerReader<'_>, tag: u64) -> DerError
     ensures same { Same (reader_state reader.old) (reader_state reader.new) }
@@ -134,14 +134,14 @@ pub extern "C" fn der_read_null(reader: &mut DerReader<'_>, tag: u64) -> DerErro
     der_c_values::der_read_null(reader, tag)
 }
 
-/// Reads an OBJECT IDENTIFIER (X.690 8.19), and sets `oid` to its contents. The tag of the next
-/// element must be `tag`, a word as `der_expect` takes it.
+/// Reads an OBJECT IDENTIFIER (X.690 8.19), and sets `oid` to its contents octets. The next element
+/// must have the tag word `tag` (see `DerElement::tag`).
 ///
 /// A call that fails leaves `oid` unchanged. Fails with:
 ///
 /// - the errors of `der_expect`;
-/// - `Value` with the tag `tag`, at the position after the element, if the contents are empty, end
-///   inside a subidentifier, or have a subidentifier that begins with octet `0x80`.
+/// - `Value` with the tag `tag`, at the position after the element, if the contents are empty, if
+///   they end inside a subidentifier, or if a subidentifier begins with the octet `0x80`.
 #[unsafe(no_mangle)]
 pub extern "C" fn der_read_oid<'a>(
     reader: &mut DerReader<'a>,
@@ -156,16 +156,16 @@ pub extern "C" fn der_read_oid<'a>(
 }
 
 /// Reads a string of the type `string_type` (X.680 41, X.690 8.23) into `text`. `string_type` is
-/// the word of the universal tag of UTF8String, NumericString, PrintableString, TeletexString,
-/// IA5String, VisibleString or BMPString. The tag of the next element must be `tag`, a word as
-/// `der_expect` takes it: `string_type`, or another word for an implicit tag. The encoding must be
-/// primitive: segments are not joined.
+/// the tag word of the universal tag of UTF8String, NumericString, PrintableString, TeletexString,
+/// IA5String, VisibleString or BMPString. The next element must have the tag word `tag` (see
+/// `DerElement::tag`). `tag` differs from `string_type` if the string has an implicit tag. The
+/// encoding must be primitive: segments are not joined.
 ///
 /// A TeletexString may have any octets, because the set of registered character sets is open.
 ///
 /// A call that fails leaves `text` unchanged. Fails with:
 ///
-/// - `TagNumberInvalid` without a position, if `string_type` is another word;
+/// - `TagNumberInvalid` without a position, if `string_type` is not one of these tag words;
 /// - the errors of `der_expect`;
 /// - `Value` with the tag `tag`, at the position after the element, if the contents are not
 ///   characters of the type.
@@ -184,14 +184,17 @@ pub extern "C" fn der_read_text<'a>(
     der_c_values::der_read_text(reader, tag, string_type, text)
 }
 
-/// Removes the first character of `text`, and sets `character` to its number in Unicode. Returns
-/// false at the end of the text, and changes nothing then.
+/// Removes the first character of `text`, and sets `character` to its Unicode code point. If `text`
+/// is empty, returns false and changes nothing.
 ///
-/// A UTF8String is read as UTF-8, and a BMPString as codes of two octets. Strings of the other
-/// types have one octet for each character; a TeletexString is read as ISO 8859-1.
+/// The string type of `text` says how the octets encode characters:
 ///
-/// Also returns false if the octets do not begin with a character of the type. A text that
-/// `der_read_text` has set consists of characters.
+/// - A UTF8String is read as UTF-8.
+/// - A BMPString has two octets for each character.
+/// - Any other string has one octet for each character. A TeletexString is read as ISO 8859-1.
+///
+/// If the octets do not begin with a character of the string type, returns false and changes
+/// nothing. This cannot happen with a text that `der_read_text` has set.
 #[unsafe(no_mangle)]
 pub extern "C" fn der_next_character(text: &mut DerText<'_>, character: &mut u32) -> bool
     ensures { TakesCharacter text.old result character.old character.new text.new }
@@ -199,18 +202,21 @@ pub extern "C" fn der_next_character(text: &mut DerText<'_>, character: &mut u32
     der_c_values::der_next_character(text, character)
 }
 
-/// Reads a time of the type `time_type` into `time`. `time_type` is the word of the universal tag
-/// of UTCTime (X.690 11.8), whose years are 1950 to 2049 (RFC 5280, 4.1.2.5.1), or of
-/// GeneralizedTime (X.690 11.7), without a fraction of a second. Both are in UTC. The tag of the
-/// next element must be `tag`, a word as `der_expect` takes it: `time_type`, or another word for an
-/// implicit tag.
+/// Reads a time of the type `time_type` into `time`. `time_type` is the tag word of the universal
+/// tag of one of these types:
+///
+/// - UTCTime (X.690 11.8), whose years are 1950 to 2049 (RFC 5280, 4.1.2.5.1);
+/// - GeneralizedTime (X.690 11.7), without a fraction of a second.
+///
+/// Both are in UTC. The next element must have the tag word `tag` (see `DerElement::tag`). `tag`
+/// differs from `time_type` if the time has an implicit tag.
 ///
 /// A call that fails leaves `time` unchanged. Fails with:
 ///
-/// - `TagNumberInvalid` without a position, if `time_type` is another word;
+/// - `TagNumberInvalid` without a position, if `time_type` is not one of these tag words;
 /// - the errors of `der_expect`;
-/// - `Value` with the tag `tag`, at the position after the element, if the contents are not those
-///   of a time that exists.
+/// - `Value` with the tag `tag`, at the position after the element, if the contents do not have the
+///   form of the type, or if the time does not exist.
 #[unsafe(no_mangle)]
 pub extern "C" fn der_read_time(
     reader: &mut DerReader<'_>,
@@ -225,14 +231,14 @@ pub extern "C" fn der_read_time(
     der_c_values::der_read_time(reader, tag, time_type, time)
 }
 
-/// Writes `time` as RFC 3339 does in UTC (5.6), such as `2026-11-29T11:24:00Z`, and a final zero
-/// octet to the start of `text`. `time.seconds` is ignored. Sets `count` to the number of octets of
-/// the text, without the zero octet: 20.
+/// Writes a text and a zero octet after it to the start of `text`: `time` in UTC, in the format of
+/// RFC 3339 (5.6), such as `2026-11-29T11:24:00Z`. Sets `count` to 20, the number of octets of the
+/// text without the zero octet. `time.seconds` is ignored.
 ///
 /// A call that fails leaves `text` and `count` unchanged. Fails without a position with:
 ///
 /// - `DateTime`, if the date or the time of day does not exist, or if the year is above 9999;
-/// - `Overlength`, if there is no space in `text`.
+/// - `Overlength`, if `text` has fewer than 21 octets.
 #[unsafe(no_mangle)]
 pub extern "C" fn der_time_text(time: &DerTime, text: &mut [u8], count: &mut usize) -> DerError
     ensures { GivesTimeText (date_of time.now) result text.old text.new count.old count.new }
@@ -240,15 +246,15 @@ pub extern "C" fn der_time_text(time: &DerTime, text: &mut [u8], count: &mut usi
     der_c_values::der_time_text(time, text, count)
 }
 
-/// Writes the dotted notation of an OBJECT IDENTIFIER and a final zero octet to the start of
-/// `text`, such as `2.5.29.17`. `oid` are the contents octets of the OBJECT IDENTIFIER (X.690
-/// 8.19). Sets `count` to the number of octets of the text, without the zero octet.
+/// Converts an OBJECT IDENTIFIER to dotted notation, such as `2.5.29.17`. `oid` are the contents
+/// octets (X.690 8.19). Writes the dotted notation and a final zero octet to the start of `text`.
+/// Sets `count` to the number of octets of the dotted notation, without the zero octet.
 ///
 /// A call that fails leaves `text` and `count` unchanged. Fails without a position with:
 ///
-/// - `Value` with the tag OBJECT IDENTIFIER, if `oid` are not such contents;
+/// - `Value` with the tag OBJECT IDENTIFIER, if `oid` are not contents of an OBJECT IDENTIFIER;
 /// - `Overflow`, if a subidentifier does not fit in 128 bits;
-/// - `Overlength`, if there is no space in `text`.
+/// - `Overlength`, if `text` is too short.
 #[unsafe(no_mangle)]
 pub extern "C" fn der_oid_text(oid: &[u8], text: &mut [u8], count: &mut usize) -> DerError
     ensures { GivesOidText oid.now result text.old text.new count.old count.new }
@@ -256,15 +262,15 @@ pub extern "C" fn der_oid_text(oid: &[u8], text: &mut [u8], count: &mut usize) -
     der_c_values::der_oid_text(oid, text, count)
 }
 
-/// Writes the arcs of an OBJECT IDENTIFIER, such as 2, 5, 29 and 17 of `2.5.29.17`, to the start of
-/// `arcs`, and sets `count` to their number. `oid` are the contents octets of the OBJECT IDENTIFIER
-/// (X.690 8.19). There is one arc more than `oid` has octets at most.
+/// Writes the arcs of an OBJECT IDENTIFIER to the start of `arcs`, for example 2, 5, 29 and 17 for
+/// `2.5.29.17`. Sets `count` to the number of arcs. `oid` are the contents octets of the OBJECT
+/// IDENTIFIER (X.690 8.19). There is at most one arc more than `oid` has octets.
 ///
 /// A call that fails leaves `arcs` and `count` unchanged. Fails without a position with:
 ///
-/// - `Value` with the tag OBJECT IDENTIFIER, if `oid` are not such contents;
+/// - `Value` with the tag OBJECT IDENTIFIER, if `oid` are not contents of an OBJECT IDENTIFIER;
 /// - `Overflow`, if an arc does not fit in 64 bits;
-/// - `Overlength`, if there is no space in `arcs`.
+/// - `Overlength`, if there are more arcs than `arcs` has items.
 #[unsafe(no_mangle)]
 pub extern "C" fn der_oid_arcs(oid: &[u8], arcs: &mut [u64], count: &mut usize) -> DerError
     ensures { GivesArcs oid.now result arcs.old arcs.new count.old count.new }
@@ -272,17 +278,18 @@ pub extern "C" fn der_oid_arcs(oid: &[u8], arcs: &mut [u64], count: &mut usize) 
     der_c_values::der_oid_arcs(oid, arcs, count)
 }
 
-/// Writes the contents octets (X.690 8.19) of the OBJECT IDENTIFIER with this dotted notation, such
-/// as `2.5.29.17`, to the start of `oid`, and sets `count` to their number. `text` has no final
-/// zero octet, and no leading zeros in its numbers.
+/// Converts an OBJECT IDENTIFIER from dotted notation, such as `2.5.29.17` in `text`. Writes the
+/// contents octets (X.690 8.19) to the start of `oid`, and sets `count` to the number of octets
+/// written. `text` is read without a final zero octet.
 ///
 /// A call that fails leaves `oid` and `count` unchanged. Fails without a position with:
 ///
-/// - `OidMalformed`, if `text` is not the dotted notation of an OBJECT IDENTIFIER, however large its
-///   numbers are;
-/// - `Overflow`, if it is, and a subidentifier does not fit in 128 bits, or there are more than 256
+/// - `OidMalformed`, if `text` is not the dotted notation of an OBJECT IDENTIFIER. This includes a
+///   leading zero in a number, a first number above 2, and a second number above 39 if the first is
+///   0 or 1;
+/// - `Overflow`, if a subidentifier does not fit in 128 bits, or if there are more than 256
 ///   contents octets;
-/// - `Overlength`, if there is no space in `oid`.
+/// - `Overlength`, if `oid` is too short.
 #[unsafe(no_mangle)]
 pub extern "C" fn der_oid_from_text(text: &[u8], oid: &mut [u8], count: &mut usize) -> DerError
     ensures { EncodesText text.now result oid.old oid.new count.old count.new }
@@ -290,9 +297,9 @@ pub extern "C" fn der_oid_from_text(text: &[u8], oid: &mut [u8], count: &mut usi
     der_c_values::der_oid_from_text(text, oid, count)
 }
 
-/// Whether `oid` are the contents octets of the OBJECT IDENTIFIER (X.690 8.19) whose dotted
-/// notation is `text`, such as `2.5.29.17`. `text` has no final zero octet, and no leading zeros in
-/// its numbers.
+/// Whether `oid` is the OBJECT IDENTIFIER with the dotted notation `text`, such as `2.5.29.17`.
+/// `oid` are the contents octets (X.690 8.19). `text` has no final zero octet, and no leading zeros
+/// in its numbers.
 ///
 /// The result is false if a subidentifier of `oid` does not fit in 128 bits.
 #[unsafe(no_mangle)]

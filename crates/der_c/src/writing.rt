@@ -11,8 +11,8 @@ ghost use Rattle.std.specs.Prelude.{IsPermutation, length, ◌≡◌};
 
 use der_c_core::{DerError, DerMark, DerSpan, DerWriter};
 
-/// Makes `writer` a writer into `octets`, from their start. `writer` writes at most 4294967295
-/// octets, even if there are more `octets`.
+/// Makes `writer` a writer into the buffer `octets`, from the start of the buffer. `writer` writes
+/// at most 4294967295 octets, even if the buffer has more.
 #[unsafe(no_mangle)]
 pub extern "C" fn der_writer_init<'a>(octets: &'a mut [u8], writer: &mut DerWriter<'a>)
     ensures fresh { writer_state writer.new ≡ fresh_state octets.old octets.entry.ghost_name }
@@ -21,7 +21,7 @@ pub extern "C" fn der_writer_init<'a>(octets: &'a mut [u8], writer: &mut DerWrit
     der_c_core::der_writer_init(octets, writer)
 }
 
-/// How many octets `writer` has written.
+/// The number of octets that `writer` has written.
 #[unsafe(no_mangle)]
 pub extern "C" fn der_written(writer: &DerWriter<'_>) -> usize
     ensures { result ≡ length (writer_state writer.now).octets }
@@ -31,10 +31,10 @@ pub extern "C" fn der_written(writer: &DerWriter<'_>) -> usize
 
 /// Succeeds if `writer` has not failed and no element is open.
 ///
-/// The position of each error is that of `writer`, the number of octets written. Fails with:
+/// The position of each error is the number of octets written. Fails with:
 ///
 /// - `Failed`, if `writer` has failed;
-/// - kind 23, if an element was begun and not ended.
+/// - kind 23 (`DER_UNBALANCED`), if an element was begun and not ended.
 #[unsafe(no_mangle)]
 pub extern "C" fn der_writer_finish(writer: &DerWriter<'_>) -> DerError
     ensures { FinishesWriting writer.now result }
@@ -42,7 +42,8 @@ pub extern "C" fn der_writer_finish(writer: &DerWriter<'_>) -> DerError
     der_c_core::der_writer_finish(writer)
 }
 
-/// Makes `writer` fail: every later call on it fails with `Failed`. The octets written remain.
+/// Makes `writer` fail: every later call with `writer` fails with `Failed`. The octets that were
+/// written remain.
 #[unsafe(no_mangle)]
 pub extern "C" fn der_writer_fail(writer: &mut DerWriter<'_>)
     ensures fails { writer_state writer.new ≡ failed_state (writer_state writer.old) }
@@ -53,8 +54,11 @@ pub extern "C" fn der_writer_fail(writer: &mut DerWriter<'_>)
 
 /// Writes `octets` unchanged.
 ///
-/// A call that fails writes nothing, and `writer` has failed after it. Fails with `Failed`,
-/// `Overflow` and `Overlength`, as `der_core::Writer::write` does.
+/// A call that fails writes nothing, and `writer` has failed after it. Fails with:
+///
+/// - `Failed` at the position of `writer`, if `writer` had already failed;
+/// - `Overflow` at the position of `writer`, if `octets` would end after position 4294967295;
+/// - `Overlength` at the position at which `octets` would end, if the buffer has too little space.
 #[unsafe(no_mangle)]
 pub extern "C" fn der_write(writer: &mut DerWriter<'_>, octets: &[u8]) -> DerError
     ensures writes { WritesOctets octets.now (writer_state writer.old) result (writer_state writer.new) }
@@ -63,13 +67,14 @@ pub extern "C" fn der_write(writer: &mut DerWriter<'_>, octets: &[u8]) -> DerErr
     der_c_core::der_write(writer, octets)
 }
 
-/// Writes the header of an element with the tag `tag` and `length` octets of contents.
+/// Writes the header of an element. The element has the tag word `tag` and `length` octets of
+/// contents. The tag word is the first octet of the identifier, plus 256 times the tag number if
+/// the number is 31 or more.
 ///
-/// After a call that fails, `writer` has failed. Such a call may have written the first octets of
-/// the header; they remain. Fails with:
+/// After a call that fails, `writer` has failed. A call that fails may have written the first
+/// octets of the header, which remain. Fails with:
 ///
-/// - `TagNumberInvalid` without a position, if `tag` is not a valid tag word (the first octet of
-///   the identifier, plus 256 times the tag number if that is 31 or more) and `writer` has not
+/// - `TagNumberInvalid` without a position, if `tag` is not a valid tag word and `writer` had not
 ///   failed;
 /// - the errors of `der_write`.
 #[unsafe(no_mangle)]
@@ -80,14 +85,14 @@ pub extern "C" fn der_write_header(writer: &mut DerWriter<'_>, tag: u64, length:
     der_c_core::der_write_header(writer, tag, length)
 }
 
-/// Writes an element: a header with the tag `tag`, a word as `der_write_header` takes it, and
-/// then `contents`.
+/// Writes an element: a header with the tag word `tag` (see `der_write_header`), and then
+/// `contents`.
 ///
-/// After a call that fails, `writer` has failed. Such a call may have written the header or its
-/// first octets; they remain. Fails with:
+/// After a call that fails, `writer` has failed. A call that fails may have written the header or
+/// its first octets, which remain. Fails with:
 ///
-/// - `Overflow` without a position, if there are more than 4294967295 octets of contents and `writer`
-///   has not failed;
+/// - `Overflow` without a position, if there are more than 4294967295 octets of contents and
+///   `writer` had not failed;
 /// - the errors of `der_write_header` and `der_write`.
 #[unsafe(no_mangle)]
 pub extern "C" fn der_write_element(
@@ -102,12 +107,13 @@ pub extern "C" fn der_write_element(
     der_c_core::der_write_element(writer, tag, contents)
 }
 
-/// Writes an element: a header with the tag `tag`, a word as `der_write_header`
-/// takes it, and then the octets of `parts`, one after another.
+/// Writes an element: a header with the tag word `tag` (see
+/// `der_write_header`), and then the octets of all `parts`, one after
+/// the other, as its contents.
 ///
-/// After a call that fails, `writer` has failed. Such a call may have written the header or its
-/// first octets; they remain. Fails like `der_write_element` with the
-/// octets of `parts` as the contents.
+/// After a call that fails, `writer` has failed. A call that fails may have written the header or
+/// its first octets, which remain. Fails with the errors of
+/// `der_write_element`.
 #[unsafe(no_mangle)]
 pub extern "C" fn der_write_parts(
     writer: &mut DerWriter<'_>,
@@ -121,14 +127,14 @@ pub extern "C" fn der_write_parts(
     der_c_core::der_write_parts(writer, tag, parts)
 }
 
-/// Sets `count` to the number of octets of a whole element, header and contents, with the tag `tag`
-/// and `length` octets of contents.
+/// Sets `count` to the number of octets of an element, header and contents. The element has the tag
+/// word `tag` and `length` octets of contents. The tag word is the first octet of the identifier,
+/// plus 256 times the tag number if the number is 31 or more.
 ///
 /// A call that fails leaves `count` unchanged. Fails with:
 ///
-/// - `TagNumberInvalid` without a position, if `tag` is not a valid tag word (the first octet of
-///   the identifier, plus 256 times the tag number if that is 31 or more);
-/// - `Overflow` without a position, if the element has more than 4294967295 octets.
+/// - `TagNumberInvalid` without a position, if `tag` is not a valid tag word;
+/// - `Overflow` without a position, if the element would have more than 4294967295 octets.
 #[unsafe(no_mangle)]
 pub extern "C" fn der_element_length(tag: u64, length: u32, count: &mut u32) -> DerError
     ensures { Measures tag length result count.old count.new }
@@ -136,13 +142,12 @@ pub extern "C" fn der_element_length(tag: u64, length: u32, count: &mut u32) -> 
     der_c_core::der_element_length(tag, length, count)
 }
 
-/// Begins an element with the tag `tag`: writes its header, with one octet reserved for the length,
-/// and sets `mark` to where its contents begin. All octets that are written after this call and
-/// before `der_end` are its contents.
+/// Begins an element with the tag word `tag` (see `DerElement::tag`). Writes its header, with one
+/// octet reserved for the length, and sets `mark` to the position at which its contents begin. All
+/// octets that are written between this call and `der_end` are its contents.
 ///
-/// A call that fails leaves `mark` unchanged, and `writer` has failed after it. Fails with
-/// `TagNumberInvalid`, `Failed`, `Overflow` and `Overlength`, as
-/// `der_write_header` does.
+/// A call that fails leaves `mark` unchanged, and `writer` has failed after it. Fails with the
+/// errors of `der_write_header`.
 #[unsafe(no_mangle)]
 pub extern "C" fn der_begin(writer: &mut DerWriter<'_>, tag: u64, mark: &mut DerMark) -> DerError
     ensures { BeginsElement tag writer.old result mark.old mark.new writer.new }
@@ -157,9 +162,10 @@ pub extern "C" fn der_begin(writer: &mut DerWriter<'_>, tag: u64, mark: &mut Der
 /// A call that fails moves and writes nothing, and `writer` has failed after it. Fails with:
 ///
 /// - `Failed` at the position of `writer`, if `writer` had already failed;
-/// - kind 23 at the position of `writer`, if the element is not the innermost open element;
-/// - `Overlength` or `Overflow`, as by `der_write`, if the length needs more
-///   octets and there is no space for them.
+/// - kind 23 (`DER_UNBALANCED`) at the position of `writer`, if the element is not the innermost
+///   open element;
+/// - the errors `Overlength` and `Overflow` of `der_write`, if the length needs
+///   more octets and there is no space for them.
 #[unsafe(no_mangle)]
 pub extern "C" fn der_end(writer: &mut DerWriter<'_>, mark: &DerMark) -> DerError
     ensures { EndsElement mark.now writer.old result writer.new }
@@ -167,10 +173,10 @@ pub extern "C" fn der_end(writer: &mut DerWriter<'_>, mark: &DerMark) -> DerErro
     der_c_core::der_end(writer, mark)
 }
 
-/// Sorts `elements` into the order of a SET OF (X.690 11.6), that of their octets. Each span is to be
-/// the encoding of one element, which is not checked. Equal elements may follow each other.
+/// Sorts `elements` in ascending order of their octets. This is the order of a SET OF (X.690 11.6).
+/// Each span must be the encoding of one element; this is not checked. Equal elements are all kept.
 ///
-/// It cannot fail. It moves the spans, and not the octets that they point to.
+/// Cannot fail. Moves only the spans, not the octets that the spans point to.
 #[unsafe(no_mangle)]
 pub extern "C" fn der_sort_set(elements: &mut [DerSpan<'_>])
     ensures same { IsPermutation elements.old elements.new }

@@ -1,4 +1,4 @@
-//! Levels of names.
+//! Writing a RelativeDistinguishedName, for C.
 ghost use Rattle.std.specs.Prelude.{◌&&◌};
 ghost use Rattle.der_asn1.specs.Forms.{oid_form};
 ghost use Rattle.der_c_assembly.specs.Assembly.{attribute_octets, string_tag};
@@ -12,16 +12,19 @@ use der_asn1::{ContentsGrammar, ObjectIdentifierGrammar};
 use der_c_core::{DerError, DerWriter, der_write_parts};
 use der_c_values::{has_form, refuse_no_value};
 
-/// Writes a level of a name with one attribute, a RelativeDistinguishedName (RFC 5280, 4.1.2.4): a SET
-/// with a SEQUENCE of the type and the value. `identifier` are the contents octets of the type's OBJECT
-/// IDENTIFIER. `text` are the contents of the value, a string of the type `string_type`, which is a word as
-/// `der_read_text` takes it. A name is a SEQUENCE of such levels.
+/// Writes a RelativeDistinguishedName with one attribute (RFC 5280, 4.1.2.4). It is a SET of one
+/// SEQUENCE, which has the type and the value of the attribute. A Name is a SEQUENCE of
+/// RelativeDistinguishedNames.
 ///
-/// `writer` has failed after an error. Fails with:
+/// `identifier` are the contents octets of the OBJECT IDENTIFIER that is the type. The value is a
+/// string of the type `string_type`, and `text` are its contents octets. `string_type` is one of
+/// the tag words that `der_read_text` names.
+///
+/// After an error, `writer` has failed. Fails with:
 ///
 /// - `Value` with the tag SET, without a position, if `identifier` are not contents of an OBJECT
-///   IDENTIFIER, if `text` are not characters of the type, or if `string_type` is not the word of a string
-///   type;
+///   IDENTIFIER, if `text` are not characters of the type, or if `string_type` is not the tag word
+///   of a string type;
 /// - the errors of `der_write_element`.
 pub fn der_write_name_attribute<'a>(
     writer: &mut DerWriter<'_>,

@@ -1,4 +1,4 @@
-//! The part of a certificate that is signed.
+//! Writing the signed part of a certificate, for C.
 ghost use Rattle.std.specs.Prelude.{◌≡◌, ◌^◌, ◌≤◌, None, IfSome};
 ghost use Rattle.der_asn1.specs.Forms.{integer_form};
 ghost use Rattle.der_c_assembly.specs.Assembly.{AreExtensionsHeader, certificate_contents};
@@ -11,29 +11,30 @@ use der_asn1::{ContentsGrammar, IntegerGrammar};
 use der_c_core::{DerError, DerSpan, DerWriter, der_write_parts};
 use der_c_values::refuse_no_value;
 
-/// The parts of a certificate that is written. Each but `serial_number` is the encoding of one element,
-/// which is not checked.
+/// The parts from which a certificate is written. Each part except `serial_number` must be the
+/// encoding of one element, with its header. This is not checked.
 #[repr(C)]
 #[derive(Clone, Copy)]
 pub struct DerCertificateParts<'a> {
-    /// The contents octets of the serial number, an INTEGER.
+    /// The contents octets of the INTEGER that is the serial number, without a header.
     pub serial_number: DerSpan<'a>,
-    /// The AlgorithmIdentifier of the signature.
+    /// The AlgorithmIdentifier of the algorithm with which the certificate will be signed.
     pub signature_algorithm: DerSpan<'a>,
     /// The Name of the issuer.
     pub issuer: DerSpan<'a>,
-    /// The Validity.
+    /// The Validity: the period in which the certificate is valid.
     pub validity: DerSpan<'a>,
     /// The Name of the subject.
     pub subject: DerSpan<'a>,
     /// The SubjectPublicKeyInfo of the subject.
     pub public_key: DerSpan<'a>,
-    /// The Extensions. If it has no octets, the certificate has no extensions.
+    /// The list of extensions: the SEQUENCE Extensions. If there are no octets, the certificate has
+    /// no extensions.
     pub extensions: DerSpan<'a>,
 }
 
 impl DerCertificateParts<'_> {
-    /// No parts.
+    /// The value before the parts are set: all parts are empty.
     pub const EMPTY: DerCertificateParts<'static> = DerCertificateParts {
         serial_number: DerSpan::EMPTY,
         signature_algorithm: DerSpan::EMPTY,
@@ -45,13 +46,14 @@ impl DerCertificateParts<'_> {
     };
 }
 
-/// Writes a TBSCertificate (RFC 5280, 4.1) of version 3, the part of a certificate that is signed, without
-/// unique identifiers. The parts are written as they are.
+/// Writes a TBSCertificate of version 3 without unique identifiers (RFC 5280, 4.1). It is the part
+/// of a certificate that is signed. The serial number is checked. All other `parts` are written as
+/// they are, and are not checked.
 ///
-/// `writer` has failed after an error. Fails with:
+/// After an error, `writer` has failed. Fails with:
 ///
-/// - `Value` with the tag SEQUENCE, without a position, if the serial number has no octets or not the
-///   fewest;
+/// - `Value` with the tag SEQUENCE, without a position, if the serial number has no octets, or more
+///   than its number needs;
 /// - the errors of `der_write_element`.
 pub fn der_write_certificate_part(
     writer: &mut DerWriter<'_>,

@@ -1,4 +1,4 @@
-//! Extensions.
+//! Writing an extension, for C.
 ghost use Rattle.std.specs.Prelude.{◌≡◌, ◌∷◌, [], if◌then◌else◌};
 ghost use Rattle.der_base.specs.declared.tag.Tag.TheVariants.{Boolean};
 ghost use Rattle.der_core.specs.Encode.{element_octets};
@@ -13,14 +13,17 @@ use der_asn1::{ContentsGrammar, ObjectIdentifierGrammar};
 use der_c_core::{DerError, DerWriter, der_write_parts};
 use der_c_values::refuse_no_value;
 
-/// Writes an extension of a certificate, a request or a revocation list (RFC 5280, 4.1). `identifier` are
-/// the contents octets of its OBJECT IDENTIFIER, and `value` is the encoding of its value, which is written
-/// as the contents of an OCTET STRING and not checked. Extensions are a SEQUENCE of such elements.
+/// Writes an extension of a certificate, a request or a revocation list (RFC 5280, 4.1). A list of
+/// extensions is a SEQUENCE of elements that this function writes.
 ///
-/// `writer` has failed after an error. Fails with:
+/// `identifier` are the contents octets of the OBJECT IDENTIFIER that is the type of the extension.
+/// `value` is the encoding of the value of the extension. It becomes the contents of an OCTET
+/// STRING, and is not checked.
 ///
-/// - `Value` with the tag SEQUENCE, without a position, if `identifier` are not contents of an OBJECT
-///   IDENTIFIER;
+/// After an error, `writer` has failed. Fails with:
+///
+/// - `Value` with the tag SEQUENCE, without a position, if `identifier` are not contents of an
+///   OBJECT IDENTIFIER;
 /// - the errors of `der_write_element`.
 pub fn der_write_extension<'a>(
     writer: &mut DerWriter<'_>,

@@ -1,4 +1,4 @@
-//! Length octets as spans.
+//! Making the length octets of elements.
 ghost use Rattle.std.specs.Prelude.{◌≡◌, ◌^◌, ◌<◌, ◌≤◌, None, IfSome, length};
 ghost use Rattle.der_base.specs.Length.{length_octets};
 ghost use Rattle.der_c_core.specs.CWriter.{KeepsOpen, writer_state};
@@ -10,7 +10,8 @@ use der_c_core::{DerError, DerSpan, DerWriter, c_error};
 use der_c_values::refuse_write;
 use der_core::Encode;
 
-/// The length octets of `count` octets of contents, in `space`; `None` if a length cannot count them.
+/// Makes the length octets of an element with `count` octets of contents. They are written into
+/// `space`. Returns `None` if `count` is more than 4294967295.
 pub(crate) fn length_span<'b>(count: usize, space: &'b mut [u8; 5]) -> Option<DerSpan<'b>>
     ensures some { IfSome result (λ s. s.octets.now ≡ length_octets count) }
     ensures few { IfSome result (λ s. length s.octets.now ≤ 5) }
@@ -26,7 +27,8 @@ pub(crate) fn length_span<'b>(count: usize, space: &'b mut [u8; 5]) -> Option<De
     }
 }
 
-/// Makes `writer` fail because a length cannot count the octets of an element.
+/// Makes `writer` fail because an element has more than 4294967295 octets of contents. Returns
+/// `Overflow` without a position. Returns `Failed` instead if `writer` had already failed.
 #[cold]
 pub(crate) fn refuse_length(writer: &mut DerWriter<'_>) -> DerError
     ensures refuses { RefusesBy Overflow (writer_state writer.old) result (writer_state writer.new) }

@@ -1,7 +1,7 @@
-//! Names, extensions, requests and certificates as C writes them, from parts that are encoded. The
-//! crate `der_c` exports the calls.
+//! Writing names, extensions, requests and certificates from parts that are already encoded, for C.
+//! The crate `der_c` exports the calls.
 //!
-//! Each call writes one element into a writer of `der_c_core`. No function allocates.
+//! Each call writes one element with a writer of `der_c_core`. No function allocates memory.
 #![tactic(auto)]
 
 mod attribute;

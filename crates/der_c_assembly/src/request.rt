@@ -1,4 +1,4 @@
-//! The part of a certification request that is signed.
+//! Writing the signed part of a certification request, for C.
 ghost use Rattle.der_c_assembly.specs.Assembly.{request_contents};
 ghost use Rattle.der_c_core.specs.CWriter.{KeepsOpen, writer_state};
 ghost use Rattle.der_c_core.specs.WriterCalls.{WritesElement};
@@ -7,12 +7,15 @@ use crate::length::{length_span, refuse_length};
 use crate::span::span;
 use der_c_core::{DerError, DerWriter, der_write_parts};
 
-/// Writes a CertificationRequestInfo (PKCS #10; RFC 2986, 4.1), the part of a request that is signed.
-/// `subject` is the encoding of a Name, `public_key` that of a SubjectPublicKeyInfo. `extensions` is the
-/// encoding of the Extensions that are requested (RFC 2985, 5.4.2); a request without octets of
-/// `extensions` has no attributes. All three are written as they are, and not checked.
+/// Writes a CertificationRequestInfo (PKCS #10; RFC 2986, 4.1). It is the part of a request that is
+/// signed. The arguments are encodings, which are written as they are and are not checked:
 ///
-/// Fails with the errors of `der_write_element`; `writer` has failed then.
+/// - `subject` is a Name.
+/// - `public_key` is a SubjectPublicKeyInfo.
+/// - `extensions` is the list of extensions that the certificate is to have (RFC 2985, 5.4.2). If
+///   it has no octets, the request has no attributes.
+///
+/// Fails with the errors of `der_write_element`. After an error, `writer` has failed.
 pub fn der_write_request_part<'a>(
     writer: &mut DerWriter<'_>,
     subject: &'a [u8],

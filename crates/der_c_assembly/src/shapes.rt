@@ -1,4 +1,4 @@
-//! The size and the alignment that `bindings/c/der.h` promises to programs in C.
+//! The size and the alignment of a struct. `bindings/c/yotremul/der.h` promises them to C programs.
 use crate::certificate::DerCertificateParts;
 
 const _: () = prove!(size_of::<DerCertificateParts<'static>>() == 112);

@@ -1,4 +1,4 @@
-//! Algorithms and signatures.
+//! Writing an AlgorithmIdentifier, and signed certificates, lists and requests, for C.
 ghost use Rattle.std.specs.Prelude.{◌≡◌, [], if◌then◌else◌};
 ghost use Rattle.der_base.specs.declared.tag.Tag.TheVariants.{Null};
 ghost use Rattle.der_core.specs.Encode.{element_octets};
@@ -15,13 +15,13 @@ use der_c_core::{DerError, DerWriter, der_write_parts};
 use der_c_values::refuse_no_value;
 
 /// Writes an AlgorithmIdentifier (RFC 5280, 4.1.1.2). `identifier` are the contents octets of the
-/// algorithm's OBJECT IDENTIFIER. Its parameters are NULL if `null_parameters`, as RSA has them, and else
-/// absent, as ECDSA and Ed25519 have them.
+/// OBJECT IDENTIFIER of the algorithm. If `null_parameters` is true, the parameters are NULL, which
+/// is usual for RSA. Otherwise they are absent, which is usual for ECDSA and Ed25519.
 ///
-/// `writer` has failed after an error. Fails with:
+/// After an error, `writer` has failed. Fails with:
 ///
-/// - `Value` with the tag SEQUENCE, without a position, if `identifier` are not contents of an OBJECT
-///   IDENTIFIER;
+/// - `Value` with the tag SEQUENCE, without a position, if `identifier` are not contents of an
+///   OBJECT IDENTIFIER;
 /// - the errors of `der_write_element`.
 pub fn der_write_algorithm(
     writer: &mut DerWriter<'_>,
@@ -56,12 +56,14 @@ fn parameters_of(is_null: bool) -> &'static [u8]
     if is_null { &[0x05, 0x00] } else { &[] }
 }
 
-/// Writes a Certificate, a CertificateList (RFC 5280, 4.1 and 5.1) or a CertificationRequest (RFC 2986,
-/// 4.2): a SEQUENCE of the part that is signed, the algorithm, and a BIT STRING with the octets of the
-/// signature. `part` and `algorithm` are written as they are: each must be the encoding of one element,
-/// which is not checked.
+/// Writes a signed value: a Certificate, a CertificateList (RFC 5280, 4.1 and 5.1) or a
+/// CertificationRequest (RFC 2986, 4.2). Each is a SEQUENCE of the signed part, the algorithm, and
+/// a BIT STRING with the octets of the signature.
 ///
-/// Fails with the errors of `der_write_element`; `writer` has failed then.
+/// `part` and `algorithm` must each be the encoding of one element, with its header. They are
+/// written as they are, and are not checked.
+///
+/// Fails with the errors of `der_write_element`. After an error, `writer` has failed.
 pub fn der_write_signed<'a>(
     writer: &mut DerWriter<'_>,
     part: &'a [u8],

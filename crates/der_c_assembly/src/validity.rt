@@ -1,4 +1,4 @@
-//! The validity of a certificate.
+//! Writing the validity of a certificate, for C.
 ghost use Rattle.std.specs.Prelude.{◌≡◌};
 ghost use Rattle.der_c_assembly.specs.Validities.{WritesValidity, is_utc_validity, validity_size, validity_type};
 ghost use Rattle.der_c_core.specs.CWriter.{KeepsOpen, writer_state};
@@ -6,12 +6,16 @@ ghost use Rattle.der_c_core.specs.CWriter.{KeepsOpen, writer_state};
 use der_c_core::{DerError, DerWriter, der_write_header};
 use der_c_values::der_write_time_seconds;
 
-/// Writes a Validity (RFC 5280, 4.1.2.5): a SEQUENCE of two times, each in seconds since
-/// 1970-01-01T00:00:00Z. A time from 1950 to 2049 is a UTCTime, and another one a GeneralizedTime. That
-/// `not_before` comes first is not checked.
+/// Writes a Validity (RFC 5280, 4.1.2.5), which is a SEQUENCE of two times. `not_before` and
+/// `not_after` are these times, in seconds since 1970-01-01T00:00:00Z. A time from 1950 to 2049 is
+/// written as a UTCTime, and any other time as a GeneralizedTime. Does not check that `not_before`
+/// is before `not_after`.
 ///
-/// `writer` has failed after an error; octets of the element that were written remain. Fails with the errors
-/// of `der_write_header`, and of `der_write_time_seconds` of each time.
+/// After an error, `writer` has failed, and the octets that were already written remain. Fails
+/// with:
+///
+/// - the errors of `der_write_header`;
+/// - the errors of `der_write_time_seconds` for each time.
 pub fn der_write_validity(writer: &mut DerWriter<'_>, not_before: i64, not_after: i64) -> DerError
     ensures writes { WritesValidity not_before not_after (writer_state writer.old) result
         (writer_state writer.new) }

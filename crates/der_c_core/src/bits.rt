@@ -1,4 +1,4 @@
-//! Bit strings as C sees them.
+//! The struct for BIT STRINGs in the C interface.
 
 /// The bits of a BIT STRING (X.690 8.6).
 #[repr(C)]
@@ -7,13 +7,13 @@ pub struct DerBits<'a> {
     /// The octets that hold the bits, borrowed from the input. The first bit is the most significant
     /// bit of the first octet.
     pub octets: &'a [u8],
-    /// How many of the low bits of the last octet are not part of the string: 0 to 7. The number is
-    /// 0 if there are no octets.
+    /// The number of low bits of the last octet that are not part of the string: 0 to 7. It is 0 if
+    /// there are no octets.
     pub unused: u8,
 }
 
 impl DerBits<'_> {
-    /// No bits.
+    /// The BIT STRING without bits.
     pub const EMPTY: DerBits<'static> = DerBits {
         octets: &[],
         unused: 0,

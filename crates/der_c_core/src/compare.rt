@@ -1,4 +1,4 @@
-//! The order of elements, in C.
+//! Comparing the encodings of two elements, for C.
 ghost use Rattle.std.specs.Prelude.{IfOk, IfErr};
 ghost use Rattle.der_c_core.specs.CompareCall.{IsOneElement, RefusesWhole, RefusesEither, Compares};
 
@@ -7,16 +7,16 @@ use der_base::Error;
 use der_core::{Reader, SliceReader, decode_header};
 use std::cmp::Ordering;
 
-/// Compares the encodings of two elements, `first` and `second`, octet by octet, as the elements of
-/// a SET OF are ordered (X.690 11.6). Sets `order` to -1 if `first` is less than `second`, to 0 if
-/// they are equal, and to 1 if `first` is greater than `second`.
+/// Compares the encodings of two elements, `first` and `second`, octet by octet. This is the order
+/// in which a SET OF has its elements (X.690 11.6). Sets `order` to -1 if `first` is less than
+/// `second`, to 0 if they are equal, and to 1 if `first` is greater than `second`.
 ///
 /// Each of `first` and `second` must be exactly one element under the Distinguished Encoding Rules.
 /// `first` is checked before `second`. A call that fails leaves `order` unchanged. Fails with:
 ///
 /// - the errors of `der_read_element`;
-/// - `Overflow` without a position, if the checked argument has more than 4294967295 octets;
-/// - `TrailingData`, if octets follow the element.
+/// - `Overflow` without a position, if `first` or `second` has more than 4294967295 octets;
+/// - `TrailingData`, if octets follow the element in `first` or `second`.
 #[inline(always)]
 pub fn der_compare(first: &[u8], second: &[u8], order: &mut i32) -> DerError
     ensures { Compares first.now second.now result order.old order.new }

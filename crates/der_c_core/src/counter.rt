@@ -1,4 +1,4 @@
-//! Counting what a writer would write, in C.
+//! Counting the octets that a writer would write, for C.
 ghost use Rattle.std.specs.Prelude.{◌≡◌, ◌<◌, ◌^◌, true, OnErr};
 ghost use Rattle.der_base.specs.Arithmetic.{element_count};
 ghost use Rattle.der_c_core.specs.CounterCalls.{Counts, CountsTagged, CountsBegin, CountsEnd, GivesCount, RefusesCount, failed_code, no_count, header_count, result_code};
@@ -8,8 +8,8 @@ use crate::mark::DerMark;
 use crate::tag::tag_of_word;
 use der_base::{ErrorKind, Length, Tag};
 
-/// A counter of octets. It counts what calls with the same arguments on a writer would write into a
-/// buffer of 4294967295 octets.
+/// A counter: it counts the octets that a writer with a buffer of 4294967295 octets would write,
+/// and writes nothing. Each function that counts has the arguments of a function that writes.
 #[repr(C)]
 #[derive(Clone, Copy)]
 pub struct DerCounter {
@@ -76,7 +76,8 @@ fn code(answer: Result<(), DerError>) -> DerError
     }
 }
 
-/// Makes `counter` a counter of no octets.
+/// Sets `counter` to a new counter. A new counter has counted 0 octets, has not failed, and has no
+/// open element.
 pub fn der_counter_init(counter: &mut DerCounter)
     ensures { counter.new ≡ no_count }
 {
@@ -87,20 +88,24 @@ pub fn der_counter_init(counter: &mut DerCounter)
     };
 }
 
-/// Counts `length` octets.
+/// Counts `length` octets, as if `der_write` had written them.
 ///
-/// `counter` has failed after an error. Fails at the number of octets counted with:
+/// After an error, `counter` has failed. The position of each error is the number of octets counted
+/// before the call. Fails with:
 ///
-/// - `Failed`, if `counter` had failed;
-/// - `Overflow`, if there are more than 4294967295 octets.
+/// - `Failed`, if `counter` had already failed;
+/// - `Overflow`, if `counter` would count more than 4294967295 octets.
 pub fn der_count(counter: &mut DerCounter, length: usize) -> DerError
     ensures { Counts length counter.old result counter.new }
 {
     code(counter.add(length as u64))
 }
 
-/// Counts the header of an element of `tag`, a word as `der_write_header` takes it, with `length`
-/// octets of contents. Fails as [`der_count`] does, and with `TagNumberInvalid` without a position.
+/// Counts the octets of the header of an element. The element has the tag word `tag` (see
+/// `DerElement::tag`) and `length` octets of contents, which are not counted. Fails with:
+///
+/// - the errors of [`der_count`];
+/// - `TagNumberInvalid` without a position, if `tag` is not a valid tag word.
 pub fn der_count_header(counter: &mut DerCounter, tag: u64, length: u32) -> DerError
     ensures { CountsTagged (λ t. header_count t length) tag counter.old result counter.new }
 {
@@ -110,7 +115,8 @@ pub fn der_count_header(counter: &mut DerCounter, tag: u64, length: u32) -> DerE
     }
 }
 
-/// Counts an element of `tag` with `length` octets of contents. Fails as [`der_count_header`] does.
+/// Counts all octets of an element: the header, and `length` octets of contents. The element has
+/// the tag word `tag` (see `DerElement::tag`). Fails with the errors of [`der_count_header`].
 pub fn der_count_element(counter: &mut DerCounter, tag: u64, length: u32) -> DerError
     ensures { CountsTagged (λ t. element_count t length) tag counter.old result counter.new }
 {
@@ -123,8 +129,9 @@ pub fn der_count_element(counter: &mut DerCounter, tag: u64, length: u32) -> Der
     }
 }
 
-/// Begins an element of `tag`, as `der_begin` does: counts a header with a length octet, and sets
-/// `mark`. A call that fails leaves `mark` unchanged. Fails as [`der_count_header`] does.
+/// Begins an element with the tag word `tag` (see `DerElement::tag`), as `der_begin` does. Counts a
+/// header with one length octet, and sets `mark` for [`der_count_end`]. A call that fails leaves
+/// `mark` unchanged. Fails with the errors of [`der_count_header`].
 pub fn der_count_begin(counter: &mut DerCounter, tag: u64, mark: &mut DerMark) -> DerError
     ensures { CountsBegin tag counter.old result mark.old mark.new counter.new }
 {
@@ -144,9 +151,12 @@ pub fn der_count_begin(counter: &mut DerCounter, tag: u64, mark: &mut DerMark) -
     }
 }
 
-/// Ends the element that was begun with `mark`, as `der_end` does: counts the octets that its length
-/// needs beyond one. Fails as [`der_count`] does, and with the kind 23 at the number of octets
-/// counted, if `mark` is not that of the innermost open element.
+/// Ends the element that `mark` marks, as `der_end` does. If the length of the contents needs more
+/// than one octet, counts the further octets of the length. Fails with:
+///
+/// - the errors of [`der_count`];
+/// - kind 23 (`DER_UNBALANCED`), if the element is not the innermost open element. The position of
+///   this error is the number of octets counted.
 pub fn der_count_end(counter: &mut DerCounter, mark: &DerMark) -> DerError
     ensures { CountsEnd mark.now counter.old result counter.new }
 {
@@ -170,10 +180,11 @@ pub fn der_count_end(counter: &mut DerCounter, mark: &DerMark) -> DerError
 
 /// Sets `count` to the number of octets counted.
 ///
-/// A call that fails leaves `count` unchanged. Fails at the number of octets counted with:
+/// A call that fails leaves `count` unchanged. The position of each error is the number of octets
+/// counted. Fails with:
 ///
-/// - `Failed`, if `counter` had failed;
-/// - the kind 23, if an element is open.
+/// - `Failed`, if `counter` has failed;
+/// - kind 23 (`DER_UNBALANCED`), if an element was begun and not ended.
 pub fn der_counted(counter: &DerCounter, count: &mut u32) -> DerError
     ensures { GivesCount counter.now result count.old count.new }
 {

@@ -1,4 +1,4 @@
-//! Elements in C: reading and skipping them.
+//! Reading and skipping elements, for C.
 ghost use Rattle.std.specs.Prelude.{◌≡◌, ◌^◌, ◌<◌, ◌≤◌, length};
 ghost use Rattle.der_core.specs.ReaderState.{Same};
 ghost use Rattle.der_core.specs.Header.{head_of};
@@ -19,8 +19,8 @@ use der_core::{Header, Reader, decode_header};
 pub struct DerElement<'a> {
     /// The contents octets, without end-of-contents octets.
     pub contents: &'a [u8],
-    /// The tag as a word: the first octet of its identifier, plus 256 times the tag number if the
-    /// number is 31 or more.
+    /// The tag word, `der_tag` in C: the first octet of the identifier, plus 256 times the tag
+    /// number if the number is 31 or more.
     pub tag: u64,
     /// The position at which the header begins.
     pub start: u32,
@@ -141,10 +141,10 @@ pub(crate) fn read_generally<'a>(
     }
 }
 
-/// Consumes the next element and stores nothing of it. Consumes the header, the contents, and the
-/// end-of-contents octets of an indefinite length.
+/// Consumes the next element without storing it: the header, the contents, and the end-of-contents
+/// octets of an indefinite length.
 ///
-/// Fails with the errors of [`der_read_element`], and `reader` has failed then.
+/// Fails with the errors of [`der_read_element`]. After an error, `reader` has failed.
 #[inline(always)]
 pub fn der_skip(reader: &mut DerReader<'_>) -> DerError
     ensures same { Same (reader_state reader.old) (reader_state reader.new) }
@@ -188,16 +188,17 @@ fn unexpected(expected: u64, actual: u64, position: u32) -> DerError
     }
 }
 
-/// Reads the next element into `element`. The tag of this element must be `tag`, a word as in
-/// [`DerElement::tag`].
+/// Reads the next element into `element`. This element must have the tag word `tag` (see
+/// [`DerElement::tag`]).
 ///
 /// A call that fails leaves `element` unchanged. Fails with:
 ///
-/// - the errors of [`der_read_element`]; `reader` has failed then;
-/// - `TagUnexpected` at the position of `reader`, if the next element has another tag; `reader` is
-///   unchanged then;
-/// - `TagNumberInvalid` without a position, if there is a next element and `tag` is the word of no
-///   tag; `reader` has failed then.
+/// - the errors of [`der_read_element`];
+/// - `TagUnexpected` at the position of `reader`, if the next element has another tag;
+/// - `TagNumberInvalid` without a position, if `tag` is not a valid tag word and there is a next
+///   element.
+///
+/// After `TagUnexpected`, `reader` is unchanged. After any other error, `reader` has failed.
 #[inline(always)]
 pub fn der_expect<'a>(
     reader: &mut DerReader<'a>,
@@ -220,14 +221,16 @@ pub fn der_expect<'a>(
     }
 }
 
-/// Reads the next element into `element` and sets `present` to true, if the tag of this element is
-/// `tag`, a word as in [`DerElement::tag`]. Sets `present` to false if `reader` is at its end or the
-/// next element has another tag; `reader` and `element` are unchanged then.
+/// Reads the next element into `element` if it has the tag word `tag` (see [`DerElement::tag`]),
+/// and sets `present` to true. If the next element has another tag, or if `reader` is at its end,
+/// sets `present` to false, and leaves `reader` and `element` unchanged.
 ///
 /// A call that fails leaves `element` and `present` unchanged, and `reader` has failed after it.
-/// Fails with the errors of [`der_read_element`], also if the header of an element with another tag
-/// is faulty; and with `TagNumberInvalid` without a position, if there is a next element and `tag`
-/// is the word of no tag.
+/// Fails with:
+///
+/// - the errors of [`der_read_element`]; a faulty header is an error even if it has another tag;
+/// - `TagNumberInvalid` without a position, if `tag` is not a valid tag word and there is a next
+///   element.
 #[inline(always)]
 pub fn der_optional<'a>(
     reader: &mut DerReader<'a>,

@@ -1,4 +1,4 @@
-//! Entering and opening the contents of elements, in C.
+//! Entering and opening the contents of elements, for C.
 ghost use Rattle.std.specs.Prelude.{◌≡◌};
 ghost use Rattle.der_core.specs.ReaderState.{Same};
 ghost use Rattle.der_core.specs.Header.{head_of};
@@ -14,16 +14,16 @@ use crate::tag::word_of;
 use der_base::{ErrorKind, Length};
 use der_core::{Header, Reader, decode_header};
 
-/// Consumes the next element, and makes `inside` a reader of its contents. The tag of this element
-/// must be `tag`, a word as in [`DerElement::tag`].
+/// Consumes the next element, and makes `inside` a reader of its contents. This element must have
+/// the tag word `tag` (see [`DerElement::tag`]).
 ///
-/// A call that fails leaves `inside` unchanged. It fails with the errors of
-/// [`der_expect`](crate::der_expect) for the same octets, and with:
+/// A call that fails leaves `inside` unchanged. Fails with:
 ///
-/// - `NestingDepth` at the position after the header, if the whole element is there and `reader` is
-///   inside 64 elements.
+/// - the errors of [`der_expect`](crate::der_expect);
+/// - `NestingDepth` at the start of the contents, if `reader` is already inside 64 nested elements.
+///   All octets of the element must be there; otherwise the error is an error of `der_expect`.
 ///
-/// After any error but `TagUnexpected`, `reader` has failed.
+/// After `TagUnexpected`, `reader` is unchanged. After any other error, `reader` has failed.
 #[inline(always)]
 pub fn der_enter<'a>(reader: &mut DerReader<'a>, tag: u64, inside: &mut DerReader<'a>) -> DerError
     ensures same { Same (reader_state reader.old) (reader_state reader.new) }
@@ -110,15 +110,15 @@ fn enter<'a>(reader: &mut DerReader<'a>, header: Header, inside: &mut DerReader<
 }
 
 /// Makes `inside` a reader of the contents of `element`. `element` must have been read by `reader`
-/// or by a copy of `reader`. `reader` does not move.
+/// or by a copy of `reader`. The position of `reader` does not change.
 ///
 /// A call that fails leaves `inside` unchanged. Fails with:
 ///
 /// - `Failed` at the position of `reader`, if `reader` has failed;
-/// - `Reader` without a position, if `element` does not lie in the octets of `reader`; `reader` is
-///   unchanged then;
-/// - `NestingDepth` at the start of the contents, if `reader` is inside 64 nested elements; `reader`
-///   has failed then.
+/// - `Reader` without a position, if `element` does not lie in the octets of `reader`. `reader` is
+///   unchanged after this error;
+/// - `NestingDepth` at the start of the contents, if `reader` is already inside 64 nested elements.
+///   `reader` has failed after this error.
 #[inline(always)]
 pub fn der_open<'a>(
     reader: &mut DerReader<'a>,

@@ -1,4 +1,4 @@
-//! Errors as C sees them.
+//! The struct for errors in the C interface.
 ghost use Rattle.std.specs.Prelude.{◌≡◌, ◌≢◌, ◌↔◌, true, IsTrue, None, IfSome};
 ghost use Rattle.std.specs.Option.{option_map};
 ghost use Rattle.der_base.specs.Error.{kind_of as kind_of_error};
@@ -12,20 +12,23 @@ ghost use Rattle.der_c_core.specs.ErrorCode.{error_code, unbalanced_code, kind_c
 use crate::tag::{first_octet, number_in_long_form, tag_of};
 use der_base::{Error, ErrorKind, Length, Tag};
 
-/// An error, or no error if `kind` is 0. A struct of 16 octets for C, which fits in two registers.
+/// An error, or no error if `kind` is 0. In C it is a struct of 16 octets.
 #[repr(C)]
 #[derive(Clone, Copy)]
 pub struct DerError {
-    /// The number of the error kind, as listed in `bindings/c/der.h`; 0 if there is no error.
+    /// The number of the error kind, as listed in `bindings/c/yotremul/der.h`. It is 0 if there is
+    /// no error.
     pub kind: u8,
     /// Whether the position of the error is known. If not, `position` is 0.
     pub has_position: bool,
-    /// The first octet of the identifier of the expected tag; 0 if the error names no expected tag.
+    /// The first octet of the identifier of the tag that was expected. It is 0 if the error names
+    /// no expected tag.
     pub expected: u8,
-    /// The first octet of the identifier of the tag that was found; 0 if the error names no such
-    /// tag.
+    /// The first octet of the identifier of the tag that was found. It is 0 if the error names no
+    /// found tag.
     pub actual: u8,
-    /// The position of the error in the input, in octets; 0 if this position is not known.
+    /// The position of the error, in octets from the start of the input or of the output. It is 0
+    /// if the position is not known.
     pub position: u32,
     /// A number whose meaning depends on the kind of the error. It is 0 for all kinds that are not
     /// listed here:
@@ -47,7 +50,7 @@ pub struct DerError {
 }
 
 impl DerError {
-    /// No error.
+    /// The value for no error.
     pub const NONE: DerError = DerError {
         kind: 0,
         has_position: false,
@@ -160,7 +163,8 @@ pub fn c_error(error: Error) -> DerError
     }
 }
 
-/// The error of an element that does not lie in the reader's octets.
+/// The error `Reader` without a position. It is the error for an element that does not lie in the
+/// octets of the reader.
 #[inline(always)]
 pub(crate) fn foreign() -> DerError
     ensures { result ≡ error_code (error_of_kind Reader) }
@@ -168,9 +172,9 @@ pub(crate) fn foreign() -> DerError
     c_error(ErrorKind::Reader.to_error())
 }
 
-/// Returns an error that [`c_error`] converts to `code`. Returns `None` if there is no such error,
-/// or if the kind of `code` is `Utf8` (20). Errors that convert to the same [`DerError`] have the
-/// same text.
+/// Converts the C struct `code` back to an error that [`c_error`] converts to `code`. If there are
+/// several, they have the same text. Returns `None` if there is no such error, or if the kind of
+/// `code` is `Utf8` (20).
 pub(crate) fn known_error(code: DerError) -> Option<Error>
     ensures some { IfSome result (λ e. (error_code e ≡ code) × (code.kind ≢ 20)) }
     ensures none { result ≡ None → (e : AnyError) → NamesOctet (kind_of_error e)

@@ -1,4 +1,4 @@
-//! Headers in C.
+//! Reading headers of elements, for C.
 ghost use Rattle.std.specs.Prelude.{◌≡◌};
 ghost use Rattle.der_core.specs.ReaderState.{Same};
 ghost use Rattle.der_core.specs.Header.{head_of};
@@ -14,11 +14,11 @@ use der_core::{Header, decode_header};
 #[repr(C)]
 #[derive(Clone, Copy)]
 pub struct DerHeader {
-    /// The tag as a word: the first octet of its identifier, plus 256 times the tag number if the
-    /// number is 31 or more.
+    /// The tag word, `der_tag` in C: the first octet of the identifier, plus 256 times the tag
+    /// number if the number is 31 or more.
     pub tag: u64,
-    /// The number of contents octets. Includes the two end-of-contents octets if the length was
-    /// read in the indefinite form.
+    /// The number of contents octets. If the length was read in the indefinite form, the two
+    /// end-of-contents octets are included.
     pub length: u32,
     /// Whether the constructed bit of the identifier is set.
     pub constructed: bool,
@@ -40,11 +40,13 @@ fn c_header(header: Header) -> DerHeader
     }
 }
 
-/// Reads a header, as `der_core::decode_header` does, and stores it in `header`.
+/// Reads the header of the next element into `header`, as `der_core::decode_header` does. The
+/// contents are not consumed. Under the Basic Encoding Rules, the contents of an indefinite length
+/// are scanned to find their end.
 ///
-/// Fails with `Failed`, `Overflow`, `Incomplete`, `TagUnknown`, `TagNumberInvalid`,
-/// `IndefiniteLength`, `Length` and `NestingDepth`. A call that fails leaves `header` unchanged, and
-/// `reader` has failed after it.
+/// A call that fails leaves `header` unchanged, and `reader` has failed after it. Fails with
+/// `Failed`, `Overflow`, `Incomplete`, `TagUnknown`, `TagNumberInvalid`, `IndefiniteLength`,
+/// `Length` and `NestingDepth`.
 #[inline(always)]
 pub fn der_read_header(reader: &mut DerReader<'_>, header: &mut DerHeader) -> DerError
     ensures same { Same (reader_state reader.old) (reader_state reader.new) }

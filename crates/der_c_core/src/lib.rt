@@ -1,8 +1,8 @@
-//! Readers, writers and elements as structs of C, and what the calls of `bindings/c/der.h` on them
-//! do. The crate `der_c` exports the calls.
+//! Readers, writers and elements as C structs, and the functions of `bindings/c/yotremul/der.h`
+//! that read and write with them. The crate `der_c` exports these functions to C.
 //!
-//! No function allocates. The caller must ensure only that each pointer and length describe octets,
-//! and that each struct was made by the functions here.
+//! No function allocates memory. The caller must ensure only that each pointer and length describe
+//! octets, and that each struct was set by a function of this crate.
 #![tactic(auto)]
 
 mod bits;

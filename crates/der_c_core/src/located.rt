@@ -1,4 +1,5 @@
-//! Errors of reading values, with the place where an element is cut.
+//! Converting errors of decoding values, for C. If the contents of an element are cut, the error
+//! says where the contents would end.
 ghost use Rattle.std.specs.Prelude.{◌≡◌, IfSome, IfNone};
 ghost use Rattle.der_base.specs.Error.{kind_of};
 ghost use Rattle.der_c_core.specs.CReader.{reader_state};
@@ -9,9 +10,13 @@ use crate::reader::DerReader;
 use der_base::{Error, ErrorKind};
 use der_core::{Reader, decode_header};
 
-/// The C form of an error of reading a value where `reader` is. If octets are missing because the
-/// contents of the next element are cut, it says where they would end: `decode` names only the octet
-/// after the last one, since it enters an element before it reads its contents.
+/// Converts `error` to a [`DerError`]. `error` is the error of decoding a value at the position of
+/// `reader`.
+///
+/// One case is special: `error` is `Incomplete`, and the next element has a complete header but not
+/// all its contents. Then the result is `Incomplete` at the start of the contents, and its `first`
+/// is the position at which the contents would end. In `error` itself, `first` is only one more
+/// than the number of octets that are there.
 #[cold]
 pub fn located_error(reader: DerReader<'_>, error: Error) -> DerError
     ensures { Locates (reader_state reader.entry) error result }
@@ -25,7 +30,8 @@ pub fn located_error(reader: DerReader<'_>, error: Error) -> DerError
     }
 }
 
-/// The same for a value that all octets are, under the Distinguished Encoding Rules.
+/// Converts `error` to a [`DerError`], as [`located_error`] does. `error` is the error of decoding
+/// one value from `octets` under the Distinguished Encoding Rules.
 #[cold]
 pub fn located_in(octets: &[u8], error: Error) -> DerError
     ensures { LocatesIn octets.now error result }

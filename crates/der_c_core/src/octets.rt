@@ -1,4 +1,4 @@
-//! The whole octets of an element, in C.
+//! Finding all octets of an element, its header included, for C.
 ghost use Rattle.std.specs.Prelude.{◌≡◌};
 ghost use Rattle.der_c_core.specs.CReader.{reader_state};
 ghost use Rattle.der_c_core.specs.Octets.{GivesOctets};
@@ -8,9 +8,9 @@ use crate::error::{DerError, foreign};
 use crate::reader::DerReader;
 use crate::span::DerSpan;
 
-/// Sets `octets` to the whole octets of `element`: its header, its contents, and the
-/// end-of-contents octets of an indefinite length. They are borrowed from the input of `reader`.
-/// `element` must have been read from this input.
+/// Sets `octets` to all octets of `element`: its header, its contents, and the end-of-contents
+/// octets of an indefinite length. `octets` are borrowed from the input of `reader`. `element` must
+/// have been read from this input.
 ///
 /// A call that fails leaves `octets` unchanged. Fails with:
 ///

@@ -1,4 +1,4 @@
-//! The next tag in C, which is peeked at: the reader does not move.
+//! Looking at the tag of the next element without moving the reader, for C.
 ghost use Rattle.std.specs.Prelude.{◌≡◌, ◌↔◌, IsTrue, IfSome};
 ghost use Rattle.der_c_core.specs.CReader.{reader_state};
 ghost use Rattle.der_c_core.specs.PeekCalls.{HasNextTag, PeeksTag, PeeksWord};
@@ -10,19 +10,17 @@ use crate::tag::word_of;
 use der_base::Error;
 use der_core::{Reader, ReaderExt};
 
-/// Stores the tag of the next element in `tag`, a word as in
-/// [`DerElement::tag`](crate::DerElement::tag). Only its identifier is read, and `reader` is
-/// unchanged, also after an error.
+/// Sets `tag` to the tag word of the next element (see
+/// [`DerElement::tag`](crate::DerElement::tag)). Only the identifier of the element is read.
+/// `reader` is unchanged, also after an error.
 ///
-/// A call that fails leaves `tag` unchanged. Fails with the errors of reading the identifier, and
-/// with their positions:
+/// A call that fails leaves `tag` unchanged. Fails with:
 ///
-/// - `Failed` at the position of `reader`, if it has failed;
-/// - `Incomplete` at the end of `reader`, if the identifier is cut, as at the end of the octets, or
-///   `Overflow` without a position, if that end is at 4294967295;
-/// - `TagUnknown` at the position after the first octet, if no tag begins with it;
-/// - `TagNumberInvalid` at the position after the octet with which the identifier is no longer that
-///   of a tag.
+/// - `Failed` at the position of `reader`, if `reader` has failed;
+/// - `Incomplete` at the end of `reader`, if the identifier is cut or no octets are left. If this
+///   end is at position 4294967295, the error is `Overflow` without a position instead;
+/// - `TagUnknown` at the position after the first octet, if no tag begins with this octet;
+/// - `TagNumberInvalid` at the position after the octet that makes the tag number invalid.
 #[inline(always)]
 pub fn der_peek(reader: &DerReader<'_>, tag: &mut u64) -> DerError
     ensures peeks { PeeksTag (reader_state reader.now) result tag.old tag.new }
@@ -36,11 +34,12 @@ pub fn der_peek(reader: &DerReader<'_>, tag: &mut u64) -> DerError
     }
 }
 
-/// Whether the next element has the tag `tag`, a word as in
-/// [`DerElement::tag`](crate::DerElement::tag). Only its identifier is read.
+/// Whether the next element has the tag word `tag` (see
+/// [`DerElement::tag`](crate::DerElement::tag)). Only the identifier of the element is read.
+/// `reader` is unchanged.
 ///
-/// The result is false if `reader` has failed or is at its end, if the next octets are no
-/// identifier, and if `tag` is the word of no tag. `reader` is unchanged.
+/// The result is false if `reader` has failed or is at its end, if the next octets are not a valid
+/// identifier, or if `tag` is not a valid tag word.
 #[inline(always)]
 pub fn der_next_is(reader: &DerReader<'_>, tag: u64) -> bool
     ensures { IsTrue result ↔ HasNextTag tag (reader_state reader.now) }

@@ -1,4 +1,4 @@
-//! Readers in C.
+//! The struct for readers in the C interface.
 ghost use Rattle.std.specs.Prelude.{◌≡◌, ◌+◌, ◌^◌, ◌<◌, ◌≤◌, ◌↔◌, true, length, IsTrue};
 ghost use Rattle.der_base.specs.Error.{missing_refusal};
 
@@ -115,10 +115,9 @@ impl<'a> Lends for DerReader<'a> {
     type Borrowed = &'a [u8];
 }
 
-/// A reliable reader: its methods fail exactly in the cases that [`Reader`] specifies, with the
-/// errors that [`Reader`] specifies. Once an error has made this reader a failed reader, it stays
-/// failed. [`Reader::read_slice`] returns slices of the reader's input. `SliceReader` does the
-/// same.
+/// Implements [`Reader`] for the readers of C. The methods fail exactly in the cases that
+/// [`Reader`] specifies, with the specified errors. A reader that has failed stays failed.
+/// [`Reader::read_slice`] returns slices of the input, as a `SliceReader` does.
 impl<'a> Reader for DerReader<'a> {
     ghost use Rattle.std.proofs.Common.{rules};
     ghost use Rattle.der_c_core.specs.CReader.{reader_state};

@@ -1,4 +1,4 @@
-//! Measuring indefinite-length contents, in C.
+//! Measuring indefinite-length contents, for C.
 ghost use Rattle.std.specs.Prelude.{◌≡◌, true};
 ghost use Rattle.der_base.specs.declared.encoding_rules.EncodingRules.TheVariants.{Ber};
 ghost use Rattle.der_core.specs.Scan.{Scans};
@@ -14,8 +14,8 @@ use std::sync::ledger::{Blank, Ledger};
 
 /// Consumes indefinite-length contents and the end-of-contents octets that close them (X.690
 /// 8.1.3.6). Sets `count` to the number of octets consumed, end-of-contents octets included. Before
-/// the call, `reader` must be just after the length octet `0x80`; after the call it is just after
-/// the end-of-contents octets.
+/// the call, `reader` must be just after the length octet `0x80`. After the call, `reader` is just
+/// after the end-of-contents octets.
 ///
 /// A call that fails leaves `count` unchanged, and `reader` has failed after it. Fails with:
 ///

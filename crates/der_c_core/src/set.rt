@@ -1,4 +1,4 @@
-//! The order of the elements of a SET OF, in C.
+//! Sorting the elements of a SET OF, for C.
 ghost use Rattle.std.specs.Prelude.{◌≡◌, IsPermutation, length};
 ghost use Rattle.der_base.specs.Order.{byte_order};
 ghost use Rattle.der_c_core.specs.SetOrder.{SpansAscend};
@@ -6,10 +6,10 @@ ghost use Rattle.der_c_core.specs.SetOrder.{SpansAscend};
 use crate::span::DerSpan;
 use std::cmp::Ordering;
 
-/// Sorts `elements` into the order of a SET OF (X.690 11.6), that of their octets. Each span is to be
-/// the encoding of one element, which is not checked. Equal elements may follow each other.
+/// Sorts `elements` in ascending order of their octets. This is the order of a SET OF (X.690 11.6).
+/// Each span must be the encoding of one element; this is not checked. Equal elements are all kept.
 ///
-/// It cannot fail. It moves the spans, and not the octets that they point to.
+/// Cannot fail. Moves only the spans, not the octets that the spans point to.
 pub fn der_sort_set(elements: &mut [DerSpan<'_>])
     ensures same { IsPermutation elements.old elements.new }
     ensures count { length elements.new ≡ length elements.old }

@@ -1,5 +1,6 @@
-//! Elements that are there as a whole, with a short header. The functions here build no errors: what
-//! they do not accept is read again by the general functions.
+//! Fast reading of elements whose header is short: an identifier of one octet, and a definite
+//! length of at most three octets. For any other element, the functions here return `None`. `None`
+//! is not an error: the caller then reads the element in another way.
 ghost use Rattle.std.specs.Prelude.{◌≡◌, ◌<◌, true, IfSome};
 ghost use Rattle.der_c_core.specs.CReader.{reader_state};
 ghost use Rattle.der_c_core.specs.Short.{IsPlain, IsShortHeader, IsShortElement};
@@ -7,10 +8,11 @@ ghost use Rattle.der_c_core.specs.Short.{IsPlain, IsShortHeader, IsShortElement}
 use crate::reader::DerReader;
 use der_core::{Reader, universal_tag};
 
-/// An element that is there as a whole, with a tag of one octet and a definite length.
+/// An element with an identifier of one octet and a definite length. All octets of the element are
+/// there. Positions are in octets from the start of the input.
 #[derive(Clone, Copy)]
 pub(crate) struct ShortElement {
-    /// The octet of the identifier.
+    /// The identifier octet.
     pub(crate) first: u8,
     /// The position at which the contents begin.
     pub(crate) from: usize,
@@ -18,14 +20,15 @@ pub(crate) struct ShortElement {
     pub(crate) to: usize,
 }
 
-/// A header with a tag of one octet and a definite length.
+/// A header with an identifier of one octet and a definite length.
 #[derive(Clone, Copy)]
 pub(crate) struct ShortHeader {
-    /// The octet of the identifier.
+    /// The identifier octet.
     pub(crate) first: u8,
-    /// How many octets the header has.
+    /// The number of octets of the header.
     pub(crate) size: usize,
-    /// How many octets of contents follow it.
+    /// The number of contents octets that the header states. Some of them may be missing in the
+    /// input.
     pub(crate) count: usize,
 }
 

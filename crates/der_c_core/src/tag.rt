@@ -1,4 +1,4 @@
-//! Tags as 64-bit words of C.
+//! Tags as tag words, which are numbers of 64 bits for C.
 ghost use Rattle.std.specs.Prelude.{◌≡◌, IfSome, None, true, false};
 ghost use Rattle.der_base.specs.declared.tag.Tag.{Tag as ATag};
 ghost use Rattle.der_c_core.specs.TagWord.{IsTagWord, NoTagWord, said_tag, tag_octet, long_number, tag_word};
@@ -6,7 +6,8 @@ ghost use Rattle.der_c_core.specs.TagWord.{IsTagWord, NoTagWord, said_tag, tag_o
 use der_base::{Class, Tag, TagNumber};
 use der_core::universal_tag;
 
-/// The tag that [`word_of`] converts to `word`; `None` if there is no such tag.
+/// The tag whose tag word is `word`. [`word_of`] says what the tag word of a tag is. `None` if no
+/// tag has the tag word `word`.
 #[inline(always)]
 pub(crate) fn tag_of_word(word: u64) -> Option<Tag>
     ensures is { IfSome result (λ t. IsTagWord word t) }
@@ -24,8 +25,8 @@ pub(crate) fn tag_of_word(word: u64) -> Option<Tag>
     }
 }
 
-/// Whether `word` is that of a tag: the first octet of its identifier, plus 256 times its number if
-/// that is 31 or more.
+/// Whether `word` is the tag word of a tag. A tag word is the first octet of the identifier, plus
+/// 256 times the tag number if the number is 31 or more.
 #[cold]
 pub fn is_tag(word: u64) -> bool
     ensures some { result ≡ true → (t : ATag) × IsTagWord word t }
@@ -34,9 +35,10 @@ pub fn is_tag(word: u64) -> bool
     tag_of_word(word).is_some()
 }
 
-/// The tag whose identifier begins with `octet`. If the low five bits of `octet` are all set (long
-/// form), the tag number is `long`. Otherwise the low five bits are the tag number, and `long` is
-/// ignored. `None` if the class of `octet` is UNIVERSAL and no universal tag begins with `octet`.
+/// The tag whose identifier begins with `octet`. If the low five bits of `octet` are all set, the
+/// identifier has the long form, and the tag number is `long`. Otherwise the low five bits are the
+/// tag number, and `long` is ignored. `None` if the class of `octet` is UNIVERSAL and no universal
+/// tag begins with `octet`.
 pub(crate) fn tag_of(octet: u8, long: u32) -> Option<Tag>
     ensures { result ≡ said_tag octet long }
 {
@@ -64,7 +66,7 @@ pub(crate) fn tag_of(octet: u8, long: u32) -> Option<Tag>
     })
 }
 
-/// The first octet of a tag's identifier.
+/// The first octet of the identifier of `tag`.
 #[inline(always)]
 pub(crate) fn first_octet(tag: Tag) -> u8
     ensures { result ≡ tag_octet tag }
@@ -81,8 +83,8 @@ pub(crate) fn first_octet(tag: Tag) -> u8
     class + form + low
 }
 
-/// The number of `tag`, if the number is 31 or more and so needs the long form of the identifier.
-/// Returns 0 if the number is below 31.
+/// The tag number of `tag`, if it is 31 or more: the identifier then has the long form. Returns 0
+/// if the tag number is below 31.
 #[inline(always)]
 pub(crate) fn number_in_long_form(tag: Tag) -> u32
     ensures { result ≡ long_number tag }
@@ -91,8 +93,8 @@ pub(crate) fn number_in_long_form(tag: Tag) -> u32
     if number < 31 { 0 } else { number }
 }
 
-/// A tag as a word: the first octet of its identifier, plus 256 times its number if that is 31 or
-/// more.
+/// The tag word of `tag`: the first octet of its identifier, plus 256 times the tag number if the
+/// number is 31 or more.
 #[inline(always)]
 pub fn word_of(tag: Tag) -> u64
     ensures { result ≡ tag_word tag }

@@ -1,4 +1,4 @@
-//! All elements of a part in one call, in C.
+//! Reading all elements that are left in a reader with one call, for C.
 ghost use Rattle.std.specs.Prelude.{◌≡◌, ◌+◌, ◌^◌, ◌<◌, ◌≤◌, length, false};
 ghost use Rattle.der_c_core.specs.CReader.{reader_state};
 ghost use Rattle.der_c_core.specs.Around.{FillsNodes};
@@ -19,8 +19,8 @@ use der_core::Reader;
 #[repr(C)]
 #[derive(Clone, Copy)]
 pub struct DerNode {
-    /// The tag as a word: the first octet of its identifier, plus 256 times the tag number if the
-    /// number is 31 or more.
+    /// The tag word, `der_tag` in C: the first octet of the identifier, plus 256 times the tag
+    /// number if the number is 31 or more.
     pub tag: u64,
     /// The position at which the header begins.
     pub start: u32,
@@ -28,7 +28,8 @@ pub struct DerNode {
     pub contents_start: u32,
     /// The position at which the contents end, before any end-of-contents octets.
     pub end: u32,
-    /// The number of elements of the tree that enclose this element; 0 for an outermost element.
+    /// The number of elements of the tree that enclose this element. It is 0 for an outermost
+    /// element.
     pub depth: u8,
     /// Whether the constructed bit of the identifier is set.
     pub constructed: bool,
@@ -36,16 +37,16 @@ pub struct DerNode {
     pub indefinite: bool,
 }
 
-/// Reads into `nodes` all elements that are left in `reader`, and all elements inside constructed
-/// elements. Each element comes before the elements inside it. Sets `count` to the number of nodes
-/// stored, also if the call fails. If 32 other elements enclose a constructed element, the elements
-/// inside it are not read: the constructed element is one node, whatever its contents.
+/// Reads all elements that are left in `reader`, and all elements inside constructed elements.
+/// Stores them in `nodes`: each element comes before the elements inside it. Sets `count` to the
+/// number of nodes stored, also if the call fails. If 32 other elements enclose a constructed
+/// element, the elements inside it are not read, and it is a single node.
 ///
-/// After a call that fails, `reader` has failed, at the start of the element that was not read.
-/// Fails with:
+/// After a call that fails, `reader` has failed, and its position is the start of the element that
+/// could not be read. Fails with:
 ///
 /// - the errors of [`der_read_element`](crate::der_read_element);
-/// - `Overlength` without a position, if there are more elements than `nodes` has places.
+/// - `Overlength` without a position, if there are more elements than `nodes` has items.
 #[inline(always)]
 pub fn der_read_tree(
     reader: &mut DerReader<'_>,

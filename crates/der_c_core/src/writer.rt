@@ -1,4 +1,4 @@
-//! Writers in C.
+//! The struct for writers in the C interface.
 ghost use Rattle.std.specs.Prelude.{◌≡◌, ◌+◌, ◌^◌, ◌<◌, ◌≤◌, ◌↔◌, true, length, IsTrue, min};
 ghost use Rattle.der_core.specs.Writer.{space_error};
 
@@ -10,8 +10,8 @@ pub mod part;
 pub mod parts;
 mod short;
 
-/// A writer into octets. A C program makes it with [`der_writer_init`], and changes it only with
-/// functions of this crate.
+/// A writer into a buffer of octets. A C program makes it with [`der_writer_init`], and changes it
+/// only with functions of this crate.
 #[repr(C)]
 #[derive(Drop)]
 pub struct DerWriter<'a> {

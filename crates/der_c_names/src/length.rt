@@ -1,11 +1,11 @@
-//! The length of a text.
+//! Measuring the length of a text without storing it.
 
 use std::fmt;
 
-/// Counts the octets of a text, and keeps none of them.
+/// A writer that counts the octets of the text that is written to it. The text is not stored.
 #[derive(Drop)]
 pub(crate) struct TextLength {
-    /// How many octets the text has, or the greatest number if there are more.
+    /// The number of octets written so far. It is `usize::MAX` if there are more.
     pub(crate) count: usize,
 }
 

@@ -1,4 +1,5 @@
-//! The levels of a name, the last first.
+//! Writing the RelativeDistinguishedNames of a Name in the order of RFC 4514: the last one comes
+//! first.
 ghost use Rattle.std.specs.Prelude.{◌≡◌, length};
 
 use std::alloc::Global;
@@ -6,11 +7,13 @@ use std::fmt;
 use x509::Name;
 use x509_names::LevelText;
 
-/// What is written between two levels until they are in their order. It is in no text of a level,
-/// in which control characters are escaped.
+/// The separator that [`write_levels`] writes between two RelativeDistinguishedNames.
+/// [`turn_levels`] replaces it. A written RelativeDistinguishedName does not contain it, because
+/// control characters in values are escaped.
 const BETWEEN: u8 = 0;
 
-/// Writes the levels of a name from the first to the last, with a zero octet between two.
+/// Writes the RelativeDistinguishedNames of `name` as text, from the first to the last. Between two
+/// of them is a zero octet. Fails if `out` fails.
 pub(crate) fn write_levels<W: fmt::Write>(
     alloc: Global,
     name: &Name<'_>,
@@ -27,8 +30,9 @@ pub(crate) fn write_levels<W: fmt::Write>(
     Ok(())
 }
 
-/// Puts such levels into the order of RFC 4514, 2.1: the last first, with `,` between two. It turns
-/// the whole text around, and then each level.
+/// Reorders a text that [`write_levels`] has written as RFC 4514, 2.1, demands. Reverses the order
+/// of the RelativeDistinguishedNames, and replaces each zero octet by `,`. The length of `text`
+/// does not change.
 pub(crate) fn turn_levels(text: &mut [u8])
     ensures { length text.new ≡ length text.old }
 {

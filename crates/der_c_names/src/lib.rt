@@ -1,5 +1,5 @@
-//! Names of certificates as text, for callers that have memory and no allocator. The crate `der_c`
-//! exports the call.
+//! Distinguished names as text, which is written into memory of the caller. The crate `der_c`
+//! exports the function to C.
 #![tactic(auto)]
 
 mod length;

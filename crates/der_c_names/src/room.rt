@@ -1,9 +1,10 @@
-//! Text in memory of the caller.
+//! Writing text into memory of the caller.
 ghost use Rattle.std.specs.Prelude.{◌≤◌, length};
 
 use std::fmt;
 
-/// Text at the beginning of memory of the caller. What does not fit is an error.
+/// A writer that writes text to the start of memory of the caller. A write that does not fit fails
+/// and writes nothing.
 #[derive(Drop)]
 pub(crate) struct Room<'a> {
     octets: &'a mut [u8],
@@ -12,12 +13,12 @@ pub(crate) struct Room<'a> {
 }
 
 impl<'a> Room<'a> {
-    /// No text yet.
+    /// Creates a writer that begins at the start of `octets`.
     pub(crate) fn new(octets: &'a mut [u8]) -> Self {
         Room { octets, count: 0 }
     }
 
-    /// How many octets the text has.
+    /// The number of octets written so far.
     pub(crate) fn len(&self) -> usize {
         self.count
     }

@@ -1,4 +1,4 @@
-//! Departures.
+//! Listing departures: the places at which an encoding breaks a rule of DER.
 
 use crate::output::printed;
 use asn1_cursor::Cursor;
@@ -7,7 +7,12 @@ use asn1_tree::{Departure, Entry};
 use der_show_print::put_departure;
 use der_show_text::{Output, Space};
 
-/// Prints a list of departures as JSON, as `der_show --json` does, and the index of the element of each.
+/// Prints `departures` into `list` as a JSON array. Each item is an object with these fields:
+///
+/// - `node` is the index of the element in `entries`;
+/// - `departure` is the object that `der_show --json` prints.
+///
+/// Returns the number of octets printed, or `usize::MAX` if they do not fit.
 pub(crate) fn list_departures<'a>(
     schema: &'a Schema<'a>,
     octets: &'a [u8],

@@ -1,10 +1,10 @@
-//! The end of a text for C.
+//! Ending a text with a zero octet, for C.
 ghost use Rattle.std.specs.Prelude.{◌≡◌, ◌<◌, ◌^◌, ◌-◌, length};
 
 use crate::answer::NO_ROOM;
 
-/// Puts a zero octet after a text of so many octets. Returns how many they are, or the greatest number if there is no
-/// room.
+/// Writes a zero octet after the first `count` octets of `text`. Returns `count`, or [`NO_ROOM`] if
+/// there is no space for the zero octet.
 pub(crate) fn ended(text: &mut [u8], count: usize) -> usize
     ensures size { length text.new ≡ length text.old }
 {

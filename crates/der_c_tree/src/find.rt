@@ -1,4 +1,4 @@
-//! Elements of a tree, by paths and by numbers.
+//! Finding elements of a tree, by a path or by their position.
 ghost use Rattle.std.specs.Prelude.{◌≡◌, ◌<◌, ◌-◌, ◌^◌, ◌⊎◌, IfSome, length};
 ghost use Rattle.asn1_cursor.specs.Cursor.{IsOf};
 
@@ -7,9 +7,13 @@ use asn1_cursor::Cursor;
 use asn1_schema::Schema;
 use asn1_tree::Entry;
 
-/// The index of the element at the end of a path from the element `from`: names of fields with full stops between them,
-/// and items of lists in brackets, counted from 0, such as `tbsCertificate.extensions[2].extnValue.cA`. The greatest
-/// number if there is none.
+/// Follows `path` from the element with the index `from`, and returns the index of the element at
+/// its end. A path consists of names of fields, with full stops between them. A number in brackets
+/// selects an item of a list, counted from 0. An example is
+/// `tbsCertificate.extensions[2].extnValue.cA`.
+///
+/// `entries` is the tree that `der_tree_read` has read from `octets` with `table`. Returns
+/// `SIZE_MAX` if there is no such element, or if `table` is not a table of types.
 pub fn der_tree_find<'a>(
     table: &'a [u8],
     octets: &'a [u8],
@@ -34,7 +38,10 @@ pub fn der_tree_find<'a>(
     }
 }
 
-/// The index of the element inside of `parent` that so many others come before; the greatest number if there is none.
+/// Returns the index of an element directly inside the element with the index `parent`. `number` is
+/// the position of the element among all elements directly inside, counted from 0. `entries` is the
+/// tree that `der_tree_read` has read from `octets` with `table`. Returns `SIZE_MAX` if there is no
+/// such element, or if `table` is not a table of types.
 pub fn der_tree_child<'a>(
     table: &'a [u8],
     octets: &'a [u8],
@@ -56,7 +63,8 @@ pub fn der_tree_child<'a>(
     }
 }
 
-/// The element with an index, of a tree in memory of the caller; `None` if the tree has none.
+/// The element with the index `index` in the tree `entries`, which was read from `octets` with
+/// `schema`. `None` if the tree has no element with this index.
 pub(crate) fn element_at<'a>(
     octets: &'a [u8],
     schema: &'a Schema<'a>,

@@ -1,28 +1,34 @@
-//! What a read found.
+//! The struct for what `der_tree_read` finds.
 ghost use Rattle.std.specs.Prelude.{◌≡◌, ◌↔◌, ◌≤◌, true};
 ghost use Rattle.der_base.specs.declared.encoding_rules.EncodingRules.TheVariants.{Der, Ber};
 ghost use Rattle.asn1_tree.specs.Verdict.{holds};
 
 use asn1_tree::Verdict;
 
-/// What is known of a value beside its elements.
+/// What `der_tree_read` found, apart from the elements themselves. A departure is a place at which
+/// the octets break a rule of DER.
 #[repr(C)]
 #[derive(Clone, Copy)]
 pub struct DerTreeFound {
-    /// The number of elements.
+    /// The number of elements of the tree.
     pub entries: usize,
-    /// The number of departures that are listed.
+    /// The number of departures in the list of departures. It is at most 1000.
     pub departures: usize,
-    /// How many more there are.
+    /// The number of departures that the list has no room for.
     pub lost: usize,
-    /// How many octets the list of the departures has; the greatest number if there is no room for it.
+    /// The number of octets of the list of departures in JSON. It is `SIZE_MAX` if the list did not
+    /// fit.
     pub listed: usize,
-    /// 0 if the octets are DER, 1 if they are BER alone, 2 if they are neither.
+    /// What the octets are:
+    ///
+    /// - 0: a DER encoding of a value of the type;
+    /// - 1: a BER encoding of a value of the type, but not a DER encoding;
+    /// - 2: neither.
     pub verdict: u32,
 }
 
 impl DerTreeFound {
-    /// The value before a read: no element, no departure.
+    /// The value before a read: no element, no departure, and 2 as the verdict.
     pub const EMPTY: DerTreeFound = DerTreeFound {
         entries: 0,
         departures: 0,
@@ -32,7 +38,7 @@ impl DerTreeFound {
     };
 }
 
-/// The number that stands for a verdict.
+/// The number that C gets for `verdict`: 0 for DER, 1 for BER that is not DER, and 2 for neither.
 pub(crate) fn number_of(verdict: Verdict) -> u32
     ensures der { (result ≡ 0) ↔ (holds Der verdict ≡ true) }
     ensures ber { (result ≤ 1) ↔ (holds Ber verdict ≡ true) }

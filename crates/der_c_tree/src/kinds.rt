@@ -1,4 +1,4 @@
-//! Tables of types, and the kinds of values.
+//! Tables of ASN.1 types, and the kinds of values that the library knows.
 
 use crate::answer::{FULL, NONE};
 use crate::ended::ended;
@@ -8,18 +8,21 @@ use asn1_tree::{Departure, Entry};
 use der_show_text::{Output, Space};
 use der_show_tree::{ANY, KINDS, Kind, Room, TABLE_ROOM, find_kind_in, put_table};
 
-/// How many octets are enough for the table of the known types.
+/// A size of memory that is enough for the table that [`der_known_types`] writes.
 pub fn der_known_types_room() -> usize {
     TABLE_ROOM
 }
 
-/// Puts the table of the types that the library knows into `table`, and returns how many octets it has.
+/// Writes the table of the ASN.1 types that the library knows to the start of `table`. Returns the
+/// number of octets written. `der_known_types_room` octets are always enough. If `table` is too
+/// short, writes only the first part of the table, which cannot be used.
 pub fn der_known_types(table: &mut [u8]) -> usize {
     put_table(table)
 }
 
-/// The index of the type of this name in a table, as `asn1_compile --schema` writes it; [`NONE`] if it has none, or if
-/// the octets are no table.
+/// Returns the index of the type with the name `name` in `table`. `table` is a table of types, such
+/// as `asn1_compile --schema` writes. Returns [`NONE`] if the table has no type with this name, or
+/// if `table` is not a table of types.
 pub fn der_type_find(table: &[u8], name: &[u8]) -> u32 {
     let Ok(schema) = Schema::new(table) else {
         return NONE;
@@ -30,8 +33,10 @@ pub fn der_type_find(table: &[u8], name: &[u8]) -> u32 {
     }
 }
 
-/// The number of the kind of a value, by the table of the known types; [`NONE`] if it is of none, and [`FULL`] if there
-/// is no room.
+/// Returns the number of the kind of the value in `octets`, such as a certificate or a private key.
+/// `table` must be the table that `der_known_types` writes. `entries`, `marks` and `text` are
+/// working memory. Returns [`NONE`] if the value is of no known kind, and [`FULL`] if there is too
+/// little working memory.
 pub fn der_kind_find(
     table: &[u8],
     octets: &[u8],
@@ -68,7 +73,8 @@ fn number_of(kind: Kind) -> u32 {
     NONE
 }
 
-/// The number of the kind that the label of a PEM block promises; [`NONE`] for another label.
+/// Returns the number of the kind of value that a PEM block with the label `label` should contain.
+/// Returns [`NONE`] if the label stands for no known kind.
 pub fn der_kind_of_label(label: &[u8]) -> u32 {
     match std::str::from_utf8(label) {
         Ok(label) => match Kind::of_label(label) {
@@ -79,7 +85,8 @@ pub fn der_kind_of_label(label: &[u8]) -> u32 {
     }
 }
 
-/// The index of the type of a kind in the table of the known types; that of any value if the number is of no kind.
+/// Returns the index of a type in the table that `der_known_types` writes. It is the type of the
+/// kind with the number `kind`. If no kind has this number, it is the type of any element.
 pub fn der_kind_type(kind: u32) -> u32 {
     match KINDS.get(kind as usize) {
         Some(kind) => kind.node(),
@@ -87,14 +94,16 @@ pub fn der_kind_type(kind: u32) -> u32 {
     }
 }
 
-/// Writes the word for a kind, as the option `--as` of `der_show` has it, and a zero octet; `elements` if the number is
-/// of no kind. Returns how many octets the word has, or the greatest number if there is no room.
+/// Writes the word for the kind with the number `kind`, and a zero octet. It is the word that the
+/// option `--as` of `der_show` takes, or `elements` if no kind has this number. Returns the number
+/// of octets of the word, without the zero octet. Returns `SIZE_MAX` if `text` is too short.
 pub fn der_kind_word(kind: u32, text: &mut [u8]) -> usize {
     let count = put_kind_word(kind, text);
     ended(text, count)
 }
 
-/// Prints the word for a kind, without a zero octet.
+/// Writes the word for the kind with the number `kind`, as [`der_kind_word`] does, but without a
+/// zero octet. Returns the number of octets of the word, or `usize::MAX` if `text` is too short.
 pub fn put_kind_word(kind: u32, text: &mut [u8]) -> usize {
     let mut out = Output::to(Space::new(text));
     out.put(match KINDS.get(kind as usize) {

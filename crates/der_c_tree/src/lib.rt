@@ -1,9 +1,13 @@
-//! Values of any known type as trees, for callers that have memory and no allocator: the kind of a value, its elements
-//! with the names of their fields and their types, the texts of values, and the departures from the Distinguished
-//! Encoding Rules. The crate `der_c` exports the calls for C, and `der_page` those for WebAssembly.
+//! Values of any known ASN.1 type as trees of elements, in memory of the caller. The functions
+//! give:
 //!
-//! No call allocates: each writes into memory of the caller. A call that prints returns how many octets it printed, or
-//! the greatest number if they do not fit.
+//! - the kind of a value, such as a certificate;
+//! - its elements, with their types, the names of their fields, and texts for their values;
+//! - the departures: the places at which an encoding breaks a rule of DER.
+//!
+//! The crate `der_c` exports the functions to C, and `der_page` exports functions to WebAssembly
+//! that call them. No function allocates memory. A function that prints returns the number of
+//! octets printed, or `usize::MAX` (`SIZE_MAX` in C) if they do not fit.
 #![tactic(auto)]
 
 mod answer;

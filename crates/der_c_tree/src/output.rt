@@ -1,9 +1,9 @@
-//! Text that a call prints.
+//! Counting the octets that a call printed.
 
 use crate::answer::NO_ROOM;
 use der_show_text::{Output, Space};
 
-/// How many octets were printed.
+/// The number of octets that were printed to `out`, or [`NO_ROOM`] if not all of them fit.
 pub fn printed(out: &Output<Space<'_>>) -> usize {
     if out.has_failed {
         NO_ROOM

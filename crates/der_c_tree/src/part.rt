@@ -1,12 +1,12 @@
-//! The octets of an element of a tree.
+//! Finding the octets of an element of a tree.
 ghost use Rattle.std.specs.Prelude.{◌≡◌, ◌<◌, ◌≤◌, ◌+◌, true, false, length, take, drop};
 ghost use Rattle.der_c_tree.specs.Part.{IsPartOf};
 
 use asn1_tree::Entry;
 use der_c_core::DerSpan;
 
-/// Sets `part` to the octets of the element with this index, header and contents. Returns false, and leaves `part` as it
-/// was, if there is no such element.
+/// Sets `part` to all octets of the element with the index `index`: its header and its contents.
+/// Returns false, and leaves `part` unchanged, if there is no element with this index.
 pub fn der_tree_octets<'a>(
     octets: &'a [u8],
     entries: &[Entry],
@@ -23,8 +23,8 @@ pub fn der_tree_octets<'a>(
     put_part(octets, entry.offset, count, part)
 }
 
-/// Sets `part` to the contents octets of the element with this index. Returns false, and leaves `part` as it was, if
-/// there is no such element.
+/// Sets `part` to the contents octets of the element with the index `index`. Returns false, and
+/// leaves `part` unchanged, if there is no element with this index.
 pub fn der_tree_contents<'a>(
     octets: &'a [u8],
     entries: &[Entry],

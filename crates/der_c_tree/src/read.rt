@@ -1,4 +1,4 @@
-//! The elements of a value, and its departures.
+//! Reading the elements of a value, and the departures of its encoding from DER.
 ghost use Rattle.std.specs.Prelude.{◌≡◌, ◌↔◌, ◌≤◌, true, false, length, take};
 ghost use Rattle.asn1_schema.specs.Table.{table_in};
 ghost use Rattle.asn1_tree.specs.Encoding.{IsDer, IsBer};
@@ -9,13 +9,20 @@ use crate::found::{DerTreeFound, number_of};
 use asn1_schema::Schema;
 use asn1_tree::{Departure, Entry, read_into};
 
-/// How many departures are listed at most. More are counted.
+/// At most this number of departures are listed. The others are only counted.
 const LISTED: usize = 1000;
 
-/// Reads `octets` as a value of the type `node` of a table: puts its elements into `entries`, and what else was found into
-/// `found`. Prints into `list` the departures as JSON, as `der_show --json` does, with the index of the element of each;
-/// nothing if they do not fit. Returns false, and leaves `found` as it was, if there is no room, no table, or no such
-/// type.
+/// Reads `octets` as a value of a type. `node` is the index of the type in `table`, a table of
+/// types. Stores the elements in `entries`, and sets `found`. `marks` and `text` are working
+/// memory.
+///
+/// A departure is a place at which the octets break a rule of DER. Reading continues after a
+/// departure. The departures are printed into `list` as JSON, in the form of `der_show --json`.
+/// Each has the index of its element. If the departures do not fit, the octets of `list` are
+/// unspecified.
+///
+/// Returns false, and leaves `found` unchanged, if `entries`, `marks` or `text` is too short, if
+/// `table` is not a table of types, or if it has no type with this index.
 pub fn der_tree_read(
     table: &[u8],
     node: u32,

@@ -1,4 +1,4 @@
-//! Texts of elements of a tree.
+//! The names, types and values of the elements of a tree, as text.
 
 use crate::answer::NO_ROOM;
 use crate::ended::ended;
@@ -10,8 +10,10 @@ use asn1_tree::Entry;
 use der_show_print::{Form, Printer};
 use der_show_text::{Characters, Output, Space, Style, put_text};
 
-/// Writes the name of the field or of the alternative that an element is, and a zero octet; no name if it has none.
-/// Returns how many octets the name has, or the greatest number if there is no room, no table or no such element.
+/// Writes the name of the element with the index `index`, and a zero octet. It is the name of the
+/// field or of the CHOICE alternative; the name is empty if there is none. Returns the number of
+/// octets of the name, without the zero octet. Returns `SIZE_MAX` if `text` is too short, if
+/// `table` is not a table of types, or if there is no element with this index.
 pub fn der_tree_name<'a>(
     table: &'a [u8],
     octets: &'a [u8],
@@ -23,8 +25,10 @@ pub fn der_tree_name<'a>(
     ended(text, count)
 }
 
-/// Writes the name of the type of an element, and a zero octet; no name if it has none. Returns how many octets the
-/// name has, or the greatest number if there is no room, no table or no such element.
+/// Writes the name of the type of the element with the index `index`, and a zero octet. The name is
+/// empty if the type has no name. Returns the number of octets of the name, without the zero octet.
+/// Returns `SIZE_MAX` if `text` is too short, if `table` is not a table of types, or if there is no
+/// element with this index.
 pub fn der_tree_type<'a>(
     table: &'a [u8],
     octets: &'a [u8],
@@ -36,9 +40,15 @@ pub fn der_tree_type<'a>(
     ended(text, count)
 }
 
-/// Writes the text of the value of an element, and a zero octet: that of a primitive value, of a name, or of the OBJECT
-/// IDENTIFIER that the element begins with, and none for another element. Returns how many octets the text has, or the
-/// greatest number if there is no room, no table or no such element.
+/// Writes a text for the element with the index `index`, and a zero octet. The text is:
+///
+/// - for a primitive element, its value;
+/// - for a distinguished name, the name;
+/// - for any other element that begins with an OBJECT IDENTIFIER, this OBJECT IDENTIFIER;
+/// - for any other element, empty.
+///
+/// Returns the number of octets of the text, without the zero octet. Returns `SIZE_MAX` if `text`
+/// is too short, if `table` is not a table of types, or if there is no element with this index.
 pub fn der_tree_text<'a>(
     table: &'a [u8],
     octets: &'a [u8],

@@ -1,4 +1,4 @@
-//! The text of the value of an element.
+//! Printing the text for an element.
 
 use asn1_cursor::Cursor;
 use asn1_schema::NodeKind;
@@ -6,7 +6,12 @@ use ber::Universal;
 use der_show_print::{Printer, put_name, put_plain, put_plain_element};
 use der_show_text::{Space, put_identifier};
 
-/// Prints the text of a primitive value, of a name, or of the OBJECT IDENTIFIER that an element begins with.
+/// Prints a text for `element`. The text is:
+///
+/// - for a primitive element, its value;
+/// - for a distinguished name, the name;
+/// - for any other element that begins with an OBJECT IDENTIFIER, this OBJECT IDENTIFIER;
+/// - for any other element, empty.
 pub fn put_value(printer: &mut Printer<Space<'_>>, element: Cursor<'_>) {
     if !element.is_constructed() {
         match element.kind() {

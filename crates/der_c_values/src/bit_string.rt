@@ -1,4 +1,4 @@
-//! BIT STRING, in C.
+//! Reading a BIT STRING, for C.
 ghost use Rattle.std.specs.Prelude.{◌≡◌, true};
 ghost use Rattle.der_asn1.specs.Forms.{bits_form};
 ghost use Rattle.der_core.specs.ReaderState.{Same};
@@ -11,14 +11,15 @@ use crate::refusal::refuse_value;
 use der_asn1::{BitStringGrammar, ContentsGrammar};
 use der_c_core::{DerBits, DerError, DerReader};
 
-/// Reads a BIT STRING (X.690 8.6, 11.2) into `bits`. The tag of the next element must be `tag`, a
-/// word as `der_expect` takes it. The encoding must be primitive: segments are not joined.
+/// Reads a BIT STRING (X.690 8.6, 11.2) into `bits`. The next element must have the tag word `tag`
+/// (see `DerElement::tag`). The encoding must be primitive: segments are not joined.
 ///
 /// A call that fails leaves `bits` unchanged. Fails with:
 ///
 /// - the errors of `der_expect`;
 /// - `Value` with the tag `tag`, at the position after the element, if the contents are empty, if
-///   they give more than 7 unused bits, or any without octets, or if an unused bit is not zero.
+///   they state more than 7 unused bits, if they state unused bits but have no octets for bits, or
+///   if an unused bit is not zero.
 #[inline(always)]
 pub fn der_read_bit_string<'a>(
     reader: &mut DerReader<'a>,

@@ -1,4 +1,4 @@
-//! BOOLEAN, in C.
+//! Reading a BOOLEAN, for C.
 ghost use Rattle.der_asn1.specs.Forms.{boolean_form};
 ghost use Rattle.der_core.specs.ReaderState.{Same};
 ghost use Rattle.der_c_core.specs.CReader.{reader_state};
@@ -10,14 +10,14 @@ use crate::refusal::refuse_value;
 use der_asn1::{BooleanGrammar, ContentsGrammar};
 use der_c_core::{DerError, DerReader};
 
-/// Reads a BOOLEAN (X.690 8.2, 11.1) into `value`. The tag of the next element must be `tag`, a
-/// word as `der_expect` takes it.
+/// Reads a BOOLEAN (X.690 8.2, 11.1) into `value`. The next element must have the tag word `tag`
+/// (see `DerElement::tag`).
 ///
 /// A call that fails leaves `value` unchanged. Fails with:
 ///
 /// - the errors of `der_expect`;
-/// - `Value` with the tag `tag`, at the position after the element, if the contents are not one
-///   octet `0x00` or `0xFF`.
+/// - `Value` with the tag `tag`, at the position after the element, if the contents are not exactly
+///   one octet, `0x00` or `0xFF`.
 #[inline(always)]
 pub fn der_read_boolean(reader: &mut DerReader<'_>, tag: u64, value: &mut bool) -> DerError
     ensures same { Same (reader_state reader.old) (reader_state reader.new) }

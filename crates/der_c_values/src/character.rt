@@ -1,4 +1,4 @@
-//! The characters of texts, in C.
+//! Taking the characters of a text one by one, for C.
 ghost use Rattle.std.specs.Prelude.{◌≡◌, ◌≤◌, ◌<◌, ℕ, List, ◌++◌, length, drop, take, true, false, IfSome, IfNone, encode_utf8};
 ghost use Rattle.std.specs.Str.{IsUtf8};
 ghost use Rattle.std.specs.Char.{IsScalar, len_utf8};
@@ -6,14 +6,17 @@ ghost use Rattle.der_c_values.specs.Characters.{TakesCharacter, IsCharacter, cha
 
 use crate::text::DerText;
 
-/// Removes the first character of `text`, and sets `character` to its number in Unicode. Returns
-/// false at the end of the text, and changes nothing then.
+/// Removes the first character of `text`, and sets `character` to its Unicode code point. If `text`
+/// is empty, returns false and changes nothing.
 ///
-/// A UTF8String is read as UTF-8, and a BMPString as codes of two octets. Strings of the other
-/// types have one octet for each character; a TeletexString is read as ISO 8859-1.
+/// The string type of `text` says how the octets encode characters:
 ///
-/// Also returns false if the octets do not begin with a character of the type. A text that
-/// `der_read_text` has set consists of characters.
+/// - A UTF8String is read as UTF-8.
+/// - A BMPString has two octets for each character.
+/// - Any other string has one octet for each character. A TeletexString is read as ISO 8859-1.
+///
+/// If the octets do not begin with a character of the string type, returns false and changes
+/// nothing. This cannot happen with a text that `der_read_text` has set.
 pub fn der_next_character(text: &mut DerText<'_>, character: &mut u32) -> bool
     ensures { TakesCharacter text.old result character.old character.new text.new }
 {

@@ -1,4 +1,4 @@
-//! The contents of the next element.
+//! Reading the contents of the next element.
 ghost use Rattle.std.specs.Prelude.{◌≡◌, IfOk, IfErr};
 ghost use Rattle.der_core.specs.ReaderState.{Same};
 ghost use Rattle.der_c_core.specs.CReader.{reader_state};
@@ -6,8 +6,8 @@ ghost use Rattle.der_c_values.specs.ValueCalls.{ReadsOctets, RefusesElement};
 
 use der_c_core::{DerElement, DerError, DerReader, der_expect};
 
-/// Reads the next element, which must have this tag, and returns its contents, or the error of
-/// [`der_expect`].
+/// Reads the next element, which must have the tag word `tag`, and returns its contents. Fails with
+/// the errors of [`der_expect`].
 #[inline(always)]
 pub(crate) fn read_octets<'a>(reader: &mut DerReader<'a>, tag: u64) -> Result<&'a [u8], DerError>
     ensures same { Same (reader_state reader.old) (reader_state reader.new) }

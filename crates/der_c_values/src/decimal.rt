@@ -11,7 +11,7 @@ pub(crate) struct Decimal {
 }
 
 impl Decimal {
-    /// The digits of `number`.
+    /// Makes the decimal digits of `number`.
     pub(crate) fn new(number: u128) -> Self
         ensures { drop result.start result.octets ≡ decimal_text number }
     {

@@ -1,8 +1,9 @@
-//! Arcs in dotted notation.
+//! Reading of the arcs of an OBJECT IDENTIFIER in dotted notation.
 ghost use Rattle.std.specs.Prelude.{◌≡◌, ◌+◌, ◌*◌, ◌<◌, ◌≤◌, ◌↔◌, ◌∷◌, [], ◌++◌, ℕ, length, slice_index, IsTrue};
 ghost use Rattle.der_asn1.specs.Arcs.{subidentifier_value};
 
-/// An arc in a text: its number, or `None` from 2^128 on, and the position after its digits.
+/// An arc of an OBJECT IDENTIFIER that was read from a text. It has the number of the arc, which is
+/// `None` for 2^128 or more, and the position in the text just after the digits of the arc.
 #[derive(Clone, Copy)]
 pub(crate) struct DottedArc {
     pub(crate) number: Option<u128>,
@@ -12,8 +13,11 @@ pub(crate) struct DottedArc {
 impl DottedArc {
     ghost use Rattle.der_c_values.specs.OidContents.{ReadsArc};
 
-    /// The arc at a position of a text, in decimal without leading zeros, if a dot or the end of the
-    /// text is after it; else `None`.
+    /// Reads the arc whose digits begin at the index `at` of `text`. Returns `None`:
+    ///
+    /// - if there are no decimal digits at this index;
+    /// - if the digits have a leading zero;
+    /// - if the digits are followed neither by a dot nor by the end of `text`.
     pub(crate) fn read(text: &[u8], at: usize) -> Option<Self>
         requires { at ≤ length text.now }
         ensures { ReadsArc text.now at result }

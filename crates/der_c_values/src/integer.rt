@@ -1,4 +1,4 @@
-//! INTEGER, in C.
+//! Reading an INTEGER, for C.
 ghost use Rattle.std.specs.Prelude.{◌^◌, false};
 ghost use Rattle.der_asn1.specs.Forms.{integer_form};
 ghost use Rattle.der_asn1.specs.Integer.{signed_form, unsigned_form, integer_octets, signed_octets};
@@ -12,14 +12,14 @@ use crate::refusal::refuse_value;
 use der_asn1::{ContentsGrammar, IntegerGrammar, IntegerNumber};
 use der_c_core::{DerError, DerReader, DerSpan};
 
-/// Reads an INTEGER from 0 to 18446744073709551615 (X.690 8.3) into `value`. The tag of the next
-/// element must be `tag`, a word as `der_expect` takes it.
+/// Reads an INTEGER from 0 to 18446744073709551615 (X.690 8.3) into `value`. The next element must
+/// have the tag word `tag` (see `DerElement::tag`).
 ///
 /// A call that fails leaves `value` unchanged. Fails with:
 ///
 /// - the errors of `der_expect`;
 /// - `Value` with the tag `tag`, at the position after the element, if the contents are empty, if
-///   they are not the shortest for their number, or if this number is out of range.
+///   they have more octets than the number needs, or if the number is out of range.
 #[inline(always)]
 pub fn der_read_uint64(reader: &mut DerReader<'_>, tag: u64, value: &mut u64) -> DerError
     ensures same { Same (reader_state reader.old) (reader_state reader.new) }
@@ -38,14 +38,14 @@ pub fn der_read_uint64(reader: &mut DerReader<'_>, tag: u64, value: &mut u64) ->
 }
 
 /// Reads an INTEGER from -9223372036854775808 to 9223372036854775807 (X.690 8.3) into `value`. The
-/// tag of the next element must be `tag`, a word as `der_expect` takes it. With the tag ENUMERATED
-/// it reads an ENUMERATED (X.690 8.4).
+/// next element must have the tag word `tag` (see `DerElement::tag`). If `tag` is the tag word of
+/// ENUMERATED, the function reads an ENUMERATED (X.690 8.4).
 ///
 /// A call that fails leaves `value` unchanged. Fails with:
 ///
 /// - the errors of `der_expect`;
 /// - `Value` with the tag `tag`, at the position after the element, if the contents are empty, if
-///   they are not the shortest for their number, or if this number is out of range.
+///   they have more octets than the number needs, or if the number is out of range.
 #[inline(always)]
 pub fn der_read_int64(reader: &mut DerReader<'_>, tag: u64, value: &mut i64) -> DerError
     ensures same { Same (reader_state reader.old) (reader_state reader.new) }
@@ -63,15 +63,15 @@ pub fn der_read_int64(reader: &mut DerReader<'_>, tag: u64, value: &mut i64) -> 
     DerError::NONE
 }
 
-/// Reads an INTEGER of any size (X.690 8.3), and sets `value` to its contents: at least one octet,
-/// a number in two's complement, the most significant octet first, in the fewest octets. The tag of
-/// the next element must be `tag`, a word as `der_expect` takes it.
+/// Reads an INTEGER of any size (X.690 8.3), and sets `value` to its contents. They are a number in
+/// two's complement, the most significant octet first, with as few octets as possible, but at least
+/// one. The next element must have the tag word `tag` (see `DerElement::tag`).
 ///
 /// A call that fails leaves `value` unchanged. Fails with:
 ///
 /// - the errors of `der_expect`;
 /// - `Value` with the tag `tag`, at the position after the element, if the contents are empty or
-///   not the shortest for their number.
+///   have more octets than the number needs.
 #[inline(always)]
 pub fn der_read_integer<'a>(
     reader: &mut DerReader<'a>,

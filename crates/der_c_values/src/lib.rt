@@ -1,8 +1,9 @@
-//! Values of ASN.1 as C reads and writes them: one call each. The crate `der_c` exports the calls.
+//! Reading and writing values of ASN.1 types for C, with one call for each value. The crate `der_c`
+//! exports the calls. No function allocates memory.
 //!
-//! A call that reads a value reads the next element, which must have the tag that is passed, and
-//! checks the contents by X.690, as strictly under BER as under DER. A call that writes a value
-//! writes one element. No function allocates.
+//! A call that reads a value reads the next element, which must have the tag that the caller
+//! passes. It checks the contents by the rules of X.690 for DER, also if the reader reads under
+//! BER. A call that writes a value writes one element.
 #![tactic(auto)]
 
 mod bit_string;

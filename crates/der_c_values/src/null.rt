@@ -1,4 +1,4 @@
-//! NULL, in C.
+//! Reading a NULL, for C.
 ghost use Rattle.der_asn1.specs.Forms.{null_form};
 ghost use Rattle.der_core.specs.ReaderState.{Same};
 ghost use Rattle.der_c_core.specs.CReader.{reader_state};
@@ -10,13 +10,12 @@ use crate::refusal::refuse_value;
 use der_asn1::{ContentsGrammar, NullGrammar};
 use der_c_core::{DerError, DerReader};
 
-/// Reads a NULL (X.690 8.8). The tag of the next element must be `tag`, a word as `der_expect`
-/// takes it.
+/// Reads a NULL (X.690 8.8). The next element must have the tag word `tag` (see `DerElement::tag`).
 ///
 /// Fails with:
 ///
 /// - the errors of `der_expect`;
-/// - `Value` with the tag `tag`, at the position after the element, if there are contents.
+/// - `Value` with the tag `tag`, at the position after the element, if the element has contents.
 #[inline(always)]
 pub fn der_read_null(reader: &mut DerReader<'_>, tag: u64) -> DerError
     ensures same { Same (reader_state reader.old) (reader_state reader.new) }

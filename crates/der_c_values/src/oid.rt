@@ -1,4 +1,4 @@
-//! OBJECT IDENTIFIER, in C.
+//! Reading an OBJECT IDENTIFIER, for C.
 ghost use Rattle.der_asn1.specs.Forms.{oid_form};
 ghost use Rattle.der_core.specs.ReaderState.{Same};
 ghost use Rattle.der_c_core.specs.CReader.{reader_state};
@@ -10,14 +10,14 @@ use crate::refusal::refuse_value;
 use der_asn1::{ContentsGrammar, ObjectIdentifierGrammar};
 use der_c_core::{DerError, DerReader, DerSpan};
 
-/// Reads an OBJECT IDENTIFIER (X.690 8.19), and sets `oid` to its contents. The tag of the next
-/// element must be `tag`, a word as `der_expect` takes it.
+/// Reads an OBJECT IDENTIFIER (X.690 8.19), and sets `oid` to its contents octets. The next element
+/// must have the tag word `tag` (see `DerElement::tag`).
 ///
 /// A call that fails leaves `oid` unchanged. Fails with:
 ///
 /// - the errors of `der_expect`;
-/// - `Value` with the tag `tag`, at the position after the element, if the contents are empty, end
-///   inside a subidentifier, or have a subidentifier that begins with octet `0x80`.
+/// - `Value` with the tag `tag`, at the position after the element, if the contents are empty, if
+///   they end inside a subidentifier, or if a subidentifier begins with the octet `0x80`.
 #[inline(always)]
 pub fn der_read_oid<'a>(reader: &mut DerReader<'a>, tag: u64, oid: &mut DerSpan<'a>) -> DerError
     ensures same { Same (reader_state reader.old) (reader_state reader.new) }

@@ -1,4 +1,4 @@
-//! The arcs of an OBJECT IDENTIFIER, in C.
+//! Listing the arcs of an OBJECT IDENTIFIER, for C.
 ghost use Rattle.std.specs.Prelude.{◌≡◌, ◌↔◌, ◌≤◌, ◌^◌, ◌-◌, ◌++◌, true, length, map, min, drop, IsSome, IfSome};
 ghost use Rattle.der_asn1.specs.Arcs.{arc_items};
 ghost use Rattle.der_c_values.specs.Dotted.{all_fit};
@@ -8,15 +8,15 @@ use crate::refusal::{OVERFLOW, OVERLENGTH, value_error};
 use der_asn1::{Arcs, ObjectIdentifierRef};
 use der_c_core::DerError;
 
-/// Writes the arcs of an OBJECT IDENTIFIER, such as 2, 5, 29 and 17 of `2.5.29.17`, to the start of
-/// `arcs`, and sets `count` to their number. `oid` are the contents octets of the OBJECT IDENTIFIER
-/// (X.690 8.19). There is one arc more than `oid` has octets at most.
+/// Writes the arcs of an OBJECT IDENTIFIER to the start of `arcs`, for example 2, 5, 29 and 17 for
+/// `2.5.29.17`. Sets `count` to the number of arcs. `oid` are the contents octets of the OBJECT
+/// IDENTIFIER (X.690 8.19). There is at most one arc more than `oid` has octets.
 ///
 /// A call that fails leaves `arcs` and `count` unchanged. Fails without a position with:
 ///
-/// - `Value` with the tag OBJECT IDENTIFIER, if `oid` are not such contents;
+/// - `Value` with the tag OBJECT IDENTIFIER, if `oid` are not contents of an OBJECT IDENTIFIER;
 /// - `Overflow`, if an arc does not fit in 64 bits;
-/// - `Overlength`, if there is no space in `arcs`.
+/// - `Overlength`, if there are more arcs than `arcs` has items.
 pub fn der_oid_arcs(oid: &[u8], arcs: &mut [u64], count: &mut usize) -> DerError
     ensures { GivesArcs oid.now result arcs.old arcs.new count.old count.new }
 {

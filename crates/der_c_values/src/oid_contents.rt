@@ -1,4 +1,4 @@
-//! The contents of an OBJECT IDENTIFIER, from its arcs.
+//! Making the contents octets of an OBJECT IDENTIFIER from its arcs.
 ghost use Rattle.std.specs.Prelude.{◌≡◌, ◌↔◌, ◌+◌, ◌*◌, ◌<◌, ◌≤◌, ℕ, List, [], ◌∷◌, ◌++◌, true, false, take, length, IsTrue};
 ghost use Rattle.der_core.specs.Encode.{high_digits};
 ghost use Rattle.der_asn1.specs.Arcs.{subidentifier_octets, subidentifier_value};
@@ -6,7 +6,8 @@ ghost use Rattle.der_asn1.specs.Arcs.{subidentifier_octets, subidentifier_value}
 // how many octets these contents have at most
 const MOST: usize = 256;
 
-/// Which arc is next: the first, the second, or a later one. The second knows the first.
+/// The arc that is added next: the first, the second, or a later one. The field of `Second` is the
+/// number of the first arc.
 #[derive(Clone, Copy)]
 pub(crate) enum NextArc {
     First,
@@ -14,7 +15,8 @@ pub(crate) enum NextArc {
     Other,
 }
 
-/// The contents octets of an OBJECT IDENTIFIER, at most 256.
+/// The contents octets of an OBJECT IDENTIFIER, to which arcs are added one by one. There is room
+/// for 256 octets.
 #[derive(Drop)]
 pub(crate) struct OidContents {
     octets: [u8; 256],
@@ -29,7 +31,7 @@ impl OidContents {
     ghost use Rattle.der_c_values.specs.OidContents.{held_octets, Holds, Pushes, AppendsNumber};
     ghost use Rattle.der_c_values.specs.OidFromText.{AreOidArcs};
 
-    /// The contents without arcs.
+    /// The contents octets before the first arc is added.
     pub(crate) fn new() -> Self
         ensures { Holds result [] }
     {
@@ -48,22 +50,23 @@ impl OidContents {
         &self.octets[..self.count]
     }
 
-    /// Whether the arcs are those of an OBJECT IDENTIFIER: two or more.
+    /// Whether enough arcs were added: an OBJECT IDENTIFIER has two or more.
     pub(crate) fn is_whole(&self) -> bool
         ensures { (arcs : List ℕ) → Holds self.now arcs → IsTrue result ↔ AreOidArcs arcs }
     {
         matches!(self.next, NextArc::Other)
     }
 
-    /// Whether each subidentifier fits in 128 bits, and all are at most 256 octets.
+    /// Whether all added arcs have room. Each subidentifier must fit in 128 bits, and all together
+    /// must need at most 256 octets.
     pub(crate) fn fits(&self) -> bool
         ensures { result ≡ self.now.fits }
     {
         self.fits
     }
 
-    /// Adds an arc; `None` is one from 2^128 on. Returns false if no OBJECT IDENTIFIER begins with
-    /// the arcs and this one (X.690 8.19.4).
+    /// Adds the arc with the number `arc`. `None` stands for a number of 2^128 or more. Returns
+    /// false if no OBJECT IDENTIFIER begins with the arcs so far and this arc (X.690 8.19.4).
     pub(crate) fn push(&mut self, arc: Option<u128>) -> bool
         ensures { (arcs : List ℕ) (n : ℕ) → Holds self.old arcs → arc ≡ subidentifier_value n
             → Pushes arcs n result self.new }

@@ -1,4 +1,4 @@
-//! OBJECT IDENTIFIERs that are compared with a text, in C.
+//! Comparing an OBJECT IDENTIFIER with dotted notation, for C.
 ghost use Rattle.std.specs.Prelude.{◌≡◌, ◌+◌, ◌≤◌, ◌∷◌, [], ◌++◌, List, ℕ, true, false, length, drop, IfSome, IfNone};
 ghost use Rattle.der_asn1.specs.Arcs.{arc_items};
 ghost use Rattle.der_c_values.specs.Dotted.{ComparesOid, items_text, all_fit};
@@ -6,9 +6,9 @@ ghost use Rattle.der_c_values.specs.Dotted.{ComparesOid, items_text, all_fit};
 use crate::decimal::Decimal;
 use der_asn1::{Arcs, ObjectIdentifierRef};
 
-/// Whether `oid` are the contents octets of the OBJECT IDENTIFIER (X.690 8.19) whose dotted
-/// notation is `text`, such as `2.5.29.17`. `text` has no final zero octet, and no leading zeros in
-/// its numbers.
+/// Whether `oid` is the OBJECT IDENTIFIER with the dotted notation `text`, such as `2.5.29.17`.
+/// `oid` are the contents octets (X.690 8.19). `text` has no final zero octet, and no leading zeros
+/// in its numbers.
 ///
 /// The result is false if a subidentifier of `oid` does not fit in 128 bits.
 pub fn der_oid_is(oid: &[u8], text: &[u8]) -> bool

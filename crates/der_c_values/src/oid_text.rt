@@ -1,4 +1,4 @@
-//! OBJECT IDENTIFIERs in dotted notation, in C.
+//! Writing OBJECT IDENTIFIERs in dotted notation, for C.
 ghost use Rattle.std.specs.Prelude.{◌≡◌, ◌↔◌, ◌+◌, ◌^◌, ◌-◌, ◌≤◌, true, ◌++◌, length, take, drop, min, IsSome, IfSome};
 ghost use Rattle.der_asn1.specs.Arcs.{arc_items};
 ghost use Rattle.der_c_values.specs.Dotted.{GivesOidText, items_text, all_fit};
@@ -8,15 +8,15 @@ use crate::refusal::{OVERFLOW, OVERLENGTH, value_error};
 use der_asn1::{Arcs, ObjectIdentifierRef};
 use der_c_core::DerError;
 
-/// Writes the dotted notation of an OBJECT IDENTIFIER and a final zero octet to the start of
-/// `text`, such as `2.5.29.17`. `oid` are the contents octets of the OBJECT IDENTIFIER (X.690
-/// 8.19). Sets `count` to the number of octets of the text, without the zero octet.
+/// Converts an OBJECT IDENTIFIER to dotted notation, such as `2.5.29.17`. `oid` are the contents
+/// octets (X.690 8.19). Writes the dotted notation and a final zero octet to the start of `text`.
+/// Sets `count` to the number of octets of the dotted notation, without the zero octet.
 ///
 /// A call that fails leaves `text` and `count` unchanged. Fails without a position with:
 ///
-/// - `Value` with the tag OBJECT IDENTIFIER, if `oid` are not such contents;
+/// - `Value` with the tag OBJECT IDENTIFIER, if `oid` are not contents of an OBJECT IDENTIFIER;
 /// - `Overflow`, if a subidentifier does not fit in 128 bits;
-/// - `Overlength`, if there is no space in `text`.
+/// - `Overlength`, if `text` is too short.
 pub fn der_oid_text(oid: &[u8], text: &mut [u8], count: &mut usize) -> DerError
     ensures { GivesOidText oid.now result text.old text.new count.old count.new }
 {

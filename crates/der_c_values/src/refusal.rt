@@ -1,4 +1,4 @@
-//! The error for contents that are not those of a value.
+//! The errors of the functions that read and write values.
 ghost use Rattle.std.specs.Prelude.{◌≡◌};
 ghost use Rattle.der_core.specs.ReaderState.{Same, stopped_state};
 ghost use Rattle.der_c_core.specs.CReader.{reader_state};
@@ -38,7 +38,8 @@ pub(crate) const INVALID_TAG: DerError = DerError {
     ..DerError::NONE
 };
 
-/// The error `Value` with the tag of this word, without a position.
+/// Makes the error `Value` without a position. `tag` is a tag word (see `DerElement::tag`), and the
+/// error names the tag that it stands for.
 pub(crate) fn value_error(tag: u64) -> DerError
     ensures { result ≡ value_code tag }
 {
@@ -53,8 +54,8 @@ pub(crate) fn value_error(tag: u64) -> DerError
     }
 }
 
-/// Makes `reader` fail, and returns the error `Value` with the tag of this word, at the position of
-/// `reader`.
+/// Makes `reader` fail, and returns the error `Value` at the position of `reader`. `tag` is a tag
+/// word (see `DerElement::tag`), and the error names the tag that it stands for.
 #[cold]
 #[inline(never)]
 pub(crate) fn refuse_value(reader: &mut DerReader<'_>, tag: u64) -> DerError
@@ -72,8 +73,8 @@ pub(crate) fn refuse_value(reader: &mut DerReader<'_>, tag: u64) -> DerError
     }
 }
 
-/// Makes `reader` fail because the type that was passed is none of those that the call reads.
-/// Returns `TagNumberInvalid` without a position, or `Failed` if `reader` had failed.
+/// Makes `reader` fail because the caller passed a type that the function does not read. Returns
+/// `TagNumberInvalid` without a position. Returns `Failed` instead if `reader` had already failed.
 #[cold]
 #[inline(never)]
 pub(crate) fn refuse_type(reader: &mut DerReader<'_>) -> DerError

@@ -1,4 +1,4 @@
-//! The sizes and alignments that `bindings/c/der.h` promises to programs in C.
+//! The sizes and alignments of structs. `bindings/c/yotremul/der.h` promises them to C programs.
 use crate::text::DerText;
 use crate::time::DerTime;
 

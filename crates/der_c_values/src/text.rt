@@ -1,4 +1,4 @@
-//! Texts of the string types, in C.
+//! Reading strings of the character string types, for C.
 ghost use Rattle.std.specs.Prelude.{◌≡◌};
 ghost use Rattle.der_core.specs.ReaderState.{Same};
 ghost use Rattle.der_c_core.specs.CReader.{reader_state};
@@ -13,19 +13,20 @@ use der_asn1::{
 };
 use der_c_core::{DerError, DerReader};
 
-/// The characters of a string type.
+/// A string of one of the character string types of ASN.1.
 #[repr(C)]
 #[derive(Clone, Copy)]
 pub struct DerText<'a> {
-    /// The contents octets of the string, or those after the characters that were taken.
+    /// The contents octets of the string. `der_next_character` removes the octets of the character
+    /// that it takes.
     pub octets: &'a [u8],
-    /// The string type, by the word of its universal tag. This word decides how the octets encode
-    /// characters.
+    /// The tag word of the universal tag of the string type (see `DerElement::tag`). The string
+    /// type says how the octets encode characters.
     pub string_type: u64,
 }
 
 impl DerText<'_> {
-    /// No characters.
+    /// A UTF8String without characters.
     pub const EMPTY: DerText<'static> = DerText {
         octets: &[],
         string_type: 0x0C,
@@ -33,16 +34,16 @@ impl DerText<'_> {
 }
 
 /// Reads a string of the type `string_type` (X.680 41, X.690 8.23) into `text`. `string_type` is
-/// the word of the universal tag of UTF8String, NumericString, PrintableString, TeletexString,
-/// IA5String, VisibleString or BMPString. The tag of the next element must be `tag`, a word as
-/// `der_expect` takes it: `string_type`, or another word for an implicit tag. The encoding must be
-/// primitive: segments are not joined.
+/// the tag word of the universal tag of UTF8String, NumericString, PrintableString, TeletexString,
+/// IA5String, VisibleString or BMPString. The next element must have the tag word `tag` (see
+/// `DerElement::tag`). `tag` differs from `string_type` if the string has an implicit tag. The
+/// encoding must be primitive: segments are not joined.
 ///
 /// A TeletexString may have any octets, because the set of registered character sets is open.
 ///
 /// A call that fails leaves `text` unchanged. Fails with:
 ///
-/// - `TagNumberInvalid` without a position, if `string_type` is another word;
+/// - `TagNumberInvalid` without a position, if `string_type` is not one of these tag words;
 /// - the errors of `der_expect`;
 /// - `Value` with the tag `tag`, at the position after the element, if the contents are not
 ///   characters of the type.
@@ -85,7 +86,8 @@ fn is_string_type(string_type: u64) -> bool
     }
 }
 
-/// Whether the octets are characters of this string type.
+/// Whether `octets` are the contents of a string of the type `string_type`. `string_type` is the
+/// tag word of the universal tag of the type. False if `der_read_text` does not read this type.
 pub fn has_form(string_type: u64, octets: &[u8]) -> bool
     ensures { result ≡ string_form string_type octets.now }
 {

@@ -1,4 +1,4 @@
-//! Times, in C.
+//! Reading times, for C.
 ghost use Rattle.std.specs.Prelude.{◌≡◌, true};
 ghost use Rattle.der_core.specs.ReaderState.{Same};
 ghost use Rattle.der_asn1.specs.Times.{is_date_time};
@@ -17,14 +17,14 @@ use der_c_core::{DerError, DerReader};
 #[repr(C)]
 #[derive(Clone, Copy)]
 pub struct DerTime {
-    /// The seconds from 1970-01-01T00:00:00Z to this time, without leap seconds. A time before 1970
-    /// has a negative number.
+    /// The number of seconds from 1970-01-01T00:00:00Z to this time, without leap seconds. It is
+    /// negative for a time before 1970.
     pub seconds: i64,
     /// The year, from 0 to 9999.
     pub year: u16,
     /// The month, from 1 to 12.
     pub month: u8,
-    /// The day of the month; the first day is 1.
+    /// The day of the month, from 1 on.
     pub day: u8,
     /// The hour, from 0 to 23.
     pub hour: u8,
@@ -34,18 +34,21 @@ pub struct DerTime {
     pub second: u8,
 }
 
-/// Reads a time of the type `time_type` into `time`. `time_type` is the word of the universal tag
-/// of UTCTime (X.690 11.8), whose years are 1950 to 2049 (RFC 5280, 4.1.2.5.1), or of
-/// GeneralizedTime (X.690 11.7), without a fraction of a second. Both are in UTC. The tag of the
-/// next element must be `tag`, a word as `der_expect` takes it: `time_type`, or another word for an
-/// implicit tag.
+/// Reads a time of the type `time_type` into `time`. `time_type` is the tag word of the universal
+/// tag of one of these types:
+///
+/// - UTCTime (X.690 11.8), whose years are 1950 to 2049 (RFC 5280, 4.1.2.5.1);
+/// - GeneralizedTime (X.690 11.7), without a fraction of a second.
+///
+/// Both are in UTC. The next element must have the tag word `tag` (see `DerElement::tag`). `tag`
+/// differs from `time_type` if the time has an implicit tag.
 ///
 /// A call that fails leaves `time` unchanged. Fails with:
 ///
-/// - `TagNumberInvalid` without a position, if `time_type` is another word;
+/// - `TagNumberInvalid` without a position, if `time_type` is not one of these tag words;
 /// - the errors of `der_expect`;
-/// - `Value` with the tag `tag`, at the position after the element, if the contents are not those
-///   of a time that exists.
+/// - `Value` with the tag `tag`, at the position after the element, if the contents do not have the
+///   form of the type, or if the time does not exist.
 #[inline(always)]
 pub fn der_read_time(
     reader: &mut DerReader<'_>,

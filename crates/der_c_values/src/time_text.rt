@@ -1,4 +1,4 @@
-//! Times as text, in C.
+//! Writing times as text, for C.
 ghost use Rattle.std.specs.Prelude.{◌≡◌, ◌+◌, ◌/◌, ◌%◌, ◌<◌, ◌∷◌, [], ◌++◌, true};
 ghost use Rattle.der_asn1.specs.DateTimeText.{date_time_text};
 ghost use Rattle.der_asn1.specs.Times.{is_date_time};
@@ -14,14 +14,14 @@ use der_c_core::DerError;
 // how many octets the text of a time and the zero octet after it are
 const SIZE: usize = 21;
 
-/// Writes `time` as RFC 3339 does in UTC (5.6), such as `2026-11-29T11:24:00Z`, and a final zero
-/// octet to the start of `text`. `time.seconds` is ignored. Sets `count` to the number of octets of
-/// the text, without the zero octet: 20.
+/// Writes a text and a zero octet after it to the start of `text`: `time` in UTC, in the format of
+/// RFC 3339 (5.6), such as `2026-11-29T11:24:00Z`. Sets `count` to 20, the number of octets of the
+/// text without the zero octet. `time.seconds` is ignored.
 ///
 /// A call that fails leaves `text` and `count` unchanged. Fails without a position with:
 ///
 /// - `DateTime`, if the date or the time of day does not exist, or if the year is above 9999;
-/// - `Overlength`, if there is no space in `text`.
+/// - `Overlength`, if `text` has fewer than 21 octets.
 pub fn der_time_text(time: &DerTime, text: &mut [u8], count: &mut usize) -> DerError
     ensures { GivesTimeText (date_of time.now) result text.old text.new count.old count.new }
 {

@@ -1,4 +1,4 @@
-//! The two types of times, by the words of their tags.
+//! The time types UTCTime and GeneralizedTime. Each is given by the tag word of its universal tag.
 ghost use Rattle.std.specs.Prelude.{◌≡◌, ◌↔◌, true, drop, IsSome, IfSome};
 ghost use Rattle.der_c_values.specs.TimeValues.{is_time_type as is_known_type, is_time_of, time_contents, time_form};
 

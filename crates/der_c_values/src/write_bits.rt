@@ -1,4 +1,4 @@
-//! BIT STRING, written in C.
+//! Writing a BIT STRING, for C.
 ghost use Rattle.std.specs.Prelude.{◌≡◌, ◌∷◌, ◌+◌, ◌<◌, ◌^◌, length};
 ghost use Rattle.der_asn1.specs.Forms.{bits_form};
 ghost use Rattle.der_c_core.specs.CWriter.{KeepsOpen, writer_state};
@@ -9,17 +9,17 @@ use crate::write_refusal::{refuse_no_value, refuse_write};
 use der_asn1::{BitStringGrammar, ContentsGrammar};
 use der_c_core::{DerError, DerWriter, der_write, der_write_header};
 
-/// Writes a BIT STRING (X.690 8.6, 11.2) with the tag `tag`, a word as `der_write_header` takes it.
-/// `octets` hold the bits, and the low `unused` bits of the last octet are not part of the string:
-/// they must be zero.
+/// Writes a BIT STRING (X.690 8.6, 11.2) with the tag word `tag` (see `DerElement::tag`). `octets`
+/// hold the bits. The low `unused` bits of the last octet are not part of the string, and must be
+/// zero.
 ///
-/// `writer` has failed after an error. Fails with:
+/// After an error, `writer` has failed. A call that fails may have written the header and the first
+/// octet of the contents, which remain. Fails with:
 ///
-/// - `Value` with the tag `tag`, without a position, if `unused` is more than 7, or more than 0
-///   without `octets`, or if an unused bit is not zero;
+/// - `Value` with the tag `tag`, without a position, if `unused` is more than 7, if `unused` is not
+///   0 and there are no `octets`, or if an unused bit is not zero;
 /// - `Overflow` without a position, if there are more than 4294967294 `octets`;
-/// - the errors of `der_write_header` and `der_write`. The contents are two writes, so the octet of
-///   the number of unused bits may have been written before the error.
+/// - the errors of `der_write_header` and `der_write`.
 #[inline(always)]
 pub fn der_write_bit_string(
     writer: &mut DerWriter<'_>,

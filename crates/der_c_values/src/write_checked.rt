@@ -1,4 +1,4 @@
-//! Values written in C from octets, which are checked.
+//! Writing values whose contents are passed as octets and are checked, for C.
 ghost use Rattle.der_asn1.specs.Forms.{integer_form, oid_form};
 ghost use Rattle.der_c_core.specs.CWriter.{KeepsOpen, writer_state};
 ghost use Rattle.der_c_values.specs.StringTypes.{string_form};
@@ -9,13 +9,14 @@ use crate::write_refusal::refuse_no_value;
 use der_asn1::{ContentsGrammar, IntegerGrammar, ObjectIdentifierGrammar};
 use der_c_core::{DerError, DerWriter, der_write_element};
 
-/// Writes an INTEGER of any size (X.690 8.3) with the tag `tag`, a word as `der_write_header` takes
-/// it. `octets` are its contents: a number in two's complement, the most significant octet first,
-/// in the fewest octets.
+/// Writes an INTEGER of any size (X.690 8.3) with the tag word `tag` (see `DerElement::tag`).
+/// `octets` are its contents: a number in two's complement, the most significant octet first, with
+/// as few octets as possible.
 ///
-/// `writer` has failed after an error. Fails with:
+/// After an error, `writer` has failed. Fails with:
 ///
-/// - `Value` with the tag `tag`, without a position, if `octets` are none or not the fewest;
+/// - `Value` with the tag `tag`, without a position, if there are no `octets`, or more than the
+///   number needs;
 /// - the errors of `der_write_element`.
 #[inline(always)]
 pub fn der_write_integer(writer: &mut DerWriter<'_>, tag: u64, octets: &[u8]) -> DerError
@@ -29,10 +30,10 @@ pub fn der_write_integer(writer: &mut DerWriter<'_>, tag: u64, octets: &[u8]) ->
     der_write_element(writer, tag, octets)
 }
 
-/// Writes an OBJECT IDENTIFIER (X.690 8.19) with the tag `tag`, a word as `der_write_header` takes
-/// it. `octets` are its contents.
+/// Writes an OBJECT IDENTIFIER (X.690 8.19) with the tag word `tag` (see `DerElement::tag`).
+/// `octets` are its contents octets.
 ///
-/// `writer` has failed after an error. Fails with:
+/// After an error, `writer` has failed. Fails with:
 ///
 /// - `Value` with the tag `tag`, without a position, if `octets` are not contents of an OBJECT
 ///   IDENTIFIER;
@@ -49,14 +50,14 @@ pub fn der_write_oid(writer: &mut DerWriter<'_>, tag: u64, octets: &[u8]) -> Der
     der_write_element(writer, tag, octets)
 }
 
-/// Writes a string of the type `string_type` (X.680 41, X.690 8.23) with the tag `tag`, a word as
-/// `der_write_header` takes it. `string_type` is a word as `der_read_text` takes it, and `octets`
-/// are the contents.
+/// Writes a string of the type `string_type` (X.680 41, X.690 8.23) with the tag word `tag` (see
+/// `DerElement::tag`). `string_type` is one of the tag words that `der_read_text` names, and
+/// `octets` are the contents.
 ///
-/// `writer` has failed after an error. Fails with:
+/// After an error, `writer` has failed. Fails with:
 ///
 /// - `Value` with the tag `tag`, without a position, if `octets` are not characters of the type, or
-///   if `string_type` is not the word of a string type;
+///   if `string_type` is not the tag word of a string type;
 /// - the errors of `der_write_element`.
 #[inline(always)]
 pub fn der_write_text(

@@ -1,4 +1,4 @@
-//! OBJECT IDENTIFIERs, written in C from dotted notation.
+//! Writing OBJECT IDENTIFIERs from dotted notation, for C.
 ghost use Rattle.der_c_core.specs.CWriter.{KeepsOpen, writer_state};
 ghost use Rattle.der_c_values.specs.WriteOidText.{WritesOidText};
 
@@ -6,11 +6,11 @@ use crate::oid_from_text::contents_of;
 use crate::write_refusal::refuse_no_value;
 use der_c_core::{DerError, DerWriter, der_write_element};
 
-/// Writes the OBJECT IDENTIFIER (X.690 8.19) with the dotted notation `text`, such as `2.5.29.17`,
-/// with the tag `tag`, a word as `der_write_header` takes it. `text` has no final zero octet, and
-/// no leading zeros in its numbers.
+/// Writes an OBJECT IDENTIFIER (X.690 8.19) with the tag word `tag` (see `DerElement::tag`). `text`
+/// is the OBJECT IDENTIFIER in dotted notation, such as `2.5.29.17`. `text` has no final zero
+/// octet, and no leading zeros in its numbers.
 ///
-/// `writer` has failed after an error. Fails with:
+/// After an error, `writer` has failed. Fails with:
 ///
 /// - `Value` with the tag `tag`, without a position, if `text` is not the dotted notation of an
 ///   OBJECT IDENTIFIER, if a subidentifier does not fit in 128 bits, or if there are more than 256

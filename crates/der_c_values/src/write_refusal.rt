@@ -1,11 +1,12 @@
-//! Writing what is no value.
+//! Making a writer fail because an argument cannot be written.
 ghost use Rattle.der_c_core.specs.CWriter.{KeepsOpen, writer_state};
 ghost use Rattle.der_c_values.specs.WriteCalls.{RefusesNoValue, RefusesWrite};
 
 use crate::refusal::{INVALID_TAG, value_error};
 use der_c_core::{DerError, DerWriter, der_write, der_writer_fail, is_tag};
 
-/// Makes `writer` fail, and returns `error`, or `Failed` if `writer` had failed. Writes nothing.
+/// Makes `writer` fail, and writes nothing. Returns `error`. Returns `Failed` instead if `writer`
+/// had already failed.
 #[cold]
 #[inline(never)]
 pub fn refuse_write(writer: &mut DerWriter<'_>, error: DerError) -> DerError
@@ -20,8 +21,12 @@ pub fn refuse_write(writer: &mut DerWriter<'_>, error: DerError) -> DerError
     error
 }
 
-/// Makes `writer` fail because an argument is no value. Returns `Value` with the tag of this word, or
-/// `TagNumberInvalid` if it is the word of no tag; and `Failed` if `writer` had failed.
+/// Makes `writer` fail because an argument is not a value of the type that is written. Writes
+/// nothing. Returns:
+///
+/// - `Failed`, if `writer` had already failed;
+/// - otherwise `TagNumberInvalid`, if `tag` is not a valid tag word;
+/// - otherwise `Value` with the tag `tag`.
 #[cold]
 #[inline(never)]
 pub fn refuse_no_value(writer: &mut DerWriter<'_>, tag: u64) -> DerError

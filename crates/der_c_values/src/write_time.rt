@@ -1,4 +1,4 @@
-//! Times, written in C.
+//! Writing times, for C.
 ghost use Rattle.std.specs.Prelude.{◌≡◌};
 ghost use Rattle.der_c_core.specs.CWriter.{KeepsOpen, writer_state};
 ghost use Rattle.der_c_values.specs.TimeValues.{date_of, is_time_of, time_contents, WritesSeconds};
@@ -10,15 +10,15 @@ use crate::write_refusal::refuse_no_value;
 use der_asn1::DateTime;
 use der_c_core::{DerError, DerWriter, der_write_element};
 
-/// Writes a time of the type `time_type` with the tag `tag`, a word as `der_write_header` takes it.
-/// `time_type` is a word as `der_read_time` takes it. The date and the time of day are written;
-/// `time.seconds` is ignored.
+/// Writes a time of the type `time_type` with the tag word `tag` (see `DerElement::tag`).
+/// `time_type` is one of the two tag words that `der_read_time` names. Writes the date and the time
+/// of day, and ignores `time.seconds`.
 ///
-/// `writer` has failed after an error. Fails with:
+/// After an error, `writer` has failed. Fails with:
 ///
 /// - `Value` with the tag `tag`, without a position, if the date or the time of day does not exist,
-///   if the year is above 9999, for a UTCTime if it is not from 1950 to 2049, or if `time_type` is
-///   not the word of a time type;
+///   if the year is above 9999, if the type is UTCTime and the year is not from 1950 to 2049, or if
+///   `time_type` is not the tag word of a time type;
 /// - the errors of `der_write_element`.
 #[inline(always)]
 pub fn der_write_time(
@@ -39,14 +39,14 @@ pub fn der_write_time(
     der_write_element(writer, tag, contents_of(time_type, &date).as_slice())
 }
 
-/// Writes the time that is `seconds` after 1970-01-01T00:00:00Z, or before it if `seconds` is
-/// negative, as [`der_write_time`] does.
+/// Writes a time as [`der_write_time`] does. The time is `seconds` after 1970-01-01T00:00:00Z, or
+/// before it if `seconds` is negative.
 ///
-/// `writer` has failed after an error. Fails with:
+/// After an error, `writer` has failed. Fails with:
 ///
 /// - `Value` with the tag `tag`, without a position, if the year of the time is not from 0 to 9999,
-///   for a UTCTime if it is not from 1950 to 2049, or if `time_type` is not the word of a time
-///   type;
+///   if the type is UTCTime and the year is not from 1950 to 2049, or if `time_type` is not the tag
+///   word of a time type;
 /// - the errors of `der_write_element`.
 #[inline(always)]
 pub fn der_write_time_seconds(
@@ -68,7 +68,7 @@ pub fn der_write_time_seconds(
     der_write_element(writer, tag, contents_of(time_type, &date).as_slice())
 }
 
-/// The date and the time of day.
+/// The date and the time of day of `time`, without `time.seconds`.
 pub(crate) fn date_time(time: &DerTime) -> DateTime
     ensures { result ≡ date_of time.now }
 {

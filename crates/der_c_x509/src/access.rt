@@ -1,4 +1,4 @@
-//! Where information about the issuer is found.
+//! The extension authorityInfoAccess, which says where information about the issuer is found.
 ghost use Rattle.std.specs.Prelude.{◌≡◌};
 ghost use Rattle.der.specs.Prelude.{Same};
 ghost use Rattle.der_asn1.specs.ListAnswers.{ItemAnswer};
@@ -21,21 +21,21 @@ use der_c_core::{DerError, DerReader, DerSpan};
 use std::alloc::Global;
 use x509::{AccessDescription, Extension, ext};
 
-/// Where information is found (AccessDescription; RFC 5280, 4.2.2.1). All octets are borrowed from
-/// the input.
+/// An access description: where some information is found (AccessDescription; RFC 5280, 4.2.2.1).
+/// All octets are borrowed from the input.
 #[repr(C)]
 #[derive(Clone, Copy)]
 pub struct DerAccessDescription<'a> {
-    /// The contents octets of the OBJECT IDENTIFIER that says which information it is, as
-    /// 1.3.6.1.5.5.7.48.1 for a responder of OCSP, and 1.3.6.1.5.5.7.48.2 for certificates of the
-    /// issuer.
+    /// The contents octets of accessMethod, an OBJECT IDENTIFIER. It says what is found: for
+    /// example, 1.3.6.1.5.5.7.48.1 stands for an OCSP responder, and 1.3.6.1.5.5.7.48.2 for
+    /// certificates of the issuer.
     pub method: DerSpan<'a>,
-    /// The place.
+    /// accessLocation: the name of the place at which the information is found, usually a URI.
     pub location: DerGeneralName<'a>,
 }
 
 impl DerAccessDescription<'_> {
-    /// No information.
+    /// The value of an access description before it is read: all fields are empty or 0.
     pub const EMPTY: DerAccessDescription<'static> = DerAccessDescription {
         method: DerSpan::EMPTY,
         location: DerGeneralName::EMPTY,
@@ -52,18 +52,20 @@ fn access_description_of<'a>(value: &AccessDescription<'a>) -> DerAccessDescript
     }
 }
 
-/// Finds authorityInfoAccess (RFC 5280, 4.2.2.1) in the contents of a list of extensions, and
-/// stores its list in `descriptions`, for `der_next_access_description`. It is not an error if the
-/// extension is absent. Each access description is checked, as `der_next_access_description` does.
-/// That there is at least one is not checked.
+/// Finds the extension authorityInfoAccess (RFC 5280, 4.2.2.1). `extensions` are the contents
+/// octets of a list of extensions. Stores the contents octets of the list of access descriptions in
+/// `descriptions`, for `der_next_access_description`. It is not an error if the extension is
+/// absent, or if its list is empty. Each access description is checked as
+/// `der_next_access_description` checks it.
 ///
 /// A call that fails leaves `descriptions` unchanged. Fails with:
 ///
-/// - the error of the first extension of the list that cannot be decoded; there is none in the
-///   contents that `der_certificate_read` returns;
+/// - the error of decoding an extension, if the list has an extension that cannot be decoded. A
+///   list that `der_certificate_read` has set has no such extension;
 /// - `SetDuplicate` without a position, if the list has the extension more than once;
-/// - the error of decoding the value of the extension, whose position counts from the start of this
-///   value; `Incomplete` says where the value would end, if its contents are cut.
+/// - the error of decoding the value of the extension, if the value cannot be decoded. The position
+///   of the error is counted from the start of the value. If the contents of the value are cut, the
+///   error is `Incomplete`, and its `first` is the position at which the value would end.
 pub fn der_authority_information_access<'a>(
     alloc: Global,
     extensions: &'a [u8],
@@ -89,11 +91,12 @@ pub fn der_authority_information_access<'a>(
     }
 }
 
-/// Reads the next access description of a list into `description`. `reader` reads the list, as
-/// `der_authority_information_access` returns it.
+/// Reads the next access description of a list into `description`. `reader` must read the contents
+/// of a list that `der_authority_information_access` has found.
 ///
-/// Every error makes the reader fail, except `TagUnexpected`, which leaves it unchanged. A call
-/// that fails leaves `description` unchanged. At the end of the list the error is `Incomplete`.
+/// A call that fails leaves `description` unchanged. At the end of the list, the error is
+/// `Incomplete`. After `TagUnexpected`, `reader` is unchanged; after any other error, `reader` has
+/// failed.
 pub fn der_next_access_description<'a>(
     alloc: Global,
     reader: &mut DerReader<'a>,

@@ -1,4 +1,4 @@
-//! Algorithms with their parameters.
+//! The struct for an algorithm with its parameters.
 ghost use Rattle.der_c_x509.specs.Fields.{IsAlgorithmOf};
 
 use crate::any::{DerAny, optional_any_of};
@@ -12,12 +12,13 @@ use spki::AlgorithmIdentifierRef;
 pub struct DerAlgorithm<'a> {
     /// The contents octets of the algorithm's OBJECT IDENTIFIER.
     pub identifier: DerSpan<'a>,
-    /// The parameters. The tag is 0 if they are absent.
+    /// The parameters of the algorithm. If they are absent, the tag is 0.
     pub parameters: DerAny<'a>,
 }
 
 impl DerAlgorithm<'_> {
-    /// No algorithm.
+    /// The value of an algorithm before it is read: it has no octets, and the parameters are
+    /// absent.
     pub const EMPTY: DerAlgorithm<'static> = DerAlgorithm {
         identifier: DerSpan::EMPTY,
         parameters: DerAny::EMPTY,

@@ -1,4 +1,4 @@
-//! Elements of any tag, without their headers.
+//! The struct for an element of any tag, without its header.
 ghost use Rattle.der_c_x509.specs.Fields.{IsAnyOf, IsOptionalAnyOf};
 
 use der_asn1::AnyRef;
@@ -10,13 +10,13 @@ use der_c_core::{DerSpan, word_of};
 pub struct DerAny<'a> {
     /// The contents octets, borrowed from the input. They are not checked.
     pub contents: DerSpan<'a>,
-    /// The tag as a word: the first octet of its identifier, plus 256 times the tag number if the
-    /// number is 31 or more. 0 if there is no element.
+    /// The tag word, `der_tag` in C: the first octet of the identifier, plus 256 times the tag
+    /// number if the number is 31 or more. It is 0 if there is no element.
     pub tag: u64,
 }
 
 impl DerAny<'_> {
-    /// No element.
+    /// The value for an absent element: the tag is 0, and there are no contents.
     pub const EMPTY: DerAny<'static> = DerAny {
         contents: DerSpan::EMPTY,
         tag: 0,

@@ -1,4 +1,4 @@
-//! Attributes of names.
+//! Reading the attributes of names.
 ghost use Rattle.std.specs.Prelude.{◌≡◌};
 ghost use Rattle.der.specs.Prelude.{Same};
 ghost use Rattle.der_asn1.specs.ListAnswers.{ItemAnswer};
@@ -14,18 +14,19 @@ use der_c_core::{DerError, DerReader, DerSpan};
 use std::alloc::Global;
 use x509::AttributeTypeAndValue;
 
-/// An attribute of a name (RFC 5280, 4.1.2.4). All octets are borrowed from the input.
+/// An attribute of a distinguished name (RFC 5280, 4.1.2.4). All octets are borrowed from the
+/// input.
 #[repr(C)]
 #[derive(Clone, Copy)]
 pub struct DerAttribute<'a> {
     /// The contents octets of the OBJECT IDENTIFIER of the attribute's type.
     pub identifier: DerSpan<'a>,
-    /// The value. Its contents are not checked.
+    /// The value of the attribute. Its contents are not checked.
     pub value: DerAny<'a>,
 }
 
 impl DerAttribute<'_> {
-    /// No attribute.
+    /// The value of an attribute before it is read: all fields are empty or 0.
     pub const EMPTY: DerAttribute<'static> = DerAttribute {
         identifier: DerSpan::EMPTY,
         value: DerAny::EMPTY,
@@ -42,12 +43,13 @@ fn attribute_of<'a>(value: &AttributeTypeAndValue<'a>) -> DerAttribute<'a>
     }
 }
 
-/// Reads the next attribute of one level of a name into `attribute`. A name is a SEQUENCE OF
-/// levels, and each level is a SET OF attributes (RFC 5280, 4.1.2.4). `reader` reads the contents
-/// of such a SET, which `der_enter` enters.
+/// Reads the next attribute of a RelativeDistinguishedName into `attribute`. A Name is a SEQUENCE
+/// of RelativeDistinguishedNames, and each of them is a SET of attributes (RFC 5280, 4.1.2.4).
+/// `reader` must read the contents of the SET, for example after `der_enter`.
 ///
-/// Every error makes the reader fail, except `TagUnexpected`, which leaves it unchanged. A call
-/// that fails leaves `attribute` unchanged. At the end of the SET the error is `Incomplete`.
+/// A call that fails leaves `attribute` unchanged. At the end of the SET, the error is
+/// `Incomplete`. After `TagUnexpected`, `reader` is unchanged; after any other error, `reader` has
+/// failed.
 pub fn der_next_attribute<'a>(
     alloc: Global,
     reader: &mut DerReader<'a>,

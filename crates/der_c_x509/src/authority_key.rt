@@ -1,4 +1,4 @@
-//! Which key of the issuer signed the certificate.
+//! The extension authorityKeyIdentifier, which says what key of the issuer signed the certificate.
 ghost use Rattle.x509.specs.ExtensionIdentifiers.{id_ce};
 ghost use Rattle.x509.specs.Find.{WholeRead};
 ghost use Rattle.der_c_x509.specs.AuthorityKey.{IsAuthorityKeyOf};
@@ -17,28 +17,30 @@ use x509::{AuthorityKeyIdentifier, Extension, Known, ext};
 #[repr(C)]
 #[derive(Clone, Copy)]
 pub struct DerAuthorityKey<'a> {
-    /// The octets of the identifier of the issuer's key; empty if it is absent.
+    /// The octets of keyIdentifier, the identifier of the issuer's key. Empty if the field is
+    /// absent.
     pub key_identifier: DerSpan<'a>,
-    /// The contents octets of the list of names of the issuer of the issuer's certificate, for
-    /// `der_next_general_name`; empty if it is absent.
+    /// The contents octets of authorityCertIssuer, a list of names for `der_next_general_name`.
+    /// They are names of the authority that issued the issuer's own certificate. Empty if the field
+    /// is absent.
     pub issuer: DerSpan<'a>,
-    /// The contents octets of the INTEGER that is the serial number of the issuer's certificate;
-    /// empty if it is absent.
+    /// The contents octets of authorityCertSerialNumber, the serial number of the issuer's own
+    /// certificate. Empty if the field is absent.
     pub serial_number: DerSpan<'a>,
-    /// Whether the list has the extension.
+    /// Whether the list of extensions contains this extension.
     pub present: bool,
-    /// Whether the extension is critical; false if it is absent.
+    /// Whether the extension is critical. False if the extension is absent.
     pub critical: bool,
-    /// Whether the extension has an identifier of the key.
+    /// Whether the extension has the field keyIdentifier.
     pub has_key_identifier: bool,
-    /// Whether the extension has names of the issuer.
+    /// Whether the extension has the field authorityCertIssuer.
     pub has_issuer: bool,
-    /// Whether the extension has a serial number.
+    /// Whether the extension has the field authorityCertSerialNumber.
     pub has_serial_number: bool,
 }
 
 impl DerAuthorityKey<'_> {
-    /// No such extension.
+    /// The value for an absent extension: all fields are empty, 0 or false.
     pub const EMPTY: DerAuthorityKey<'static> = DerAuthorityKey {
         key_identifier: DerSpan::EMPTY,
         issuer: DerSpan::EMPTY,
@@ -70,17 +72,19 @@ fn authority_key_of<'a>(found: &Option<Known<AuthorityKeyIdentifier<'a>>>) -> De
     }
 }
 
-/// Finds authorityKeyIdentifier in the contents of a list of extensions, and reads it into `key`.
-/// It is not an error if the extension is absent, nor if it has names without a serial number, or a
-/// serial number without names. Each name is checked, as `der_next_general_name` does.
+/// Finds the extension authorityKeyIdentifier and reads it into `key`. `extensions` are the
+/// contents octets of a list of extensions. It is not an error if the extension is absent, or if it
+/// has only one of the names and the serial number. Each name is checked as `der_next_general_name`
+/// checks it.
 ///
 /// A call that fails leaves `key` unchanged. Fails with:
 ///
-/// - the error of the first extension of the list that cannot be decoded; there is none in the
-///   contents that `der_certificate_read` returns;
+/// - the error of decoding an extension, if the list has an extension that cannot be decoded. A
+///   list that `der_certificate_read` has set has no such extension;
 /// - `SetDuplicate` without a position, if the list has the extension more than once;
-/// - the error of decoding the value of the extension, whose position counts from the start of this
-///   value; `Incomplete` says where the value would end, if its contents are cut.
+/// - the error of decoding the value of the extension, if the value cannot be decoded. The position
+///   of the error is counted from the start of the value. If the contents of the value are cut, the
+///   error is `Incomplete`, and its `first` is the position at which the value would end.
 pub fn der_authority_key_identifier<'a>(
     alloc: Global,
     extensions: &'a [u8],

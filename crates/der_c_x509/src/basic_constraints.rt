@@ -1,4 +1,4 @@
-//! Whether the subject may issue certificates.
+//! The extension basicConstraints, which says whether the subject may issue certificates.
 ghost use Rattle.std.specs.Prelude.{◌≡◌};
 ghost use Rattle.x509.specs.ExtensionIdentifiers.{id_ce};
 ghost use Rattle.x509.specs.Find.{WholeRead};
@@ -16,20 +16,21 @@ use x509::{BasicConstraints, Extension, Known, ext};
 #[repr(C)]
 #[derive(Clone, Copy)]
 pub struct DerBasicConstraints {
-    /// How many further authorities may follow in a chain of certificates; 0 if there is no limit.
+    /// The greatest number of certificates of further authorities that may follow this certificate
+    /// in a chain. It is 0 if there is no limit (see `has_path_length`).
     pub path_length: u64,
-    /// Whether the certificate has the extension.
+    /// Whether the list of extensions contains this extension.
     pub present: bool,
-    /// Whether the extension is critical; false if it is absent.
+    /// Whether the extension is critical. False if the extension is absent.
     pub critical: bool,
-    /// Whether the subject is a certification authority; false if the extension is absent.
+    /// Whether the subject is a certification authority. False if the extension is absent.
     pub is_authority: bool,
-    /// Whether `path_length` is a limit.
+    /// Whether the extension has a limit for the length of a chain. The limit is `path_length`.
     pub has_path_length: bool,
 }
 
 impl DerBasicConstraints {
-    /// No such extension.
+    /// The value for an absent extension: all fields are empty, 0 or false.
     pub const EMPTY: DerBasicConstraints = DerBasicConstraints {
         path_length: 0,
         present: false,
@@ -73,17 +74,19 @@ pub(crate) fn constraints_of<'a>(
     }
 }
 
-/// Finds basicConstraints in the contents of a list of extensions, and reads it into `constraints`.
-/// It is not an error if the extension is absent.
+/// Finds the extension basicConstraints and reads it into `constraints`. `extensions` are the
+/// contents octets of a list of extensions. It is not an error if the extension is absent.
 ///
 /// A call that fails leaves `constraints` unchanged. Fails with:
 ///
-/// - the error of the first extension of the list that cannot be decoded; there is none in the
-///   contents that `der_certificate_read` returns;
+/// - the error of decoding an extension, if the list has an extension that cannot be decoded. A
+///   list that `der_certificate_read` has set has no such extension;
 /// - `SetDuplicate` without a position, if the list has the extension more than once;
-/// - the error of decoding the value of the extension, whose position counts from the start of this
-///   value; `Incomplete` says where the value would end, if its contents are cut;
-/// - `Value` with the tag INTEGER, without a position, if the limit is negative or above 2^64 - 1.
+/// - the error of decoding the value of the extension, if the value cannot be decoded. The position
+///   of the error is counted from the start of the value. If the contents of the value are cut, the
+///   error is `Incomplete`, and its `first` is the position at which the value would end;
+/// - `Value` with the tag INTEGER, without a position, if the limit for the length of a chain is
+///   negative or above 2^64 - 1.
 pub fn der_basic_constraints<'a>(
     alloc: Global,
     extensions: &'a [u8],

@@ -1,4 +1,4 @@
-//! Certificates.
+//! Reading certificates.
 ghost use Rattle.std.specs.Prelude.{◌≡◌, ◌<◌, ◌^◌, false, [], length, MatchOption};
 ghost use Rattle.der.specs.Prelude.{element_octets};
 ghost use Rattle.x509.specs.Find.{WholeRead};
@@ -23,32 +23,33 @@ use x509::{Certificate, Extensions, TbsCertificate, Version};
 pub struct DerCertificate<'a> {
     /// The octets that the signature covers: the whole element TBSCertificate, with its header.
     pub signed_part: DerSpan<'a>,
-    /// The contents octets of the INTEGER that is the serial number. It may be negative.
+    /// The contents octets of the INTEGER that is the serial number. The number may be negative.
     pub serial_number: DerSpan<'a>,
     /// The contents octets of the Name of the issuer.
     pub issuer: DerSpan<'a>,
     /// The contents octets of the Name of the subject.
     pub subject: DerSpan<'a>,
-    /// The algorithm of the signature, as the signed part names it. RFC 5280, 4.1.1.2, requires it
-    /// to be equal to `signature_algorithm`. This is not checked.
+    /// The algorithm of the signature, as the signed part states it. RFC 5280, 4.1.1.2, requires
+    /// that it is equal to `signature_algorithm`. This is not checked.
     pub signed_algorithm: DerAlgorithm<'a>,
     /// The public key of the subject.
     pub public_key: DerPublicKey<'a>,
-    /// The unique identifier of the issuer; no bits if it is absent.
+    /// The unique identifier of the issuer. It has no bits if it is absent.
     pub issuer_unique_id: DerBits<'a>,
-    /// The unique identifier of the subject; no bits if it is absent.
+    /// The unique identifier of the subject. It has no bits if it is absent.
     pub subject_unique_id: DerBits<'a>,
-    /// The contents octets of the list of extensions; empty if it is absent. The contents of each
-    /// extension are not checked.
+    /// The contents octets of the list of extensions. Empty if the list is absent. The values of
+    /// the extensions are not checked.
     pub extensions: DerSpan<'a>,
-    /// The algorithm of `signature`, which is outside of the signed part.
+    /// The algorithm of `signature`, as the certificate states it outside of the signed part.
     pub signature_algorithm: DerAlgorithm<'a>,
     /// The signature of the signed part. It is not verified.
     pub signature: DerBits<'a>,
-    /// The first second in which the certificate is valid, counted from 1970-01-01T00:00:00Z. It is
-    /// negative for a time before that.
+    /// The first second in which the certificate is valid, in seconds from 1970-01-01T00:00:00Z. It
+    /// is negative for a time before 1970.
     pub not_before: i64,
-    /// The last second in which the certificate is valid, counted likewise.
+    /// The last second in which the certificate is valid, in seconds from 1970-01-01T00:00:00Z. It
+    /// is negative for a time before 1970.
     pub not_after: i64,
     /// The version: 1, 2 or 3.
     pub version: u8,
@@ -61,7 +62,7 @@ pub struct DerCertificate<'a> {
 }
 
 impl DerCertificate<'_> {
-    /// No certificate.
+    /// The value of a certificate before it is read: all fields are empty, 0 or false.
     pub const EMPTY: DerCertificate<'static> = DerCertificate {
         signed_part: DerSpan::EMPTY,
         serial_number: DerSpan::EMPTY,
@@ -176,12 +177,13 @@ fn certificate_of<'a>(octets: &'a [u8], value: &Certificate<'a>) -> DerCertifica
 /// A call that fails leaves `certificate` unchanged. Fails with:
 ///
 /// - `Overflow` without a position, if there are more than 4294967295 octets;
-/// - the error of the first octets that are not those of a certificate; its position, if it
-///   has one, counts from the start of `octets`;
+/// - the error of decoding, if `octets` do not begin with a certificate. Its position, if it has
+///   one, is counted from the start of `octets`;
 /// - `TrailingData`, if octets follow the certificate.
 ///
-/// The errors are exactly those of `x509::Certificate::from_der`, but for `Incomplete` where the contents of the value are
-/// cut: it is at their start, and says where they would end.
+/// The errors are the same as of `x509::Certificate::from_der`, with one exception. If the contents
+/// of the outermost element are cut, the error is `Incomplete` at the start of these contents, and
+/// its `first` is the position at which they would end.
 pub fn der_certificate_read<'a>(
     alloc: Global,
     octets: &'a [u8],

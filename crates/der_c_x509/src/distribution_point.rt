@@ -1,4 +1,4 @@
-//! Where revocation lists are found.
+//! The extension cRLDistributionPoints, which says where revocation lists are found.
 ghost use Rattle.std.specs.Prelude.{◌≡◌, MatchOption};
 ghost use Rattle.der.specs.Prelude.{Same};
 ghost use Rattle.der_asn1.specs.ListAnswers.{ItemAnswer};
@@ -22,35 +22,38 @@ use der_c_core::{DerError, DerReader, DerSpan};
 use std::alloc::Global;
 use x509::{DistributionPoint, DistributionPointName, DistributionPointNameTagged, Extension, ext};
 
-/// Where a revocation list is found (DistributionPoint; RFC 5280, 4.2.1.13). All octets are
-/// borrowed from the input.
+/// A distribution point: where a revocation list is found (DistributionPoint; RFC 5280, 4.2.1.13).
+/// All octets are borrowed from the input.
 #[repr(C)]
 #[derive(Clone, Copy)]
 pub struct DerDistributionPoint<'a> {
-    /// The contents octets of the list of names of the place (fullName), for
-    /// `der_next_general_name`; empty if there is none.
+    /// The contents octets of fullName, a list of names for `der_next_general_name`. They say where
+    /// the revocation list is found. Empty if the field is absent.
     pub full_name: DerSpan<'a>,
-    /// The contents octets of the level below the name of the issuer of the list
-    /// (nameRelativeToCRLIssuer), for `der_next_attribute`; empty if there is none.
+    /// The contents octets of nameRelativeToCRLIssuer, a RelativeDistinguishedName for
+    /// `der_next_attribute`. It is appended to the name of the issuer of the revocation list. Empty
+    /// if the field is absent.
     pub relative_name: DerSpan<'a>,
-    /// The contents octets of the list of names of the issuer of the list, for
-    /// `der_next_general_name`; empty if it is absent.
+    /// The contents octets of cRLIssuer, a list of names for `der_next_general_name`. They are
+    /// names of the issuer of the revocation list. Empty if the field is absent.
     pub list_issuer: DerSpan<'a>,
-    /// The reasons for a revocation that the list covers, the bits 0 to 15: bit n as `1 << n`. The
-    /// RFC gives the bits 1 to 8 a meaning. 0 if they are absent: then it covers all.
+    /// The reasons for a revocation that the revocation list covers. Bit n of the BIT STRING is `1
+    /// << n`, for n from 0 to 15. RFC 5280 gives the bits 1 to 8 a meaning. It is 0 if the field is
+    /// absent. The revocation list then covers all reasons.
     pub reasons: u16,
-    /// Whether the place has a list of names.
+    /// Whether the field fullName is present.
     pub has_full_name: bool,
-    /// Whether the place has a level below the name of the issuer of the list.
+    /// Whether the field nameRelativeToCRLIssuer is present.
     pub has_relative_name: bool,
-    /// Whether the reasons are present.
+    /// Whether the field reasons is present.
     pub has_reasons: bool,
-    /// Whether the issuer of the list is present; else it is the issuer of the certificate.
+    /// Whether the field cRLIssuer is present. If the field is absent, the issuer of the
+    /// certificate also issues the revocation list.
     pub has_list_issuer: bool,
 }
 
 impl DerDistributionPoint<'_> {
-    /// No place.
+    /// The value of a distribution point before it is read: all fields are empty, 0 or false.
     pub const EMPTY: DerDistributionPoint<'static> = DerDistributionPoint {
         full_name: DerSpan::EMPTY,
         relative_name: DerSpan::EMPTY,
@@ -120,18 +123,19 @@ fn distribution_point_of<'a>(value: &DistributionPoint<'a>) -> DerDistributionPo
     }
 }
 
-/// Finds cRLDistributionPoints (RFC 5280, 4.2.1.13) in the contents of a list of extensions, and
-/// stores its list in `points`, for `der_next_distribution_point`. It is not an error if the
-/// extension is absent. Each point is checked, as `der_next_distribution_point` does. That there is
-/// at least one is not checked.
+/// Finds the extension cRLDistributionPoints (RFC 5280, 4.2.1.13). `extensions` are the contents
+/// octets of a list of extensions. Stores in `points` whether the extension is present, and the
+/// contents octets of its list of distribution points, for `der_next_distribution_point`. The list
+/// may be empty. Each distribution point is checked as `der_next_distribution_point` checks it.
 ///
 /// A call that fails leaves `points` unchanged. Fails with:
 ///
-/// - the error of the first extension of the list that cannot be decoded; there is none in the
-///   contents that `der_certificate_read` returns;
+/// - the error of decoding an extension, if the list has an extension that cannot be decoded. A
+///   list that `der_certificate_read` has set has no such extension;
 /// - `SetDuplicate` without a position, if the list has the extension more than once;
-/// - the error of decoding the value of the extension, whose position counts from the start of this
-///   value; `Incomplete` says where the value would end, if its contents are cut.
+/// - the error of decoding the value of the extension, if the value cannot be decoded. The position
+///   of the error is counted from the start of the value. If the contents of the value are cut, the
+///   error is `Incomplete`, and its `first` is the position at which the value would end.
 pub fn der_distribution_points<'a>(
     alloc: Global,
     extensions: &'a [u8],
@@ -156,12 +160,12 @@ pub fn der_distribution_points<'a>(
     }
 }
 
-/// Reads the next distribution point of a list into `point`. `reader` reads the list, as
-/// `der_distribution_points` returns it. It is not an error if the point has neither a place nor an
-/// issuer.
+/// Reads the next distribution point of a list into `point`. `reader` must read the contents of a
+/// list that `der_distribution_points` has found. It is not an error if the point has neither a
+/// name of the place nor an issuer of the revocation list.
 ///
-/// Every error makes the reader fail, except `TagUnexpected`, which leaves it unchanged. A call
-/// that fails leaves `point` unchanged. At the end of the list the error is `Incomplete`.
+/// A call that fails leaves `point` unchanged. At the end of the list, the error is `Incomplete`.
+/// After `TagUnexpected`, `reader` is unchanged; after any other error, `reader` has failed.
 pub fn der_next_distribution_point<'a>(
     alloc: Global,
     reader: &mut DerReader<'a>,

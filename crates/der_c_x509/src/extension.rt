@@ -1,4 +1,4 @@
-//! Extensions of a list.
+//! Reading the extensions of a list.
 ghost use Rattle.std.specs.Prelude.{◌≡◌};
 ghost use Rattle.der.specs.Prelude.{Same};
 ghost use Rattle.der_asn1.specs.ListAnswers.{ItemAnswer};
@@ -19,15 +19,16 @@ use x509::Extension;
 pub struct DerExtension<'a> {
     /// The contents octets of the OBJECT IDENTIFIER of the extension's type.
     pub identifier: DerSpan<'a>,
-    /// The contents octets of the OCTET STRING that has the extension's value. They are not
-    /// checked.
+    /// The contents octets of the OCTET STRING extnValue: the encoding of the extension's value.
+    /// They are not checked.
     pub value: DerSpan<'a>,
-    /// Whether an application that does not process the extension must reject the certificate.
+    /// Whether the extension is critical. An application that does not process a critical extension
+    /// must reject the certificate.
     pub critical: bool,
 }
 
 impl DerExtension<'_> {
-    /// No extension.
+    /// The value of an extension before it is read: all fields are empty or false.
     pub const EMPTY: DerExtension<'static> = DerExtension {
         identifier: DerSpan::EMPTY,
         value: DerSpan::EMPTY,
@@ -46,11 +47,12 @@ fn extension_of<'a>(value: &Extension<'a>) -> DerExtension<'a>
     }
 }
 
-/// Reads the next extension of a list into `extension`. `reader` reads the contents of the list, as
-/// `der_certificate_read` returns them.
+/// Reads the next extension of a list into `extension`. `reader` must read the contents of a list
+/// of extensions, such as the list that `der_certificate_read` stores in `extensions`.
 ///
-/// Every error makes the reader fail, except `TagUnexpected`, which leaves it unchanged. A call
-/// that fails leaves `extension` unchanged. At the end of the list the error is `Incomplete`.
+/// A call that fails leaves `extension` unchanged. At the end of the list, the error is
+/// `Incomplete`. After `TagUnexpected`, `reader` is unchanged; after any other error, `reader` has
+/// failed.
 pub fn der_next_extension<'a>(
     alloc: Global,
     reader: &mut DerReader<'a>,

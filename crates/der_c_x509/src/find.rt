@@ -1,4 +1,4 @@
-//! Lookup of extensions by their type.
+//! Finding an extension of a list by its type.
 ghost use Rattle.std.specs.Prelude.{◌≡◌};
 ghost use Rattle.x509.specs.Find.{WholeRead};
 ghost use Rattle.der_c_x509.specs.FindCalls.{FindsInList, FindsType, ReadsContents, RefusesList};

@@ -1,4 +1,4 @@
-//! Extensions whose value is a list or octets.
+//! The result of finding an extension whose value is a list, or a string of octets.
 ghost use Rattle.der_c_x509.specs.Known.{IsFoundOf};
 
 use crate::strings::span_of;
@@ -6,20 +6,21 @@ use der_asn1::{Checked, ContentsGrammar, Item, SequenceOf};
 use der_c_core::DerSpan;
 use x509::Known;
 
-/// An extension that was looked up by its type, and whose value is a list or octets.
+/// The result of looking for an extension of a certain type. The value of the extension is a list,
+/// or a string of octets.
 #[repr(C)]
 #[derive(Clone, Copy)]
 pub struct DerFound<'a> {
-    /// The contents octets of the value; empty if the extension is absent.
+    /// The contents octets of the value of the extension. Empty if the extension is absent.
     pub contents: DerSpan<'a>,
-    /// Whether the list has the extension.
+    /// Whether the list of extensions contains this extension.
     pub present: bool,
-    /// Whether the extension is critical; false if it is absent.
+    /// Whether the extension is critical. False if the extension is absent.
     pub critical: bool,
 }
 
 impl DerFound<'_> {
-    /// No such extension.
+    /// The value for an absent extension: all fields are empty, 0 or false.
     pub const EMPTY: DerFound<'static> = DerFound {
         contents: DerSpan::EMPTY,
         present: false,

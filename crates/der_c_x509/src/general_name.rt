@@ -1,4 +1,4 @@
-//! Names of the subject or the issuer beyond its distinguished name.
+//! Reading general names, such as host names and mail addresses.
 ghost use Rattle.std.specs.Prelude.{◌≡◌};
 ghost use Rattle.der.specs.Prelude.{Same};
 ghost use Rattle.der_asn1.specs.ListAnswers.{ItemAnswer};
@@ -18,27 +18,28 @@ use x509::{GeneralName, OtherName};
 #[repr(C)]
 #[derive(Clone, Copy)]
 pub struct DerGeneralName<'a> {
-    /// The contents of the name. `kind` says what they are; they are empty if `kind` is 0 or 5.
+    /// The contents of the name. The field `kind` says what the contents are. Empty if `kind` is 0
+    /// or 5.
     pub contents: DerSpan<'a>,
-    /// The contents octets of the OBJECT IDENTIFIER of an otherName, which gives its form; empty if
-    /// `kind` is not 0.
+    /// If `kind` is 0, the contents octets of type-id, the OBJECT IDENTIFIER of the otherName. It
+    /// says what type `value` has. Empty if `kind` is not 0.
     pub identifier: DerSpan<'a>,
-    /// The value of an otherName; the tag is 0 if `kind` is not 0.
+    /// If `kind` is 0, the value of the otherName. Otherwise its tag is 0.
     pub value: DerAny<'a>,
-    /// The form of the name, which is the number of its tag:
+    /// The form of the name. It is the number of the tag of the name:
     ///
-    /// - 0 otherName: `identifier` and `value`;
+    /// - 0 otherName: the name is in `identifier` and `value`;
     /// - 1 rfc822Name, 2 dNSName, 6 uniformResourceIdentifier: `contents` are characters of 7 bits;
     /// - 3 x400Address: `contents` are the contents octets of a SEQUENCE, which are not checked;
     /// - 4 directoryName: `contents` are the contents octets of the Name;
-    /// - 5 ediPartyName: its fields are not given;
+    /// - 5 ediPartyName: the fields of the name are not given;
     /// - 7 iPAddress: `contents` are the octets of the address, whose number is not checked;
     /// - 8 registeredID: `contents` are the contents octets of the OBJECT IDENTIFIER.
     pub kind: u8,
 }
 
 impl DerGeneralName<'_> {
-    /// No name.
+    /// The value of a general name before it is read: all fields are empty or 0.
     pub const EMPTY: DerGeneralName<'static> = DerGeneralName {
         contents: DerSpan::EMPTY,
         identifier: DerSpan::EMPTY,
@@ -88,12 +89,12 @@ pub(crate) fn general_name_of<'a>(value: &GeneralName<'a>) -> DerGeneralName<'a>
     }
 }
 
-/// Reads the next name of a list into `name`. `reader` reads the contents of GeneralNames, as
-/// `der_subject_alternative_name`, `der_authority_key_identifier` and `der_next_distribution_point`
-/// return them.
+/// Reads the next name of a list of general names into `name`. `reader` must read the contents of a
+/// list that `der_subject_alternative_name`, `der_authority_key_identifier` or
+/// `der_next_distribution_point` has found.
 ///
-/// Every error makes the reader fail, except `TagUnexpected`, which leaves it unchanged. A call
-/// that fails leaves `name` unchanged. At the end of the list the error is `Incomplete`.
+/// A call that fails leaves `name` unchanged. At the end of the list, the error is `Incomplete`.
+/// After `TagUnexpected`, `reader` is unchanged; after any other error, `reader` has failed.
 pub fn der_next_general_name<'a>(
     alloc: Global,
     reader: &mut DerReader<'a>,

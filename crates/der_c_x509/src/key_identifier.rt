@@ -1,4 +1,4 @@
-//! The identifier of the subject's key.
+//! The extension subjectKeyIdentifier, which identifies the subject's key.
 ghost use Rattle.x509.specs.ExtensionIdentifiers.{id_ce};
 ghost use Rattle.x509.specs.Find.{WholeRead};
 ghost use Rattle.der_c_x509.specs.FindCalls.{FindsType, ReadsKnown, RefusesList};
@@ -12,17 +12,19 @@ use der_c_core::DerError;
 use std::alloc::Global;
 use x509::{Extension, ext};
 
-/// Finds subjectKeyIdentifier (RFC 5280, 4.2.1.2) in the contents of a list of extensions, and
-/// stores the octets of the identifier in `identifier`. It is not an error if the extension is
-/// absent. That the identifier is that of the certificate's key is not checked.
+/// Finds the extension subjectKeyIdentifier (RFC 5280, 4.2.1.2), and stores the octets of the
+/// identifier in `identifier`. `extensions` are the contents octets of a list of extensions. It is
+/// not an error if the extension is absent. It is not checked that the identifier belongs to the
+/// certificate's key.
 ///
 /// A call that fails leaves `identifier` unchanged. Fails with:
 ///
-/// - the error of the first extension of the list that cannot be decoded; there is none in the
-///   contents that `der_certificate_read` returns;
+/// - the error of decoding an extension, if the list has an extension that cannot be decoded. A
+///   list that `der_certificate_read` has set has no such extension;
 /// - `SetDuplicate` without a position, if the list has the extension more than once;
-/// - the error of decoding the value of the extension, whose position counts from the start of this
-///   value; `Incomplete` says where the value would end, if its contents are cut.
+/// - the error of decoding the value of the extension, if the value cannot be decoded. The position
+///   of the error is counted from the start of the value. If the contents of the value are cut, the
+///   error is `Incomplete`, and its `first` is the position at which the value would end.
 pub fn der_subject_key_identifier<'a>(
     alloc: Global,
     extensions: &'a [u8],

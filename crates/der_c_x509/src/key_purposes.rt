@@ -1,4 +1,4 @@
-//! For which purposes a key may be used.
+//! The extension extKeyUsage, which lists the purposes of a key.
 ghost use Rattle.std.specs.Prelude.{◌≡◌};
 ghost use Rattle.der.specs.Prelude.{Same};
 ghost use Rattle.der_asn1.specs.ListAnswers.{ItemAnswer};
@@ -20,18 +20,19 @@ use der_c_core::{DerError, DerReader, DerSpan};
 use std::alloc::Global;
 use x509::{Extension, ext};
 
-/// Finds extKeyUsage (RFC 5280, 4.2.1.12) in the contents of a list of extensions, and stores its
-/// purposes in `purposes`, for `der_next_key_purpose`. It is not an error if the extension is
-/// absent. Each purpose is checked, as `der_next_key_purpose` does. That there is at least one is
-/// not checked.
+/// Finds the extension extKeyUsage (RFC 5280, 4.2.1.12). `extensions` are the contents octets of a
+/// list of extensions. Stores the contents octets of the list of purposes in `purposes`, for
+/// `der_next_key_purpose`. It is not an error if the extension is absent, or if its list is empty.
+/// Each purpose is checked as `der_next_key_purpose` checks it.
 ///
 /// A call that fails leaves `purposes` unchanged. Fails with:
 ///
-/// - the error of the first extension of the list that cannot be decoded; there is none in the
-///   contents that `der_certificate_read` returns;
+/// - the error of decoding an extension, if the list has an extension that cannot be decoded. A
+///   list that `der_certificate_read` has set has no such extension;
 /// - `SetDuplicate` without a position, if the list has the extension more than once;
-/// - the error of decoding the value of the extension, whose position counts from the start of this
-///   value; `Incomplete` says where the value would end, if its contents are cut.
+/// - the error of decoding the value of the extension, if the value cannot be decoded. The position
+///   of the error is counted from the start of the value. If the contents of the value are cut, the
+///   error is `Incomplete`, and its `first` is the position at which the value would end.
 pub fn der_extended_key_usage<'a>(
     alloc: Global,
     extensions: &'a [u8],
@@ -56,12 +57,12 @@ pub fn der_extended_key_usage<'a>(
     }
 }
 
-/// Reads the next purpose of extKeyUsage into `purpose`: the contents octets of the OBJECT
-/// IDENTIFIER (KeyPurposeId; RFC 5280, 4.2.1.12). `reader` reads the purposes, as
-/// `der_extended_key_usage` returns them.
+/// Reads the next purpose of extKeyUsage into `purpose`: the contents octets of an OBJECT
+/// IDENTIFIER (KeyPurposeId; RFC 5280, 4.2.1.12). `reader` must read the contents of a list that
+/// `der_extended_key_usage` has found.
 ///
-/// Every error makes the reader fail, except `TagUnexpected`, which leaves it unchanged. A call
-/// that fails leaves `purpose` unchanged. At the end of the list the error is `Incomplete`.
+/// A call that fails leaves `purpose` unchanged. At the end of the list, the error is `Incomplete`.
+/// After `TagUnexpected`, `reader` is unchanged; after any other error, `reader` has failed.
 pub fn der_next_key_purpose<'a>(
     alloc: Global,
     reader: &mut DerReader<'a>,

@@ -1,4 +1,4 @@
-//! What a key may be used for.
+//! The extension keyUsage, which says what a key may be used for.
 ghost use Rattle.std.specs.Prelude.{◌≡◌, ◌<◌, ◌^◌};
 ghost use Rattle.der_asn1.specs.NamedBits.{has_bit};
 ghost use Rattle.x509.specs.ExtensionIdentifiers.{id_ce};
@@ -17,17 +17,18 @@ use x509::{Extension, Known, ext};
 #[repr(C)]
 #[derive(Clone, Copy)]
 pub struct DerKeyUsage {
-    /// The bits 0 to 15: bit n as `1 << n`. The RFC gives the bits 0 to 8 a meaning, from
-    /// digitalSignature (`1 << 0`) to decipherOnly (`1 << 8`). 0 if the extension is absent.
+    /// The bits of the extension. Bit n of the BIT STRING is `1 << n`, for n from 0 to 15. RFC 5280
+    /// gives the bits 0 to 8 a meaning: `1 << 0` is digitalSignature, and `1 << 8` is decipherOnly.
+    /// It is 0 if the extension is absent.
     pub bits: u16,
-    /// Whether the certificate has the extension.
+    /// Whether the list of extensions contains this extension.
     pub present: bool,
-    /// Whether the extension is critical; false if it is absent.
+    /// Whether the extension is critical. False if the extension is absent.
     pub critical: bool,
 }
 
 impl DerKeyUsage {
-    /// No such extension.
+    /// The value for an absent extension: all fields are empty, 0 or false.
     pub const EMPTY: DerKeyUsage = DerKeyUsage {
         bits: 0,
         present: false,
@@ -62,16 +63,17 @@ fn key_usage_of<'a>(found: &Option<Known<NamedBitsRef<'a>>>) -> DerKeyUsage
     }
 }
 
-/// Finds keyUsage in the contents of a list of extensions, and reads it into `usage`. It is not an
-/// error if the extension is absent.
+/// Finds the extension keyUsage and reads it into `usage`. `extensions` are the contents octets of
+/// a list of extensions. It is not an error if the extension is absent.
 ///
 /// A call that fails leaves `usage` unchanged. Fails with:
 ///
-/// - the error of the first extension of the list that cannot be decoded; there is none in the
-///   contents that `der_certificate_read` returns;
+/// - the error of decoding an extension, if the list has an extension that cannot be decoded. A
+///   list that `der_certificate_read` has set has no such extension;
 /// - `SetDuplicate` without a position, if the list has the extension more than once;
-/// - the error of decoding the value of the extension, whose position counts from the start of this
-///   value; `Incomplete` says where the value would end, if its contents are cut.
+/// - the error of decoding the value of the extension, if the value cannot be decoded. The position
+///   of the error is counted from the start of the value. If the contents of the value are cut, the
+///   error is `Incomplete`, and its `first` is the position at which the value would end.
 pub fn der_key_usage<'a>(alloc: Global, extensions: &'a [u8], usage: &mut DerKeyUsage) -> DerError
     ensures { ReadsKnown (FindsType (RefusesList
         ⟦<Extension<'a> as Decode<SliceReader<'a>>>⟧.decode_answers)

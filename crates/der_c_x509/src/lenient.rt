@@ -1,4 +1,4 @@
-//! keyUsage and basicConstraints whose contents may be BER.
+//! The extensions keyUsage and basicConstraints, if their value may also be BER that is not DER.
 ghost use Rattle.std.specs.Prelude.{◌≡◌};
 ghost use Rattle.x509.specs.ExtensionIdentifiers.{id_ce};
 ghost use Rattle.x509_lenient.specs.Lenient.{BerRead, FindsLenient, IsDerOf, SaysDerOf};
@@ -92,11 +92,12 @@ fn known_of<V: Copy>(found: &Option<Lenient<V>>) -> Option<Known<V>>
     }
 }
 
-/// Finds keyUsage as `der_key_usage` does, but its contents may be BER: the bits may have zero bits after them. Sets
-/// `is_der` to whether the contents are DER, and to true if the extension is absent.
+/// Finds the extension keyUsage and reads it into `usage`, as `der_key_usage` does, but decodes its
+/// value under BER. For example, the BIT STRING may have zero bits at its end. Sets `is_der` to
+/// true if the value is DER or the extension is absent, and otherwise to false.
 ///
-/// A call that fails leaves `usage` and `is_der` unchanged. Fails as `der_key_usage` does, with the error of decoding
-/// the value under BER.
+/// A call that fails leaves `usage` and `is_der` unchanged. Fails as `der_key_usage` does, except
+/// that the error of decoding the value is the error under BER.
 pub fn der_key_usage_lenient<'a>(
     alloc: Global,
     extensions: &'a [u8],
@@ -124,11 +125,13 @@ pub fn der_key_usage_lenient<'a>(
     }
 }
 
-/// Finds basicConstraints as `der_basic_constraints` does, but its contents may be BER: a field may be written though it
-/// has its default. Sets `is_der` to whether the contents are DER, and to true if the extension is absent.
+/// Finds the extension basicConstraints and reads it into `constraints`, as `der_basic_constraints`
+/// does, but decodes its value under BER. For example, a field with its default value may be
+/// present. Sets `is_der` to true if the value is DER or the extension is absent, and otherwise to
+/// false.
 ///
-/// A call that fails leaves `constraints` and `is_der` unchanged. Fails as `der_basic_constraints` does, with the error
-/// of decoding the value under BER.
+/// A call that fails leaves `constraints` and `is_der` unchanged. Fails as `der_basic_constraints`
+/// does, except that the error of decoding the value is the error under BER.
 pub fn der_basic_constraints_lenient<'a>(
     alloc: Global,
     extensions: &'a [u8],

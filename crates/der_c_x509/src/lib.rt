@@ -1,7 +1,8 @@
-//! Certificates, requests, keys and revocation lists as structs of C. The crate `der_c` exports the
-//! calls.
+//! Reading certificates, requests, keys and revocation lists into structs of C. The crate `der_c`
+//! exports the calls.
 //!
-//! Nothing is validated: no signature, no chain of certificates, no time. No function allocates.
+//! Nothing is validated: no signature, no chain of certificates, and no time of validity. No
+//! function allocates memory.
 #![tactic(auto)]
 
 mod access;

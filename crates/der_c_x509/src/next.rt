@@ -1,4 +1,4 @@
-//! The next item of a list.
+//! Reading the next item of a list.
 ghost use Rattle.std.specs.Prelude.{◌≡◌, false, IfOk};
 ghost use Rattle.der.specs.Prelude.{Same, kind_of};
 ghost use Rattle.der_core.specs.Decode.{Passes};

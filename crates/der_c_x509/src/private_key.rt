@@ -1,4 +1,4 @@
-//! Private keys.
+//! Reading private keys.
 ghost use Rattle.std.specs.Prelude.{◌≡◌, false, [], MatchOption};
 ghost use Rattle.x509.specs.Find.{WholeRead};
 ghost use Rattle.der_c_x509.specs.Calls.{ReadsWhole};
@@ -19,25 +19,25 @@ use std::alloc::Global;
 pub struct DerPrivateKey<'a> {
     /// The algorithm of the key.
     pub algorithm: DerAlgorithm<'a>,
-    /// The contents octets of the OCTET STRING that has the private key. The algorithm determines
+    /// The contents octets of the OCTET STRING that holds the private key. The algorithm determines
     /// their format, which is not checked.
     pub key: DerSpan<'a>,
-    /// The contents octets of the SET OF attributes; empty if they are absent.
+    /// The contents octets of the SET of attributes. Empty if the attributes are absent.
     pub attributes: DerSpan<'a>,
-    /// The public key that belongs to the private key; no bits if it is absent. That the two belong
-    /// together is not checked.
+    /// The public key that belongs to the private key. It has no bits if it is absent. It is not
+    /// checked that the two keys belong together.
     pub public_key: DerBits<'a>,
     /// The version of the format: 1 or 2.
     pub version: u8,
     /// Whether the attributes are present.
     pub has_attributes: bool,
-    /// Whether the public key is present. RFC 5958 allows it in version 2 alone. This is not
-    /// checked.
+    /// Whether the public key is present. RFC 5958 allows a public key only in version 2. This is
+    /// not checked.
     pub has_public_key: bool,
 }
 
 impl DerPrivateKey<'_> {
-    /// No key.
+    /// The value of a private key before it is read: all fields are empty, 0 or false.
     pub const EMPTY: DerPrivateKey<'static> = DerPrivateKey {
         algorithm: DerAlgorithm::EMPTY,
         key: DerSpan::EMPTY,
@@ -87,18 +87,19 @@ fn private_key_of<'a>(value: &PrivateKeyInfo<'a>) -> DerPrivateKey<'a>
     }
 }
 
-/// Reads a private key with its algorithm into `key`. `octets` must be the DER encoding of one
-/// PrivateKeyInfo, which RFC 5958, 2, calls OneAsymmetricKey too.
+/// Reads a private key and its algorithm into `key`. `octets` must be the DER encoding of one
+/// PrivateKeyInfo. RFC 5958, 2, also calls this type OneAsymmetricKey.
 ///
 /// A call that fails leaves `key` unchanged. Fails with:
 ///
 /// - `Overflow` without a position, if there are more than 4294967295 octets;
-/// - the error of the first octets that are not those of a private key; its position, if it
-///   has one, counts from the start of `octets`;
+/// - the error of decoding, if `octets` do not begin with a private key. Its position, if it has
+///   one, is counted from the start of `octets`;
 /// - `TrailingData`, if octets follow the key.
 ///
-/// The errors are exactly those of `pkcs8::PrivateKeyInfo::from_der`, but for `Incomplete` where the contents of the value are
-/// cut: it is at their start, and says where they would end.
+/// The errors are the same as of `pkcs8::PrivateKeyInfo::from_der`, with one exception. If the
+/// contents of the outermost element are cut, the error is `Incomplete` at the start of these
+/// contents, and its `first` is the position at which they would end.
 pub fn der_private_key_read<'a>(
     alloc: Global,
     octets: &'a [u8],

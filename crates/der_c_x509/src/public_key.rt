@@ -1,4 +1,4 @@
-//! Public keys.
+//! Reading public keys.
 ghost use Rattle.std.specs.Prelude.{◌≡◌, false};
 ghost use Rattle.x509.specs.Find.{WholeRead};
 ghost use Rattle.der_c_x509.specs.Fields.{IsPublicKeyOf};
@@ -25,7 +25,7 @@ pub struct DerPublicKey<'a> {
 }
 
 impl DerPublicKey<'_> {
-    /// No key.
+    /// The value of a public key before it is read: all fields are empty.
     pub const EMPTY: DerPublicKey<'static> = DerPublicKey {
         whole: DerSpan::EMPTY,
         algorithm: DerAlgorithm::EMPTY,
@@ -54,12 +54,13 @@ pub(crate) fn public_key_of<'a>(
 /// A call that fails leaves `key` unchanged. Fails with:
 ///
 /// - `Overflow` without a position, if there are more than 4294967295 octets;
-/// - the error of the first octets that are not those of a public key; its position, if it
-///   has one, counts from the start of `octets`;
+/// - the error of decoding, if `octets` do not begin with a public key. Its position, if it has
+///   one, is counted from the start of `octets`;
 /// - `TrailingData`, if octets follow the key.
 ///
-/// The errors are exactly those of `spki::SubjectPublicKeyInfoRef::from_der`, but for `Incomplete` where the contents of the value are
-/// cut: it is at their start, and says where they would end.
+/// The errors are the same as of `spki::SubjectPublicKeyInfoRef::from_der`, with one exception. If
+/// the contents of the outermost element are cut, the error is `Incomplete` at the start of these
+/// contents, and its `first` is the position at which they would end.
 pub fn der_public_key_read<'a>(
     alloc: Global,
     octets: &'a [u8],

@@ -1,4 +1,4 @@
-//! Certification requests.
+//! Reading certification requests.
 ghost use Rattle.std.specs.Prelude.{◌≡◌, ◌<◌, ◌^◌, false, length};
 ghost use Rattle.der.specs.Prelude.{element_octets};
 ghost use Rattle.x509.specs.Find.{WholeRead};
@@ -27,7 +27,7 @@ pub struct DerRequest<'a> {
     pub subject: DerSpan<'a>,
     /// The public key of the subject.
     pub public_key: DerPublicKey<'a>,
-    /// The contents octets of the SET OF attributes. The values of each attribute are not checked.
+    /// The contents octets of the SET of attributes. The values of the attributes are not checked.
     pub attributes: DerSpan<'a>,
     /// The algorithm of `signature`.
     pub signature_algorithm: DerAlgorithm<'a>,
@@ -36,7 +36,7 @@ pub struct DerRequest<'a> {
 }
 
 impl DerRequest<'_> {
-    /// No request.
+    /// The value of a certification request before it is read: all fields are empty.
     pub const EMPTY: DerRequest<'static> = DerRequest {
         signed_part: DerSpan::EMPTY,
         subject: DerSpan::EMPTY,
@@ -81,12 +81,13 @@ fn request_of<'a>(octets: &'a [u8], value: &CertReq<'a>) -> DerRequest<'a>
 /// A call that fails leaves `request` unchanged. Fails with:
 ///
 /// - `Overflow` without a position, if there are more than 4294967295 octets;
-/// - the error of the first octets that are not those of a request; its position, if it
-///   has one, counts from the start of `octets`;
+/// - the error of decoding, if `octets` do not begin with a request. Its position, if it has one,
+///   is counted from the start of `octets`;
 /// - `TrailingData`, if octets follow the request.
 ///
-/// The errors are exactly those of `x509::CertReq::from_der`, but for `Incomplete` where the contents of the value are
-/// cut: it is at their start, and says where they would end.
+/// The errors are the same as of `x509::CertReq::from_der`, with one exception. If the contents of
+/// the outermost element are cut, the error is `Incomplete` at the start of these contents, and its
+/// `first` is the position at which they would end.
 pub fn der_request_read<'a>(
     alloc: Global,
     octets: &'a [u8],

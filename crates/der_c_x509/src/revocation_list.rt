@@ -1,4 +1,4 @@
-//! Certificate revocation lists.
+//! Reading certificate revocation lists.
 ghost use Rattle.std.specs.Prelude.{◌≡◌, ◌<◌, ◌^◌, false, [], length, MatchOption};
 ghost use Rattle.der.specs.Prelude.{element_octets};
 ghost use Rattle.x509.specs.Find.{WholeRead};
@@ -22,29 +22,32 @@ use x509::{CertificateList, RevokedCertificate, TbsCertList, Version};
 pub struct DerRevocationList<'a> {
     /// The octets that the signature covers: the whole element TBSCertList, with its header.
     pub signed_part: DerSpan<'a>,
-    /// The algorithm of the signature, as the signed part names it. RFC 5280, 5.1.1.2, requires it
-    /// to be equal to `signature_algorithm`. This is not checked.
+    /// The algorithm of the signature, as the signed part states it. RFC 5280, 5.1.1.2, requires
+    /// that it is equal to `signature_algorithm`. This is not checked.
     pub signed_algorithm: DerAlgorithm<'a>,
     /// The contents octets of the Name of the issuer.
     pub issuer: DerSpan<'a>,
-    /// The contents octets of the list of entries, for `der_next_revoked`; empty if it is absent.
+    /// The contents octets of revokedCertificates, a list of entries for `der_next_revoked`. Empty
+    /// if the list of entries is absent.
     pub entries: DerSpan<'a>,
-    /// The contents octets of the list of extensions; empty if it is absent. The contents of each
-    /// extension are not checked.
+    /// The contents octets of the list of extensions. Empty if the list is absent. The values of
+    /// the extensions are not checked.
     pub extensions: DerSpan<'a>,
-    /// The algorithm of `signature`, which is outside of the signed part.
+    /// The algorithm of `signature`, as the revocation list states it outside of the signed part.
     pub signature_algorithm: DerAlgorithm<'a>,
     /// The signature of the signed part. It is not verified.
     pub signature: DerBits<'a>,
-    /// When the list was issued, in seconds from 1970-01-01T00:00:00Z. It is negative for a time
-    /// before that.
+    /// The time at which the revocation list was issued, in seconds from 1970-01-01T00:00:00Z. It
+    /// is negative for a time before 1970.
     pub this_update: i64,
-    /// When the next list will be issued at the latest, counted likewise; 0 if it is absent.
+    /// The time at which the next revocation list will be issued at the latest, in seconds from
+    /// 1970-01-01T00:00:00Z. It is negative for a time before 1970, and 0 if it is absent (see
+    /// `has_next_update`).
     pub next_update: i64,
-    /// The version: 1, 2 or 3; 1 if it is absent. RFC 5280, 5.1.2.1, allows 2 alone if it is
-    /// present. This is not checked.
+    /// The version: 1, 2 or 3. It is 1 if the revocation list does not state a version. RFC 5280,
+    /// 5.1.2.1, allows a revocation list to state only version 2. This is not checked.
     pub version: u8,
-    /// Whether `next_update` is present.
+    /// Whether the time `next_update` is present.
     pub has_next_update: bool,
     /// Whether the list of entries is present.
     pub has_entries: bool,
@@ -53,7 +56,7 @@ pub struct DerRevocationList<'a> {
 }
 
 impl DerRevocationList<'_> {
-    /// No list.
+    /// The value of a revocation list before it is read: all fields are empty, 0 or false.
     pub const EMPTY: DerRevocationList<'static> = DerRevocationList {
         signed_part: DerSpan::EMPTY,
         signed_algorithm: DerAlgorithm::EMPTY,
@@ -124,18 +127,19 @@ fn list_of<'a>(octets: &'a [u8], value: &CertificateList<'a>) -> DerRevocationLi
     }
 }
 
-/// Reads a certificate revocation list into `list`. `octets` must be the DER encoding of one list
-/// (RFC 5280, 5.1). Every entry is checked, as `der_next_revoked` does.
+/// Reads a certificate revocation list into `list`. `octets` must be the DER encoding of one
+/// revocation list (RFC 5280, 5.1). Every entry is checked as `der_next_revoked` checks it.
 ///
 /// A call that fails leaves `list` unchanged. Fails with:
 ///
 /// - `Overflow` without a position, if there are more than 4294967295 octets;
-/// - the error of the first octets that are not those of a list; its position, if it
-///   has one, counts from the start of `octets`;
-/// - `TrailingData`, if octets follow the list.
+/// - the error of decoding, if `octets` do not begin with a revocation list. Its position, if it
+///   has one, is counted from the start of `octets`;
+/// - `TrailingData`, if octets follow the revocation list.
 ///
-/// The errors are exactly those of `x509::CertificateList::from_der`, but for `Incomplete` where the contents of the value are
-/// cut: it is at their start, and says where they would end.
+/// The errors are the same as of `x509::CertificateList::from_der`, with one exception. If the
+/// contents of the outermost element are cut, the error is `Incomplete` at the start of these
+/// contents, and its `first` is the position at which they would end.
 pub fn der_revocation_list_read<'a>(
     alloc: Global,
     octets: &'a [u8],

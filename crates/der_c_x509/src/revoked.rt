@@ -1,4 +1,4 @@
-//! Entries of revocation lists.
+//! Reading the entries of revocation lists.
 ghost use Rattle.std.specs.Prelude.{◌≡◌, [], MatchOption};
 ghost use Rattle.der.specs.Prelude.{Same};
 ghost use Rattle.der_asn1.specs.ListAnswers.{ItemAnswer};
@@ -15,23 +15,24 @@ use der_c_core::{DerError, DerReader, DerSpan};
 use std::alloc::Global;
 use x509::{Extensions, RevokedCertificate};
 
-/// An entry of a revocation list (RFC 5280, 5.1.2.6). All octets are borrowed from the input.
+/// An entry of a revocation list: a certificate that is revoked (RFC 5280, 5.1.2.6). All octets are
+/// borrowed from the input.
 #[repr(C)]
 #[derive(Clone, Copy)]
 pub struct DerRevoked<'a> {
-    /// The contents octets of the INTEGER that is the serial number of the certificate.
+    /// The contents octets of the INTEGER that is the serial number of the revoked certificate.
     pub serial_number: DerSpan<'a>,
-    /// The contents octets of the list of extensions of the entry; empty if it is absent.
+    /// The contents octets of the list of extensions of the entry. Empty if the list is absent.
     pub extensions: DerSpan<'a>,
-    /// When the certificate was revoked, in seconds from 1970-01-01T00:00:00Z. It is negative for a
-    /// time before that.
+    /// The time at which the certificate was revoked, in seconds from 1970-01-01T00:00:00Z. It is
+    /// negative for a time before 1970.
     pub revocation_date: i64,
-    /// Whether the list of extensions is present.
+    /// Whether the entry has a list of extensions.
     pub has_extensions: bool,
 }
 
 impl DerRevoked<'_> {
-    /// No entry.
+    /// The value of an entry before it is read: all fields are empty, 0 or false.
     pub const EMPTY: DerRevoked<'static> = DerRevoked {
         serial_number: DerSpan::EMPTY,
         extensions: DerSpan::EMPTY,
@@ -65,11 +66,11 @@ fn revoked_of<'a>(value: &RevokedCertificate<'a>) -> DerRevoked<'a>
     }
 }
 
-/// Reads the next entry of a revocation list into `entry`. `reader` reads the contents of the list
-/// of entries, as `der_revocation_list_read` returns them.
+/// Reads the next entry of a revocation list into `entry`. `reader` must read the contents of a
+/// list of entries that `der_revocation_list_read` has found.
 ///
-/// Every error makes the reader fail, except `TagUnexpected`, which leaves it unchanged. A call
-/// that fails leaves `entry` unchanged. At the end of the list the error is `Incomplete`.
+/// A call that fails leaves `entry` unchanged. At the end of the list, the error is `Incomplete`.
+/// After `TagUnexpected`, `reader` is unchanged; after any other error, `reader` has failed.
 pub fn der_next_revoked<'a>(
     alloc: Global,
     reader: &mut DerReader<'a>,

@@ -1,4 +1,4 @@
-//! Octets and bits of values.
+//! Converting decoded strings to structs of C.
 ghost use Rattle.std.specs.Prelude.{◌≡◌};
 ghost use Rattle.der_c_x509.specs.Fields.{IsBitsOf, IsOptionalSpanOf};
 

@@ -1,4 +1,4 @@
-//! Further names of the subject.
+//! The extension subjectAltName, which has further names of the subject.
 ghost use Rattle.std.specs.Prelude.{◌≡◌};
 ghost use Rattle.x509.specs.ExtensionIdentifiers.{id_ce};
 ghost use Rattle.x509.specs.Find.{WholeRead};
@@ -12,21 +12,21 @@ use der_c_core::{DerError, DerSpan};
 use std::alloc::Global;
 use x509::{Extension, GeneralName, Known, ext};
 
-/// The extension subjectAltName (RFC 5280, 4.2.1.6).
+/// The result of looking for the extension subjectAltName (RFC 5280, 4.2.1.6).
 #[repr(C)]
 #[derive(Clone, Copy)]
 pub struct DerGeneralNames<'a> {
-    /// The contents octets of the list of names, for `der_next_general_name`; empty if the
+    /// The contents octets of the list of general names, for `der_next_general_name`. Empty if the
     /// extension is absent.
     pub names: DerSpan<'a>,
-    /// Whether the certificate has the extension.
+    /// Whether the list of extensions contains this extension.
     pub present: bool,
-    /// Whether the extension is critical; false if it is absent.
+    /// Whether the extension is critical. False if the extension is absent.
     pub critical: bool,
 }
 
 impl DerGeneralNames<'_> {
-    /// No such extension.
+    /// The value for an absent extension: all fields are empty, 0 or false.
     pub const EMPTY: DerGeneralNames<'static> = DerGeneralNames {
         names: DerSpan::EMPTY,
         present: false,
@@ -50,17 +50,18 @@ fn names_of<'a>(found: &Option<Known<SequenceOf<'a, GeneralName<'a>>>>) -> DerGe
     }
 }
 
-/// Finds subjectAltName in the contents of a list of extensions, and stores its names in `names`.
-/// It is not an error if the extension is absent. Each name is checked, as
-/// `der_next_general_name` does.
+/// Finds the extension subjectAltName and stores its names in `names`. `extensions` are the
+/// contents octets of a list of extensions. It is not an error if the extension is absent. Each
+/// name is checked as `der_next_general_name` checks it.
 ///
 /// A call that fails leaves `names` unchanged. Fails with:
 ///
-/// - the error of the first extension of the list that cannot be decoded; there is none in the
-///   contents that `der_certificate_read` returns;
+/// - the error of decoding an extension, if the list has an extension that cannot be decoded. A
+///   list that `der_certificate_read` has set has no such extension;
 /// - `SetDuplicate` without a position, if the list has the extension more than once;
-/// - the error of decoding the value of the extension, whose position counts from the start of this
-///   value; `Incomplete` says where the value would end, if its contents are cut.
+/// - the error of decoding the value of the extension, if the value cannot be decoded. The position
+///   of the error is counted from the start of the value. If the contents of the value are cut, the
+///   error is `Incomplete`, and its `first` is the position at which the value would end.
 pub fn der_subject_alternative_name<'a>(
     alloc: Global,
     extensions: &'a [u8],

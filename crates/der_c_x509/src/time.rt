@@ -1,4 +1,4 @@
-//! Times in seconds.
+//! Converting decoded times to seconds from 1970-01-01T00:00:00Z.
 ghost use Rattle.std.specs.Prelude.{◌≡◌};
 ghost use Rattle.der_c_x509.specs.Times.{IsOptionalTimeOf, time_seconds};
 

@@ -12,13 +12,14 @@ use crate::reader::{Reader, ReaderExt};
 use crate::tag::first_octet_of;
 use der_base::{Error, ErrorKind, Tag, TagNumber};
 
-/// An identifier as it was read: its tag is made on request. Where code paths with different reader
-/// positions join, choosing a tag would compile to one jump per tag instead of a table.
+/// The identifier of an element as it was read: its first octet and its tag number. It is converted
+/// to a [`Tag`] only where the tag is needed. If each read converted it, the compiled code would
+/// have one jump for each tag, where a table is faster.
 #[derive(Clone, Copy)]
 pub(crate) struct Identifier {
-    /// The first octet.
+    /// The first identifier octet. It alone determines a universal tag.
     pub first: u8,
-    /// The tag number, if the first octet is `0x40` or more.
+    /// The tag number, if the first octet is `0x40` or more: if the class is not UNIVERSAL.
     pub number: u32,
 }
 

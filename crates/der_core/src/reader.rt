@@ -40,8 +40,9 @@ impl<'a> Octets for &'a [u8] {
     }
 }
 
-/// What a reader returns without copying: octets of its input. A trait of its own, so that a bound
-/// which only says what is borrowed has no functions.
+/// Names the type of the octets that a reader returns without copying them. An implementation of
+/// [`Decode`](crate::Decode) for `R: Lends` can name what it borrows, and does not require the
+/// functions of [`Reader`].
 pub trait Lends {
     /// The type of the octets that [`Reader::read_slice`] and [`Reader::remaining`] return. For a
     /// [`SliceReader`] this type is a slice of the input.

@@ -1,4 +1,4 @@
-//! A writer that counts its writes.
+//! A writer for tests that counts its writes.
 ghost use Rattle.std.specs.Prelude.{true, false, []};
 
 use der::{Error, ErrorKind, Writer};
@@ -9,7 +9,7 @@ use std::alloc::Global;
 pub struct Counter {
     /// The octets written so far.
     pub octets: Vec<u8>,
-    /// The number of calls of `write` so far, failed ones included.
+    /// The number of calls of `write` so far. Calls that failed are counted too.
     pub writes: u32,
 }
 
@@ -37,7 +37,7 @@ impl Writer for Counter {
 }
 
 impl Counter {
-    /// A writer into a new, empty vector, with no calls counted.
+    /// Creates a writer into a new, empty vector. No calls are counted yet.
     pub fn new(alloc: Global) -> Self {
         Counter {
             octets: Vec::new(alloc),

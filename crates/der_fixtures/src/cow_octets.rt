@@ -1,5 +1,5 @@
-//! A lawful type that wraps octets and has a tag of its own. The octets are borrowed if the reader
-//! returns slices.
+//! A type for an OCTET STRING that implements `Lawful`. Its octets are borrowed if the reader
+//! returns slices of its input, and otherwise copied.
 ghost use Rattle.std.specs.Prelude.{◌≡◌, false};
 ghost use Rattle.std.proofs.Common.{arith};
 ghost use Rattle.der.specs.Prelude.{OctetString};
@@ -12,8 +12,8 @@ use der::{
 };
 use std::alloc::Global;
 
-/// An OCTET STRING whose contents are borrowed from the input if the reader returns slices, and are
-/// copied otherwise.
+/// An OCTET STRING. Its contents are borrowed from the input if the reader returns slices of the
+/// input, and otherwise copied.
 #[derive(Drop)]
 pub struct CowOctets<'a> {
     /// The contents octets.

@@ -1,4 +1,4 @@
-//! A type whose `Ord` is the order of its contents.
+//! A type whose `Ord` is the order of its contents octets.
 ghost use Rattle.std.specs.Prelude.{◌≡◌, [], ◌∷◌, Ok};
 ghost use Rattle.std.specs.Ordering.{nat_cmp};
 ghost use Rattle.std.proofs.Common.{sym};
@@ -8,7 +8,8 @@ ghost use Rattle.der_base.proofs.OrderLemmas.{then_equal};
 use der::{DerOrd, EncodeValue, Error, FixedTag, Length, OrdIsValueOrd, Tag, Writer, WrittenValue};
 use std::cmp::Ordering;
 
-/// A day, as an INTEGER with one contents octet. The derived `Ord` compares this octet.
+/// The number of a day, as an example of a type with an order. It is encoded as an INTEGER whose
+/// only contents octet is `number`. The derived `Ord` compares `number`, from 0 to 255.
 #[derive(Clone, Copy, Debug, PartialEq, Eq, PartialOrd, Ord)]
 pub struct Day {
     /// The contents octet.
@@ -49,8 +50,8 @@ impl OrdIsValueOrd for Day {
     ghost orders_contents = { λ a b _. sym (then_equal (nat_cmp a.number b.number)) };
 }
 
-/// Compares two days by `DerOrd::der_cmp`. The contract states that the result is the order of
-/// their encodings, compared octet by octet.
+/// Compares two days with `DerOrd::der_cmp`. The contract of this function states that the result
+/// is the order of their encodings, compared octet by octet.
 pub fn compare_days(a: Day, b: Day) -> Result<Ordering, Error>
     ensures { result ≡ Ok (byte_order (2 ∷ 1 ∷ a.number ∷ []) (2 ∷ 1 ∷ b.number ∷ [])) }
 {

@@ -1,4 +1,4 @@
-//! A type that writes an octet and then fails.
+//! A type whose `encode` writes an octet and then fails.
 ghost use Rattle.std.specs.Prelude.{◌≡◌, [], ◌∷◌, Ok, Err};
 ghost use Rattle.der.specs.Prelude.{definite_length, error_of_kind, write_outcome};
 ghost use Rattle.der.specs.ErrorKinds.{Overflow};
@@ -7,7 +7,7 @@ ghost use Rattle.der.specs.Encode.{ThenAnswer};
 use der::{Encode, Error, ErrorKind, Length, Writer};
 
 /// A value whose `encode` writes the octet `0xAA` and then fails with `Overflow`. If the writer
-/// refuses the octet, `encode` returns the writer's error instead.
+/// cannot write the octet, `encode` fails with the error of the writer.
 #[derive(Clone, Copy)]
 pub struct HalfWritten;
 

@@ -1,4 +1,4 @@
-//! A careless type, which ignores that a read failed.
+//! A faulty type for tests. Its `decode_value` ignores that a read failed.
 ghost use Rattle.std.specs.Prelude.{false};
 ghost use Rattle.der.specs.Prelude.{OctetString};
 
@@ -7,16 +7,15 @@ use der::{
 };
 use std::alloc::Global;
 
-/// A careless type: an OCTET STRING of one octet. `decode_value` reads this octet, and then tries
-/// to read a second one.
+/// A faulty type for tests: an OCTET STRING of one octet. `decode_value` reads this octet, and then
+/// tries to read a second octet.
 ///
-/// - If the reader is failed after the second read, `decode_value` returns `Ok` with the value.
-///   This happens if the contents have one octet and the reader keeps a failed state.
-/// - If the reader is not failed after the second read, `decode_value` fails with `Overlength`.
+/// - If the reader has failed after the second read, `decode_value` returns `Ok` with the value.
+///   This happens if the contents have one octet and the reader stays failed after a failed read.
+/// - If the reader has not failed after the second read, `decode_value` fails with `Overlength`.
 ///
-/// An `Ok` thus always comes with a failed reader, and such an `Ok` does not count as decoding a
-/// value. So the ghost member `takes` says that no octets, not even zero octets, are the contents
-/// of a value of this type.
+/// If `decode_value` returns `Ok`, the reader has failed. This does not count as decoding a value.
+/// The ghost member `takes` therefore says that a value cannot be decoded from any contents.
 #[derive(Clone, Copy)]
 pub struct Hasty {
     /// The contents octet.

@@ -1,4 +1,5 @@
-//! Readers, writers and types for tests: each is proved to keep the contract of its trait.
+//! Readers, writers and types for tests. Each of them is proved to satisfy the contract of the
+//! trait that it implements.
 #![tactic(auto)]
 
 pub mod counter;

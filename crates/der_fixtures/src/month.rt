@@ -6,8 +6,8 @@ use der::example::MyByteMonth;
 use der::{Encode, Error, Length};
 use std::alloc::Global;
 
-/// Returns the encoding of a month: the octets `04 01` and the octet of its number. This follows
-/// from the contract that `to_der` has for every type.
+/// Returns the encoding of a month: the octets `04 01` and the octet of its number. The contract of
+/// this function follows from the contract that `to_der` has for every type.
 pub fn month_der(alloc: Global, month: &MyByteMonth) -> Result<Vec<u8>, Error>
     ensures { IfOk result (λ v. v.items ≡ 4 ∷ 1 ∷ month.now.number ∷ []) }
 {

@@ -1,12 +1,14 @@
-//! A type that reads its contents inside nested parts, each of which spans all the contents.
+//! A type whose `decode_value` calls `read_nested` a given number of times, one call inside the
+//! other.
 ghost use Rattle.std.specs.Prelude.{false};
 ghost use Rattle.der.specs.Prelude.{OctetString, Same};
 
 use der::{DecodeValue, Error, FixedTag, Header, Lends, ReadValue, Reader, ReaderExt, Tag};
 use std::alloc::Global;
 
-/// An OCTET STRING whose `decode_value` enters `LEVELS` nested parts of the input, one inside the
-/// other, and then skips the contents. Each part spans all the contents.
+/// An OCTET STRING of any contents. Its `decode_value` calls `read_nested` `LEVELS` times, one call
+/// inside the other, so that the nesting depth of the reader increases by `LEVELS`. Each call gets
+/// all contents octets. The innermost call skips them.
 #[derive(Clone, Copy)]
 pub struct Nest<const LEVELS: u8>;
 

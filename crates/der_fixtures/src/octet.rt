@@ -1,4 +1,4 @@
-//! A type with an error of its own, to which the errors of decoding are converted.
+//! A type whose decoding has its own error type. An [`Error`] is converted to this error type.
 ghost use Rattle.std.specs.Prelude.{◌≡◌, [], ◌∷◌, false};
 ghost use Rattle.std.proofs.Common.{ap};
 ghost use Rattle.der.specs.Prelude.{kind_of, OctetString};

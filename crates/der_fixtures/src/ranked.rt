@@ -1,19 +1,20 @@
-//! A type whose comparison has a given result.
+//! A type for tests whose comparison, length and tag can be chosen.
 ghost use Rattle.std.specs.Prelude.{◌≡◌, [], Ok, IsOk};
 ghost use Rattle.der.specs.Prelude.{definite_length, map_ok};
 
 use der::{EncodeValue, Error, Length, Tag, Tagged, ValueOrd, Writer, WrittenValue};
 use std::cmp::Ordering;
 
-/// A value without contents octets. Its fields are the results of its methods.
+/// A value without contents octets. Its fields are the results that its methods return.
 #[derive(Clone, Copy)]
 pub struct Ranked {
     /// The tag that the method [`Tagged::tag`] returns.
     pub tag: Tag,
-    /// What the method [`EncodeValue::value_len`] returns: the length 0 if this is `Ok`, and the
-    /// error if this is an `Err`.
+    /// The result that the method [`EncodeValue::value_len`] returns. `Ok` stands for the length 0,
+    /// and `Err` has the error.
     pub size: Result<(), Error>,
-    /// What the method [`ValueOrd::value_cmp`] returns, whatever the other value is.
+    /// The result that the method [`ValueOrd::value_cmp`] returns. It does not depend on the other
+    /// value.
     pub order: Result<Ordering, Error>,
 }
 

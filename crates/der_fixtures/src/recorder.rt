@@ -1,11 +1,11 @@
-//! A hasher that keeps its input.
+//! A hasher that records the octets that are passed to it.
 ghost use Rattle.std.specs.Prelude.{◌+◌, ◌*◌, ◌%◌, ◌^◌, fold};
 
 use std::hash::{Hash, Hasher};
 
-/// A hasher that keeps all octets it gets in one number. In base 256, the first digit of this
-/// number is 1, and the octets are the digits after it. The number can hold 15 octets; with more
-/// octets, its first digits are lost.
+/// A hasher that records the octets that are passed to it as one number. The number has the digits
+/// 1 and then the octets in base 256, the most significant digit first. There is room for 15
+/// octets. If there are more, the first digits are lost.
 #[derive(Drop)]
 struct Recorder(u128);
 
@@ -25,9 +25,9 @@ impl Hasher for Recorder {
     }
 }
 
-/// The octets that `value` gives to a hasher, as one number. In base 256, the first digit of this
-/// number is 1, and the octets are the digits after it. The number can hold 15 octets; with more
-/// octets, its first digits are lost.
+/// Returns the octets that `value` passes to a hasher, as one number. The number has the digits 1
+/// and then the octets in base 256, the most significant digit first. There is room for 15 octets.
+/// If there are more, the first digits are lost.
 pub fn recorded<T: Hash>(value: &T) -> u128 {
     let mut recorder = Recorder(1);
     value.hash(&mut recorder);

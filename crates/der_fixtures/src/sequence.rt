@@ -1,4 +1,5 @@
-//! What the contract of `SliceWriter::sequence` states if `f` encodes one value of any type.
+//! What the contract of `SliceWriter::sequence` states if its closure encodes one value of any
+//! type.
 ghost use Rattle.std.specs.Prelude.{◌≡◌, ◌+◌, ◌≤◌, ◌++◌, false, length, OnOk, IsOk};
 ghost use Rattle.der.specs.Prelude.{number, header_octets, Sequence, Keeps, Appends, slice_writer_state};
 ghost use Rattle.der.specs.WrittenSequence.{headed_state};

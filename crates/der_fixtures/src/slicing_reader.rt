@@ -1,4 +1,5 @@
-//! A reader that returns a slice of all that is left, and whose `read_slice` and `read_into` fail.
+//! A reader that returns all octets that are left as a slice. Its `read_slice` and `read_into`
+//! fail.
 ghost use Rattle.std.specs.Prelude.{◌≡◌, false, true, IfOk};
 ghost use Rattle.der.specs.Prelude.{Ber, slice_state};
 
@@ -12,8 +13,8 @@ pub struct SlicingReader<'a> {
     inner: SliceReader<'a>,
 }
 
-/// A [`SlicingReader`] at the start of `octets`, under the Basic Encoding Rules. Fails if there are
-/// more than 4294967295 octets.
+/// Creates a [`SlicingReader`] at the start of `octets`, under the Basic Encoding Rules. Fails if
+/// there are more than 4294967295 octets.
 pub fn ber_slicing(octets: &[u8]) -> Result<SlicingReader<'_>, Error>
     ensures { IfOk result (λ r. (slice_state r.inner).rules ≡ Ber) }
 {

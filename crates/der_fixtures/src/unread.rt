@@ -1,12 +1,12 @@
-//! A careless type, which does not read its contents.
+//! A faulty type for tests. Its `decode_value` reads nothing.
 ghost use Rattle.std.specs.Prelude.{◌≡◌, [], false};
 ghost use Rattle.der.specs.Prelude.{OctetString};
 
 use der::{DecodeValue, Error, FixedTag, Header, Lends, ReadValue, Reader, Tag};
 use std::alloc::Global;
 
-/// A careless type: an OCTET STRING whose `decode_value` reads nothing. So decoding accepts only
-/// empty contents.
+/// A faulty type for tests: an OCTET STRING whose `decode_value` reads nothing. Therefore, decoding
+/// accepts only empty contents.
 #[derive(Clone, Copy)]
 pub struct Unread;
 

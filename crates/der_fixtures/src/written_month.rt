@@ -1,4 +1,4 @@
-//! The type that the documentation of `EncodeValue` shows.
+//! The type that the documentation of `EncodeValue` shows as an example.
 ghost use Rattle.std.specs.Prelude.{◌≡◌, [], ◌∷◌, Ok, IfOk};
 ghost use Rattle.der_base.specs.Length.{definite_length};
 ghost use Rattle.der_base.specs.declared.tag.Tag.TheVariants.{OctetString};

@@ -1,4 +1,4 @@
-//! A type with contents of any length.
+//! A type for tests whose contents can have any length.
 ghost use Rattle.std.specs.Prelude.{◌≡◌, ◌+◌, ◌≤◌, false, Ok, IsOk, OnOk, length, replicate};
 ghost use Rattle.der.specs.Prelude.{definite_length, OctetString, Keeps, Appends};
 ghost use Rattle.der.specs.Writer.{Fits};

@@ -1,4 +1,4 @@
-//! The elements of a value, and its departures.
+//! Reading the elements of a value, and the departures of its encoding from DER.
 ghost use Rattle.std.specs.Prelude.{◌≡◌, ◌↔◌, ◌≤◌, true, false, length, take};
 ghost use Rattle.asn1_schema.specs.Table.{table_in};
 ghost use Rattle.asn1_tree.specs.Encoding.{IsDer, IsBer};
@@ -7,10 +7,16 @@ ghost use Rattle.asn1_tree.specs.Entries.{are_placed};
 use asn1_tree::Entry;
 use der_c_tree::{DerTreeFound, der_tree_read};
 
-/// Reads `octets` as a value of the type `node` of a table: puts its elements into `entries`, and what else was found into
-/// `found`. Prints into `list` the departures as JSON, as `der_show --json` does, with the index of the element of each;
-/// nothing if they do not fit. Returns false, and leaves `found` as it was, if there is no room, no table, or no such
-/// type.
+/// Reads `octets` as a value of a type. `node` is the index of the type in `table`, a table of
+/// types. Stores the elements in `entries`, and sets `found`. `marks` and `text` are working
+/// memory.
+///
+/// A departure is a place at which the octets break a rule of DER. The departures are printed into
+/// `list` as JSON, in the form of `der_show --json`. Each has the index of its element. If the
+/// departures do not fit, the octets of `list` are unspecified.
+///
+/// Returns false, and leaves `found` unchanged, if `entries`, `marks` or `text` is too short, if
+/// `table` is not a table of types, or if it has no type with this index.
 #[unsafe(no_mangle)]
 pub extern "C" fn page_read(
     table: &[u8],

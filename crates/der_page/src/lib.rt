@@ -1,10 +1,15 @@
-//! What a page in a browser, or a program in JavaScript, calls of the readers, as a WebAssembly module: the kind of a
-//! value, its elements with the names of their fields and their types, the texts of values, the departures from the
-//! Distinguished Encoding Rules, and the blocks of a PEM text.
+//! The functions of the WebAssembly module for pages in a browser and programs in JavaScript. They
+//! give:
 //!
-//! No call allocates: each writes into memory of the caller. A call that prints returns how many octets it printed, or
-//! the greatest number if they do not fit: then the caller tries again with more. `page_find` and `page_read` say
-//! likewise that there is no room.
+//! - the kind of a value, such as a certificate;
+//! - its elements, with their types, the names of their fields, and texts for their values;
+//! - the departures: the places at which an encoding breaks a rule of DER;
+//! - the blocks of a PEM text.
+//!
+//! No function allocates memory: each function writes into memory of the caller. A function that
+//! prints returns the number of octets printed, or `usize::MAX` if they do not fit. If there is too
+//! little memory, `page_find` returns `FULL`, and `page_read` returns false. The caller can then
+//! try again with more memory.
 #![tactic(auto)]
 
 mod blocks;

@@ -1,4 +1,4 @@
-//! Lines for elements.
+//! Lines of text that describe elements.
 
 use asn1_cursor::Cursor;
 use asn1_schema::{NodeKind, Schema};
@@ -7,9 +7,18 @@ use der_c_tree::{NO_ROOM, printed, put_value};
 use der_show_print::{Form, Printer, put_tag};
 use der_show_text::{Characters, Output, Space, Style, put_text};
 
-/// Prints a line for each of `count` elements from the one with the index `first` on. A line has, between tabs, the
-/// name of the field, that of the alternative of a CHOICE, that of the type, the tag, and the text of the value; each may
-/// be empty. Control characters and invisible ones are escaped in all of them.
+/// Prints a line for each of `count` elements. The first one has the index `first`. A line has five
+/// columns, with tabs between them:
+///
+/// - the name of the field;
+/// - the name of the CHOICE alternative;
+/// - the name of the type;
+/// - the tag;
+/// - the text of the value.
+///
+/// A column may be empty. Control characters and invisible characters are escaped in all columns.
+/// Returns the number of octets printed, or `usize::MAX` if they do not fit in `text`, or if
+/// `table` is not a table of types.
 #[unsafe(no_mangle)]
 pub extern "C" fn page_rows<'a>(
     table: &'a [u8],
@@ -48,8 +57,14 @@ fn put_word(out: &mut Output<Space<'_>>, word: &str) {
     out.put("\t");
 }
 
-/// Puts a letter for what is inside of each element into `shapes`: `x` if it stands for the value inside it, as an EXPLICIT
-/// tag does, `l` for a list, and `o` for another element.
+/// Sets each item of `shapes` to a letter for the element with the same index:
+///
+/// - `x` if the element stands for the value inside it, for example if it has an EXPLICIT tag;
+/// - `l` if the element is a list;
+/// - `o` for any other element.
+///
+/// If there is no element with this index, or if `table` is not a table of types, the item is
+/// unchanged.
 #[unsafe(no_mangle)]
 pub extern "C" fn page_shapes<'a>(
     table: &'a [u8],

@@ -1,4 +1,4 @@
-//! An OCTET STRING (X.690 8.7) that is borrowed from the input, also where BER gives it in segments.
+//! An OCTET STRING (X.690 8.7) that is borrowed from the input, even if BER encodes it in segments.
 //! Nothing is allocated: a message in segments needs no second copy.
 #![tactic(auto)]
 

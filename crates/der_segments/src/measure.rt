@@ -1,5 +1,5 @@
-//! Reading of segments (X.690 8.7.3) that are checked and counted, and not copied. A segment may
-//! itself consist of segments.
+//! Reading of the segments of an OCTET STRING (X.690 8.7.3). The segments are checked and their
+//! octets are counted, but nothing is copied. A segment may itself consist of segments.
 ghost use Rattle.std.specs.Prelude.{◌≡◌, true, IfOk, IfErr, OnOk};
 ghost use Rattle.der.specs.Joining.{RefusesSegments};
 ghost use Rattle.der.specs.Prelude.{OctetString, Same};

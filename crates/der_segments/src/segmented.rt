@@ -11,8 +11,11 @@ use std::alloc::AllocError;
 
 /// An OCTET STRING (X.690 8.7) that is borrowed from the input. Under the Basic Encoding Rules it
 /// may be in segments, which may themselves be in segments, up to 63 levels deep. Decoding checks
-/// the segments and copies nothing. The tag of a value is always OCTET STRING: in segments, its
-/// identifier octet is `0x24`. An IMPLICIT tag is therefore read in the primitive form alone.
+/// the segments and copies nothing.
+///
+/// The tag of a value is always OCTET STRING. If the string is in segments, its identifier octet in
+/// the input is `0x24`. With an IMPLICIT tag, this type reads only a primitive encoding; use
+/// [`ImplicitSegmented`](crate::ImplicitSegmented) to read segments too.
 #[derive(Debug, PartialEq, Eq)]
 pub struct Segmented<'a> {
     octets: &'a [u8],

@@ -1,5 +1,6 @@
-//! Prints what files of DER, BER or PEM hold: the fields of files of known kinds, and the elements of any
-//! other file.
+//! A program that prints the contents of DER, BER and PEM files. If the kind of a file is known,
+//! such as a certificate, the program prints the fields. For any other file, it prints the
+//! elements.
 #![tactic(auto)]
 
 use der_show_lib::{Output, Sink, run_show};

@@ -1,4 +1,4 @@
-//! Blocks of PEM.
+//! Shows the PEM blocks of a text.
 
 use crate::json::put_json_encrypted;
 use crate::options::Shown;
@@ -9,7 +9,8 @@ use der_show_text::{Characters, Style, put_text};
 use pem::{Block, Blocks};
 use std::fmt::Write;
 
-/// Shows each block of a text.
+/// Shows the values in each PEM block of `text`. If a block is not valid PEM, prints an error and
+/// stops there.
 pub fn show_blocks(show: &mut Show<'_>, place: &Place<'_>, text: &[u8]) {
     let mut is_first = true;
     for found in Blocks::new(text) {

@@ -1,4 +1,4 @@
-//! Departures from the Distinguished Encoding Rules.
+//! Prints departures: the places at which a value breaks a rule of DER.
 
 use crate::options::Shown;
 use crate::place::Place;
@@ -9,24 +9,31 @@ use der_show_print::{FOUND, found_at, put_departure, put_path, put_rule};
 use der_show_text::{Output, Style, put_octets_with};
 use std::fmt::Write;
 
-/// How many departures of a value are printed. Others are counted.
+/// At most this number of departures of a value are printed. The others are only counted.
 const PRINTED: usize = 100;
 
-/// A value, and where it departs from the Distinguished Encoding Rules.
+/// The departures of a value from the Distinguished Encoding Rules, and what is needed to print
+/// them.
 #[derive(Clone, Copy)]
 pub struct Departures<'i, 'a> {
-    /// Where it departs.
+    /// The departures. The offset of a departure is counted from the start of `octets`.
     pub items: &'i [Departure],
-    /// The octets that offsets count in.
+    /// The octets of the value.
     pub octets: &'a [u8],
-    /// The elements, if there is a tree of them.
+    /// The outermost element of the value. `None` if the value was not read as a tree.
     pub root: Option<Cursor<'a>>,
-    /// Where the octets begin, in the file or the block.
+    /// The position at which `octets` begin in the file, or in the contents of the PEM block. It is
+    /// added to each offset that is printed.
     pub base: usize,
 }
 
 impl<'i, 'a> Departures<'i, 'a> {
-    /// Counts the departures, and prints a line for each, where the options want it.
+    /// Adds the departures to the counts in `show`. If there is a departure, sets the exit status
+    /// to 1. Then prints a line for each departure:
+    ///
+    /// - to standard output, if the output is text or only departures;
+    /// - to standard error, if the output is DER or PEM;
+    /// - not at all, if the output is JSON or short.
     pub fn put(self, show: &mut Show<'_>, place: &Place<'_>) {
         if self.items.is_empty() {
             return;
@@ -109,7 +116,7 @@ impl<'i, 'a> Departures<'i, 'a> {
         out.put("\n");
     }
 
-    /// Prints the departures as a list of JSON.
+    /// Prints the JSON field `departures`, whose value is the list of the departures.
     pub fn put_json(self, show: &mut Show<'_>) {
         show.page.put(",\n      \"departures\": [");
         let mut is_first = true;
@@ -129,7 +136,8 @@ impl<'i, 'a> Departures<'i, 'a> {
     }
 }
 
-/// Prints how many departures a file has, and how many of these are not even BER.
+/// Prints the number of departures from DER in a file, and how many of these depart from BER too.
+/// Prints nothing if the file has no departures, or if the output is JSON, DER or PEM.
 pub fn put_totals(show: &mut Show<'_>) {
     if show.departures == 0
         || !matches!(

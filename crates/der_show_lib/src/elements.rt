@@ -1,4 +1,4 @@
-//! The elements of octets, one line each.
+//! Printing of octets as elements, one line for each element.
 
 use crate::held::held_start;
 use asn1_contents::broken_rule;
@@ -10,13 +10,14 @@ use der_show_text::{
 };
 use std::alloc::{AllocError, Global};
 
-/// The greatest number of elements that may enclose another element.
+/// The elements inside an element are printed only if fewer than this number of elements enclose
+/// it.
 const MAX_DEPTH: usize = 64;
 
-/// How many octets of a value a line shows.
+/// A line shows at most this number of octets of a value.
 const SHOWN_OCTETS: usize = 32;
 
-/// The least number of characters of a text whose type is not known.
+/// A value of unknown type with fewer octets than this is not printed as text.
 const TEXT: usize = 4;
 
 /// An element whose contents are being printed.
@@ -30,7 +31,7 @@ struct Part {
     is_indefinite: bool,
 }
 
-/// A walk over the elements of octets.
+/// The state of printing octets as elements, one element after the other.
 #[derive(Drop)]
 struct Walk<'a> {
     octets: &'a [u8],
@@ -43,10 +44,18 @@ struct Walk<'a> {
     hides: bool,
 }
 
-/// Prints one line per element, each before the lines of the elements inside it, and returns where the octets
-/// depart from the Distinguished Encoding Rules. An OCTET STRING or BIT STRING that holds an encoding is
-/// entered like a constructed element. The walk goes on after a fault, at the end of the element around it.
-/// If the values may be secret, the numbers and the octets are left out.
+/// Prints a line for each element of `octets`, and below it the lines of the elements inside.
+/// Returns the departures: the places at which `octets` depart from the Distinguished Encoding
+/// Rules.
+///
+/// - If an OCTET STRING or a BIT STRING contains an encoding, prints the elements of this encoding
+///   too.
+/// - If an element cannot be read, continues after the element that encloses it.
+/// - If `hides` is true, values may be secret. Then the value of an INTEGER, an OCTET STRING or a
+///   BIT STRING is not printed, and neither is the value of an element without a universal type.
+/// - `base` is added to each offset that is printed.
+///
+/// Fails if an allocation fails.
 pub fn put_elements(
     page: &mut Page<'_>,
     octets: &[u8],

@@ -1,4 +1,4 @@
-//! Files: PEM or DER.
+//! Shows a whole file, which is PEM, another text, DER or BER.
 
 use crate::blocks::show_blocks;
 use crate::departures::put_totals;
@@ -12,7 +12,7 @@ use der_show_tree::{ANY, is_encoding};
 use pem::Blocks;
 use std::str;
 
-/// Shows the octets of a file.
+/// Shows a file with the name `file` and the contents `octets`. For an empty file, prints an error.
 pub fn show_octets(show: &mut Show<'_>, file: &str, octets: &[u8]) {
     let place = Place {
         file,
@@ -71,8 +71,8 @@ fn is_other_text(show: &Show<'_>, octets: &[u8]) -> bool {
         )
 }
 
-/// Whether the octets are PEM: there is a block, and the text before it has no control characters
-/// except white space.
+/// Whether `octets` are PEM. A line must begin a PEM block, and the text before this line must have
+/// no control characters except white space.
 fn is_pem(octets: &[u8]) -> bool {
     match Blocks::new(octets).next_block() {
         Some(Ok(block)) => is_plain(octets.get(..block.begin().offset).unwrap_or(&[])),

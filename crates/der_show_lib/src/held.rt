@@ -1,14 +1,17 @@
-//! Encodings inside of strings.
+//! Finds encodings inside an OCTET STRING or a BIT STRING.
 
 use ber::{Header, Universal, read_element};
 use der_base::Class;
 
-/// The greatest number of elements around another one inside a string.
+/// The greatest number of elements that may enclose an element, counted inside the string.
 const MAX_DEPTH: usize = 32;
 
-/// How many octets are before the encoding that a primitive OCTET STRING or BIT STRING holds. `None` if it
-/// holds none: if its contents, without the count of unused bits, are not exactly one element of definite
-/// length whose parts are elements too.
+/// Looks for an encoding inside a primitive OCTET STRING or BIT STRING. Returns the number of
+/// contents octets before the encoding: 0 for an OCTET STRING, and 1 for a BIT STRING, whose first
+/// octet counts the unused bits.
+///
+/// Returns `None` if the string contains no encoding. An encoding is exactly one element of
+/// definite length. The contents of a constructed element must be elements too.
 pub fn held_start(header: Header, contents: &[u8]) -> Option<usize> {
     if header.constructed {
         return None;

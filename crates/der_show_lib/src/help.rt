@@ -1,12 +1,12 @@
-//! What the help says.
+//! The texts of `--help`.
 
-/// What the program does.
+/// The text that `--help` prints above the options. It says what the program does.
 pub static ABOUT: &str = "\
 Shows what DER, BER and PEM files hold, and messages in mail: certificates, requests, revocation lists, keys, signed \
 and encrypted messages, PKCS #12, OCSP and timestamps by their fields, and any other file as elements. A file is shown as far as \
 it can be read. Below it is a list of the departures: places that depart from the Distinguished Encoding Rules.";
 
-/// What stands below the options.
+/// The text that `--help` prints below the options.
 pub static AFTER: &str = "\
 Kinds: certificate, request, crl, public-key, private-key, encrypted-private-key, rsa-private-key, rsa-public-key,
 ec-private-key, ec-parameters, dsa-private-key, dsa-parameters, dh-parameters, x942-parameters, cms, signed-data,

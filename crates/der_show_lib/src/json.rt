@@ -1,4 +1,4 @@
-//! Values as JSON.
+//! Prints values as JSON.
 
 use crate::departures::Departures;
 use crate::lint::put_finding;
@@ -15,7 +15,8 @@ use std::fmt::Write;
 use x509::{Certificate, CertificateList};
 use x509_lint::{LIST_RULES, findings, list_keeps};
 
-/// Begins the object of a file.
+/// Begins the JSON object for a file. Prints the name of the file, and opens the list of its
+/// values.
 pub fn begin_file(show: &mut Show<'_>, file: &str) {
     show.count = 0;
     show.page.put("{\n  \"file\": ");
@@ -23,7 +24,7 @@ pub fn begin_file(show: &mut Show<'_>, file: &str) {
     show.page.put(",\n  \"values\": [");
 }
 
-/// Ends the object of a file.
+/// Ends the JSON object for a file. Closes the list of its values, and then the object.
 pub fn end_file(show: &mut Show<'_>) {
     if show.count > 0 {
         show.page.put("\n  ");
@@ -58,7 +59,8 @@ fn begin_value(show: &mut Show<'_>, place: &Place<'_>, kind: &str, start: usize)
     show.page.number(start as u64);
 }
 
-/// Prints a value as an object.
+/// Prints `value` and its departures as a JSON object. The object is an item in the list of the
+/// values of the file.
 pub fn put_json_value(
     show: &mut Show<'_>,
     place: &Place<'_>,
@@ -119,7 +121,9 @@ fn put_json_list_lint(show: &mut Show<'_>, octets: &[u8]) {
     show.page.put("]");
 }
 
-/// Prints a block whose contents are encrypted by PEM itself, as an object.
+/// Prints a JSON object for a PEM block that is encrypted as RFC 1421 describes. The object is an
+/// item in the list of the values of the file. `info` is the value of the header `DEK-Info` of the
+/// block.
 pub fn put_json_encrypted(show: &mut Show<'_>, place: &Place<'_>, info: &[u8]) {
     begin_value(show, place, "encrypted-pem", 0);
     show.page.put(",\n      \"dekInfo\": \"");

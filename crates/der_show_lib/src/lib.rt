@@ -1,6 +1,6 @@
-//! The program `der_show`: it prints the fields of files of known kinds, in DER, BER or PEM, and the elements
-//! of any other file. A file is shown as far as it can be read; below it is each place that departs from the
-//! Distinguished Encoding Rules, with the rule.
+//! The program `der_show`. For a file of a known kind, in DER, BER or PEM, it prints the fields.
+//! For any other file, it prints the elements. A file is printed as far as it can be read. Below
+//! the file, the program lists the departures: the places at which the file breaks a rule of DER.
 #![tactic(auto)]
 
 mod blocks;

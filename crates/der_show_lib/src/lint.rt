@@ -1,4 +1,4 @@
-//! Rules that a certificate breaks.
+//! Prints the rules of RFC 5280 that a certificate or a revocation list breaks.
 
 use asn1_cursor::Cursor;
 use der::DecodeBytes;
@@ -10,8 +10,10 @@ use x509::{Certificate, CertificateList};
 use x509_lint::checks::value_types::has_value_of_type;
 use x509_lint::{Finding, LIST_RULES, Place, RULES, Rule, findings, list_keeps};
 
-/// Prints a line for each rule of RFC 5280 that the certificate breaks, and that decoding does not check; and
-/// how many rules were checked. Returns whether the certificate keeps them all.
+/// Checks a certificate against those rules of RFC 5280 that decoding does not check. Prints a line
+/// for each rule that is broken, and a line with the number of broken rules. Returns true if no
+/// rule is broken. If the certificate is not DER, checks nothing, prints a line that says this, and
+/// returns false.
 pub fn put_lint(page: &mut Page<'_>, value: Cursor<'_>) -> bool {
     let Ok(certificate) = Certificate::from_der(page.alloc, value.octets()) else {
         page.line_beside("Lint: no rule is checked, since the certificate is not DER");
@@ -42,8 +44,10 @@ pub fn put_lint(page: &mut Page<'_>, value: Cursor<'_>) -> bool {
     count == 0
 }
 
-/// Prints a line for each rule of RFC 5280 that the revocation list breaks, and that decoding does not check;
-/// and how many rules were checked. Returns whether the list keeps them all.
+/// Checks a revocation list against those rules of RFC 5280 that decoding does not check. Prints a
+/// line for each rule that is broken, and a line with the number of broken rules. Returns true if
+/// no rule is broken. If the list is not DER, checks nothing, prints a line that says this, and
+/// returns false.
 pub fn put_list_lint(page: &mut Page<'_>, value: Cursor<'_>) -> bool {
     let Ok(list) = CertificateList::from_der(page.alloc, value.octets()) else {
         page.line_beside("Lint: no rule is checked, since the list is not DER");
@@ -83,7 +87,8 @@ fn malformed_count(alloc: Global, certificate: &Certificate<'_>) -> usize {
     count
 }
 
-/// Prints where the rule is broken, by the path of the element, its name and its offset, and the rule.
+/// Prints the rule that is broken, after the element that breaks it. The element is given by its
+/// path, its name and its offset, to which `base` is added.
 pub fn put_finding(out: &mut Output, root: Cursor<'_>, base: usize, finding: &Finding) {
     match element_of(root, finding) {
         Some(element) => {
@@ -139,8 +144,10 @@ fn put_object_name(out: &mut Output, element: Cursor<'_>) {
     }
 }
 
-/// Prints a line for each of two rules that the certificate breaks: that only later versions have certain
-/// fields, and that the two algorithms of the signature are the same.
+/// Prints a warning for each of these rules of RFC 5280 that the certificate breaks:
+///
+/// - Unique identifiers need version 2 or 3, and extensions need version 3.
+/// - The certificate names the algorithm of its signature twice, and both must be equal.
 pub fn put_warnings(page: &mut Page<'_>, certificate: Cursor<'_>) {
     let Some(signed) = certificate.at("tbsCertificate") else {
         return;

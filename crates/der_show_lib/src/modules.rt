@@ -1,13 +1,14 @@
-//! Tables of types that are made of the user's modules.
+//! Makes tables of types from ASN.1 modules of the user.
 
 use asn1_syntax::{Failure, Refusal, own_names};
 use asn1_table::{Wrong, table_of};
 use std::alloc::{AllocError, Global};
 
-/// Why there is no table.
+/// The reason why no table of types could be made.
 #[derive(Drop)]
 pub enum NoTable {
-    /// A line that says what is wrong with a module, and where.
+    /// A module is not accepted, or a file cannot be read. The field is the line to print, which
+    /// says what is wrong.
     Line(String),
     /// An allocation failed.
     OutOfMemory,
@@ -19,8 +20,9 @@ impl From<AllocError> for NoTable {
     }
 }
 
-/// The octets of a table with this type of the modules in a text. A module may import from the others.
-/// The text is of the file `name`.
+/// Makes a table of types for the type `type_name`, and returns the octets of the table. `text` has
+/// one or more ASN.1 modules, which may import from each other. `name` is the name of the file with
+/// `text`; messages show it.
 pub fn table_of_modules(
     alloc: Global,
     name: &str,

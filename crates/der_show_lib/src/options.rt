@@ -7,44 +7,50 @@ use der_asn1::{GeneralizedTimeFormat, TimeFormat};
 use der_show_tree::Kind;
 use std::alloc::{AllocError, Global};
 
-/// What is printed.
+/// What the program prints of a value.
 #[derive(Clone, Copy, PartialEq, Eq)]
 pub enum Shown {
-    /// Fields or elements, as text.
+    /// The fields or the elements are printed as lines of text.
     Text,
-    /// JSON.
+    /// The value is printed as JSON.
     Json,
-    /// The octets.
+    /// The octets of the value are printed.
     Der,
-    /// PEM.
+    /// A PEM block with the octets of the value is printed.
     Pem,
-    /// Departures, and nothing else.
+    /// Only the departures of the value from the Distinguished Encoding Rules are printed.
     Departures,
-    /// A line for each value.
+    /// One line with a summary of the value is printed.
     Short,
 }
 
 /// The options of the command line: how to read a file, and what to print.
 #[derive(Clone, Copy)]
 pub struct Options {
-    /// Whether each line begins with the offset of its element: the option `--offsets`.
+    /// Whether each line begins with the offset of the element that it shows (option `--offsets`).
     pub has_offsets: bool,
-    /// Whether to print one line per element, even of a file whose kind is known: the option `--tree`.
+    /// Whether a line is printed for each element, even if the kind of the file is known (option
+    /// `--tree`).
     pub is_tree: bool,
-    /// Whether to print the rules that a certificate breaks: the option `--lint`.
+    /// Whether the rules that a certificate or a revocation list breaks are printed (option
+    /// `--lint`).
     pub is_lint: bool,
-    /// What is printed: the options `--json`, `--der`, `--pem` and `--strict`.
+    /// What is printed of a value (options `--json`, `--der`, `--pem`, `--strict` and `--short`).
+    /// Without these options, text is printed.
     pub shown: Shown,
-    /// The kind of the file, if the option `--as` says it.
+    /// The kind that each value has (option `--as`). Without this option, it is `None`, and the
+    /// program finds the kind of each value.
     pub kind: Option<Kind>,
-    /// After how many columns lines of text are folded, or 0: the option `--width`.
+    /// The greatest number of columns of a line (option `--width`). A longer line is broken. If it
+    /// is 0, lines are never broken.
     pub width: usize,
-    /// The time from which days are counted, in seconds since 1970: the option `--now`.
+    /// The time from which the program counts the days that a value is still valid (option
+    /// `--now`). In seconds since 1970-01-01T00:00:00Z.
     pub now: Option<i64>,
 }
 
 impl Options {
-    /// The options of a command line that has none.
+    /// The options of a command line that gives no options.
     pub fn new() -> Self {
         Options {
             has_offsets: false,
@@ -61,15 +67,18 @@ impl Options {
 /// A parsed command line.
 #[derive(Drop)]
 pub struct ShowCommand<'a> {
-    /// How to read and what to print.
+    /// How to read the files, and what to print.
     pub options: Options,
-    /// The paths of the files. Standard input is read if there is none, and for the path `-`.
+    /// The paths of the files. The path `-` stands for standard input. If there are no paths,
+    /// standard input is read.
     pub files: Vec<&'a str>,
-    /// The path of a table of types, in place of the program's own.
+    /// The path of a table of types, which replaces the table of the program (option `--schema`).
     pub schema: Option<&'a str>,
-    /// The path of a file with modules, of which a table is made in place of the program's own.
+    /// The path of a file with ASN.1 modules (option `--module`). A table of types is made from the
+    /// modules, and replaces the table of the program.
     pub module: Option<&'a str>,
-    /// The name of the type of the files, in this table or in these modules.
+    /// The name of the type of the values in the files (option `--type`). The type is in the table
+    /// `schema` or in the modules `module`.
     pub type_name: Option<&'a str>,
 }
 
@@ -80,7 +89,7 @@ const NO_WIDTH: &str = "the value of '--width' is no number";
 const NO_TIME: &str =
     "the value of '--now' is no date as 2026-01-31, and no time as 2026-01-31T23:59:59Z";
 
-/// After how many columns lines are folded, if no option says it.
+/// Without the option `--width`, a line is broken after this number of columns.
 const WIDTH: usize = 100;
 
 const NO_TYPE: &str = "'--schema' and '--module' need '--type', the name of a type";
@@ -88,9 +97,9 @@ const NO_TYPE: &str = "'--schema' and '--module' need '--type', the name of a ty
 const TWO_TABLES: &str = "'--schema' cannot be used with '--module'";
 
 impl<'a> ShowCommand<'a> {
-    /// Parses the words of the command line, of which the first one is the name of the program. The
-    /// error is what is printed instead of running the program, which may be its help or this
-    /// version of it.
+    /// Parses the words of the command line. The first word is the name of the program. Fails if
+    /// the program is not to be run. The error then has the text to print: a message, the help, or
+    /// `version`.
     pub fn parse(alloc: Global, version: &'a str, words: &'a [String]) -> Result<Self, Error> {
         let mut command = command(alloc, version)?;
         let matches = command.try_get_matches_from_mut(words)?;

@@ -1,4 +1,4 @@
-//! Values of known kinds.
+//! Prints values of known kinds.
 
 use crate::lint::{put_lint, put_list_lint, put_warnings};
 use crate::options::Shown;
@@ -20,7 +20,7 @@ use pem::BlockText;
 use std::fmt::Write;
 use std::mem;
 
-/// Prints a value of a kind as text.
+/// Prints `value`, which is of the kind `kind`, as lines of text.
 pub fn put_text_value(show: &mut Show<'_>, kind: Kind, value: Cursor<'_>) {
     let page = &mut show.page;
     match kind {
@@ -62,7 +62,7 @@ fn put_key(page: &mut Page<'_>, kind: Kind, value: Cursor<'_>) {
     }
 }
 
-/// Prints each field with the name that the module gives it.
+/// Prints each field of `value` with the name that the ASN.1 module gives the field.
 pub fn put_typed(page: &mut Page<'_>, value: Cursor<'_>) {
     let out = take_output(page);
     let mut printer = Printer::new(out, Form::Lines);
@@ -71,13 +71,18 @@ pub fn put_typed(page: &mut Page<'_>, value: Cursor<'_>) {
     page.out = printer.out;
 }
 
-/// Takes the output of the page, in place of which it has one that is dropped.
+/// Takes the output out of `page`, for another printer. The caller must put an output back; until
+/// then, what is printed to `page` only stays in memory.
 pub fn take_output(page: &mut Page<'_>) -> Output {
     let alloc = page.alloc;
     mem::replace(&mut page.out, Output::new(alloc, Sink::Memory))
 }
 
-/// Prints the octets of a value, or as a PEM block. A value that is BER, and not DER, is written in DER.
+/// Prints the octets of a value, or a PEM block with these octets.
+///
+/// - If the value is DER, or not even BER, prints the octets as they are.
+/// - If the value is BER but not DER, prints its DER encoding instead. If it cannot be written in
+///   DER, prints an error.
 pub fn put_octets(
     show: &mut Show<'_>,
     place: &Place<'_>,
@@ -100,7 +105,9 @@ pub fn put_octets(
     put_form(show, place, label, octets);
 }
 
-/// Prints octets, or a PEM block with the label of the block, or else with this one.
+/// Prints `octets`, or a PEM block with `octets`. If `octets` were read from a PEM block, the new
+/// block has the same label; otherwise it has the label `label`. If there is no label, prints an
+/// error.
 pub fn put_form(show: &mut Show<'_>, place: &Place<'_>, label: Option<&str>, octets: &[u8]) {
     if show.options.shown == Shown::Der {
         show.page.out.put_bytes(octets);

@@ -1,4 +1,4 @@
-//! The program as a function of its arguments, files and outputs.
+//! The program as a function of its arguments, its files and its outputs.
 
 use crate::files::show_octets;
 use crate::modules::{NoTable, table_of_modules};
@@ -20,28 +20,28 @@ use std::{fs, io, str};
 /// The version of the program.
 const VERSION: &str = "0.3.0";
 
-/// How standard input is called in messages.
+/// The name of standard input in messages.
 const INPUT: &str = "standard input";
 
-/// What a run of the program leaves.
+/// The result of a run of the program.
 #[derive(Drop)]
 pub struct Finished {
     /// The exit status:
     ///
     /// - 0 on success;
-    /// - 1 if a file cannot be read or its octets are refused, if a certificate breaks a rule that
-    ///   is checked, if an argument is not UTF-8, if an
-    ///   allocation fails, and in any case if writing to standard output fails;
-    /// - 2 if the arguments are no command.
+    /// - 1 if a file cannot be read or is not DER, if a certificate or a revocation list breaks a
+    ///   rule that `--lint` checks, if an argument is not UTF-8, if an allocation fails, if writing
+    ///   to standard output fails, or after any other error;
+    /// - 2 if the command line is not valid.
     pub status: u8,
-    /// Standard output.
+    /// What the program printed to standard output.
     pub out: Output,
-    /// Standard error.
+    /// What the program printed to standard error.
     pub errors: Output,
 }
 
-/// Runs the program with the arguments `given`, of which the first one is the name of the program. Shows
-/// each file on `out`, and prints errors to `errors`.
+/// Runs the program. `given` are its arguments, and the first one is the name of the program. Files
+/// are shown on `out`, and errors are printed to `errors`.
 pub fn run_show<R: Files + Input + AllocGlobal>(
     rt: &R,
     given: io::Result<Args>,
@@ -218,8 +218,8 @@ fn new_show<'s>(
     }
 }
 
-/// Shows the octets of one file, as the program does for a file of this name, and keeps what it prints in
-/// memory.
+/// Runs the program with `options` for one file, whose name is `file` and whose contents are
+/// `octets`. Everything that is printed stays in memory.
 pub fn show_in_memory(alloc: Global, options: Options, file: &str, octets: &[u8]) -> Finished {
     let out = Output::new(alloc, Sink::Memory);
     let mut errors = Output::new(alloc, Sink::Memory);

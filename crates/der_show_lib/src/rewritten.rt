@@ -1,10 +1,12 @@
-//! Values under BER, written in DER.
+//! Rewrites values from BER to DER.
 
 use asn1_der::{Refusal, Written, to_der};
 use asn1_schema::Schema;
 use std::alloc::Global;
 
-/// Writes the value of a node in DER, of which `octets` are an encoding under BER. Fails if there is no such node.
+/// Returns the DER encoding of a value. `octets` are a BER encoding of the value. `node` is the
+/// index of its type in `schema`. Fails if there is no such type, if `octets` are not a BER
+/// encoding of a value of this type, or if the value cannot be written in DER.
 pub fn rewritten(
     alloc: Global,
     schema: &Schema<'_>,

@@ -1,33 +1,35 @@
-//! What the program prints and finds.
+//! The state of the program while it shows files.
 
 use crate::options::Options;
 use crate::place::Place;
 use der_show_print::Page;
 use der_show_text::{Characters, Output, Style, put_text};
 
-/// The outputs of the program, and what it found so far.
+/// The outputs of the program, its options, and the results so far.
 #[derive(Drop)]
 pub struct Show<'s> {
-    /// Standard output.
+    /// The page whose lines go to standard output.
     pub page: Page<'s>,
-    /// Standard error.
+    /// The output for standard error.
     pub errors: Output,
-    /// How to read and what to print.
+    /// How to read the files, and what to print.
     pub options: Options,
-    /// The index of the type of the files in a table of the user, if there is one.
+    /// The index, in the table of types, of the type that the user gave for the files. `None` if
+    /// the user gave no type.
     pub node: Option<u32>,
     /// The exit status so far.
     pub status: u8,
-    /// How many values of the file were printed as JSON.
+    /// The number of values of the current file that were printed as JSON.
     pub count: usize,
-    /// How many departures of the file there are.
+    /// The number of departures from DER in the current file.
     pub departures: usize,
-    /// How many of these are not even BER.
+    /// The number of places in the current file where the octets are not even valid BER.
     pub faults: usize,
 }
 
 impl<'s> Show<'s> {
-    /// Begins the line of an error of the file.
+    /// Begins an error line on standard error: prints `error: ` and `place`. Sets the exit status
+    /// to 1.
     pub fn begin_error(&mut self, place: &Place<'_>) {
         self.page.out.flush();
         self.status = 1;
@@ -35,7 +37,8 @@ impl<'s> Show<'s> {
         put_place(&mut self.errors, place);
     }
 
-    /// Prints an error of the file.
+    /// Prints an error line to standard error: `error: `, `place` and `reason`. Sets the exit
+    /// status to 1.
     pub fn error(&mut self, place: &Place<'_>, reason: &str) {
         self.begin_error(place);
         self.errors.put(reason);
@@ -43,13 +46,15 @@ impl<'s> Show<'s> {
         self.errors.flush();
     }
 
-    /// Prints that an allocation failed.
+    /// Prints an error line for `place`, which says that an allocation failed. Sets the exit status
+    /// to 1.
     pub fn memory_error(&mut self, place: &Place<'_>) {
         self.error(place, "out of memory");
     }
 }
 
-/// Prints the file and the block, and a colon.
+/// Prints the name of the file and a colon. If the file is PEM, prints the label and the line of
+/// the PEM block between them.
 pub fn put_place(out: &mut Output, place: &Place<'_>) {
     put_plain(out, place.file);
     if let Some(label) = place.label {
@@ -61,7 +66,7 @@ pub fn put_place(out: &mut Output, place: &Place<'_>) {
     out.put(": ");
 }
 
-/// Prints a text with its hidden characters escaped.
+/// Prints a text on a line. Hidden characters are escaped.
 pub fn put_plain(out: &mut Output, text: &str) {
     put_text(out, text.as_bytes(), Characters::Utf8, Style::Line);
 }

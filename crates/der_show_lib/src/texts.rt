@@ -1,24 +1,32 @@
-//! Texts that are PEM but for their form: with a byte order mark, in UTF-16, indented, or mail.
+//! Rewrites texts whose PEM blocks are in an unusual form: with a byte order mark, in UTF-16,
+//! indented, or in a mail.
 
 use std::alloc::{AllocError, Global};
 use std::str;
 
-/// What a line of a text is part of.
+/// The part of a text to which a line belongs.
 #[derive(Clone, Copy, PartialEq, Eq)]
 enum Part {
-    /// Headers of mail, in which nothing says that the body is a message.
+    /// The line is among the headers of a mail. No header so far says that the body is a CMS
+    /// message.
     Headers,
-    /// Headers of a part of mail that is a message (RFC 8551, 3.2).
+    /// The line is among the headers of a mail. A header before it says that the body is a CMS
+    /// message in base64 (RFC 8551, 3.2).
     MessageHeaders,
-    /// Any other text.
+    /// The line belongs to any other text.
     Body,
-    /// The base64 of a message.
+    /// The line belongs to the base64 of a CMS message in a mail.
     Message,
 }
 
-/// The text in PEM, with as many lines: in octets, its lines that begin with dashes not indented, and with each
-/// message of mail in base64 between the lines of a block. Characters that are not ASCII are `?` if the text was
-/// in UTF-16. Fails if an allocation fails.
+/// Rewrites a text so that it can be read as PEM:
+///
+/// - removes a byte order mark;
+/// - converts UTF-16 to one octet for each character, and a character that is not ASCII to `?`;
+/// - removes the indentation of lines that begin with dashes;
+/// - puts each CMS message of a mail into a PEM block.
+///
+/// Fails if an allocation fails.
 pub fn pem_text(alloc: Global, octets: &[u8]) -> Result<Vec<u8>, AllocError> {
     let narrow = without_mark(alloc, octets)?;
     let mut text = Vec::with_capacity(alloc, narrow.len())?;

@@ -1,4 +1,4 @@
-//! One value.
+//! Shows one value.
 
 use crate::departures::Departures;
 use crate::elements::put_elements;
@@ -12,19 +12,23 @@ use asn1_tree::{Departure, Rule};
 use der_show_print::put_short_line;
 use der_show_tree::{ANY, Kind, read_as};
 
-/// What a value is read as.
+/// The type by which the octets of a value are read.
 #[derive(Clone, Copy)]
 pub enum Target {
-    /// A kind of file.
+    /// The octets are read as a value of this kind.
     Kind(Kind),
-    /// The type with this index in the table of the user.
+    /// The octets are read as a value of the type with this index in the user's table of types.
     Node(u32),
-    /// An element of any type.
+    /// The octets are read as an element of any type.
     Elements,
 }
 
 impl Target {
-    /// The word for what it is.
+    /// The word for the type in JSON and in summaries:
+    ///
+    /// - for a kind, the word that the option `--as` takes for the kind;
+    /// - for a type of the user, `value`;
+    /// - for an element of any type, `elements`.
     pub fn word(self) -> &'static str {
         match self {
             Target::Kind(kind) => kind.word(),
@@ -33,7 +37,7 @@ impl Target {
         }
     }
 
-    /// The index of its type in the table.
+    /// The index of the type in the table of types.
     pub fn node(self) -> u32 {
         match self {
             Target::Kind(kind) => kind.node(),
@@ -43,8 +47,12 @@ impl Target {
     }
 }
 
-/// Shows octets as one value, which begins at `base` in the file or the block, and lists its departures. Where
-/// octets are printed, they are `written`.
+/// Reads `octets` as one value of the type `target`, and shows the value and its departures from
+/// DER. If the output is DER or PEM, the octets `written` are printed. They are `octets` and, if
+/// openssl has appended trust settings to a certificate, these settings.
+///
+/// `base` is the position at which the value begins in the file, or in the contents of the PEM
+/// block.
 pub fn show_value(
     show: &mut Show<'_>,
     place: &Place<'_>,
@@ -124,7 +132,7 @@ fn is_read(root: Cursor<'_>, departures: &[Departure]) -> bool {
     true
 }
 
-/// Whether the octets have departures, and these are all BER.
+/// Whether there are departures, and BER allows all of them.
 pub fn is_only_ber(departures: &[Departure]) -> bool {
     let mut is_ber = !departures.is_empty();
     for departure in departures {

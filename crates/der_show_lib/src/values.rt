@@ -1,4 +1,4 @@
-//! Values in sequence.
+//! Shows all values in a file.
 
 use crate::departures::Departures;
 use crate::elements::put_elements;
@@ -14,8 +14,8 @@ use der_show_print::put_trust;
 use der_show_tree::{Kind, TRUST, find_kind, is_encoding, read_as};
 use std::alloc::AllocError;
 
-/// Shows the values that the octets are, one after another: those of known kinds by their fields, and
-/// what is left as elements.
+/// Shows the values in `octets`, one after another. A value of a known kind is shown with its
+/// fields. From the first value of no known kind on, all octets are shown as elements.
 pub fn show_values(show: &mut Show<'_>, place: &Place<'_>, octets: &[u8]) {
     let mut start = 0usize;
     for _ in 0..octets.len() {

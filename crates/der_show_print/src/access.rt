@@ -1,11 +1,12 @@
-//! Where information is found.
+//! Prints the extension authorityInfoAccess.
 
 use crate::general_name::put_general_name;
 use crate::page::Page;
 use crate::values::{contents, items, put_long};
 use asn1_cursor::Cursor;
 
-/// Prints the kind of each piece of information, and its place.
+/// Prints a line for each AccessDescription of `list` (RFC 5280, 4.2.2.1): the name of the access
+/// method, and the access location.
 pub fn put_access(page: &mut Page<'_>, list: Cursor<'_>) {
     for item in items(list) {
         page.at(item);

@@ -1,4 +1,4 @@
-//! Algorithms and their parameters.
+//! Prints algorithms and their parameters.
 
 use crate::page::Page;
 use crate::title::identifier_line;
@@ -7,14 +7,17 @@ use asn1_cursor::Cursor;
 use ber::Universal;
 use der_show_text::put_octets;
 
-/// Prints the names of an AlgorithmIdentifier.
+/// Prints the name and the arcs of the OBJECT IDENTIFIER of an AlgorithmIdentifier. Does not end
+/// the line.
 pub fn put_algorithm(page: &mut Page<'_>, algorithm: Cursor<'_>) {
     if let Some(identifier) = algorithm.at("algorithm") {
         put_identifier_of(page, identifier);
     }
 }
 
-/// Prints a line with an AlgorithmIdentifier, and lines with its parameters.
+/// Prints a line with `title` and the name and the arcs of an algorithm, and then lines with the
+/// parameters of the algorithm. `algorithm` is an AlgorithmIdentifier. Prints nothing if it is
+/// `None`.
 pub fn put_algorithm_line(page: &mut Page<'_>, title: &str, algorithm: Option<Cursor<'_>>) {
     if let Some(algorithm) = algorithm {
         page.at(algorithm);
@@ -25,8 +28,9 @@ pub fn put_algorithm_line(page: &mut Page<'_>, title: &str, algorithm: Option<Cu
     }
 }
 
-/// Prints lines with the parameters of an AlgorithmIdentifier: those of RSASSA-PSS in words, and any
-/// others but NULL in hexadecimal. Those of keys have lines of their own.
+/// Prints lines with the parameters of an AlgorithmIdentifier. The parameters of RSASSA-PSS are
+/// printed in words, and most others in hexadecimal. Prints nothing if the parameters are NULL, or
+/// if they are parameters of EC or DSA keys.
 pub fn put_parameters(page: &mut Page<'_>, algorithm: Cursor<'_>) {
     let Some(parameters) = algorithm.at("parameters") else {
         return;
@@ -91,7 +95,8 @@ fn put_pss_number(page: &mut Page<'_>, title: &str, found: Option<Cursor<'_>>, d
     page.end();
 }
 
-/// Prints a line with the names of an algorithm without its parameters.
+/// Prints a line with `title`, and the name and the arcs of the OBJECT IDENTIFIER of an
+/// AlgorithmIdentifier. The parameters are not printed.
 pub fn put_algorithm_names(page: &mut Page<'_>, title: &str, algorithm: Cursor<'_>) {
     match algorithm.at("algorithm") {
         Some(identifier) => {

@@ -1,4 +1,4 @@
-//! Certificates.
+//! Prints certificates.
 
 use crate::algorithm::put_algorithm_line;
 use crate::extensions::put_extensions;
@@ -32,7 +32,8 @@ pub fn put_certificate(page: &mut Page<'_>, certificate: Cursor<'_>) {
     put_fingerprints(page, "", certificate.octets());
 }
 
-/// Prints lines with the algorithm and the length of a signature.
+/// Prints lines with the algorithm and the length of a signature. `holder` is the signed value,
+/// such as a certificate.
 pub fn put_signature(page: &mut Page<'_>, holder: Cursor<'_>) {
     put_algorithm_line(
         page,
@@ -51,8 +52,8 @@ fn put_unique_id(page: &mut Page<'_>, title: &str, id: Option<Cursor<'_>>) {
     }
 }
 
-/// Prints what openssl appends to a certificate in a file TRUSTED CERTIFICATE: the uses that are trusted
-/// and rejected, an alias and a key identifier.
+/// Prints the settings that openssl appends to the certificate in a PEM block `TRUSTED
+/// CERTIFICATE`: the trusted uses, the rejected uses, an alias and a key identifier.
 pub fn put_trust(page: &mut Page<'_>, trust: Cursor<'_>) {
     match trust.at("trust") {
         Some(uses) => put_uses(page, "Trusted Uses: ", uses),

@@ -1,11 +1,12 @@
-//! Constraints.
+//! Prints the extensions basicConstraints, policyConstraints and nameConstraints.
 
 use crate::general_name::{put_address, put_general_name};
 use crate::page::Page;
 use crate::values::{contents, items, put_decimal};
 use asn1_cursor::Cursor;
 
-/// Prints whether the subject is an authority, and the length of the path.
+/// Prints whether the subject is a certification authority. If the extension limits the length of
+/// the certification path, prints the limit too.
 pub fn put_basic_constraints(page: &mut Page<'_>, element: Cursor<'_>) {
     page.at(element);
     let is_authority = match element.at("cA") {
@@ -20,7 +21,8 @@ pub fn put_basic_constraints(page: &mut Page<'_>, element: Cursor<'_>) {
     page.end();
 }
 
-/// Prints the two numbers of PolicyConstraints.
+/// Prints the numbers requireExplicitPolicy and inhibitPolicyMapping of PolicyConstraints. A number
+/// that is absent is left out.
 pub fn put_policy_constraints(page: &mut Page<'_>, element: Cursor<'_>) {
     page.at(element);
     let explicit = element.at("requireExplicitPolicy");
@@ -38,7 +40,7 @@ pub fn put_policy_constraints(page: &mut Page<'_>, element: Cursor<'_>) {
     page.end();
 }
 
-/// Prints the names that are permitted and those that are excluded.
+/// Prints the permitted names and the excluded names of NameConstraints.
 pub fn put_name_constraints(page: &mut Page<'_>, element: Cursor<'_>) {
     put_trees(page, "Permitted:", element.at("permittedSubtrees"));
     put_trees(page, "Excluded:", element.at("excludedSubtrees"));

@@ -1,7 +1,7 @@
-//! Curves: their identifiers in hexadecimal, the bits of their orders, and the names of NIST. Written by
-//! `tools/curve_sizes`.
+//! The elliptic curves that OpenSSL 3.0 knows, with their sizes. Written by `tools/curve_sizes`.
 
-/// The curves, a line for each.
+/// One line for each curve: the contents octets of its OBJECT IDENTIFIER in hexadecimal, the number of bits of
+/// the order of its base point, and its NIST name or `-`.
 #[rattlefmt::skip]
 pub static CURVES: &str = "\
 2a8648ce3d030001 163 -\n\

@@ -1,4 +1,4 @@
-//! Departures from the Distinguished Encoding Rules.
+//! Prints departures: the places at which octets break a rule of DER.
 
 use asn1_cursor::Cursor;
 use asn1_tree::{Departure, Rule};
@@ -7,11 +7,17 @@ use der_show_text::{Characters, Output, Style, Target, put_octets, put_text};
 use std::fmt;
 use std::fmt::Write;
 
-/// How many octets at a departure are printed.
+/// For each departure, at most this number of octets of its element are printed.
 pub const FOUND: usize = 16;
 
-/// Prints a departure as an object of JSON: the path of the element, the offset, which counts from `base`, the section,
-/// the rule, whether the octets may still be BER, and the octets there.
+/// Prints a departure as a JSON object with these fields:
+///
+/// - the path of the element at which the octets depart from DER;
+/// - the offset of the element: `base` plus its offset in `octets`;
+/// - the section of the standard;
+/// - the rule that is broken;
+/// - whether BER allows the octets, since only DER has the rule;
+/// - the first octets of the element in hexadecimal.
 pub fn put_departure<T: Target>(
     out: &mut Output<T>,
     octets: &[u8],
@@ -39,7 +45,8 @@ pub fn put_departure<T: Target>(
     out.put("\"}");
 }
 
-/// Prints the path of the element of a departure, and returns whether there is one.
+/// Prints the path of the element at which a departure was found. Prints nothing if `root` is
+/// `None`, or if `root` does not have the element. Returns whether something was printed.
 pub fn put_path<T: Target>(
     out: &mut Output<T>,
     root: Option<Cursor<'_>>,
@@ -61,7 +68,7 @@ pub fn put_path<T: Target>(
     !path.is_empty
 }
 
-/// A text that is printed with its hidden characters escaped.
+/// A writer that escapes the text it receives in the style `style`, and prints the result to `out`.
 #[derive(Drop)]
 struct Escaped<'o, T: Target> {
     out: &'o mut Output<T>,
@@ -77,7 +84,8 @@ impl<T: Target> fmt::Write for Escaped<'_, T> {
     }
 }
 
-/// The octets of the element at a departure, or those up to the end if there is none.
+/// The octets of the element at the offset of `departure`. If no element can be read at this
+/// offset, all octets from the offset to the end.
 pub fn found_at<'a>(octets: &'a [u8], departure: &Departure) -> &'a [u8] {
     let rest = octets.get(departure.offset..).unwrap_or(&[]);
     match read_element(rest) {
@@ -89,7 +97,8 @@ pub fn found_at<'a>(octets: &'a [u8], departure: &Departure) -> &'a [u8] {
     }
 }
 
-/// Prints what the rule says, or how octets break it.
+/// Prints a sentence about `rule`: it says what the rule requires, or how the octets break the
+/// rule.
 pub fn put_rule<T: Target>(out: &mut Output<T>, rule: Rule) {
     let _ = match rule {
         Rule::Contents(rule) => write!(out, "{rule}"),

@@ -1,4 +1,4 @@
-//! Where revocation lists are found.
+//! Prints the extensions cRLDistributionPoints and issuingDistributionPoint.
 
 use crate::flags::put_reasons;
 use crate::general_name::put_name_lines;
@@ -7,7 +7,8 @@ use crate::page::Page;
 use crate::values::items;
 use asn1_cursor::Cursor;
 
-/// Prints the distribution points of a list.
+/// Prints the distribution points of `list`. A distribution point has a name, reasons, and an
+/// issuer of the revocation list. What is absent is left out.
 pub fn put_distribution_points(page: &mut Page<'_>, list: Cursor<'_>) {
     for point in items(list) {
         put_point_name(page, point.at("distributionPoint"));
@@ -57,7 +58,7 @@ fn put_titled_reasons(page: &mut Page<'_>, title: &str, reasons: Option<Cursor<'
     }
 }
 
-/// Prints what a revocation list covers.
+/// Prints an IssuingDistributionPoint, which says what certificates a revocation list covers.
 pub fn put_issuing_point(page: &mut Page<'_>, point: Cursor<'_>) {
     put_point_name(page, point.at("distributionPoint"));
     put_flag(

@@ -1,4 +1,4 @@
-//! Contents that are not known.
+//! Printing of an OCTET STRING whose contents are of an unknown type.
 
 use crate::page::Page;
 use crate::values::put_colons;
@@ -14,7 +14,10 @@ pub fn put_whole_octets(page: &mut Page<'_>, value: Cursor<'_>) {
     page.end();
 }
 
-/// Prints what an OCTET STRING holds: its tag and its text, if it is a string; or else the octets.
+/// Prints a line with the contents of an OCTET STRING. If the contents are exactly one primitive
+/// element, the line shows the tag and the value of this element: its text, or the arcs of an
+/// OBJECT IDENTIFIER, or else its contents octets in hexadecimal. Otherwise the line shows all
+/// octets in hexadecimal.
 pub fn put_element_line(page: &mut Page<'_>, value: Cursor<'_>) {
     let mut inside = Elements::new(value.contents(), 0, EncodingRules::Der);
     let Some(element) = inside.take_first() else {

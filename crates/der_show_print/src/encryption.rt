@@ -1,4 +1,4 @@
-//! How something is encrypted with a password.
+//! Prints how the contents of a PKCS #8 or PKCS #12 file are encrypted with a password.
 
 use crate::page::Page;
 use crate::title::{count_line, number_line, octets_line};
@@ -87,8 +87,8 @@ fn put_scheme(page: &mut Page<'_>, scheme: Cursor<'_>) {
     }
 }
 
-/// Prints how something is encrypted on one line, as `openssl pkcs12 -info` does: `PBES2, PBKDF2,
-/// AES-256-CBC, Iteration 2048, PRF hmacWithSHA256`.
+/// Prints an encryption algorithm and its parameters as `openssl pkcs12 -info` does, for example
+/// `PBES2, PBKDF2, AES-256-CBC, Iteration 2048, PRF hmacWithSHA256`. Does not end the line.
 pub fn encryption_words(page: &mut Page<'_>, algorithm: Cursor<'_>) {
     if let Some(identifier) = algorithm.at("algorithm") {
         put_long(page, contents(identifier));

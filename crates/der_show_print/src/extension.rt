@@ -1,4 +1,4 @@
-//! The value of an extension.
+//! Prints the value of an extension.
 
 use crate::access::put_access;
 use crate::constraints::{put_basic_constraints, put_name_constraints, put_policy_constraints};
@@ -17,9 +17,13 @@ use ber::Universal;
 use der::Tag;
 use der_show_text::put_time;
 
-/// Prints the value of an extension, on lines of its own. `value` is the OCTET STRING that holds it. Of an
-/// extension that is not known, or of a value of another type, the contents are printed as an element or in
-/// hexadecimal.
+/// Prints the value of an extension on lines of its own. `value` is the OCTET STRING that contains
+/// the value.
+///
+/// - A value of a well-known extension is printed in the words of openssl.
+/// - Any other value whose type is in the table of types is printed with the names of its fields,
+///   if it is constructed.
+/// - Any other value is printed as a primitive element, or in hexadecimal.
 pub fn put_extension(page: &mut Page<'_>, value: Cursor<'_>) {
     match value.inner() {
         Some(element) => match element.type_name() {

@@ -1,11 +1,12 @@
-//! Lists of extensions.
+//! Prints lists of extensions.
 
 use crate::extension::put_extension;
 use crate::page::Page;
 use crate::values::{items, put_identifier_of};
 use asn1_cursor::Cursor;
 
-/// Prints a heading and the extensions of the list, each with its value.
+/// Prints the heading `title`, and below it each extension of the list with its value. Prints
+/// nothing if there is no list.
 pub fn put_extensions(page: &mut Page<'_>, title: &str, extensions: Option<Cursor<'_>>) {
     let Some(list) = extensions else {
         return;

@@ -1,4 +1,4 @@
-//! Values by the names of their fields.
+//! Prints any value with the names of its fields.
 
 use crate::certificate::put_certificate;
 use crate::form::Form;
@@ -13,8 +13,9 @@ use der_show_text::{Output, Sink, Target};
 use std::alloc::Global;
 use std::mem;
 
-/// Prints a value and the values inside it with the names of their fields, on lines. Offsets of lines count from
-/// `base`. Certificates and revocation lists inside it are printed as they are on their own.
+/// Prints the value `root` and all values inside it on lines, with the names of their fields. If
+/// the printer has offsets, a line begins with `base` plus the offset of its element. A certificate
+/// or a revocation list inside `root` is printed in the words of openssl. Returns the printer.
 pub fn print_fields(
     alloc: Global,
     schema: &Schema<'_>,
@@ -39,7 +40,8 @@ pub fn print_fields(
     walk.end()
 }
 
-/// Prints a value and the values inside it as JSON, with the names of their fields.
+/// Prints the value `root` and all values inside it as JSON, with the names of their fields.
+/// Returns the printer.
 pub fn print_json<T: Target>(
     schema: &Schema<'_>,
     printer: Printer<T>,
@@ -55,7 +57,7 @@ pub fn print_json<T: Target>(
     walk.end()
 }
 
-/// Prints the fields of a value on lines of the page.
+/// Prints `element` and all values inside it on lines of `page`, with the names of their fields.
 pub fn put_field_lines(page: &mut Page<'_>, element: Cursor<'_>) {
     let alloc = page.alloc;
     let out = mem::replace(&mut page.out, Output::new(alloc, Sink::Memory));

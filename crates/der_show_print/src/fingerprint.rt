@@ -1,11 +1,12 @@
-//! Fingerprints.
+//! Prints fingerprints, which are digests of octets.
 
 use crate::page::Page;
 use der_show_text::put_octets_with;
 use sha1::Sha1;
 use sha2::{Digest, Sha256};
 
-/// Prints two lines with the SHA-256 and the SHA-1 digest of octets, after the words for what they are.
+/// Prints two lines with the SHA-256 digest and the SHA-1 digest of `octets`. Each line begins with
+/// the words `of`, which say what the octets are.
 pub fn put_fingerprints(page: &mut Page<'_>, of: &str, octets: &[u8]) {
     page.beside();
     page.put(of);
@@ -19,7 +20,7 @@ pub fn put_fingerprints(page: &mut Page<'_>, of: &str, octets: &[u8]) {
     page.end();
 }
 
-/// Prints the SHA-256 digest of octets.
+/// Prints the SHA-256 digest of `octets`. Does not end the line.
 pub fn put_digest(page: &mut Page<'_>, octets: &[u8]) {
     put_octets_with(&mut page.out, &Sha256::digest(octets), true);
 }

@@ -1,23 +1,26 @@
-//! Named bits and reasons.
+//! Prints the named bits of a BIT STRING, and reasons for a revocation.
 
 use crate::page::Page;
 use crate::values::small;
 use asn1_cursor::Cursor;
 
-/// The words of openssl for what a public key may be used for (RFC 5280, 4.2.1.3), after the names of the bits.
+/// The bits of KeyUsage (RFC 5280, 4.2.1.3). Each bit has its name, `=`, and the words that openssl
+/// prints for the bit.
 const USAGES: &str = "digitalSignature=Digital Signature,nonRepudiation=Non Repudiation,\
     keyEncipherment=Key Encipherment,dataEncipherment=Data Encipherment,\
     keyAgreement=Key Agreement,keyCertSign=Certificate Sign,cRLSign=CRL Sign,\
     encipherOnly=Encipher Only,decipherOnly=Decipher Only";
 
-/// Reasons for a revocation (RFC 5280, 4.2.1.13).
+/// The reasons for a revocation (RFC 5280, 4.2.1.13). Each reason has its name, `=`, and the words
+/// that openssl prints for the reason.
 const REASONS: &str = "unused=Unused,keyCompromise=Key Compromise,cACompromise=CA Compromise,\
     affiliationChanged=Affiliation Changed,superseded=Superseded,\
     cessationOfOperation=Cessation Of Operation,certificateHold=Certificate Hold,\
     privilegeWithdrawn=Privilege Withdrawn,aACompromise=AA Compromise,\
     unspecified=Unspecified,removeFromCRL=Remove From CRL";
 
-/// What Netscape has certificates for.
+/// The bits of the Netscape certificate type. Each bit has its name, `=`, and the words that
+/// openssl prints for the bit.
 const NETSCAPE: &str = "sslClient=SSL Client,sslServer=SSL Server,smime=S/MIME,\
     objectSigning=Object Signing,unused=Unused,sslCA=SSL CA,smimeCA=S/MIME CA,\
     objectSigningCA=Object Signing CA";
@@ -53,22 +56,22 @@ fn put_bits_line(page: &mut Page<'_>, table: &'static str, bits: Cursor<'_>) {
     page.end();
 }
 
-/// Prints a line with the uses of a key.
+/// Prints a line with the uses of a key. `bits` is a KeyUsage.
 pub fn put_key_usage(page: &mut Page<'_>, bits: Cursor<'_>) {
     put_bits_line(page, USAGES, bits);
 }
 
-/// Prints the reasons of a distribution point.
+/// Prints a line with the reasons of a distribution point. `bits` is a ReasonFlags.
 pub fn put_reasons(page: &mut Page<'_>, bits: Cursor<'_>) {
     put_bits_line(page, REASONS, bits);
 }
 
-/// Prints a line with Netscape's kinds of certificates.
+/// Prints a line with the uses that `bits`, a Netscape certificate type, allows.
 pub fn put_netscape_type(page: &mut Page<'_>, bits: Cursor<'_>) {
     put_bits_line(page, NETSCAPE, bits);
 }
 
-/// Prints a line with the reason of a revocation.
+/// Prints a line with the reason for a revocation, in words. `reason` is a CRLReason.
 pub fn put_reason_line(page: &mut Page<'_>, reason: Cursor<'_>) {
     page.at(reason);
     page.put(reason_words(reason));
@@ -83,7 +86,8 @@ fn reason_words(reason: Cursor<'_>) -> &'static str {
     }
 }
 
-/// Prints the name of the reason of a revocation, and its number.
+/// Prints the line `Revocation Reason: ` with the name and the number of the reason for a
+/// revocation. `reason` is a CRLReason.
 pub fn put_reason_name(page: &mut Page<'_>, reason: Cursor<'_>) {
     page.at(reason);
     page.put("Revocation Reason: ");

@@ -1,10 +1,10 @@
-//! What a walk does.
+//! The output formats of values.
 
-/// What a walk does with the fields that it passes.
+/// The format in which a value is printed.
 #[derive(Clone, Copy, PartialEq, Eq)]
 pub enum Form {
-    /// It prints JSON.
+    /// The value is printed as JSON.
     Json,
-    /// It prints a line for each field.
+    /// Each field of the value is printed on a line.
     Lines,
 }

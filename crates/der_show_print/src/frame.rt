@@ -1,34 +1,40 @@
-//! Values that a walk is inside of.
+//! The stack of the values around the element that is being printed.
 ghost use Rattle.std.specs.Prelude.{◌≤◌};
 
-/// What the parts of a value are.
+/// How the elements directly inside a value are printed.
 #[derive(Clone, Copy, PartialEq, Eq)]
 pub enum FrameKind {
-    /// Fields, which have names.
+    /// Each element is printed as a field of a JSON object, or on a line, with the name of the
+    /// field.
     Object,
-    /// Items, which have numbers.
+    /// Each element is printed as an item of a JSON list without a name, or on a line with its
+    /// number.
     List,
-    /// One value, which stands for that around it.
+    /// The value contains exactly one element, such as the element under an EXPLICIT tag. This
+    /// element is printed as if it were the value itself.
     Inner,
 }
 
-/// A value whose parts a walk is at.
+/// A value around the element that is being printed.
 #[derive(Clone, Copy)]
 pub struct Frame {
-    /// What its parts are.
+    /// How the elements directly inside the value are printed.
     pub kind: FrameKind,
-    /// How many elements are around it.
+    /// The number of elements that enclose the value.
     pub depth: u8,
-    /// Whether it has a name, so that its parts are below it.
+    /// Whether a name was printed for the value. Its inner elements are then indented below the
+    /// name.
     pub is_named: bool,
-    /// How many parts were printed.
+    /// The number of elements directly inside the value that were printed so far.
     pub count: usize,
-    /// How many objects to close after it: one for a CHOICE, and one for an element of no known type.
+    /// The number of JSON objects that were opened only for the value, and that are closed after
+    /// it. One is opened for an alternative of a CHOICE, and one for a value whose type is not
+    /// known.
     pub wrappers: u32,
 }
 
 impl Frame {
-    /// What stands in a place that is free.
+    /// The placeholder for the unused items of [`Frames`].
     const NONE: Frame = Frame {
         kind: FrameKind::Inner,
         depth: 0,
@@ -38,7 +44,8 @@ impl Frame {
     };
 }
 
-/// The values that a walk is inside of, the innermost last: at most one for each level of elements.
+/// A stack of the values around the element that is being printed. The innermost value is the last
+/// one. The stack has room for 128 values.
 #[derive(Drop)]
 pub struct Frames {
     items: [Frame; 128],
@@ -47,13 +54,13 @@ pub struct Frames {
 }
 
 impl Frames {
-    /// None.
+    /// The empty stack.
     pub const NONE: Frames = Frames {
         items: [Frame::NONE; 128],
         count: 0,
     };
 
-    /// The innermost.
+    /// Returns the innermost value, or `None` if the stack is empty.
     pub fn last(&self) -> Option<Frame> {
         if self.count == 0 {
             return None;
@@ -61,7 +68,8 @@ impl Frames {
         Some(self.items[self.count - 1])
     }
 
-    /// Counts one more part of the innermost, and returns what it was.
+    /// Adds one to the `count` of the innermost value, and returns the value as it was before.
+    /// Returns `None` if the stack is empty.
     pub fn count_part(&mut self) -> Option<Frame> {
         if self.count == 0 {
             return None;
@@ -75,7 +83,7 @@ impl Frames {
         Some(frame)
     }
 
-    /// Adds one, and returns whether there was room.
+    /// Adds `frame` as the innermost value. Returns false, and adds nothing, if the stack is full.
     pub fn push(&mut self, frame: Frame) -> bool {
         if self.count >= 128 {
             return false;
@@ -85,7 +93,7 @@ impl Frames {
         true
     }
 
-    /// Takes the innermost away.
+    /// Removes the innermost value and returns it. Returns `None` if the stack is empty.
     pub fn pop(&mut self) -> Option<Frame> {
         if self.count == 0 {
             return None;

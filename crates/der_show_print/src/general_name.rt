@@ -1,4 +1,4 @@
-//! General names (RFC 5280, 4.2.1.6).
+//! Prints general names (RFC 5280, 4.2.1.6).
 
 use crate::name::put_name;
 use crate::page::Page;
@@ -7,7 +7,7 @@ use asn1_cursor::Cursor;
 use der_show_text::{Characters, Style, is_text, put_octets, put_text};
 use std::fmt::Write;
 
-/// Prints names in sequence, with commas between them.
+/// Prints general names on one line, with commas between them.
 pub fn put_general_names(page: &mut Page<'_>, names: Cursor<'_>) {
     let mut is_first = true;
     for item in items(names) {
@@ -19,7 +19,7 @@ pub fn put_general_names(page: &mut Page<'_>, names: Cursor<'_>) {
     }
 }
 
-/// Prints each name on a line of its own.
+/// Prints each general name on a line of its own.
 pub fn put_name_lines(page: &mut Page<'_>, names: Cursor<'_>) {
     for item in items(names) {
         page.at(item);
@@ -28,7 +28,7 @@ pub fn put_name_lines(page: &mut Page<'_>, names: Cursor<'_>) {
     }
 }
 
-/// Prints a name, as `DNS:example.org`.
+/// Prints a general name, such as `DNS:example.org`. Does not end the line.
 pub fn put_general_name(page: &mut Page<'_>, name: Cursor<'_>) {
     match name.alternative() {
         Some("otherName") => put_other_name(page, name),
@@ -97,7 +97,8 @@ fn put_form(page: &mut Page<'_>, identifier: &[u8]) {
         _ => put_long(page, identifier),
     }
 }
-/// Prints an address of 4 or 16 octets, or such an address and a mask; anything else in hexadecimal.
+/// Prints an IP address of 4 or 16 octets. A mask of the same length may follow the address, and is
+/// then printed too. If `octets` have another length, prints them in hexadecimal.
 pub fn put_address(page: &mut Page<'_>, octets: &[u8]) {
     match octets.len() {
         4 => put_version_4(page, octets),

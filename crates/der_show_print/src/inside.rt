@@ -1,4 +1,5 @@
-//! Values inside strings whose type no table says.
+//! Reading of values inside a BIT STRING or an OCTET STRING, if the table of types does not say
+//! their type.
 
 use crate::page::Page;
 use asn1_cursor::Cursor;
@@ -6,7 +7,8 @@ use asn1_tree::Tree;
 use ber::Universal;
 use der_show_tree::{is_encoding, read_as};
 
-/// The octets that a primitive BIT STRING or OCTET STRING holds.
+/// The octets that a primitive BIT STRING or OCTET STRING contains. These are the contents octets,
+/// for a BIT STRING without the first one, which counts unused bits. Empty for any other element.
 pub fn held(string: Cursor<'_>) -> &[u8] {
     let value = string.untagged();
     match value.universal() {
@@ -17,7 +19,8 @@ pub fn held(string: Cursor<'_>) -> &[u8] {
     }
 }
 
-/// Where they begin, in the file or the block.
+/// The position at which the octets of [`held`] begin. It is counted from the start of the file or
+/// of the PEM block.
 pub fn held_base(page: &Page<'_>, string: Cursor<'_>) -> usize {
     let value = string.untagged();
     let skipped = if value.universal() == Some(Universal::BitString) {
@@ -32,8 +35,9 @@ pub fn held_base(page: &Page<'_>, string: Cursor<'_>) -> usize {
         .saturating_add(skipped)
 }
 
-/// Reads octets as a value of a type. `None` if they are no encoding of one, or if there is no memory, which the
-/// output remembers.
+/// Reads `octets` as a value of a type. `node` is the index of the type in the table of types.
+/// Returns `None` if `octets` are not an encoding of a value of this type. Also returns `None` if
+/// an allocation fails, and then marks the output of `page` as failed.
 pub fn read_held(page: &mut Page<'_>, node: u32, octets: &[u8]) -> Option<Tree> {
     match is_encoding(page.alloc, page.schema, node, octets) {
         Ok(true) => {}

@@ -1,4 +1,4 @@
-//! Numbers and parameters of keys.
+//! Prints the numbers and the parameters of keys.
 
 use crate::curves::CURVES;
 use crate::page::Page;
@@ -8,8 +8,8 @@ use ber::Universal;
 use der_show_text::{bit_count, is_hexadecimal_of, put_integer, put_octets_with};
 use std::fmt::Write;
 
-/// Prints the size, the modulus and the exponent of an RSAPublicKey (RFC 8017, A.1.1). The first line
-/// belongs to the BIT STRING around it, at this offset.
+/// Prints the size, the modulus and the exponent of an RSAPublicKey (RFC 8017, A.1.1). The caller
+/// has already begun the first line.
 pub fn put_rsa_numbers(page: &mut Page<'_>, key: Cursor<'_>) {
     if let Some(modulus) = key.at("modulus") {
         page.put("Public-Key: (");
@@ -24,13 +24,14 @@ pub fn put_rsa_numbers(page: &mut Page<'_>, key: Cursor<'_>) {
     put_exponent(page, "Exponent: ", key.at("publicExponent"));
 }
 
-/// Prints an RSAPublicKey.
+/// Prints the lines of an RSAPublicKey that is a file of its own, and not inside a BIT STRING.
 pub fn put_rsa_public_key(page: &mut Page<'_>, key: Cursor<'_>) {
     page.at(key);
     put_rsa_numbers(page, key);
 }
 
-/// Prints a line with a number as octets in hexadecimal.
+/// Prints a line with `title`, and the contents octets of an INTEGER in hexadecimal. Prints nothing
+/// if `number` is `None`.
 pub fn put_number(page: &mut Page<'_>, title: &str, number: Option<Cursor<'_>>) {
     if let Some(number) = number {
         page.at(number);
@@ -40,7 +41,8 @@ pub fn put_number(page: &mut Page<'_>, title: &str, number: Option<Cursor<'_>>) 
     }
 }
 
-/// Prints a line with a number in decimal and hexadecimal, or only in hexadecimal if it is large.
+/// Prints a line with `title`, and an INTEGER in decimal and hexadecimal. An INTEGER that is
+/// negative, or 2^53 or more, is printed only in hexadecimal. Prints nothing if `number` is `None`.
 pub fn put_exponent(page: &mut Page<'_>, title: &str, number: Option<Cursor<'_>>) {
     let Some(number) = number else {
         return;
@@ -69,8 +71,8 @@ fn curve_of(identifier: &[u8]) -> Option<(&'static str, &'static str)> {
     None
 }
 
-/// The number of bits of the order of a curve: of one with a name from a table, and of one whose numbers
-/// are given from these.
+/// The number of bits of the order of an elliptic curve. `parameters` give the name of the curve,
+/// or its order. `None` if the name is unknown, or if they give neither.
 pub fn curve_bits(parameters: Cursor<'_>) -> Option<u64> {
     if is_of(parameters, Universal::ObjectIdentifier) {
         let (bits, _) = curve_of(contents(parameters))?;
@@ -79,7 +81,8 @@ pub fn curve_bits(parameters: Cursor<'_>) -> Option<u64> {
     Some(bit_count(contents(parameters.at("order")?)))
 }
 
-/// Prints the lines of a curve: its names, or the kind of its field.
+/// Prints lines with the elliptic curve that `parameters` give. If they give a name, prints the
+/// names of the curve; otherwise prints the kind of its field, and its numbers.
 pub fn put_ec_parameters(page: &mut Page<'_>, parameters: Cursor<'_>) {
     page.at(parameters);
     if is_of(parameters, Universal::ObjectIdentifier) {
@@ -124,14 +127,14 @@ fn put_curve_numbers(page: &mut Page<'_>, parameters: Cursor<'_>) {
     put_exponent(page, "Cofactor: ", parameters.at("cofactor"));
 }
 
-/// Prints the numbers p, q and g of DSA (RFC 3279, 2.3.2).
+/// Prints lines with the numbers p, q and g of DSA parameters (RFC 3279, 2.3.2).
 pub fn put_dsa_numbers(page: &mut Page<'_>, parameters: Cursor<'_>) {
     put_number(page, "P: ", parameters.at("p"));
     put_number(page, "Q: ", parameters.at("q"));
     put_number(page, "G: ", parameters.at("g"));
 }
 
-/// Prints parameters of DSA on their own.
+/// Prints DSA parameters that are a file of their own: the size of the prime p, and p, q and g.
 pub fn put_dsa_parameters(page: &mut Page<'_>, parameters: Cursor<'_>) {
     put_prime_size(page, "DSA-Parameters: (", parameters, parameters.at("p"));
     put_dsa_numbers(page, parameters);
@@ -147,20 +150,22 @@ fn put_prime_size(page: &mut Page<'_>, title: &str, around: Cursor<'_>, prime: O
     }
 }
 
-/// Prints a prime and a generator.
+/// Prints lines with the prime and the generator of Diffie-Hellman parameters.
 pub fn put_dh_numbers(page: &mut Page<'_>, parameters: Cursor<'_>) {
     put_number(page, "P: ", first_of(parameters, "prime", "p"));
     put_exponent(page, "G: ", first_of(parameters, "base", "g"));
 }
 
-/// Prints parameters of Diffie-Hellman on their own.
+/// Prints Diffie-Hellman parameters that are a file of their own: the size of the prime, the prime
+/// and the generator.
 pub fn put_dh_parameters(page: &mut Page<'_>, parameters: Cursor<'_>) {
     let prime = first_of(parameters, "prime", "p");
     put_prime_size(page, "DH Parameters: (", parameters, prime);
     put_dh_numbers(page, parameters);
 }
 
-/// The field with one of two names.
+/// The field of `element` with the name `one`. If there is no such field, the field with the name
+/// `other`.
 pub fn first_of<'a>(element: Cursor<'a>, one: &str, other: &str) -> Option<Cursor<'a>> {
     match element.at(one) {
         Some(found) => Some(found),

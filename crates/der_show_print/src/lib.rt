@@ -1,7 +1,12 @@
-//! What the program `der_show` prints of values that were read by a table of types: certificates, requests, revocation
-//! lists, keys, OCSP and PKCS #12 in the words of openssl, and any other value by the names of its fields, as lines
-//! or as JSON. What is printed is what the tree has: an element that has not the type of its field is printed as
-//! an element of any type, or left out. Secrets are left out too.
+//! The texts that the program `der_show` prints for values that were read with a table of types:
+//!
+//! - Certificates, requests, revocation lists, keys, OCSP and PKCS #12 are printed in the words of
+//!   openssl.
+//! - Any other value is printed with the names of its fields, as lines or as JSON.
+//! - An element whose type is not the type of its field is printed as an element of any type, or
+//!   left out.
+//! - Secrets, such as the numbers of a private key, are left out when keys are printed in the words
+//!   of openssl.
 #![tactic(auto)]
 
 mod access;

@@ -1,12 +1,12 @@
-//! Distinguished names.
+//! Prints distinguished names.
 
 use crate::page::Page;
 use crate::values::{contents, items, put_text_of};
 use asn1_cursor::Cursor;
 use der_show_text::{Output, Style, Target, put_arcs, put_octets, short_name};
 
-/// Prints a distinguished name, the most significant level first, as openssl does. Values are escaped as
-/// RFC 4514 says, and none is cut.
+/// Prints a distinguished name on one line, as openssl does. The parts are in the order of the
+/// encoding. Values are escaped as RFC 4514 says, and are never shortened.
 pub fn put_name<T: Target>(out: &mut Output<T>, name: Cursor<'_>) {
     let mut is_first = true;
     for level in items(name) {
@@ -18,7 +18,7 @@ pub fn put_name<T: Target>(out: &mut Output<T>, name: Cursor<'_>) {
     }
 }
 
-/// Prints one level of a name: its attributes, with `+` between them.
+/// Prints the attributes of a RelativeDistinguishedName, with `+` between two attributes.
 pub fn put_level<T: Target>(out: &mut Output<T>, level: Cursor<'_>) {
     let mut is_first = true;
     for attribute in items(level) {
@@ -56,7 +56,7 @@ fn put_attribute<T: Target>(out: &mut Output<T>, attribute: Cursor<'_>) {
     }
 }
 
-/// Prints a line with a distinguished name.
+/// Prints a line with `title` and a distinguished name. Prints nothing if `name` is `None`.
 pub fn put_name_line(page: &mut Page<'_>, title: &str, name: Option<Cursor<'_>>) {
     if let Some(name) = name {
         page.at(name);

@@ -1,4 +1,4 @@
-//! Requests to OCSP and their responses, in the words of `openssl ocsp -text`.
+//! Prints requests and responses of OCSP, in the words of `openssl ocsp -text`.
 
 use crate::algorithm::put_algorithm_names;
 use crate::certificate::{put_certificate, put_signature};

@@ -1,4 +1,4 @@
-//! Lines with the offsets of their elements.
+//! An output of lines, each of which may show the offset of an element.
 
 use asn1_cursor::Cursor;
 use asn1_schema::Schema;
@@ -6,25 +6,26 @@ use der_show_text::Output;
 use std::alloc::Global;
 use std::fmt::Write;
 
-/// An output of lines.
+/// An output of lines, each of which may begin with the offset of an element.
 #[derive(Drop)]
 pub struct Page<'s> {
-    /// Where the lines go.
+    /// The output to which the lines are written.
     pub out: Output,
-    /// For values inside strings.
+    /// The allocator for reading values inside a BIT STRING or an OCTET STRING.
     pub alloc: Global,
-    /// The table of types.
+    /// The table of types by which the values were read.
     pub schema: &'s Schema<'s>,
-    /// Whether a line begins with the offset of its element.
+    /// Whether a line begins with the offset of the element that it shows.
     pub has_offsets: bool,
-    /// By how many spaces lines are indented.
+    /// The number of spaces by which lines are indented.
     pub indent: usize,
-    /// Where the octets begin that cursors count from, in the file or the block.
+    /// The position at which the printed value begins in the file or in the PEM block. It is added
+    /// to the offset of each element in the value.
     pub base: usize,
 }
 
 impl<'s> Page<'s> {
-    /// A page of lines without an indent.
+    /// Creates a page that prints to `out`. The page has no indentation, and its `base` is 0.
     pub fn new(alloc: Global, schema: &'s Schema<'s>, out: Output, has_offsets: bool) -> Self {
         Page {
             out,
@@ -36,7 +37,8 @@ impl<'s> Page<'s> {
         }
     }
 
-    /// Begins the line of an element.
+    /// Begins a line: prints the offset of `element` if the page has offsets, and then the
+    /// indentation.
     pub fn at(&mut self, element: Cursor<'_>) {
         if self.has_offsets {
             let offset = self.base.saturating_add(element.entry().offset);
@@ -46,7 +48,8 @@ impl<'s> Page<'s> {
         self.out.put_spaces(self.indent);
     }
 
-    /// Begins the line of what is inside a string.
+    /// Begins a line: prints the offset of the contents of `string` if the page has offsets, and
+    /// then the indentation.
     pub fn at_inside(&mut self, string: Cursor<'_>) {
         let entry = string.entry();
         let inside = self.base.saturating_add(entry.header_len as usize);
@@ -56,7 +59,7 @@ impl<'s> Page<'s> {
         self.base = kept;
     }
 
-    /// Begins a line that no element belongs to.
+    /// Begins a line that shows no offset, since the line does not belong to a single element.
     pub fn beside(&mut self) {
         if self.has_offsets {
             self.out.put("       ");
@@ -64,7 +67,8 @@ impl<'s> Page<'s> {
         self.out.put_spaces(self.indent);
     }
 
-    /// Begins the line of an element, or one that no element belongs to.
+    /// Begins a line with the offset of `element`. If `element` is `None`, begins a line without an
+    /// offset.
     pub fn at_or_beside(&mut self, element: Option<Cursor<'_>>) {
         match element {
             Some(element) => self.at(element),
@@ -72,24 +76,25 @@ impl<'s> Page<'s> {
         }
     }
 
-    /// Prints a text without escapes.
+    /// Prints `text` unchanged.
     pub fn put(&mut self, text: &str) {
         self.out.put(text);
     }
 
-    /// Ends a line.
+    /// Ends the current line.
     pub fn end(&mut self) {
         self.out.put("\n");
     }
 
-    /// Prints a whole line that belongs to the element.
+    /// Prints a whole line with `text`. If the page has offsets, the line begins with the offset of
+    /// `element`.
     pub fn line(&mut self, element: Cursor<'_>, text: &str) {
         self.at(element);
         self.out.put(text);
         self.end();
     }
 
-    /// Prints a whole line that no element belongs to.
+    /// Prints a whole line with `text`. The line shows no offset.
     pub fn line_beside(&mut self, text: &str) {
         self.beside();
         self.out.put(text);
@@ -101,17 +106,18 @@ impl<'s> Page<'s> {
         self.out.put_number(number);
     }
 
-    /// The lines after it are indented by 4 more spaces.
+    /// Increases the indentation by 4 spaces.
     pub fn deeper(&mut self) {
         self.indent = self.indent.saturating_add(4);
     }
 
-    /// The lines after it are indented by 4 spaces less.
+    /// Decreases the indentation by 4 spaces.
     pub fn higher(&mut self) {
         self.indent = self.indent.saturating_sub(4);
     }
 
-    /// Ends a line with a version, which is one more than the number that stands for it.
+    /// Prints `Version: `, the version, and `number` in parentheses, and ends the line. `number` is
+    /// the encoded number; the version is one more than `number`.
     pub fn version(&mut self, number: u64) {
         let version = number.saturating_add(1);
         let _ = write!(self.out, "Version: {version} ({number:#x})");

@@ -1,4 +1,4 @@
-//! Files of keys and certificates, in the words of `openssl pkcs12 -info`.
+//! Prints PKCS #12 files of keys and certificates, in the words of `openssl pkcs12 -info`.
 
 use crate::algorithm::put_algorithm;
 use crate::certificate::put_certificate;
@@ -11,7 +11,7 @@ use crate::title::{identifier_line, number_line};
 use crate::values::{contents, items, put_identifier_of, put_small};
 use asn1_cursor::Cursor;
 
-/// Prints the lines of a PFX (RFC 7292, 4). What is encrypted is not decrypted.
+/// Prints the lines of a PFX (RFC 7292, 4). Encrypted parts are not decrypted.
 pub fn put_pfx(page: &mut Page<'_>, pfx: Cursor<'_>) {
     number_line(page, "Version: ", pfx.at("version"));
     if let Some(mac) = pfx.at("macData") {

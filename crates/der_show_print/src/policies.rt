@@ -1,4 +1,4 @@
-//! Policies.
+//! Prints the extensions certificatePolicies and policyMappings.
 
 use crate::page::Page;
 use crate::title::text_line;
@@ -6,7 +6,7 @@ use crate::values::{contents, items, put_decimal, put_long, put_text_or_octets};
 use asn1_cursor::Cursor;
 use der_show_text::{put_arcs, put_octets};
 
-/// Prints policies with their qualifiers.
+/// Prints the policies of `list`. The qualifiers of a policy are printed below the policy.
 pub fn put_policies(page: &mut Page<'_>, list: Cursor<'_>) {
     for policy in items(list) {
         if let Some(identifier) = policy.at("policyIdentifier") {
@@ -76,7 +76,8 @@ fn put_notice_numbers(page: &mut Page<'_>, numbers: Cursor<'_>) {
     }
 }
 
-/// Prints pairs of policies that equal each other.
+/// Prints a line for each pair of `list`: the arcs of a policy of the issuer, `:`, and the arcs of
+/// the policy of the subject that is equivalent to it.
 pub fn put_mappings(page: &mut Page<'_>, list: Cursor<'_>) {
     for item in items(list) {
         page.at(item);

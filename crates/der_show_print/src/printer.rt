@@ -1,26 +1,28 @@
-//! How values are laid out.
+//! The layout of values that are printed with the names of their fields, as JSON or as lines.
 
 use crate::form::Form;
 use der_show_text::{Output, Stream, Target};
 use std::fmt::Write;
 
-/// An output, and how deep in it the next line is.
+/// An output for values that are printed with the names of their fields. It knows the format, and
+/// which objects and lists are open.
 #[derive(Drop)]
 pub struct Printer<T: Target = Stream> {
-    /// Where the text goes.
+    /// The output to which text is written.
     pub out: Output<T>,
-    /// What is printed.
+    /// The format: JSON or lines.
     pub form: Form,
-    /// How many objects and lists are open.
+    /// The number of open objects and lists. Each of them indents the lines further.
     pub depth: usize,
-    /// Whether nothing was printed yet in the innermost of them.
+    /// Whether nothing was printed yet in the innermost object or list that is open.
     pub is_first: bool,
-    /// Whether a line begins with the offset of its element.
+    /// Whether each line begins with the offset of the element that it shows. JSON has no offsets.
     pub has_offsets: bool,
 }
 
 impl<T: Target> Printer<T> {
-    /// A printer at the start of a line.
+    /// Creates a printer that prints to `out`. No object or list is open, and no offsets are
+    /// printed.
     pub fn new(out: Output<T>, form: Form) -> Self {
         Printer {
             out,
@@ -31,8 +33,13 @@ impl<T: Target> Printer<T> {
         }
     }
 
-    /// Prints the name of the next value, which begins at this offset, or its index if the name is `-`. The
-    /// whole value has an empty name.
+    /// Prints `name`, the name of the field whose value is printed next. Two names are special:
+    ///
+    /// - `-` stands for an item of a list. In lines, `index` is printed instead of a name; in JSON,
+    ///   nothing is.
+    /// - An empty name stands for the whole value. Nothing is printed for it.
+    ///
+    /// If the printer has offsets, `start` is the offset that the line begins with.
     pub fn key(&mut self, name: &str, index: usize, start: usize) {
         match self.form {
             Form::Json => self.json_key(name),
@@ -79,7 +86,8 @@ impl<T: Target> Printer<T> {
         self.out.put_spaces(self.depth.saturating_mul(2));
     }
 
-    /// Opens an object or a list.
+    /// Opens an object or a list. In JSON, prints `bracket`. In lines, starts a new line and
+    /// indents the following lines; if `is_named` is false, does nothing in lines.
     pub fn open(&mut self, bracket: &str, is_named: bool) {
         match self.form {
             Form::Json => {
@@ -95,7 +103,8 @@ impl<T: Target> Printer<T> {
         self.is_first = true;
     }
 
-    /// Closes the innermost object or list.
+    /// Closes the innermost object or list. In JSON, prints `bracket`. In lines, ends the
+    /// indentation; if `is_named` is false, does nothing in lines.
     pub fn close(&mut self, bracket: &str, is_named: bool) {
         match self.form {
             Form::Json => {
@@ -111,7 +120,7 @@ impl<T: Target> Printer<T> {
         self.is_first = false;
     }
 
-    /// Prints what stands for a value that is not there.
+    /// Prints a missing value: `null` in JSON, and nothing but the end of the line in lines.
     pub fn put_nothing(&mut self) {
         if self.form == Form::Json {
             self.out.put("null");
@@ -119,7 +128,7 @@ impl<T: Target> Printer<T> {
         self.end_value();
     }
 
-    /// Ends the line of a value without parts.
+    /// In lines, ends the line of a value that has no inner elements. In JSON, prints nothing.
     pub fn end_value(&mut self) {
         if self.form == Form::Lines {
             self.out.put("\n");

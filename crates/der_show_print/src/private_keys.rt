@@ -1,4 +1,4 @@
-//! Private keys. The secret octets are not printed.
+//! Prints private keys. The secret octets of a key are not printed.
 
 use crate::inside::{held, held_base, read_held};
 use crate::keys::{put_dsa_numbers, put_exponent, put_number};
@@ -133,7 +133,8 @@ fn count(list: Cursor<'_>) -> u64 {
     count
 }
 
-/// Prints the lines of an RSAPrivateKey (RFC 8017, A.1.2): the modulus and the public exponent.
+/// Prints the lines of an RSAPrivateKey (RFC 8017, A.1.2): the modulus and the public exponent. The
+/// secret numbers are not printed.
 pub fn put_rsa_private_key(page: &mut Page<'_>, key: Cursor<'_>) {
     let (Some(version), Some(modulus)) = (key.at("version"), key.at("modulus")) else {
         return;
@@ -198,7 +199,8 @@ fn put_public_octets(page: &mut Page<'_>, bits: Cursor<'_>) {
     page.end();
 }
 
-/// Prints the lines of a private key of DSA, as openssl writes it.
+/// Prints the lines of a DSA private key that is in the format of openssl. The secret number is not
+/// printed.
 pub fn put_dsa_private_key(page: &mut Page<'_>, key: Cursor<'_>) {
     if let Some(secret) = key.at("privateKey") {
         put_hidden(

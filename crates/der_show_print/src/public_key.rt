@@ -1,4 +1,4 @@
-//! Public keys.
+//! Prints public keys.
 
 use crate::algorithm::put_parameters;
 use crate::fingerprint::put_fingerprints;
@@ -13,22 +13,24 @@ use ber::{Universal, read_element};
 use der_show_text::{bit_count, put_octets_with};
 use der_show_tree::RSA_PUBLIC_KEY;
 
-/// Kinds of keys whose sizes are known.
+/// The algorithms of public keys. The program can find the size of a key for all of them but
+/// `Other`.
 #[derive(Clone, Copy, PartialEq, Eq)]
 pub enum KeyKind {
-    /// RSA, also for RSASSA-PSS and RSAES-OAEP.
+    /// RSA. The algorithms RSASSA-PSS and RSAES-OAEP have RSA keys too.
     Rsa,
-    /// An elliptic curve.
+    /// A key on an elliptic curve. The parameters give the curve.
     Ec,
-    /// DSA: the parameters are p, q and g.
+    /// DSA. The parameters are the numbers p, q and g.
     Dsa,
-    /// Diffie-Hellman: the parameters begin with a prime.
+    /// Diffie-Hellman. The parameters begin with a prime.
     Dh,
-    /// Any other.
+    /// Any other algorithm. The size of its keys is not known.
     Other,
 }
 
-/// The kind of the keys of the algorithm with these contents of its identifier.
+/// The kind of key that an algorithm has. `identifier` are the contents octets of the OBJECT
+/// IDENTIFIER of the algorithm.
 pub fn kind_of(identifier: &[u8]) -> KeyKind {
     match identifier {
         [0x2a, 0x86, 0x48, 0x86, 0xf7, 0x0d, 0x01, 0x01, 1 | 7 | 10] => KeyKind::Rsa,
@@ -41,8 +43,8 @@ pub fn kind_of(identifier: &[u8]) -> KeyKind {
     }
 }
 
-/// Prints the lines of a SubjectPublicKeyInfo: its algorithm, its size, its curve or parameters, the key, and
-/// its fingerprints.
+/// Prints the lines of a SubjectPublicKeyInfo: the algorithm, the size of the key, the curve or the
+/// parameters, the key itself, and its fingerprints.
 pub fn put_public_key(page: &mut Page<'_>, key: Cursor<'_>) {
     put_key_fields(page, key);
     put_fingerprints(page, "Key ", key.octets());
@@ -77,7 +79,8 @@ fn put_key_fields(page: &mut Page<'_>, key: Cursor<'_>) {
     put_key_parameters(page, kind, parameters);
 }
 
-/// Prints the algorithm of a key and its size, after a semicolon.
+/// Prints `; ` and the algorithm of a SubjectPublicKeyInfo. If the size of the key is known, prints
+/// it in bits. Does not end the line.
 pub fn put_short_key(page: &mut Page<'_>, key: Cursor<'_>) {
     let Some(identifier) = key.at("algorithm.algorithm") else {
         return;
@@ -123,8 +126,9 @@ fn put_size(page: &mut Page<'_>, kind: KeyKind, parameters: Option<Cursor<'_>>, 
     page.end();
 }
 
-/// The nominal size of a key in bits: of the order of its curve, or of the prime p. `None` if the
-/// parameters do not say it.
+/// The size of a key in bits, if the parameters of its algorithm give it. For an elliptic curve, it
+/// is the size of the order of the curve. For DSA and Diffie-Hellman, it is the size of the prime
+/// p. `None` if the parameters do not give the size. `None` for any other algorithm, also for RSA.
 pub fn size_of(kind: KeyKind, parameters: Option<Cursor<'_>>) -> Option<u64> {
     let parameters = parameters?;
     match kind {

@@ -1,4 +1,4 @@
-//! Certification requests.
+//! Prints certification requests.
 
 use crate::certificate::put_signature;
 use crate::extensions::put_extensions;
@@ -26,13 +26,13 @@ pub fn put_request(page: &mut Page<'_>, request: Cursor<'_>) {
     put_signature(page, request);
 }
 
-/// Prints a heading, and the attributes with their values.
+/// Prints the heading `Attributes:`, and below it the attributes of a request with their values.
 pub fn put_attributes(page: &mut Page<'_>, attributes: Cursor<'_>) {
     page.line(attributes, "Attributes:");
     put_attribute_list(page, attributes);
 }
 
-/// Prints attributes with their values.
+/// Prints each attribute of a list with its values, without a heading.
 pub fn put_attribute_list(page: &mut Page<'_>, attributes: Cursor<'_>) {
     page.deeper();
     for attribute in items(attributes) {

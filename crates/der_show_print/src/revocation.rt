@@ -1,4 +1,4 @@
-//! Revocation lists.
+//! Prints revocation lists.
 
 use crate::algorithm::put_algorithm_line;
 use crate::certificate::put_signature;

@@ -1,4 +1,4 @@
-//! Values without parts.
+//! Printing of values that have no inner elements.
 
 use crate::form::Form;
 use crate::printer::Printer;
@@ -12,10 +12,11 @@ use der_show_text::{
     put_octets, put_some_octets, put_value_text, small_number,
 };
 
-/// How many octets of a value a line shows.
+/// A line shows at most this number of octets of a value.
 const SHOWN: usize = 32;
 
-/// Prints a value of a primitive type, after its name.
+/// Prints the value of a primitive element in the format of `printer`. The caller has already
+/// printed the name of the value.
 pub fn put_value<T: Target>(printer: &mut Printer<T>, value: Cursor<'_>) {
     match printer.form {
         Form::Json => put_json(printer, value),
@@ -132,7 +133,7 @@ fn put_json_text<T: Target>(printer: &mut Printer<T>, tag: Tag, contents: &[u8])
     }
 }
 
-/// Prints the text of a primitive value on a line.
+/// Prints the value of a primitive element as text on a line. Does not end the line.
 pub fn put_plain<T: Target>(printer: &mut Printer<T>, value: Cursor<'_>) {
     let contents = value.contents();
     match (tag_of(value), contents) {
@@ -161,7 +162,8 @@ fn put_plain_number<T: Target>(printer: &mut Printer<T>, value: Cursor<'_>) {
     }
 }
 
-/// Prints the text of a primitive element of no known type on a line.
+/// Prints the value of a primitive element as text on a line, if the table of types has no type for
+/// the element. Its tag decides how the value is printed. Does not end the line.
 pub fn put_plain_element<T: Target>(printer: &mut Printer<T>, element: Cursor<'_>) {
     let tag = own_tag(element).unwrap_or(Tag::OctetString);
     put_plain_text(printer, tag, element.contents());
@@ -186,7 +188,8 @@ fn put_plain_text<T: Target>(printer: &mut Printer<T>, tag: Tag, contents: &[u8]
     }
 }
 
-/// Prints the octets of the segments of a constructed string, joined.
+/// Prints the octets of a constructed string in hexadecimal. The contents of its segments are
+/// joined (X.690 8.7.3).
 pub fn put_joined<T: Target>(printer: &mut Printer<T>, string: Cursor<'_>) {
     match printer.form {
         Form::Json => {
@@ -223,7 +226,7 @@ fn put_segments<T: Target>(printer: &mut Printer<T>, string: Cursor<'_>, most: u
     }
 }
 
-/// Prints the tag of an element, as its header has it.
+/// Prints the tag in the header of `element`.
 pub fn put_tag<T: Target>(printer: &mut Printer<T>, element: Cursor<'_>) {
     match read_header(element.octets()) {
         Ok(header) => put_header_tag(&mut printer.out, header),
@@ -239,7 +242,8 @@ fn own_tag(element: Cursor<'_>) -> Option<Tag> {
     }
 }
 
-/// Prints a primitive element of no known type, after its name.
+/// Prints the tag and the value of a primitive element in the format of `printer`, if the table of
+/// types has no type for the element. The caller has already printed the name of the value.
 pub fn put_element<T: Target>(printer: &mut Printer<T>, element: Cursor<'_>) {
     let tag = own_tag(element).unwrap_or(Tag::OctetString);
     match printer.form {

@@ -1,4 +1,4 @@
-//! A value on one line.
+//! The summary of a value on one line.
 
 use crate::fingerprint::put_digest;
 use crate::name::put_name;
@@ -8,21 +8,23 @@ use crate::values::{put_identifier_of, put_time_of};
 use asn1_cursor::Cursor;
 use std::fmt::Write;
 
-/// Where the name is of whose a value is.
+/// The paths of the fields whose names a summary shows. They are the subject of a certificate or a
+/// request, and the issuer of a revocation list.
 const SUBJECTS: [&str; 3] = [
     "tbsCertificate.subject",
     "certificationRequestInfo.subject",
     "tbsCertList.issuer",
 ];
 
-/// Where the public key is.
+/// The paths of the fields whose public key a summary shows.
 const KEYS: [&str; 3] = [
     "tbsCertificate.subjectPublicKeyInfo",
     "certificationRequestInfo.subjectPKInfo",
     "publicKeyAndChallenge.spki",
 ];
 
-/// Where the first and the last time are at which a value is valid.
+/// The paths of the fields whose times a summary shows. Each pair has the first and the last time
+/// at which a value is valid.
 const PERIODS: [(&str, &str); 3] = [
     (
         "tbsCertificate.validity.notBefore",
@@ -35,8 +37,15 @@ const PERIODS: [(&str, &str); 3] = [
     ),
 ];
 
-/// Prints a line with the kind of a value, whose it is, its key, when it is valid, and how many days it still is
-/// at a time in seconds since 1970; and the SHA-256 digest of the value, if it has a public key or times.
+/// Prints the summary of `value` on one line. It has these parts, as far as `value` has them:
+///
+/// - `kind`, the name of the kind of `value`;
+/// - the subject, or the issuer of a revocation list;
+/// - the algorithm and the size of the public key, or the algorithm of a private key;
+/// - the first and the last time at which `value` is valid;
+/// - the number of days until the last time, if `now` is given, in seconds since
+///   1970-01-01T00:00:00Z;
+/// - the SHA-256 digest of `value`, if it has a public key or a first time.
 pub fn put_short_line(page: &mut Page<'_>, kind: &str, value: Cursor<'_>, now: Option<i64>) {
     page.put(kind);
     for path in SUBJECTS {

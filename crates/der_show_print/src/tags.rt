@@ -1,11 +1,12 @@
-//! Tags of headers.
+//! Prints tags.
 
 use ber::{Header, Universal};
 use der::Tag;
 use der_base::Class;
 use der_show_text::{Output, Target};
 
-/// Prints the tag of a header.
+/// Prints the tag of `header`. For a universal type, prints its name; for any other tag, the class
+/// and the number.
 pub fn put_header_tag<T: Target>(out: &mut Output<T>, header: Header) {
     if let Some(universal) = header.universal() {
         out.put(universal.name());
@@ -25,7 +26,7 @@ pub fn put_header_tag<T: Target>(out: &mut Output<T>, header: Header) {
     });
 }
 
-/// The tag of a universal type, if `der` has it.
+/// The [`Tag`] of a universal type. `None` if the crate `der` has no such tag.
 pub fn tag_of_universal(universal: Universal) -> Option<Tag> {
     match universal {
         Universal::Boolean => Some(Tag::Boolean),

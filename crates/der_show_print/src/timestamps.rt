@@ -1,12 +1,14 @@
-//! Signed timestamps of certificates (RFC 6962, 3.3).
+//! Prints the signed timestamps of a certificate (RFC 6962, 3.3).
 
 use crate::page::Page;
 use crate::values::contents;
 use asn1_cursor::Cursor;
 use der_show_text::{put_octets_with, put_unix_time};
 
-/// Prints the timestamps that the OCTET STRING holds: a list whose length and items' lengths have two
-/// octets. Octets that are no such list are printed in hexadecimal.
+/// Prints the timestamps in the OCTET STRING `element`, the value of the extension. Its contents
+/// are a list of timestamps. The list begins with two octets for its length, and each timestamp
+/// with two octets for its own length. Octets that do not belong to a timestamp are printed in
+/// hexadecimal.
 pub fn put_timestamps(page: &mut Page<'_>, element: Cursor<'_>) {
     let mut rest = match contents(element) {
         [_, _, items @ ..] => items,

@@ -1,4 +1,5 @@
-//! Lines with a title and the value of an element. Each prints nothing if there is no element.
+//! Prints lines with a title and the value of an element. Except for [`version_line`], a function
+//! prints nothing if the element is `None`.
 
 use crate::page::Page;
 use crate::values::{
@@ -14,7 +15,7 @@ fn begin(page: &mut Page<'_>, title: &str, element: Cursor<'_>) {
     page.put(title);
 }
 
-/// A line with a time.
+/// Prints a line with `title` and a time.
 pub fn time_line(page: &mut Page<'_>, title: &str, element: Option<Cursor<'_>>) {
     if let Some(element) = element {
         begin(page, title, element);
@@ -23,7 +24,7 @@ pub fn time_line(page: &mut Page<'_>, title: &str, element: Option<Cursor<'_>>) 
     }
 }
 
-/// A line with the names of an OBJECT IDENTIFIER and its arcs.
+/// Prints a line with `title`, and the name and the arcs of an OBJECT IDENTIFIER.
 pub fn identifier_line(page: &mut Page<'_>, title: &str, element: Option<Cursor<'_>>) {
     if let Some(element) = element {
         begin(page, title, element);
@@ -32,7 +33,8 @@ pub fn identifier_line(page: &mut Page<'_>, title: &str, element: Option<Cursor<
     }
 }
 
-/// A line with the name of an OBJECT IDENTIFIER.
+/// Prints a line with `title`, and the name of an OBJECT IDENTIFIER. If it has no known name,
+/// prints its arcs.
 pub fn name_line(page: &mut Page<'_>, title: &str, element: Option<Cursor<'_>>) {
     if let Some(element) = element {
         begin(page, title, element);
@@ -41,7 +43,7 @@ pub fn name_line(page: &mut Page<'_>, title: &str, element: Option<Cursor<'_>>) 
     }
 }
 
-/// A line with a number in hexadecimal.
+/// Prints a line with `title`, and an INTEGER in hexadecimal.
 pub fn serial_line(page: &mut Page<'_>, title: &str, element: Option<Cursor<'_>>) {
     if let Some(element) = element {
         begin(page, title, element);
@@ -50,8 +52,9 @@ pub fn serial_line(page: &mut Page<'_>, title: &str, element: Option<Cursor<'_>>
     }
 }
 
-/// A line with a serial number as `openssl x509 -text` writes it: in decimal and hexadecimal if it has 64 bits at
-/// most, or else its octets in hexadecimal.
+/// Prints a line with `title`, and a serial number as `openssl x509 -text` writes it. A number in
+/// the range of an `i64` is printed in decimal and hexadecimal, and any other number in
+/// hexadecimal.
 pub fn long_serial_line(page: &mut Page<'_>, title: &str, element: Option<Cursor<'_>>) {
     if let Some(element) = element {
         begin(page, title, element);
@@ -68,7 +71,8 @@ pub fn long_serial_line(page: &mut Page<'_>, title: &str, element: Option<Cursor
     }
 }
 
-/// A line with a number in decimal, or in hexadecimal if it is large.
+/// Prints a line with `title`, and an INTEGER. A number from 0 to 2^53 - 1 is printed in decimal,
+/// and any other number in hexadecimal.
 pub fn number_line(page: &mut Page<'_>, title: &str, element: Option<Cursor<'_>>) {
     if let Some(element) = element {
         begin(page, title, element);
@@ -77,7 +81,8 @@ pub fn number_line(page: &mut Page<'_>, title: &str, element: Option<Cursor<'_>>
     }
 }
 
-/// A line with a number in decimal, up to 128 bits.
+/// Prints a line with `title`, and an INTEGER in decimal. A number that is negative or has more
+/// than 128 bits is printed in hexadecimal.
 pub fn decimal_line(page: &mut Page<'_>, title: &str, element: Option<Cursor<'_>>) {
     if let Some(element) = element {
         begin(page, title, element);
@@ -86,7 +91,7 @@ pub fn decimal_line(page: &mut Page<'_>, title: &str, element: Option<Cursor<'_>
     }
 }
 
-/// A line with octets in hexadecimal.
+/// Prints a line with `title`, and the contents octets of the element in hexadecimal.
 pub fn octets_line(page: &mut Page<'_>, title: &str, element: Option<Cursor<'_>>) {
     if let Some(element) = element {
         begin(page, title, element);
@@ -95,7 +100,8 @@ pub fn octets_line(page: &mut Page<'_>, title: &str, element: Option<Cursor<'_>>
     }
 }
 
-/// A line with octets in hexadecimal, with `:` between two of them.
+/// Prints a line with `title`, and the contents octets of the element in hexadecimal. Between two
+/// octets is a `:`.
 pub fn colons_line(page: &mut Page<'_>, title: &str, element: Option<Cursor<'_>>) {
     if let Some(element) = element {
         begin(page, title, element);
@@ -104,7 +110,8 @@ pub fn colons_line(page: &mut Page<'_>, title: &str, element: Option<Cursor<'_>>
     }
 }
 
-/// A line with a text, or the octets of what is no text.
+/// Prints a line with `title`, and the text of a string or the arcs of an OBJECT IDENTIFIER. Of any
+/// other element, prints the contents octets in hexadecimal.
 pub fn text_line(page: &mut Page<'_>, title: &str, element: Option<Cursor<'_>>) {
     if let Some(element) = element {
         begin(page, title, element);
@@ -113,7 +120,8 @@ pub fn text_line(page: &mut Page<'_>, title: &str, element: Option<Cursor<'_>>) 
     }
 }
 
-/// A line with a count of octets.
+/// Prints a line with `title` and a number of octets: the number of contents octets of the element,
+/// minus `skipped`.
 pub fn count_line(page: &mut Page<'_>, title: &str, element: Option<Cursor<'_>>, skipped: usize) {
     if let Some(element) = element {
         begin(page, title, element);
@@ -123,7 +131,8 @@ pub fn count_line(page: &mut Page<'_>, title: &str, element: Option<Cursor<'_>>,
     }
 }
 
-/// A line with a version, which is one more than its number; version 1 if there is none.
+/// Prints a line with a version. The version is one more than the number in the element. If
+/// `element` is `None`, prints version 1.
 pub fn version_line(page: &mut Page<'_>, element: Option<Cursor<'_>>) {
     page.at_or_beside(element);
     let number = match element {

@@ -1,4 +1,4 @@
-//! Values of elements.
+//! Values of elements, and functions that print them.
 
 use crate::page::Page;
 use crate::tags::tag_of_universal;
@@ -11,38 +11,42 @@ use der_show_text::{
 };
 use std::fmt::Write;
 
-/// The contents octets of an element, inside EXPLICIT tags.
+/// The contents octets of an element. If the element has an EXPLICIT tag, the contents octets of
+/// the element inside.
 pub fn contents(element: Cursor<'_>) -> &[u8] {
     element.untagged().contents()
 }
 
-/// The values of a SEQUENCE OF or a SET OF.
+/// The elements of a SEQUENCE OF or a SET OF.
 pub fn items(list: Cursor<'_>) -> Children<'_> {
     list.untagged().children()
 }
 
-/// The octets of a BIT STRING, without the count of unused bits.
+/// The octets of a BIT STRING, without the first contents octet, which counts the unused bits.
 pub fn bit_octets(bits: Cursor<'_>) -> &[u8] {
     contents(bits).get(1..).unwrap_or(&[])
 }
 
-/// Whether the element has this universal type, and is primitive.
+/// Whether the element is primitive and of the type `universal`. If the element has an EXPLICIT
+/// tag, the element inside is looked at.
 pub fn is_of(element: Cursor<'_>, universal: Universal) -> bool {
     let value = element.untagged();
     value.universal() == Some(universal) && !value.is_constructed()
 }
 
-/// Whether the element has a type in the table.
+/// Whether the table of types has a type for the element.
 pub fn is_typed(element: Cursor<'_>) -> bool {
     element.node().is_some()
 }
 
-/// The tag of the universal type of an element.
+/// The [`Tag`] of the universal type of an element. `None` if the element has no universal type, or
+/// if the crate `der` has no such tag.
 pub fn tag_of(element: Cursor<'_>) -> Option<Tag> {
     tag_of_universal(element.untagged().universal()?)
 }
 
-/// The octets of a number without the zero octet before others.
+/// Returns `octets` without a leading zero octet. A single zero octet is kept. `octets` are the
+/// contents octets of an INTEGER.
 pub fn digits_of(octets: &[u8]) -> &[u8] {
     match octets {
         [0, rest @ ..] if !rest.is_empty() => rest,
@@ -50,8 +54,8 @@ pub fn digits_of(octets: &[u8]) -> &[u8] {
     }
 }
 
-/// Prints the text of a string, and returns true. Prints nothing and returns false if the element is no
-/// string, or if its contents are no text.
+/// Prints the text of a string or a time, and returns true. If the element is of another type, or
+/// if its contents are not text, prints nothing and returns false.
 pub fn put_text_of<T: Target>(out: &mut Output<T>, element: Cursor<'_>, style: Style) -> bool {
     match tag_of(element) {
         Some(tag) if !element.untagged().is_constructed() => {
@@ -61,7 +65,8 @@ pub fn put_text_of<T: Target>(out: &mut Output<T>, element: Cursor<'_>, style: S
     }
 }
 
-/// Prints the text of a string, the arcs of an object identifier, or the octets of any other element.
+/// Prints the text of a string, or the arcs of an OBJECT IDENTIFIER. For any other element, prints
+/// the contents octets in hexadecimal.
 pub fn put_text_or_octets(page: &mut Page<'_>, element: Cursor<'_>) {
     if is_of(element, Universal::ObjectIdentifier) {
         put_arcs(&mut page.out, contents(element));
@@ -72,7 +77,8 @@ pub fn put_text_or_octets(page: &mut Page<'_>, element: Cursor<'_>) {
     }
 }
 
-/// Prints a time, or its octets if it is no time in DER.
+/// Prints a time. An element that is not a time in DER is printed as text if it is a string, and
+/// otherwise in hexadecimal.
 pub fn put_time_of(page: &mut Page<'_>, element: Cursor<'_>) {
     let is_time = match tag_of(element) {
         Some(tag) => put_time(&mut page.out, tag, contents(element)),
@@ -83,12 +89,14 @@ pub fn put_time_of(page: &mut Page<'_>, element: Cursor<'_>) {
     }
 }
 
-/// Prints the long name of an OBJECT IDENTIFIER with its arcs, or its arcs alone.
+/// Prints the long name and the arcs of an OBJECT IDENTIFIER. If it has no known name, prints only
+/// the arcs.
 pub fn put_identifier_of(page: &mut Page<'_>, element: Cursor<'_>) {
     put_identifier(&mut page.out, contents(element));
 }
 
-/// Prints the long name of an object identifier, or its arcs if it has none.
+/// Prints the long name of an OBJECT IDENTIFIER. If it has no known name, prints its arcs.
+/// `identifier` are the contents octets.
 pub fn put_long(page: &mut Page<'_>, identifier: &[u8]) {
     match long_name(identifier) {
         Some(name) => page.put(name),
@@ -96,7 +104,8 @@ pub fn put_long(page: &mut Page<'_>, identifier: &[u8]) {
     }
 }
 
-/// Prints the short name of an object identifier, or its arcs if it has none.
+/// Prints the short name of an OBJECT IDENTIFIER. If it has no known name, prints its arcs.
+/// `identifier` are the contents octets.
 pub fn put_short(page: &mut Page<'_>, identifier: &[u8]) {
     match short_name(identifier) {
         Some(name) => page.put(name),
@@ -104,12 +113,13 @@ pub fn put_short(page: &mut Page<'_>, identifier: &[u8]) {
     }
 }
 
-/// The value of an INTEGER, if it is not negative and below 2^53.
+/// The value of an INTEGER. `None` if it is negative, or 2^53 or more.
 pub fn small(element: Cursor<'_>) -> Option<u64> {
     small_number(contents(element))
 }
 
-/// Prints an INTEGER: a number from 0 to 2^53 in decimal, and any other one in hexadecimal.
+/// Prints an INTEGER. A number from 0 to 2^53 - 1 is printed in decimal, and any other number in
+/// hexadecimal.
 pub fn put_small(page: &mut Page<'_>, element: Cursor<'_>) {
     match small(element) {
         Some(number) => page.number(number),
@@ -120,7 +130,8 @@ pub fn put_small(page: &mut Page<'_>, element: Cursor<'_>) {
     }
 }
 
-/// Prints an INTEGER in decimal, or in hexadecimal if it is negative or has more than 128 bits.
+/// Prints an INTEGER in decimal. A number that is negative or has more than 128 bits is printed in
+/// hexadecimal.
 pub fn put_decimal(page: &mut Page<'_>, element: Cursor<'_>) {
     match wide_number(contents(element)) {
         Some(number) => {
@@ -149,7 +160,7 @@ fn wide_number(octets: &[u8]) -> Option<u128> {
     Some(number)
 }
 
-/// Prints octets in hexadecimal, with `:` between two of them.
+/// Prints octets in hexadecimal, with `:` between two octets.
 pub fn put_colons(page: &mut Page<'_>, octets: &[u8]) {
     put_octets_with(&mut page.out, octets, true);
 }

@@ -1,4 +1,4 @@
-//! A walk over the elements of a value, which prints them with the names of their fields.
+//! Printing of a value and of all elements inside it, with the names of their fields.
 
 use crate::form::Form;
 use crate::frame::{Frame, FrameKind, Frames};
@@ -9,14 +9,15 @@ use asn1_schema::{NodeKind, Schema};
 use ber::Universal;
 use der_show_text::{Stream, Target};
 
-/// A walk over the elements of a tree, in the order of the input.
+/// The state of printing the elements of a tree, one after the other in the order of the input.
 #[derive(Drop)]
 pub(crate) struct Walk<'s, T: Target = Stream> {
-    /// What is printed with.
+    /// The printer, which knows the output and the format.
     pub printer: Printer<T>,
-    /// The table of types.
+    /// The table of types by which the elements were read.
     pub schema: &'s Schema<'s>,
-    /// Where the octets begin that cursors count from.
+    /// The position at which the value begins in the file or in the PEM block. It is added to the
+    /// offset of each element.
     pub base: usize,
     // The values around the next element, the innermost last.
     frames: Frames,
@@ -26,16 +27,19 @@ pub(crate) struct Walk<'s, T: Target = Stream> {
     skipped: Option<u8>,
 }
 
-/// What is left to the caller of a step of a walk.
+/// What the caller of [`Walk::pass`] has to do next with the element.
 #[derive(Clone, Copy)]
 pub(crate) enum Left {
-    /// Nothing: the element is printed or begun.
+    /// The caller has nothing to do: the element was printed, or its beginning, or it is left out.
     Nothing,
-    /// A constructed element on lines, which may have words of its own: so many objects are to close after it.
+    /// Only the name of the element was printed. The caller either prints the element in words of
+    /// its own and then calls [`Walk::skip`], or calls [`Walk::put`]. The number is an argument of
+    /// both functions: how many JSON objects are closed after the element.
     Words(u32),
 }
 
-/// The element with an index, if it is the root or inside it.
+/// The element with the index `index` in the tree. `None` if it is neither `root` nor inside
+/// `root`.
 pub(crate) fn inside(root: Cursor<'_>, index: usize) -> Option<Cursor<'_>> {
     let element = root.element(index)?;
     if index > root.index() && element.entry().depth <= root.entry().depth {
@@ -45,7 +49,7 @@ pub(crate) fn inside(root: Cursor<'_>, index: usize) -> Option<Cursor<'_>> {
 }
 
 impl<'s, T: Target> Walk<'s, T> {
-    /// A walk at its start.
+    /// Creates the state before the first element. `base` is added to the offset of each element.
     pub fn new(schema: &'s Schema<'s>, printer: Printer<T>, base: usize) -> Self {
         Walk {
             printer,
@@ -57,8 +61,8 @@ impl<'s, T: Target> Walk<'s, T> {
         }
     }
 
-    /// Prints an element, or begins it. On lines a constructed element that is not the root is left to the caller,
-    /// which prints it by `skip` or by `put`.
+    /// Prints `element`, or only its beginning if it has inner elements. In the format of lines,
+    /// prints only the name of a constructed element inside the root, and returns [`Left::Words`].
     pub fn pass(&mut self, element: Cursor<'_>, is_root: bool) -> Left {
         let entry = element.entry();
         if let Some(depth) = self.skipped {
@@ -86,13 +90,14 @@ impl<'s, T: Target> Walk<'s, T> {
         Left::Nothing
     }
 
-    /// Ends an element that the caller printed.
+    /// Leaves out all elements inside `element`, since the caller has printed them. Closes
+    /// `wrappers` JSON objects.
     pub fn skip(&mut self, element: Cursor<'_>, wrappers: u32) {
         self.skipped = Some(element.entry().depth);
         self.close_wrappers(wrappers);
     }
 
-    /// Ends the walk.
+    /// Closes all objects and lists that are still open, and returns the printer.
     pub fn end(mut self) -> Printer<T> {
         self.leave_to(0);
         self.printer
@@ -151,7 +156,8 @@ impl<'s, T: Target> Walk<'s, T> {
         node.kind == NodeKind::Choice && node.parts.count == 1
     }
 
-    /// Prints a value after its name, or begins it.
+    /// Prints the value of `element`, or only its beginning if it has inner elements. The name of
+    /// the element was printed before. After the value, `wrappers` JSON objects are closed.
     pub fn put(&mut self, element: Cursor<'_>, wrappers: u32, is_named: bool) {
         let is_constructed = element.is_constructed();
         match element.kind() {

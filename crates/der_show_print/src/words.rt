@@ -1,4 +1,4 @@
-//! Values that have words of their own inside of other values.
+//! Printing of values that have words of their own, also when they are inside another value.
 
 use crate::general_name::put_general_names;
 use crate::name::put_name;
@@ -6,8 +6,9 @@ use crate::page::Page;
 use crate::public_key::put_public_key;
 use asn1_cursor::Cursor;
 
-/// Prints a name on the line that was begun, or a public key on lines below it, as they are printed on their own,
-/// and returns true. Prints nothing and returns false for another type.
+/// Prints a value in words of its own, and returns true, if its type has such words. A Name or a
+/// GeneralNames is printed on the current line, and a SubjectPublicKeyInfo on the lines below. For
+/// a value of any other type, prints nothing and returns false.
 pub fn put_words(page: &mut Page<'_>, value: Cursor<'_>) -> bool {
     match value.type_name() {
         Some("Name") => {

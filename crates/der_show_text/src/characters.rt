@@ -1,13 +1,16 @@
-//! Characters, and how they are escaped.
+//! Decides which characters of a printed text are escaped, and prints the escapes.
 
 use crate::output::Output;
 use crate::style::Style;
 use crate::target::Target;
 use unicode::properties::{GeneralCategory, is_default_ignorable_code_point};
 
-/// Whether a character must not be printed as it is: a control character, a character that cannot be
-/// seen, or one that changes the direction of the line around it. These are the categories Cc, Cf, Zl
-/// and Zp of Unicode, what Unicode calls Default_Ignorable_Code_Point, and the Braille pattern without dots.
+/// Whether the character must not be printed as it is. This is the case for:
+///
+/// - a control character (category Cc of Unicode);
+/// - a character that is invisible, or that changes the direction of the text around it (the
+///   categories Cf, Zl and Zp, and the characters that Unicode calls Default_Ignorable_Code_Point);
+/// - the Braille pattern without dots, which looks like a space.
 pub fn is_hidden(c: char) -> bool {
     if c.is_ascii() {
         return c.is_control();
@@ -22,7 +25,7 @@ pub fn is_hidden(c: char) -> bool {
     is_format || is_default_ignorable_code_point(c) || c == '\u{2800}'
 }
 
-/// Prints a character, escaped as the style says.
+/// Prints a character. `style` says which characters are escaped, and how.
 pub fn put_escaped<T: Target>(out: &mut Output<T>, c: char, style: Style) {
     if is_hidden(c) {
         match style {

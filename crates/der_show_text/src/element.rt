@@ -2,29 +2,29 @@
 
 use der::{EncodingRules, Error, Length, Reader, SliceReader, Tag, decode_header, read_eoc};
 
-/// An element, and its positions in the input, counted in octets from 0.
+/// An element of the input with its positions. A position is an offset in octets from the start of
+/// the input.
 #[derive(Clone, Copy)]
 pub struct Element<'a> {
-    /// The tag.
+    /// The tag of the element.
     pub tag: Tag,
-    /// Whether the contents are elements.
+    /// Whether the encoding is constructed. The contents of a constructed element are elements.
     pub is_constructed: bool,
-    /// Whether the length has the indefinite form, so that end-of-contents octets follow the
-    /// contents.
+    /// Whether the length has the indefinite form. End-of-contents octets then follow the contents.
     pub is_indefinite: bool,
     /// The position of the first octet of the header.
     pub start: u32,
     /// The position of the first octet of the contents.
     pub contents_start: u32,
-    /// The contents, without end-of-contents octets.
+    /// The contents octets, without end-of-contents octets.
     pub contents: &'a [u8],
-    /// The whole element, with its header and end-of-contents octets.
+    /// The octets of the whole element, with its header and its end-of-contents octets.
     pub octets: &'a [u8],
 }
 
 impl<'a> Element<'a> {
-    /// Reads the element at the front of `octets`, which begin at the position `start` of the input.
-    /// The positions of errors count from the start of the input.
+    /// Reads the element at the front of `octets`. `start` is the position of the first octet of
+    /// `octets` in the input. Positions in errors are counted from the start of the input.
     pub fn read(octets: &'a [u8], start: u32, rules: EncodingRules) -> Result<Self, Error> {
         match read_front(octets, start, rules) {
             Ok(element) => Ok(element),
@@ -32,17 +32,18 @@ impl<'a> Element<'a> {
         }
     }
 
-    /// The position after the element.
+    /// The position directly after the element.
     pub fn end(&self) -> u32 {
         self.start.saturating_add(length_of(self.octets))
     }
 
-    /// The position after the contents.
+    /// The position directly after the contents.
     pub fn contents_end(&self) -> u32 {
         self.contents_start.saturating_add(length_of(self.contents))
     }
 
-    /// The first octet, which has the tag if its number is below 31.
+    /// The first octet of the element. It encodes the class, the form (primitive or constructed),
+    /// and a tag number below 31.
     pub fn identifier(&self) -> u8 {
         match self.octets {
             [first, ..] => *first,
@@ -80,7 +81,7 @@ fn read_front(octets: &[u8], start: u32, rules: EncodingRules) -> Result<Element
     })
 }
 
-/// The error with a position that is greater by `start`.
+/// Returns `error` with `start` added to its position.
 pub fn moved(error: Error, start: u32) -> Error {
     match error.position() {
         Some(position) => {

@@ -1,24 +1,25 @@
-//! Elements in sequence.
+//! Reads elements that follow one another.
 ghost use Rattle.std.specs.Iterator.{at_most};
 
 use crate::element::Element;
 use der::{EncodingRules, Error, Tag};
 
-/// A walk over elements in sequence.
+/// A reader of elements that follow one another.
 #[derive(Clone, Copy)]
 pub struct Elements<'a> {
-    /// The octets from the next element on.
+    /// The octets that are not read yet, from the next element on.
     pub rest: &'a [u8],
-    /// The position of the next element in the input.
+    /// The position of the next element, in octets from the start of the input.
     pub at: u32,
-    /// The encoding rules.
+    /// The encoding rules by which elements are read.
     pub rules: EncodingRules,
     // At least how many elements can be left.
     left: usize,
 }
 
 impl<'a> Elements<'a> {
-    /// A walk over `octets`, which begin at the position `at` of the input.
+    /// Creates a reader of the elements in `octets`. `at` is the position of the first octet in the
+    /// input.
     pub fn new(octets: &'a [u8], at: u32, rules: EncodingRules) -> Self {
         Elements {
             rest: octets,
@@ -28,17 +29,17 @@ impl<'a> Elements<'a> {
         }
     }
 
-    /// A walk over the contents of the element.
+    /// Creates a reader of the elements in the contents of `element`.
     pub fn inside(element: &Element<'a>, rules: EncodingRules) -> Self {
         Elements::new(element.contents, element.contents_start, rules)
     }
 
-    /// Whether no element is left.
+    /// Whether all octets are read.
     pub fn is_finished(&self) -> bool {
         self.rest.is_empty()
     }
 
-    /// Reads the next element, and moves past it. At an error the walk does not move.
+    /// Reads the next element, and moves past it. At an error, the reader stays where it is.
     pub fn read(&mut self) -> Result<Element<'a>, Error> {
         let element = Element::read(self.rest, self.at, self.rules)?;
         self.rest = self.rest.get(element.octets.len()..).unwrap_or(&[]);
@@ -46,8 +47,8 @@ impl<'a> Elements<'a> {
         Ok(element)
     }
 
-    /// The next element, which the walk moves past. `None` after the last one, or if the next one
-    /// cannot be read; then the walk ends.
+    /// Returns the next element, and moves past it. Returns `None` if no octets are left. If the
+    /// next element cannot be read, moves to the end of the octets and returns `None`.
     pub fn take_first(&mut self) -> Option<Element<'a>> {
         if self.rest.is_empty() {
             return None;
@@ -61,7 +62,8 @@ impl<'a> Elements<'a> {
         }
     }
 
-    /// The next element, if it has this tag; then the walk moves past it.
+    /// If the next element has this tag, returns the element and moves past it. Otherwise returns
+    /// `None` and does not move.
     pub fn take_tagged(&mut self, tag: Tag) -> Option<Element<'a>> {
         let mut next = *self;
         match next.take_first() {
@@ -73,7 +75,8 @@ impl<'a> Elements<'a> {
         }
     }
 
-    /// The next element, if its first octet is `identifier`; then the walk moves past it.
+    /// If the first octet of the next element is `identifier`, returns the element and moves past
+    /// it. Otherwise returns `None` and does not move.
     pub fn take_identified(&mut self, identifier: u8) -> Option<Element<'a>> {
         match self.rest {
             [first, ..] if *first == identifier => self.take_first(),
@@ -82,7 +85,7 @@ impl<'a> Elements<'a> {
     }
 }
 
-/// The elements up to the end, or up to one that cannot be read.
+/// Iterates over the elements, up to the end or up to the first element that cannot be read.
 impl<'a> Iterator for Elements<'a> {
     type Item = Element<'a>;
 

@@ -1,4 +1,4 @@
-//! Object identifiers, and their names.
+//! Names of object identifiers.
 
 use crate::output::Output;
 use crate::rows::{NAMES_ISO, NAMES_OTHER, NAMES_PKIX, NAMES_RSA, NAMES_X500};
@@ -7,8 +7,9 @@ use der_asn1::ObjectIdentifierRef;
 use std::cmp::Ordering;
 use std::fmt::Write;
 
-/// The names of the object identifier with these contents: a line of the table, without the digits
-/// that it begins with.
+/// Looks up an OBJECT IDENTIFIER, given by its contents octets, in the table of names. Returns the
+/// short name, `=`, and the long name. The long name is empty if it is the same as the short name.
+/// Returns `None` if the table does not have the OBJECT IDENTIFIER.
 fn names_of(octets: &[u8]) -> Option<&'static str> {
     let table = match octets {
         [0x55, ..] => NAMES_X500,
@@ -75,7 +76,7 @@ fn compare(digits: &[u8], octets: &[u8]) -> Ordering {
     }
 }
 
-/// Whether these are the lower-case hexadecimal digits of the octets.
+/// Whether `digits` are the lower-case hexadecimal digits of `octets`.
 pub fn is_hexadecimal_of(digits: &[u8], octets: &[u8]) -> bool {
     if digits.len() / 2 != octets.len() || digits.len() % 2 != 0 {
         return false;
@@ -102,20 +103,22 @@ fn digit_value(digit: u8) -> u8 {
     }
 }
 
-/// The short name that openssl gives the object identifier with these contents, as `CN`.
+/// The short name that OpenSSL gives the object identifier with these contents octets, such as
+/// `CN`. `None` if the table of names does not have the object identifier.
 pub fn short_name(octets: &[u8]) -> Option<&'static str> {
     let (short, _) = names_of(octets)?.split_once('=')?;
     Some(short)
 }
 
-/// The long name that openssl gives the object identifier with these contents, as `commonName`.
+/// The long name that OpenSSL gives the object identifier with these contents octets, such as
+/// `commonName`. `None` if the table of names does not have the object identifier.
 pub fn long_name(octets: &[u8]) -> Option<&'static str> {
     let (short, long) = names_of(octets)?.split_once('=')?;
     Some(if long.is_empty() { short } else { long })
 }
 
-/// Prints the arcs of the object identifier with these contents, separated by dots, or the octets in
-/// hexadecimal after `#` if they are none.
+/// Prints the arcs of an OBJECT IDENTIFIER, separated by dots. `octets` are its contents octets. If
+/// `octets` are not valid contents of an OBJECT IDENTIFIER, prints `#` and `octets` in hexadecimal.
 pub fn put_arcs<T: Target>(out: &mut Output<T>, octets: &[u8]) {
     match ObjectIdentifierRef::new(octets) {
         Some(oid) => {
@@ -128,8 +131,8 @@ pub fn put_arcs<T: Target>(out: &mut Output<T>, octets: &[u8]) {
     }
 }
 
-/// Prints the long name of the object identifier with these contents, and its arcs in parentheses,
-/// or its arcs alone if it has no name.
+/// Prints the long name of the object identifier with these contents octets, and its arcs in
+/// parentheses. If the table of names does not have the object identifier, prints only the arcs.
 pub fn put_identifier<T: Target>(out: &mut Output<T>, octets: &[u8]) {
     match long_name(octets) {
         Some(name) => {

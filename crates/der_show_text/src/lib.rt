@@ -1,6 +1,9 @@
-//! What the program `der_show` prints with: an output to a stream or to memory, text whose control
-//! and invisible characters are escaped, the names of object identifiers, numbers, times, and
-//! elements with their offsets.
+//! The parts that the program `der_show` prints with:
+//!
+//! - outputs, which collect text and pass it to a stream or to memory;
+//! - text in which control characters and invisible characters are escaped;
+//! - names of object identifiers, numbers and times;
+//! - elements with their offsets.
 #![tactic(auto)]
 
 mod characters;

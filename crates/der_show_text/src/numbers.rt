@@ -1,4 +1,4 @@
-//! Octets and numbers.
+//! Prints octets and numbers.
 
 use crate::output::{Output, hex_digit};
 use crate::target::Target;
@@ -26,7 +26,8 @@ fn put_chunk<T: Target>(out: &mut Output<T>, chunk: &[u8]) {
     out.put_bytes(digits.get(..count).unwrap_or(&[]));
 }
 
-/// Prints octets in hexadecimal, with `:` between two of them.
+/// Prints octets in hexadecimal, with `:` between two octets. `is_upper` says whether the digits
+/// are in upper case.
 pub fn put_octets_with<T: Target>(out: &mut Output<T>, octets: &[u8], is_upper: bool) {
     let mut is_first = true;
     for octet in octets {
@@ -38,7 +39,8 @@ pub fn put_octets_with<T: Target>(out: &mut Output<T>, octets: &[u8], is_upper: 
     }
 }
 
-/// Prints the first `most` octets in upper-case hexadecimal, and `..` if there are more.
+/// Prints the first `most` octets in upper-case hexadecimal. If there are more octets, prints `..`
+/// after them.
 pub fn put_some_octets<T: Target>(out: &mut Output<T>, octets: &[u8], most: usize) {
     match octets.get(..most) {
         Some(first) if octets.len() > most => {
@@ -49,7 +51,8 @@ pub fn put_some_octets<T: Target>(out: &mut Output<T>, octets: &[u8], most: usiz
     }
 }
 
-/// The value of an INTEGER with these contents, if it is not negative and below 2^53.
+/// The value of an INTEGER with these contents octets. `None` if the value is negative, or 2^53 or
+/// more.
 pub fn small_number(octets: &[u8]) -> Option<u64> {
     match octets {
         [] | [0x80..=0xFF, ..] => None,
@@ -70,8 +73,8 @@ fn below_limit(octets: &[u8]) -> Option<u64> {
     }
 }
 
-/// Prints the value of an INTEGER with these contents in hexadecimal, with `-` before the magnitude
-/// of a negative number. At least two digits are printed, and no zero octets before others.
+/// Prints an INTEGER in hexadecimal. `octets` are the contents octets. A negative number has `-` in
+/// front of its absolute value. At least two digits are printed, and no leading zero octets.
 pub fn put_integer<T: Target>(out: &mut Output<T>, octets: &[u8]) {
     match octets {
         [0, rest @ ..] if !rest.is_empty() => put_octets(out, rest),
@@ -101,8 +104,8 @@ fn put_magnitude<T: Target>(out: &mut Output<T>, octets: &[u8]) {
     }
 }
 
-/// The number of bits, without leading zero bits, of the natural number whose digits in base 256 are
-/// `octets`.
+/// The number of bits of a natural number, not counting leading zero bits. `octets` are the number
+/// in base 256, the highest octet first.
 pub fn bit_count(octets: &[u8]) -> u64 {
     let mut rest = octets;
     for _ in 0..octets.len() {

@@ -1,29 +1,33 @@
-//! What text is printed with.
+//! The output to which all printing functions print.
 
 use crate::stream::{Sink, Stream};
 use crate::target::Target;
 use std::alloc::Global;
 use std::fmt;
 
-/// From so many columns before the end of a line on, it is folded at a space, which is not printed.
+/// Of the last columns of a line, this number is searched for a space. The first space found breaks
+/// the line, and is not printed.
 const NEAR: usize = 16;
 
-/// From so many columns before the end of a line on, it is folded after a colon.
+/// Of the last columns of a line, this number is searched for a colon. The first colon found breaks
+/// the line, which ends with the colon.
 const NEARER: usize = 4;
 
-/// By how many spaces the rest of a folded line is indented more than the line.
+/// When a line is broken, its continuation is indented by this number of spaces more than its
+/// beginning.
 const FOLDED: usize = 4;
 
-/// Text that is printed to a target.
+/// An output: functions print text to it, and it passes the text on to a target, such as a stream.
 ///
-/// A failure does not stop the caller. The output remembers it, and drops all text after it.
+/// The functions that print return no errors. If the target fails, the output sets `has_failed`,
+/// and drops all text that is printed later.
 #[derive(Drop)]
 pub struct Output<T: Target = Stream> {
-    /// Where the text goes.
+    /// The target to which the output passes its text.
     pub target: T,
-    /// Whether the text was not written whole.
+    /// Whether the target has failed, so that text is missing.
     pub has_failed: bool,
-    /// After how many columns a line is folded; 0 for never.
+    /// The number of columns after which a long line is broken. If it is 0, lines are never broken.
     pub width: usize,
     // How many columns the line has so far.
     column: usize,
@@ -32,12 +36,13 @@ pub struct Output<T: Target = Stream> {
 }
 
 impl Output<Stream> {
-    /// An output with an empty buffer.
+    /// Creates an output whose text goes to `sink`. A buffer, which is empty at first, collects the
+    /// text before it is written.
     pub fn new(alloc: Global, sink: Sink) -> Self {
         Output::to(Stream::new(alloc, sink))
     }
 
-    /// Writes what the buffer holds to the sink. Does nothing for a sink in memory.
+    /// Writes the buffered text to the sink. Does nothing if the sink is [`Sink::Memory`].
     pub fn flush(&mut self) {
         if !self.target.flush() {
             self.has_failed = true;
@@ -46,7 +51,7 @@ impl Output<Stream> {
 }
 
 impl<T: Target> Output<T> {
-    /// An output without text.
+    /// Creates an output that passes its text to `target`, and that does not break long lines.
     pub fn to(target: T) -> Self {
         Output {
             target,
@@ -57,12 +62,12 @@ impl<T: Target> Output<T> {
         }
     }
 
-    /// Prints the text as it is, without escapes.
+    /// Prints the text as it is: no character is escaped.
     pub fn put(&mut self, text: &str) {
         self.put_bytes(text.as_bytes());
     }
 
-    /// Prints the octets as they are, but for folding.
+    /// Prints the octets as they are, except that a line with more than `width` columns is broken.
     pub fn put_bytes(&mut self, octets: &[u8]) {
         if self.width == 0 || self.is_short(octets) {
             self.push(octets);
@@ -135,7 +140,7 @@ impl<T: Target> Output<T> {
         }
     }
 
-    /// Prints a character as it is.
+    /// Prints a character as it is: it is not escaped.
     pub fn put_char(&mut self, c: char) {
         let mut octets = [0u8; 4];
         let text = c.encode_utf8(&mut octets);
@@ -147,7 +152,8 @@ impl<T: Target> Output<T> {
         self.put_padded(number, 1);
     }
 
-    /// Prints a number in decimal, with spaces before it up to this width, which is 1 to 20.
+    /// Prints a number in decimal. If the number has fewer than `width` digits, spaces in front of
+    /// it fill `width` columns. `width` is from 1 to 20.
     pub fn put_padded(&mut self, number: u64, width: usize) {
         let mut digits = [b' '; 20];
         let mut rest = number;
@@ -164,7 +170,8 @@ impl<T: Target> Output<T> {
         self.put_bytes(digits.get(start..).unwrap_or(&[]));
     }
 
-    /// Prints two hexadecimal digits.
+    /// Prints an octet as two hexadecimal digits. `is_upper` says whether the digits are in upper
+    /// case.
     pub fn put_hex(&mut self, octet: u8, is_upper: bool) {
         let digits = [
             hex_digit(octet >> 4, is_upper),
@@ -173,7 +180,7 @@ impl<T: Target> Output<T> {
         self.put_bytes(&digits);
     }
 
-    /// Prints so many spaces, but at most 64.
+    /// Prints `count` spaces, but at most 64.
     pub fn put_spaces(&mut self, count: usize) {
         let spaces = "                                                                ";
         self.put(spaces.get(..count).unwrap_or(spaces));

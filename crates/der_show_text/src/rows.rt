@@ -1,5 +1,5 @@
-//! The names of object identifiers, by their contents in hexadecimal: the short name, `=`, and the long name
-//! if it is another one. Written by `tools/object_names`.
+//! The names of object identifiers, one on each line: the contents octets in hexadecimal, a space, the short
+//! name, `=`, and the long name, which is empty if it is the same. Written by `tools/object_names`.
 
 // Those that begin with 2.5.
 #[rattlefmt::skip]

@@ -1,9 +1,10 @@
-//! Text in memory of the caller.
+//! A target that writes text into memory of the caller.
 ghost use Rattle.std.specs.Prelude.{◌≤◌, length};
 
 use crate::target::Target;
 
-/// Text at the front of memory of the caller. What does not fit is left out.
+/// A target that writes text into memory of the caller, from the front of the memory on. It fails
+/// if a piece of text does not fit, and writes nothing of this piece.
 #[derive(Drop)]
 pub struct Space<'a> {
     octets: &'a mut [u8],
@@ -12,12 +13,12 @@ pub struct Space<'a> {
 }
 
 impl<'a> Space<'a> {
-    /// No text yet.
+    /// Creates a target that writes into `octets`. No text is written yet.
     pub fn new(octets: &'a mut [u8]) -> Self {
         Space { octets, count: 0 }
     }
 
-    /// How many octets the text has.
+    /// The number of octets written so far.
     pub fn len(&self) -> usize {
         self.count
     }

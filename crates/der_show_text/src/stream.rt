@@ -1,34 +1,34 @@
-//! Where a program prints to.
+//! The stream: a target that collects text in a buffer before it is written.
 
 use crate::target::Target;
 use std::alloc::Global;
 use std::io::{Stderr, Stdout, Write};
 
-/// How many octets are kept before they are written.
+/// As soon as the buffer has this number of octets, the buffer is written to the sink.
 const BUFFERED: usize = 32768;
 
-/// Where the text of a stream goes.
+/// The place to which a stream writes its text.
 #[derive(Clone, Copy)]
 pub enum Sink {
-    /// Nowhere: the text stays in memory, as tests want it.
+    /// The text is not written anywhere: all of it stays in the buffer of the stream.
     Memory,
-    /// Standard output.
+    /// The text is written to standard output.
     Output(Stdout),
-    /// Standard error.
+    /// The text is written to standard error.
     Errors(Stderr),
 }
 
-/// A buffer of fixed size in front of a sink.
+/// A target that buffers text, and writes it to a sink whenever the buffer is full.
 #[derive(Drop)]
 pub struct Stream {
-    /// The text that is not written yet.
+    /// The text that is not yet written to the sink.
     pub buffer: Vec<u8>,
-    /// Where the text goes.
+    /// The sink to which the text is written.
     pub sink: Sink,
 }
 
 impl Stream {
-    /// A stream with an empty buffer.
+    /// Creates a stream that writes to `sink`. Its buffer is empty.
     pub fn new(alloc: Global, sink: Sink) -> Self {
         Stream {
             buffer: Vec::new(alloc),
@@ -36,8 +36,8 @@ impl Stream {
         }
     }
 
-    /// Writes what the buffer holds to the sink, and returns whether it was written. Does nothing for a sink in
-    /// memory.
+    /// Writes the buffered text to the sink, and returns whether this succeeded. If the sink is
+    /// [`Sink::Memory`], does nothing and returns true.
     pub fn flush(&mut self) -> bool {
         let written = match &mut self.sink {
             Sink::Memory => return true,

@@ -1,4 +1,4 @@
-//! The text of strings.
+//! Prints the text of strings.
 
 use crate::characters::put_escaped;
 use crate::output::Output;
@@ -10,16 +10,16 @@ use std::str;
 /// How the characters of a string are encoded.
 #[derive(Clone, Copy, PartialEq, Eq)]
 pub enum Characters {
-    /// In UTF-8.
+    /// The characters are in UTF-8.
     Utf8,
-    /// One octet each: the characters of ISO 8859-1.
+    /// Each octet is a character of ISO 8859-1.
     Latin,
-    /// Two octets each: the characters of the Basic Multilingual Plane.
+    /// Each pair of octets is a character, as in a BMPString. The first octet of a pair is the
+    /// higher one.
     Wide,
 }
 
-/// How the characters of a string or time with this tag are encoded. `None` if the tag is that of
-/// another type.
+/// The encoding of the characters of a string or a time with this tag. `None` for any other tag.
 pub fn characters_of(tag: Tag) -> Option<Characters> {
     match tag {
         Tag::Utf8String
@@ -35,8 +35,8 @@ pub fn characters_of(tag: Tag) -> Option<Characters> {
     }
 }
 
-/// Whether the octets are characters in this encoding. A control character is no character of ISO
-/// 8859-1 here, since octets with one are rather another character set or no text.
+/// Whether the octets are text in the encoding `characters`. In ISO 8859-1, octets with a control
+/// character do not count as text: the real character set is probably another one.
 pub fn is_text(octets: &[u8], characters: Characters) -> bool {
     match characters {
         Characters::Utf8 => str::from_utf8(octets).is_ok(),
@@ -58,8 +58,8 @@ fn is_wide(octets: &[u8]) -> bool {
     rest.is_empty()
 }
 
-/// Prints the text of a value with this tag, and returns true. Prints nothing and returns false if
-/// the tag is that of no string or time, or if the contents are no text.
+/// Prints the text of a string or a time with this tag, and returns true. If the tag is of another
+/// type, or if the contents are not text, prints nothing and returns false.
 pub fn put_value_text<T: Target>(
     out: &mut Output<T>,
     tag: Tag,
@@ -75,7 +75,9 @@ pub fn put_value_text<T: Target>(
     }
 }
 
-/// Prints a text. Prints nothing if the octets are no text in this encoding.
+/// Decodes `octets` from the encoding `characters`, and prints the text in the style `style`. If the
+/// encoding is UTF-8 and `octets` are not valid UTF-8, prints nothing. If the encoding has two octets
+/// for each character, skips each pair of octets that is not a character.
 pub fn put_text<T: Target>(
     out: &mut Output<T>,
     octets: &[u8],
@@ -92,7 +94,8 @@ pub fn put_text<T: Target>(
     }
 }
 
-/// The position in a text, for the escapes that RFC 4514, 2.4 wants at its ends.
+/// The state of printing a text in a distinguished name. RFC 4514, 2.4, demands that some
+/// characters are escaped at the start or at the end of a text.
 #[derive(Clone, Copy)]
 struct Ends {
     is_first: bool,

@@ -1,14 +1,17 @@
-//! How text is escaped.
+//! The styles in which text is escaped.
 
-/// How text is escaped.
+/// The place at which text is printed. The place decides which characters are escaped. A hidden
+/// character is one for which [`is_hidden`](crate::is_hidden) is true.
 #[derive(Clone, Copy, PartialEq, Eq)]
 pub enum Style {
-    /// On a line: a backslash and each hidden character.
+    /// The text is on a line. Backslashes and hidden characters are escaped.
     Line,
-    /// In a list with commas on a line: a backslash, a comma and each hidden character.
+    /// The text is in a list with commas. Backslashes, commas and hidden characters are escaped.
     List,
-    /// In a distinguished name: as RFC 4514, 2.4 says, and each hidden character.
+    /// The text is in a distinguished name. Hidden characters are escaped, and all characters that
+    /// RFC 4514, 2.4, demands to escape.
     Name,
-    /// In a string of JSON: as RFC 8259, 7 says, and each hidden character.
+    /// The text is in a string of JSON. Hidden characters are escaped, and all characters that RFC
+    /// 8259, 7, demands to escape.
     Json,
 }

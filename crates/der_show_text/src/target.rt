@@ -1,10 +1,10 @@
-//! Where text goes.
+//! The trait of targets. An output passes its text to a target.
 
-/// A target of text.
+/// A receiver of the text of an output, such as a stream or memory of the caller.
 pub trait Target: Drop {
-    /// Adds octets to the text, and returns whether they were added whole.
+    /// Appends octets to the text. Returns whether all of them were appended.
     fn push(&mut self, octets: &[u8]) -> bool;
 
-    /// The last octet of the text, if it is still here.
+    /// The last octet of the text, if the target still holds it.
     fn last(&self) -> Option<u8>;
 }

@@ -1,4 +1,4 @@
-//! Times.
+//! Prints times.
 
 use crate::output::Output;
 use crate::target::Target;
@@ -15,8 +15,9 @@ fn time_of(tag: Tag, contents: &[u8]) -> Option<DateTime> {
     }
 }
 
-/// Prints a time in the form of `Jan  2 03:04:05 2006 GMT`, or returns false and prints nothing if the
-/// element is no time in the form of DER.
+/// Prints a UTCTime or a GeneralizedTime in the form `Jan  2 03:04:05 2006 GMT`, and returns true.
+/// If the tag is of another type, or if the contents are not valid in DER, prints nothing and
+/// returns false.
 pub fn put_time<T: Target>(out: &mut Output<T>, tag: Tag, contents: &[u8]) -> bool {
     let Some(at) = time_of(tag, contents) else {
         return false;
@@ -30,8 +31,9 @@ pub fn put_time<T: Target>(out: &mut Output<T>, tag: Tag, contents: &[u8]) -> bo
     true
 }
 
-/// Prints a time in milliseconds since 1970 in the form of `Jan  2 03:04:05.678 2006 GMT`, or the number if it is
-/// after the year 9999.
+/// Prints a time in the form `Jan  2 03:04:05.678 2006 GMT`. `milliseconds` is the number of
+/// milliseconds since the start of 1970. For a time after the year 9999, prints this number
+/// instead.
 pub fn put_unix_time<T: Target>(out: &mut Output<T>, milliseconds: u64) {
     let Some(at) = DateTime::from_unix_seconds((milliseconds / 1000) as i64) else {
         out.put_number(milliseconds);
@@ -50,8 +52,9 @@ pub fn put_unix_time<T: Target>(out: &mut Output<T>, milliseconds: u64) {
     );
 }
 
-/// Prints a time in the form of `2006-01-02T03:04:05Z`, or returns false and prints nothing if the
-/// element is no time in the form of DER.
+/// Prints a UTCTime or a GeneralizedTime in the form `2006-01-02T03:04:05Z`, and returns true. If
+/// the tag is of another type, or if the contents are not valid in DER, prints nothing and returns
+/// false.
 pub fn put_iso_time<T: Target>(out: &mut Output<T>, tag: Tag, contents: &[u8]) -> bool {
     let Some(at) = time_of(tag, contents) else {
         return false;

@@ -1,10 +1,11 @@
-//! How much of a value could be read as a value of a type.
+//! Counts the octets of a damaged value whose type is still known.
 
 use asn1_schema::Schema;
 use asn1_tree::Entry;
 
-/// How many octets of the input are elements of a type that the table has, among the first so many: their headers, and
-/// contents without elements.
+/// Counts the octets that belong to elements whose type is in the table of types. Only the first
+/// `elements` items of `entries`, the elements of a tree, are looked at. The header of an element
+/// is always counted. Its contents are counted only if no elements are inside.
 pub fn typed_len(schema: &Schema<'_>, entries: &[Entry], elements: usize) -> usize {
     let mut rest = entries.get(..elements).unwrap_or(entries);
     let mut count = 0usize;

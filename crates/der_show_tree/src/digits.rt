@@ -1,12 +1,12 @@
-//! The octets of the table.
+//! Decodes the table of types, which is stored as hexadecimal digits.
 
 use crate::table::TABLE;
 use std::alloc::{AllocError, Global};
 
-/// How many octets are enough for the table of types.
+/// A size of memory that is enough for [`put_table`] to write the whole table of types.
 pub const TABLE_ROOM: usize = TABLE.len() / 2;
 
-/// The octets of the table of types, from its digits.
+/// Decodes the table of types into allocated memory. Fails if an allocation fails.
 pub fn table_octets(alloc: Global) -> Result<Vec<u8>, AllocError> {
     let mut octets = vec![in alloc; 0u8; TABLE_ROOM]?;
     let count = put_table(octets.as_mut_slice());
@@ -14,8 +14,8 @@ pub fn table_octets(alloc: Global) -> Result<Vec<u8>, AllocError> {
     Ok(octets)
 }
 
-/// Puts the octets of the table of types into memory of the caller, as far as there is room, and returns how many
-/// they are.
+/// Decodes the table of types into `octets`. Writes as many octets of the table as fit, and returns
+/// their number.
 pub fn put_table(octets: &mut [u8]) -> usize {
     let mut rest = TABLE.as_bytes();
     let mut count = 0usize;

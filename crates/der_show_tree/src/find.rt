@@ -1,4 +1,4 @@
-//! The kind of a value.
+//! Finds the kind of a value, such as a certificate, from its octets.
 ghost use Rattle.std.specs.Prelude.{◌≡◌, ◌↔◌, ◌<◌, true, [], IfOk};
 ghost use Rattle.asn1_schema.specs.Table.{table_in};
 ghost use Rattle.asn1_tree.specs.Departures.{AreOfDer};
@@ -12,9 +12,19 @@ use asn1_schema::Schema;
 use asn1_tree::{Full, Tree, is_ber, read};
 use std::alloc::{AllocError, Global};
 
-/// The kind of which the octets are one value: the first one of which they are an encoding by BER, or else the one
-/// whose identifier they begin with, or whose types most of the octets have, if these are three quarters. `None` if
-/// they are of no kind. Fails if an allocation fails.
+/// Finds the kind of value that the octets are. Returns the first kind in the order of
+/// [`KINDS`](crate::KINDS) for which the octets are a BER encoding and their values are plausible.
+///
+/// If there is no such kind, the value may be damaged. Then only kinds are considered whose tags
+/// the outer elements have:
+///
+/// - If an OBJECT IDENTIFIER at the front shows the kind for certain, returns this kind.
+/// - Otherwise, reads the octets as each kind, and counts the octets that belong to elements of
+///   known types. Returns the kind with the highest count, if the count is at least three quarters
+///   of all octets.
+/// - Otherwise, returns `None`.
+///
+/// Fails if an allocation fails.
 pub fn find_kind(
     alloc: Global,
     schema: &Schema<'_>,
@@ -23,7 +33,8 @@ pub fn find_kind(
     find_by(&mut Heap { alloc }, schema, octets)
 }
 
-/// The same with memory of the caller. Fails if it has no more room.
+/// Finds the kind of value that the octets are, as [`find_kind`] does, but uses memory of the
+/// caller. Fails if the memory is too small.
 pub fn find_kind_in(
     room: &mut Room<'_, '_, '_, '_>,
     schema: &Schema<'_>,
@@ -48,7 +59,9 @@ fn find_by<M: Memory>(
     damaged_kind(memory, schema, octets)
 }
 
-/// Whether the octets are an encoding by BER of a value of a type. Fails if an allocation fails.
+/// Whether the octets are a BER encoding of a value of a type. `node` is the index of the type in
+/// the table of types. False if the table has no type with this index. Fails if an allocation
+/// fails.
 pub fn is_encoding(
     alloc: Global,
     schema: &Schema<'_>,
@@ -65,8 +78,14 @@ pub fn is_encoding(
     }
 }
 
-/// Reads the octets as a value of a type: there is no departure exactly if they are its DER encoding, and none
-/// but of rules of DER alone exactly if they are a BER encoding. Fails if an allocation fails.
+/// Reads the octets as a value of a type. `node` is the index of the type in the table of types.
+/// The result also lists the departures: the places at which the octets break a rule.
+///
+/// - If there are no departures, the octets are a DER encoding of a value of the type.
+/// - If all departures are from rules that only DER has, the octets are a BER encoding.
+/// - Otherwise, the octets are not an encoding of a value of the type.
+///
+/// If the table has no type with this index, the tree is empty. Fails if an allocation fails.
 pub fn read_as(
     alloc: Global,
     schema: &Schema<'_>,

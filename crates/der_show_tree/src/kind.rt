@@ -1,17 +1,17 @@
-//! Kinds of files.
+//! The kinds of values that the program knows.
 
 use crate::table;
 
-/// A kind of file that the program knows.
+/// A kind of value, such as a certificate, that the program knows.
 #[derive(Clone, Copy, Debug, PartialEq, Eq)]
 pub enum Kind {
     /// A certificate (RFC 5280, 4.1).
     Certificate,
-    /// A request for a certificate (RFC 2986, 4).
+    /// A certificate request (RFC 2986, 4).
     Request,
-    /// A revocation list (RFC 5280, 5.1).
+    /// A certificate revocation list (RFC 5280, 5.1).
     RevocationList,
-    /// A public key (RFC 5280, 4.1).
+    /// A SubjectPublicKeyInfo: a public key and its algorithm (RFC 5280, 4.1).
     PublicKey,
     /// A private key (RFC 5958, 2).
     PrivateKey,
@@ -23,39 +23,40 @@ pub enum Kind {
     RsaPublicKey,
     /// A private key of an elliptic curve (RFC 5915, 3).
     EcPrivateKey,
-    /// A curve (RFC 5480, 2.1.1).
+    /// Parameters of an elliptic curve (RFC 5480, 2.1.1).
     EcParameters,
-    /// A private key of DSA, as openssl writes it.
+    /// A private key of DSA, in the form that OpenSSL writes.
     DsaPrivateKey,
     /// Parameters of DSA (RFC 3279, 2.3.2).
     DsaParameters,
     /// Parameters of Diffie-Hellman (PKCS #3, 9).
     DhParameters,
-    /// A message (RFC 5652, 3), also a timestamp.
+    /// A CMS or PKCS #7 message (RFC 5652, 3), for example a timestamp token.
     Message,
-    /// A file of keys and certificates (RFC 7292, 4).
+    /// A PKCS #12 file of keys and certificates (RFC 7292, 4).
     Pfx,
-    /// A request to OCSP (RFC 6960, 4.1).
+    /// An OCSP request (RFC 6960, 4.1).
     OcspRequest,
-    /// A response of OCSP (RFC 6960, 4.2).
+    /// An OCSP response (RFC 6960, 4.2).
     OcspResponse,
-    /// A request for a timestamp (RFC 3161, 2.4.1).
+    /// A timestamp request (RFC 3161, 2.4.1).
     TimestampRequest,
-    /// A response with a timestamp (RFC 3161, 2.4.2).
+    /// A timestamp response (RFC 3161, 2.4.2).
     TimestampResponse,
-    /// Parameters of Diffie-Hellman with a group of prime order (RFC 3279, 2.3.3).
+    /// Parameters of Diffie-Hellman in the form of X9.42, which have the order of a subgroup (RFC
+    /// 3279, 2.3.3).
     X942Parameters,
-    /// The signed content of a message without the message around it (RFC 5652, 5.1).
+    /// The SignedData of a CMS message, without the ContentInfo around it (RFC 5652, 5.1).
     SignedData,
-    /// A public key and a word, signed, as browsers sent them.
+    /// A signed public key and challenge (SPKAC), as browsers used to send them.
     SignedKey,
-    /// What a holder may do (RFC 5755, 4.1).
+    /// An attribute certificate (RFC 5755, 4.1).
     AttributeCertificate,
-    /// Two certificates of authorities for each other (X.509, 2005, 11.2.3).
+    /// A pair of certificates that two authorities have issued to each other (X.509, 2005, 11.2.3).
     CertificatePair,
 }
 
-/// All kinds.
+/// All kinds. [`find_kind`](crate::find_kind) tries the kinds in this order.
 pub static KINDS: [Kind; 24] = [
     Kind::Certificate,
     Kind::Request,
@@ -84,7 +85,7 @@ pub static KINDS: [Kind; 24] = [
 ];
 
 impl Kind {
-    /// The word for the kind in the option `--as` and in JSON.
+    /// The word that stands for the kind in the option `--as` and in JSON output.
     pub fn word(self) -> &'static str {
         match self {
             Kind::Certificate => "certificate",
@@ -114,7 +115,7 @@ impl Kind {
         }
     }
 
-    /// The kind with this word.
+    /// The kind for which this word stands in the option `--as`. `None` if it stands for no kind.
     pub fn of_word(word: &str) -> Option<Kind> {
         for kind in KINDS {
             if kind.word() == word {
@@ -124,7 +125,7 @@ impl Kind {
         None
     }
 
-    /// The label of a PEM block with such a value.
+    /// The label of a PEM block that contains a value of this kind.
     pub fn label(self) -> &'static str {
         match self {
             Kind::Certificate => "CERTIFICATE",
@@ -154,7 +155,7 @@ impl Kind {
         }
     }
 
-    /// The kind that a label promises. `None` for a label of another kind.
+    /// The kind of the value in a PEM block with this label. `None` if the label is unknown.
     pub fn of_label(label: &str) -> Option<Kind> {
         match label {
             "X509 CERTIFICATE" | "TRUSTED CERTIFICATE" => Some(Kind::Certificate),
@@ -165,7 +166,7 @@ impl Kind {
         }
     }
 
-    /// The index of the type of the kind in the table.
+    /// The ASN.1 type of the values of this kind, as its index in the table of types.
     pub fn node(self) -> u32 {
         match self {
             Kind::Certificate => table::CERTIFICATE,

@@ -1,5 +1,6 @@
-//! What the program `der_show` knows of types: a table of the types of the modules in `asn1/`, the kinds of
-//! files, and the kind of a value, which is found by reading it as each of them.
+//! The types that the program `der_show` knows. The crate has a table of the types in the modules
+//! in `asn1/`, and a list of kinds of values. To find the kind of a value, the crate reads the
+//! value as one kind after the other.
 #![tactic(auto)]
 
 mod damaged;

@@ -6,12 +6,13 @@ use asn1_schema::Schema;
 use asn1_tree::{Departure, Entry, Full, judge, read_into};
 use std::alloc::{AllocError, Global};
 
-/// Memory for reading values.
+/// A source of memory for reading values: allocated memory, or memory of the caller.
 pub(crate) trait Memory {
-    /// Why there is none.
+    /// The error that is returned if there is not enough memory.
     type Error;
 
-    /// Whether the octets are an encoding by BER of a value of a type.
+    /// Whether the octets are a BER encoding of a value of a type. `node` is the index of the type
+    /// in the table of types.
     fn is_ber(
         &mut self,
         schema: &Schema<'_>,
@@ -19,7 +20,8 @@ pub(crate) trait Memory {
         octets: &[u8],
     ) -> Result<bool, Self::Error>;
 
-    /// How many of the octets are of types that the table has, if they are read as a value of a type.
+    /// Reads the octets as a value of a type, and returns how many octets belong to elements whose
+    /// type is in the table of types. `node` is the index of the type in the table.
     fn typed_len(
         &mut self,
         schema: &Schema<'_>,
@@ -28,7 +30,7 @@ pub(crate) trait Memory {
     ) -> Result<usize, Self::Error>;
 }
 
-/// Memory that is allocated.
+/// Memory that is allocated when it is needed.
 #[derive(Drop)]
 pub(crate) struct Heap {
     pub alloc: Global,
@@ -57,16 +59,19 @@ impl Memory for Heap {
     }
 }
 
-/// Memory of the caller, as `read_into` of `asn1_tree` takes it.
+/// Memory that the caller lends for reading values. The fields are arguments of the function
+/// `read_into` of the crate `asn1_tree`.
 #[derive(Drop)]
 pub struct Room<'e, 'd, 'm, 't> {
-    /// For the elements.
+    /// Memory for the elements that are read.
     pub entries: &'e mut [Entry],
-    /// For the departures.
+    /// Memory for the departures: the places at which the octets break a rule of DER.
     pub departures: &'d mut [Departure],
-    /// For the fields of a SET that were there.
+    /// Memory for the indices of fields. While a SET is read, the fields that were already read are
+    /// noted here.
     pub marks: &'m mut [u32],
-    /// For the text of a string in the constructed form.
+    /// Memory for the contents of a string in the constructed form. The contents of its segments
+    /// are joined here.
     pub text: &'t mut [u8],
 }
 

@@ -1,4 +1,4 @@
-//! The tags of outer elements.
+//! Compares the tags of the elements in some octets with the tags of a type.
 ghost use Rattle.std.specs.Prelude.{◌<◌, IfSome};
 
 use asn1_schema::{NodeKind, Presence, Schema};
@@ -7,7 +7,9 @@ use ber::{
     read_header,
 };
 
-/// Whether the octets are a value of a node as far as the tags of the elements inside the outermost one say.
+/// Whether the octets may be a value of a type, judged by tags alone. Compares the tags of the
+/// outermost element and of the elements directly inside it. `node` is the index of the type in the
+/// table of types.
 pub fn has_outline(schema: &Schema<'_>, node: u32, octets: &[u8]) -> bool {
     match components_of(schema, node, octets) {
         Some(components) => components.fit(schema),
@@ -15,7 +17,8 @@ pub fn has_outline(schema: &Schema<'_>, node: u32, octets: &[u8]) -> bool {
     }
 }
 
-/// The same, and the elements inside these fit their types too.
+/// Whether the octets may be a value of a type, judged by tags alone. Compares the tags one level
+/// deeper than [`has_outline`].
 pub fn has_deep_outline(schema: &Schema<'_>, node: u32, octets: &[u8]) -> bool {
     match components_of(schema, node, octets) {
         Some(components) => components.fit_inside(schema),
@@ -23,7 +26,9 @@ pub fn has_deep_outline(schema: &Schema<'_>, node: u32, octets: &[u8]) -> bool {
     }
 }
 
-/// The fields of a SEQUENCE, and the octets of its contents. Another type has neither.
+/// The state of comparing the contents of a SEQUENCE with its fields: the fields that may still
+/// follow, and the octets that are not compared yet. `is_open` is true if the type is no SEQUENCE
+/// or is extensible; then further elements are accepted.
 #[derive(Clone, Copy)]
 struct Components<'a> {
     start: u32,
@@ -129,7 +134,7 @@ fn is_ended(rest: &[u8]) -> bool {
     rest.is_empty() || is_end_of_contents(rest)
 }
 
-/// The octets after the element at the front; none if it cannot be read.
+/// The octets after the element at the front of `octets`. No octets if this element cannot be read.
 pub fn after_element(octets: &[u8]) -> &[u8] {
     match read_element(octets) {
         Ok(element) => element.rest,

@@ -1,33 +1,43 @@
-//! Kinds that share the tags of their elements with other values.
+//! Looks at the contents of a value if its tags do not show its kind.
 
 use crate::kind::Kind;
 use ber::read_element;
 
-/// The contents of the identifiers of PKCS #5 begin with these octets.
+/// The first contents octets of every OBJECT IDENTIFIER of PKCS #5.
 const PKCS5: &[u8] = &[0x2a, 0x86, 0x48, 0x86, 0xf7, 0x0d, 0x01, 0x05];
 
-/// Those of the algorithms of PKCS #12.
+/// The first contents octets of every OBJECT IDENTIFIER of an algorithm of PKCS #12.
 const PKCS12: &[u8] = &[0x2a, 0x86, 0x48, 0x86, 0xf7, 0x0d, 0x01, 0x0c, 0x01];
 
-/// Those of the contents of messages: of PKCS #7, and of CMS.
+/// The first contents octets of every OBJECT IDENTIFIER of a content type: one item for the content
+/// types of PKCS #7, and one for the content types that CMS has added.
 const CONTENTS: [&[u8]; 2] = [
     &[0x2a, 0x86, 0x48, 0x86, 0xf7, 0x0d, 0x01, 0x07],
     &[0x2a, 0x86, 0x48, 0x86, 0xf7, 0x0d, 0x01, 0x09, 0x10, 0x01],
 ];
 
-/// The least number of octets of the modulus of a public key of RSA.
+/// The least number of contents octets of the modulus of an RSA public key. A value with a shorter
+/// modulus is not taken for an RSA public key.
 const MODULUS: usize = 32;
 
-/// The least number of octets of the prime of parameters.
+/// The least number of contents octets of the prime in parameters of DSA or Diffie-Hellman. A value
+/// with a shorter prime is not taken for parameters.
 const PRIME: usize = 64;
 
-/// The least number of octets of a private key of an elliptic curve.
+/// The least number of contents octets of the OCTET STRING with the key in a private key of an
+/// elliptic curve. A value with a shorter OCTET STRING is not taken for a private key.
 const SECRET: usize = 14;
 
-/// Whether a value is rather of this kind than of others with the same tags: two numbers are a public key
-/// of RSA if the first is large and the second is an odd number from 3 on that is no usual generator of
-/// Diffie-Hellman. Numbers are parameters if the first is a large odd number, and the others have the sizes of
-/// a usual generator or of the order of a group.
+/// Whether a value, whose elements have the tags of `kind`, is likely of this kind. Several kinds
+/// have the same tags, therefore this function looks at the contents. Among other rules:
+///
+/// - Two INTEGERs are an RSA public key if the first one is large, and if the second one is an odd
+///   number from 3 on. The second one must not be 5, since 5 is a usual generator of
+///   Diffie-Hellman.
+/// - Two INTEGERs are Diffie-Hellman parameters if the first one is a large odd number, and if the
+///   second one is a usual generator, 2 or 5.
+/// - INTEGERs are DSA parameters if the first one is a large odd number, and if the second one has
+///   the size of the order of a group. In X9.42 parameters, the third one has this size.
 pub fn is_plausible(kind: Kind, octets: &[u8]) -> bool {
     let inside = contents(octets);
     match kind {
@@ -47,7 +57,8 @@ pub fn is_plausible(kind: Kind, octets: &[u8]) -> bool {
     }
 }
 
-/// Whether an identifier at the front says that a value is of this kind, whatever faults are inside.
+/// Whether an OBJECT IDENTIFIER at the front of a value shows for certain that the value is of this
+/// kind. The rest of the value may be damaged.
 pub fn is_certain(kind: Kind, octets: &[u8]) -> bool {
     let identifier = contents(contents(octets));
     let [own, smime] = CONTENTS;

@@ -1,84 +1,84 @@
 //! The table of types that the program knows, in hexadecimal. Written by `tools/schema_table`.
 
-/// The index of this type in the table.
+/// The index in [`TABLE`] of the type `Certificate` of the module `X509`.
 pub const CERTIFICATE: u32 = 0;
 
-/// The index of this type in the table.
+/// The index in [`TABLE`] of the type `CertificationRequest` of the module `X509`.
 pub const REQUEST: u32 = 1;
 
-/// The index of this type in the table.
+/// The index in [`TABLE`] of the type `CertificateList` of the module `X509`.
 pub const REVOCATION_LIST: u32 = 2;
 
-/// The index of this type in the table.
+/// The index in [`TABLE`] of the type `SubjectPublicKeyInfo` of the module `PublicKeyInfo`.
 pub const PUBLIC_KEY: u32 = 3;
 
-/// The index of this type in the table.
+/// The index in [`TABLE`] of the type `PrivateKeyInfo` of the module `PrivateKeys`.
 pub const PRIVATE_KEY: u32 = 4;
 
-/// The index of this type in the table.
+/// The index in [`TABLE`] of the type `EncryptedPrivateKeyInfo` of the module `PrivateKeys`.
 pub const ENCRYPTED_PRIVATE_KEY: u32 = 5;
 
-/// The index of this type in the table.
+/// The index in [`TABLE`] of the type `RSAPrivateKey` of the module `PKCS-1`.
 pub const RSA_PRIVATE_KEY: u32 = 6;
 
-/// The index of this type in the table.
+/// The index in [`TABLE`] of the type `RSAPublicKey` of the module `PKCS-1`.
 pub const RSA_PUBLIC_KEY: u32 = 7;
 
-/// The index of this type in the table.
+/// The index in [`TABLE`] of the type `ECPrivateKey` of the module `SEC1`.
 pub const EC_PRIVATE_KEY: u32 = 8;
 
-/// The index of this type in the table.
+/// The index in [`TABLE`] of the type `ECParameters` of the module `SEC1`.
 pub const EC_PARAMETERS: u32 = 9;
 
-/// The index of this type in the table.
+/// The index in [`TABLE`] of the type `Dss-Parms` of the module `SEC1`.
 pub const DSA_PARAMETERS: u32 = 10;
 
-/// The index of this type in the table.
+/// The index in [`TABLE`] of the type `ContentInfo` of the module `CMS`.
 pub const MESSAGE: u32 = 11;
 
-/// The index of this type in the table.
+/// The index in [`TABLE`] of the type `PFX` of the module `PKCS-12`.
 pub const PFX: u32 = 12;
 
-/// The index of this type in the table.
+/// The index in [`TABLE`] of the type `OCSPRequest` of the module `OCSP`.
 pub const OCSP_REQUEST: u32 = 13;
 
-/// The index of this type in the table.
+/// The index in [`TABLE`] of the type `OCSPResponse` of the module `OCSP`.
 pub const OCSP_RESPONSE: u32 = 14;
 
-/// The index of this type in the table.
+/// The index in [`TABLE`] of the type `TimeStampReq` of the module `CMS`.
 pub const TIMESTAMP_REQUEST: u32 = 15;
 
-/// The index of this type in the table.
+/// The index in [`TABLE`] of the type `TimeStampResp` of the module `CMS`.
 pub const TIMESTAMP_RESPONSE: u32 = 16;
 
-/// The index of this type in the table.
+/// The index in [`TABLE`] of the type `DSAPrivateKey` of the module `More`.
 pub const DSA_PRIVATE_KEY: u32 = 17;
 
-/// The index of this type in the table.
+/// The index in [`TABLE`] of the type `DHParameter` of the module `More`.
 pub const DH_PARAMETERS: u32 = 18;
 
-/// The index of this type in the table.
+/// The index in [`TABLE`] of the type `CertAux` of the module `More`.
 pub const TRUST: u32 = 19;
 
-/// The index of this type in the table.
+/// The index in [`TABLE`] of the type `SignedData` of the module `CMS`.
 pub const SIGNED_DATA: u32 = 20;
 
-/// The index of this type in the table.
+/// The index in [`TABLE`] of the type `SignedPublicKeyAndChallenge` of the module `More`.
 pub const SIGNED_KEY: u32 = 21;
 
-/// The index of this type in the table.
+/// The index in [`TABLE`] of the type `AttributeCertificate` of the module `More`.
 pub const ATTRIBUTE_CERTIFICATE: u32 = 22;
 
-/// The index of this type in the table.
+/// The index in [`TABLE`] of the type `CertificatePair` of the module `More`.
 pub const CERTIFICATE_PAIR: u32 = 23;
 
-/// The index of this type in the table.
+/// The index in [`TABLE`] of the type `DomainParameters` of the module `More`.
 pub const X942_PARAMETERS: u32 = 24;
 
-/// The index of this type in the table.
+/// The index in [`TABLE`] of the type `AnyValue` of the module `More`.
 pub const ANY: u32 = 25;
 
-/// The table.
+/// The table of types, in the form that `asn1_schema` reads, with two hexadecimal digits for each octet.
 #[rattlefmt::skip]
 pub static TABLE: &str = "\
 5953434800000001000001e90000025f0000000f000000630000009b0000292a1000000000000010000000000000000b\n\

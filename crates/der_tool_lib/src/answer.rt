@@ -1,23 +1,27 @@
-//! What the program prints, and the status it exits with.
+//! The answers of the program: what it prints, and the status with which it exits.
 ghost use Rattle.std.specs.Prelude.{◌≡◌, IfOk, string_bytes};
 ghost use Rattle.der_tool_lib.specs.Answer.{PrintsError};
 
 use der::Error;
 use std::alloc::{AllocError, Allocator};
 
-/// What the program prints for a command line, and how it ends.
+/// The result of a command line: what the program prints, and how it ends.
 #[derive(Drop)]
 pub enum Answer<A: Allocator> {
-    /// The command succeeded. The field is the printed text: the lines that describe a header, or
-    /// one line with an element, an order or joined octets.
+    /// The command succeeded. The field is the text to print:
+    ///
+    /// - for `head`, the lines that describe a header;
+    /// - for `tlv`, a line with an element;
+    /// - for `order`, a line with the order of two elements;
+    /// - for `join`, a line with the joined octets.
     Printed(String<A>),
-    /// The octets are not accepted, or the command `join` could not allocate memory for the joined
-    /// segments. The field is the printed line, which states the reason.
+    /// The octets are not accepted. The field is the line to print, which states the reason. The
+    /// command `join` also has this answer if it cannot allocate memory for the joined segments.
     Refused(String<A>),
-    /// An allocation failed, other than that of the command `join` for the joined segments. The
-    /// line `error: out of memory` is printed.
+    /// An allocation failed. The program prints the line `error: out of memory`. If `join` cannot
+    /// allocate memory for the joined segments, the answer is `Refused` instead.
     OutOfMemory,
-    /// The words of the command line are not a command. The usage of the program is printed.
+    /// The words of the command line are not a command. The program prints its usage.
     Usage,
 }
 
@@ -54,8 +58,8 @@ impl<A: Allocator> Answer<A> {
     }
 }
 
-/// The line that the program prints for `error`: `error: `, the error as `Display` prints it, and a
-/// line feed. Fails if an allocation fails.
+/// The line that the program prints for `error`: `error: `, the text of the error, and a line feed.
+/// Fails if an allocation fails.
 pub fn error_line<A: Allocator>(alloc: A, error: Error) -> Result<String<A>, AllocError>
     ensures { IfOk result (λ s. PrintsError error (string_bytes s)) }
 {

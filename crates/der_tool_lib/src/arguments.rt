@@ -12,16 +12,18 @@ use std::io;
 
 /// Runs the program on the arguments `given`, prints the answer to `out`, and returns the exit
 /// status. The first argument is the name of the program; the other arguments are the words of a
-/// command. If the output fails, the status is 1, and what `out` has received is unspecified. If
-/// the output does not fail, the status is:
+/// command. The exit status is:
 ///
 /// - 0 if the command succeeded;
-/// - 1 if the octets are not accepted or an allocation failed;
-/// - 2 if the words are not a command.
+/// - 1 if the octets are not accepted, or if an allocation failed;
+/// - 2 if the words are not a command;
+/// - always 1 if the output failed. What `out` has received is then unspecified.
 ///
-/// If `given` is an error of the kind `InvalidData`, an argument is not text; the usage is printed,
-/// as for words that are not a command. If `given` is any other error, an allocation failed; the
-/// line `error: out of memory` is printed.
+/// `given` may be an error:
+///
+/// - If it is an error of the kind `InvalidData`, an argument is not text. The usage is printed, as
+///   for words that are not a command.
+/// - If it is any other error, an allocation failed. The line `error: out of memory` is printed.
 pub fn run_tool<W: Output>(alloc: Global, given: io::Result<Args>, out: &mut W) -> u8
     ensures answers { (result ≡ 1)
         ⊎ WritesToArguments given result (W.contents out.old) (W.contents out.new) }

@@ -4,27 +4,31 @@ ghost use Rattle.der_tool_lib.specs.ToolCommand.{IsHex, IsName, IsCommand, texts
 
 use der::EncodingRules;
 
-/// What the words of the command line ask the program to do.
+/// What the words of the command line ask the program to do. A word `HEX` of a command spells
+/// octets in hexadecimal.
 #[derive(Clone, Copy)]
 pub enum ToolCommand<'a> {
-    /// `head [--ber] HEX`: prints the header at the start of the octets that `hex` spells. The
-    /// rules are BER if `--ber` is present, and DER if it is absent.
+    /// `head [--ber] HEX`: prints lines that describe the header at the start of the octets that
+    /// `hex` spells. The octets are read under BER if `--ber` is present, and otherwise under DER.
     Head { rules: EncodingRules, hex: &'a str },
-    /// `tlv [--ber] HEX`: prints the whole element at the start of the octets that `hex` spells.
-    /// The rules are BER if `--ber` is present, and DER if it is absent.
+    /// `tlv [--ber] HEX`: prints all octets of the element at the start of the octets that `hex`
+    /// spells, header and contents, in hexadecimal on one line. The octets are read under BER if
+    /// `--ber` is present, and otherwise under DER.
     Tlv { rules: EncodingRules, hex: &'a str },
-    /// `order HEX HEX`: prints how two whole elements under DER, which `first` and `second` spell,
-    /// compare in the lexicographic order of their encodings.
+    /// `order HEX HEX`: prints `less`, `equal` or `greater`, which says how two elements compare.
+    /// The texts `first` and `second` each spell exactly one element under DER. Their encodings are
+    /// compared octet by octet.
     Order { first: &'a str, second: &'a str },
-    /// `join HEX`: prints the octets of the OCTET STRING that `hex` spells under BER. If the OCTET
-    /// STRING is in segments, prints the joined segments.
+    /// `join HEX`: prints the contents of an OCTET STRING in hexadecimal on one line. The text
+    /// `hex` spells the OCTET STRING under BER. If it consists of segments, their contents are
+    /// joined.
     Join { hex: &'a str },
 }
 
 impl<'a> ToolCommand<'a> {
     ghost use Rattle.der_tool_lib.specs.ToolCommand.{words_of, words_under, order_words, join_words, two, three, SpellsOctets};
 
-    /// The command that `words` request, or `None` if `words` are not a command.
+    /// The command that `words` request. `None` if `words` are not a command.
     pub fn parse(words: &'a [String]) -> Option<Self>
         ensures found { IsSome result ↔ IsCommand (texts words.now) }
         ensures words { IfSome result (λ c. texts words.now ≡ words_of c) }
@@ -37,8 +41,8 @@ impl<'a> ToolCommand<'a> {
         }
     }
 
-    /// The command that the two words `name` and `hex` request, or `None` if the two words are not
-    /// a command.
+    /// The command that the two words `name` and `hex` request. `None` if the two words are not a
+    /// command.
     fn of_two(name: &str, hex: &'a str) -> Option<Self>
         ensures found { IsSome result ↔ IsCommand (two name.now hex.now) }
         ensures words { IfSome result (λ c. two name.now hex.now ≡ words_of c) }
@@ -51,8 +55,8 @@ impl<'a> ToolCommand<'a> {
         }
     }
 
-    /// The command that the words `first`, `second` and `third` request, or `None` if the three
-    /// words are not a command.
+    /// The command that the words `first`, `second` and `third` request. `None` if the three words
+    /// are not a command.
     fn of_three(first: &'a str, second: &'a str, third: &'a str) -> Option<Self>
         ensures found { IsSome result ↔ IsCommand (three first.now second.now third.now) }
         ensures words { IfSome result (λ c. three first.now second.now third.now ≡ words_of c) }
@@ -67,8 +71,8 @@ impl<'a> ToolCommand<'a> {
         }
     }
 
-    /// The command `head` or `tlv`, as `name` says, with `rules` and `hex`. `None` if `name` is
-    /// neither `head` nor `tlv`, or if `hex` is not an even number of hexadecimal digits.
+    /// The command with the name `name`, which must be `head` or `tlv`, and with `rules` and `hex`.
+    /// `None` if `name` is another name, or if `hex` is not an even number of hexadecimal digits.
     fn named(name: &str, rules: EncodingRules, hex: &'a str) -> Option<Self>
         ensures found { IsSome result ↔ (IsName name.now × IsHex hex.now) }
         ensures words { IfSome result (λ c. words_under rules name.now hex.now ≡ words_of c) }
@@ -81,8 +85,8 @@ impl<'a> ToolCommand<'a> {
         }
     }
 
-    /// The command `order` with the texts `first` and `second`. `None` if one of them is not an
-    /// even number of hexadecimal digits.
+    /// The command `order` with the texts `first` and `second`. `None` if `first` or `second` is
+    /// not an even number of hexadecimal digits.
     fn ordering(first: &'a str, second: &'a str) -> Option<Self>
         ensures found { IsSome result ↔ (IsHex first.now × IsHex second.now) }
         ensures words { IfSome result (λ c. order_words first.now second.now ≡ words_of c) }
@@ -110,7 +114,7 @@ impl<'a> ToolCommand<'a> {
     }
 }
 
-/// Whether `text` consists of an even number of hexadecimal digits; true if `text` is empty.
+/// Whether `text` consists of an even number of hexadecimal digits. An empty text does.
 fn is_hex(text: &str) -> bool
     ensures { IsTrue result ↔ IsHex text.now }
 {

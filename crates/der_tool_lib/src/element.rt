@@ -1,4 +1,4 @@
-//! Whole elements under DER.
+//! Elements of any tag under DER, with their contents.
 ghost use Rattle.std.specs.Prelude.{◌≡◌, IfOk, IfErr};
 ghost use Rattle.std.proofs.Common.{refl};
 ghost use Rattle.der.specs.Prelude.{element_octets, Gives, map_ok, read_slice_outcome, Same, slice_state, number};
@@ -27,8 +27,8 @@ impl<'a> Element<'a> {
     /// # Errors
     ///
     /// - `Overflow` without a position, if `octets` are more than 4294967295 octets.
-    /// - `Incomplete`, `Overflow`, `TagUnknown`, `TagNumberInvalid`, `IndefiniteLength` and
-    ///   `Length`, if the header is not accepted, as by [`decode_header`].
+    /// - The errors `Incomplete`, `Overflow`, `TagUnknown`, `TagNumberInvalid`, `IndefiniteLength`
+    ///   and `Length` of [`decode_header`], if the header is not valid.
     /// - `Overflow` without a position, if the contents would end after position 4294967295.
     /// - `Incomplete` at the end of `octets`, if the contents would end after the end of `octets`,
     ///   but not after position 4294967295.
@@ -77,7 +77,7 @@ impl<'a> WrittenValue for Element<'a> {
 /// # Errors
 ///
 /// - [`EncodeValue::value_len`] never fails.
-/// - [`EncodeValue::encode_value`] returns the errors of the writer, as by [`Writer::write`].
+/// - [`EncodeValue::encode_value`] returns the errors of [`Writer::write`].
 impl<'a> EncodeValue for Element<'a> {
     ghost value_size = { octets_size contents_of };
 

@@ -8,8 +8,8 @@ use crate::answer::{Answer, error_line};
 use der::{EncodingRules, Error, Header, Reader, SliceReader, decode_header};
 use std::alloc::{AllocError, Allocator};
 
-/// The answer to the command `head`: the lines of the header at the start of `octets`, or an error
-/// line if no header is accepted. Fails if an allocation fails.
+/// The answer to the command `head`. It is the lines that describe the header at the start of
+/// `octets`, or an error line if the header is not valid. Fails if an allocation fails.
 pub fn answer_head<A: Allocator + Copy>(
     alloc: A,
     rules: EncodingRules,
@@ -23,8 +23,7 @@ pub fn answer_head<A: Allocator + Copy>(
     }
 }
 
-/// Reads the header at the start of `octets`. Returns this header, and the octets after this
-/// header.
+/// Reads the header at the start of `octets`. Returns the header and the octets after it.
 fn read_head(rules: EncodingRules, octets: &[u8]) -> Result<(Header, &[u8]), Error>
     ensures ok { IfOk result (λ p. IsHeaderRead rules octets.now (head_of p.0) p.1.now) }
     ensures err { IfErr result (IsRefusedFor rules octets.now) }
@@ -35,8 +34,8 @@ fn read_head(rules: EncodingRules, octets: &[u8]) -> Result<(Header, &[u8]), Err
     Ok((header, rest))
 }
 
-/// The four lines that `head` prints: one each for the tag, the constructed bit, the length, and
-/// `rest`, the octets after the header. Fails if an allocation fails.
+/// The four lines that `head` prints. They show the tag, the constructed bit, the length, and
+/// `rest`, which are the octets after the header. Fails if an allocation fails.
 fn header_lines<A: Allocator + Copy>(
     alloc: A,
     header: &Header,
@@ -60,15 +59,15 @@ fn yes_or_no(answer: bool) -> &'static str
     if answer { "yes" } else { "no" }
 }
 
-/// The text that `head` prints directly after a length. The text is ` indefinite` if `indefinite`
-/// is true: the length was read in the indefinite form. The text is empty if `indefinite` is false.
+/// The text that `head` prints directly after a length. It is ` indefinite` if the length was read
+/// in the indefinite form, and otherwise empty.
 fn indefinite_suffix(indefinite: bool) -> &'static str
     ensures { result.now ≡ text.indefinite_suffix indefinite }
 {
     if indefinite { " indefinite" } else { "" }
 }
 
-/// The octets in lower-case hexadecimal, or a dash if there are no octets. Fails if an allocation
+/// The octets in lower-case hexadecimal. If there are no octets, a dash. Fails if an allocation
 /// fails.
 pub fn octets_text<A: Allocator>(alloc: A, octets: &[u8]) -> Result<String<A>, AllocError>
     ensures { IfOk result (λ s. string_bytes s ≡ text.octets_text octets.now) }

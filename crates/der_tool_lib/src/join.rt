@@ -10,10 +10,13 @@ use der::example::JoinedOctets;
 use der::{DecodeBytes, Error};
 use std::alloc::{AllocError, Allocator, Global};
 
-/// The answer to the command `join`. If `octets` are exactly one OCTET STRING under BER, the answer
-/// is a line with the joined segments. If `octets` are anything else, the answer is an error line.
-/// The segments are joined in memory of `global`; if an allocation with `global` fails, the answer
-/// is also an error line. Fails if an allocation with `alloc` fails.
+/// The answer to the command `join`. It is a line with the contents of the OCTET STRING in
+/// `octets`, with all segments joined (X.690 8.7.3). It is an error line if `octets` are not
+/// exactly one OCTET STRING under BER.
+///
+/// The segments are joined in memory that is allocated with `global`. If this allocation fails, the
+/// answer is an error line. The line is allocated with `alloc`. If that allocation fails, the
+/// function fails.
 pub fn answer_join<A: Allocator + Copy>(
     global: Global,
     alloc: A,
@@ -27,8 +30,8 @@ pub fn answer_join<A: Allocator + Copy>(
     }
 }
 
-/// Reads `octets` as exactly one OCTET STRING under BER, and returns its contents, with all
-/// segments joined.
+/// Reads `octets` as exactly one OCTET STRING under BER. Returns its contents, with all segments
+/// joined.
 fn read_joined(global: Global, octets: &[u8]) -> Result<JoinedOctets, Error>
     ensures ok { IfOk result (λ j. IsJoined octets.now (joined_octets j)) }
     ensures err { IfErr result (NotJoined octets.now) }
@@ -36,8 +39,8 @@ fn read_joined(global: Global, octets: &[u8]) -> Result<JoinedOctets, Error>
     JoinedOctets::from_ber(global, octets)
 }
 
-/// A line with the octets in lower-case hexadecimal, or with a dash if there are no octets. Fails
-/// if an allocation fails.
+/// A line with the octets in lower-case hexadecimal. If there are no octets, a line with a dash.
+/// Fails if an allocation fails.
 fn octets_line<A: Allocator + Copy>(alloc: A, octets: &[u8]) -> Result<String<A>, AllocError>
     ensures { IfOk result (λ s. string_bytes s ≡ text.octets_line octets.now) }
 {

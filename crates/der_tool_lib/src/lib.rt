@@ -1,9 +1,9 @@
 //! The commands of the program `der_tool`. Each command reads octets that are given in hexadecimal:
 //!
-//! - `head` prints the header at the start of DER or BER octets;
-//! - `tlv` prints the whole element at the start of DER or BER octets;
-//! - `order` prints the order of two DER elements;
-//! - `join` prints the joined segments of a BER OCTET STRING.
+//! - `head` prints lines that describe the header at the start of DER or BER octets;
+//! - `tlv` prints all octets of the element at the start of DER or BER octets;
+//! - `order` prints which of two DER elements comes first in the order of a SET OF;
+//! - `join` prints the contents of a BER OCTET STRING, with its segments joined.
 #![tactic(auto)]
 
 mod answer;

@@ -10,7 +10,7 @@ use der::{DerOrd, Error};
 use std::alloc::{AllocError, Allocator};
 use std::cmp::Ordering;
 
-/// The answer to the command `order`: a line with the order of the elements in `first` and
+/// The answer to the command `order`. It is a line with the order of the elements in `first` and
 /// `second`, or an error line if `first` or `second` is not exactly one element under DER. Fails if
 /// an allocation fails.
 pub fn answer_order<A: Allocator + Copy>(
@@ -26,8 +26,9 @@ pub fn answer_order<A: Allocator + Copy>(
     }
 }
 
-/// Compares two whole elements by their encodings (X.690 11.6). `first` is read before `second`. If
-/// neither is exactly one element under DER, the error is that of `first`.
+/// Compares the encodings of two elements (X.690 11.6). Each of `first` and `second` must be
+/// exactly one element under DER. `first` is read before `second`: if both are not valid, the error
+/// is the error of reading `first`.
 fn compare(first: &[u8], second: &[u8]) -> Result<Ordering, Error>
     ensures whole { IfOk result (λ _. IsWholeElement first.now × IsWholeElement second.now) }
     ensures ok { IfOk result (λ o. o ≡ byte_order first.now second.now) }
@@ -38,8 +39,8 @@ fn compare(first: &[u8], second: &[u8]) -> Result<Ordering, Error>
     first.der_cmp(&second)
 }
 
-/// The line that `order` prints: `less`, `equal` or `greater`. `ordering` says how the first
-/// element compares to the second.
+/// The line that `order` prints: `less`, `equal` or `greater`. `ordering` is the result of
+/// comparing the first element with the second.
 fn order_line(ordering: Ordering) -> &'static str
     ensures { result.now ≡ text.order_line ordering }
 {

@@ -1,11 +1,10 @@
-//! Where the program prints.
+//! The output to which the program prints.
 ghost use Rattle.std.specs.Prelude.{◌≡◌, ℕ, Bool, true, false, List, Option, OnOk, IsOk};
 ghost use Rattle.std.specs.Io.KnownBytes.{Appends};
 
 use std::io;
 
-/// An output that the program prints to. An output writes a whole text, or fails. Every `io::Write`
-/// is an `Output`.
+/// An output to which the program prints text. Every `io::Write` is an `Output`.
 pub trait Output {
     // The octets that were written, where they are known.
     ghost contents: { Self → Option (List ℕ) };
@@ -13,7 +12,7 @@ pub trait Output {
     // Whether it never fails. Unknown for an `io::Write`.
     ghost reliable: { Bool };
 
-    /// Writes the whole text and flushes it, or fails.
+    /// Writes the whole text, and flushes the output. Fails if this is not possible.
     fn put(&mut self, text: &str) -> io::Result<()>
         ensures written { OnOk result (Appends (contents self.old) (contents self.new) text.now) }
         ensures succeeds { reliable ≡ true → IsOk result };

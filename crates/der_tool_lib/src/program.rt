@@ -1,4 +1,4 @@
-//! The program as a function of its words and an output.
+//! The program as a function of the words of its command line and an output.
 ghost use Rattle.std.specs.Prelude.{◌≡◌, ◌⊎◌, true, Ok, IfOk, OnOk, IsOk};
 ghost use Rattle.std.specs.Io.KnownBytes.{Appends};
 ghost use Rattle.hex.specs.Hex.{decode_of};
@@ -16,13 +16,12 @@ use hex::FromHexError;
 use std::alloc::{AllocError, Allocator, Global};
 use std::io;
 
-/// Runs the command that `words` request, prints the answer to `out`, and returns the exit status.
-/// If the output fails, the status is 1, and what `out` has received is unspecified. If the output
-/// does not fail, the status is:
+/// Runs the command that `words` request, prints the answer to `out`, and returns the exit status:
 ///
 /// - 0 if the command succeeded;
-/// - 1 if the octets are not accepted or an allocation failed;
-/// - 2 if the words are not a command; the usage is printed.
+/// - 1 if the octets are not accepted, or if an allocation failed;
+/// - 2 if the words are not a command; the usage is printed;
+/// - always 1 if the output failed. What `out` has received is then unspecified.
 pub fn run<W: Output>(alloc: Global, words: &[String], out: &mut W) -> u8
     ensures answers { (result ≡ 1)
         ⊎ WritesAnswer (texts words.now) result (W.contents out.old) (W.contents out.new) }
@@ -32,12 +31,12 @@ pub fn run<W: Output>(alloc: Global, words: &[String], out: &mut W) -> u8
     respond(alloc, alloc, words, out).unwrap_or(1)
 }
 
-/// Runs the command that `words` request, prints the answer to `out`, and returns the exit status:
-/// 0, 1 or 2, as by [`run`]. Fails only if the output fails. Makes all allocations before the first
-/// call of `out`.
+/// Runs the command that `words` request, prints the answer to `out`, and returns the exit status,
+/// which is 0, 1 or 2 as for [`run`]. Fails only if the output fails. All allocations are made
+/// before `out` is called for the first time.
 ///
-/// Octets and lines are allocated with `alloc`, so that a test can make their allocation fail.
-/// Segments are joined in memory of `global`, because the library joins them only there.
+/// Octets and lines are allocated with `alloc`, so that a test can make these allocations fail.
+/// Segments are joined in memory of `global`, because the library can join them only there.
 pub fn respond<A: Allocator + Copy, W: Output>(
     global: Global,
     alloc: A,
@@ -63,8 +62,9 @@ pub fn say<A: Allocator, W: Output>(answer: &Answer<A>, out: &mut W) -> io::Resu
     Ok(answer.status())
 }
 
-/// The answer to `words`: the result of the command that they request, or the usage if `words` are
-/// not a command. If an allocation with `alloc` fails, the answer is [`Answer::OutOfMemory`].
+/// The answer to `words`. It is the result of the command that `words` request, or the usage if
+/// `words` are not a command. If an allocation with `alloc` fails, the answer is
+/// [`Answer::OutOfMemory`].
 fn answer<A: Allocator + Copy>(global: Global, alloc: A, words: &[String]) -> Answer<A>
     ensures { Answers (texts words.now) (status_of result) (text_of result) }
 {

@@ -7,8 +7,8 @@ use crate::answer::{Answer, error_line};
 use der::{EncodingRules, Error, ReaderExt, SliceReader};
 use std::alloc::{AllocError, Allocator};
 
-/// The answer to the command `tlv`: a line with the whole element at the start of `octets`, or an
-/// error line if no element is accepted. Fails if an allocation fails.
+/// The answer to the command `tlv`. It is a line with all octets of the element at the start of
+/// `octets`, or an error line if there is no valid element. Fails if an allocation fails.
 pub fn answer_tlv<A: Allocator + Copy>(
     alloc: A,
     rules: EncodingRules,
@@ -22,8 +22,8 @@ pub fn answer_tlv<A: Allocator + Copy>(
     }
 }
 
-/// Reads the element at the start of `octets`, and returns all octets of the element: the header,
-/// the contents and, after an indefinite length, the two end-of-contents octets.
+/// Reads the element at the start of `octets`. Returns all octets of the element: the header, the
+/// contents and, after an indefinite length, the two end-of-contents octets.
 fn read_element(rules: EncodingRules, octets: &[u8]) -> Result<&[u8], Error>
     ensures ok { IfOk result (λ e. IsFirstElement rules octets.now e.now) }
     ensures err { IfErr result (NoElement rules octets.now) }

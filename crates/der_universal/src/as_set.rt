@@ -1,4 +1,4 @@
-//! The tag of a SET in place of another one.
+//! SETs with components, which are read like a SEQUENCE with the tag of a SET.
 ghost use Rattle.std.specs.Prelude.{◌≡◌};
 ghost use Rattle.der.specs.Prelude.{map_ok, Set as SetTag};
 ghost use Rattle.der_asn1.specs.ContextSpecific.{retagged, TakesImplicit};
@@ -12,9 +12,9 @@ use der::{
 use der_asn1::{DecodeItem, Described, Item, Nestable};
 use std::alloc::Global;
 
-/// A value whose tag is that of a SET in place of its own. Under DER the components of a SET stand in the
-/// order of their tags (X.690 10.3), so a SET with components is `AsSet` of the SEQUENCE of these
-/// components in that order.
+/// A value with the tag of a SET in place of its own tag. Under DER the components of a SET are in
+/// ascending order of their tags (X.690 10.3). So a SET with components is an `AsSet<T>`, where `T`
+/// is the SEQUENCE of the same components in this order.
 #[derive(Clone, Copy, Drop, PartialEq, Eq)]
 pub struct AsSet<T>(pub T);
 
@@ -44,7 +44,7 @@ impl<T: ReadValue + FixedTag> ReadValue for AsSet<T> {
         octets taken };
 }
 
-/// Decodes the contents as those of a value of type `T`.
+/// Decodes the contents as the contents of a value of type `T`.
 ///
 /// # Errors
 ///

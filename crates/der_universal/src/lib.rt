@@ -1,5 +1,6 @@
-//! Types of ASN.1 beside those of `der_asn1`: a SET with components, and types that are read as their
-//! contents octets.
+//! ASN.1 types that the crate `der_asn1` does not have. They are a SET with components,
+//! GeneralString, REAL, RELATIVE-OID and VideotexString. The contents octets of the last four are
+//! not checked.
 #![tactic(auto)]
 
 mod as_set;

@@ -7,8 +7,8 @@ use crate::as_set::AsSet;
 use der::FixedTag;
 use std::fmt;
 
-/// Prints the tag as its `Display` does, then the value in parentheses, with the name of its own
-/// type, such as `SET(Member { .. })`.
+/// Prints the tag as its `Display` does, then the wrapped value in parentheses. The wrapped value
+/// is printed with the name of its own type, such as `SET(Member { .. })`.
 impl<T: fmt::Debug + FixedTag> fmt::Debug for AsSet<T> {
     ghost debug_output = { λ v. debug_variant (tag_text SetTag) (T.debug_output v.0) };
 

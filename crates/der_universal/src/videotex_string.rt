@@ -6,7 +6,7 @@ ghost use Rattle.der_asn1.specs.Forms.{octets_form};
 use der::Tag;
 use der_asn1::{Checked, ContentsGrammar};
 
-/// Describes the contents of a VideotexString: any octets, which are not looked into.
+/// Describes the contents of a VideotexString: any octets, which are not checked.
 pub struct VideotexStringGrammar;
 
 /// A VideotexString borrowed from the input, as its contents octets (X.690 8.23).

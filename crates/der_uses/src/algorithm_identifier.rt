@@ -1,4 +1,4 @@
-//! A SEQUENCE of two fields, like an algorithm and its parameter in a certificate.
+//! An example of a SEQUENCE of two fields, similar to the AlgorithmIdentifier in a certificate.
 ghost use Rattle.std.specs.Prelude.{◌≡◌};
 ghost use Rattle.std.proofs.Common.{refl};
 ghost use Rattle.der_uses.specs.AlgorithmIdentifier.{AlgorithmRead, algorithm_element, algorithm_size, AlgorithmWritten, identifier_fields};
@@ -11,12 +11,13 @@ use der::{
 };
 use std::alloc::Global;
 
-/// An algorithm with a month as its parameter.
+/// An example of a SEQUENCE of two fields: an algorithm and its parameter. For simplicity, the
+/// algorithm is an OCTET STRING, and the parameter is a month.
 #[derive(Clone, Copy)]
 pub struct AlgorithmIdentifier<'a> {
-    /// The algorithm, as an OCTET STRING that is borrowed from the input.
+    /// The algorithm. In this example it is an OCTET STRING, which is borrowed from the input.
     pub algorithm: MyOctets<'a>,
-    /// The parameter of the algorithm: a month.
+    /// The parameter of the algorithm. In this example it is a month.
     pub month: MyByteMonth,
 }
 

@@ -1,4 +1,4 @@
-//! Fields that borrow from the input, and fields that own their memory.
+//! An example of a value that borrows from the input, and of a value that owns its memory.
 ghost use Rattle.std.specs.Prelude.{◌≡◌, IfOk};
 ghost use Rattle.der.specs.Prelude.{OctetString, Utf8String, element_octets};
 ghost use Rattle.der.specs.BytesRef.{reference_octets};

@@ -1,4 +1,5 @@
-//! A SEQUENCE inside another, like a key in a certificate.
+//! An example of a SEQUENCE inside another SEQUENCE, similar to the SubjectPublicKeyInfo in a
+//! certificate.
 ghost use Rattle.std.specs.Prelude.{◌≡◌, ◌<◌, ◌^◌, length, IfOk, IsOk};
 ghost use Rattle.std.proofs.Common.{refl};
 ghost use Rattle.der.specs.Prelude.{Sequence as SequenceTag, element_octets};
@@ -12,12 +13,12 @@ use der::{
 };
 use std::alloc::Global;
 
-/// A key, and the algorithm that the key is for.
+/// An example of a SEQUENCE: a key, and the algorithm that the key is for.
 #[derive(Clone, Copy)]
 pub struct KeyInfo<'a> {
     /// The algorithm that the key is for.
     pub algorithm: AlgorithmIdentifier<'a>,
-    /// The key, as an OCTET STRING that is borrowed from the input.
+    /// The key. In this example it is an OCTET STRING, which is borrowed from the input.
     pub key: MyOctets<'a>,
 }
 

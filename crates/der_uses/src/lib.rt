@@ -1,4 +1,5 @@
-//! Code that calls the libraries, as a user would write it. The guide `docs/CALLING.md` quotes it.
+//! Examples of code that calls the libraries, as a user would write it. The guide `docs/CALLING.md`
+//! quotes these examples.
 #![tactic(auto)]
 
 pub mod algorithm_identifier;

@@ -1,4 +1,4 @@
-//! A message under the Basic Encoding Rules.
+//! An example that reads a message under the Basic Encoding Rules.
 ghost use Rattle.std.specs.Prelude.{◌≡◌, ℕ, ◌+◌, ◌/◌, ◌≤◌, length, take, drop, IfOk};
 ghost use Rattle.der.specs.Prelude.{HeadNext, number, Ber, head_of};
 
@@ -7,8 +7,9 @@ use der::{
 };
 use std::sync::ledger::Ledger;
 
-/// The header at the front of `octets`, which are read under the Basic Encoding Rules, and the
-/// contents that follow it. Contents of an indefinite length include their end-of-contents octets.
+/// Reads the element at the front of `octets` under the Basic Encoding Rules. Returns its header
+/// and its contents. If the length has the indefinite form, the contents include the
+/// end-of-contents octets.
 pub fn first_message(octets: &[u8]) -> Result<(Header, &[u8]), Error>
     ensures { IfOk result (λ p. (m : ℕ) × HeadNext (head_of p.0) Ber octets.now m
         × (p.1.now ≡ take (number (head_of p.0).length) (drop m octets.now))) }
@@ -19,9 +20,10 @@ pub fn first_message(octets: &[u8]) -> Result<(Header, &[u8]), Error>
     Ok((header, contents))
 }
 
-/// The number of octets of the indefinite-length contents at the front of `octets`, end-of-contents
-/// octets included. If `octets` has n octets, the scan adds at most n/2 + 1 to `turns`, a counter
-/// that exists only in contracts (see [`Turns`]).
+/// Scans contents of indefinite length at the front of `octets`. Returns their number of octets,
+/// end-of-contents octets included. The contract of this function bounds the cost. For n `octets`,
+/// the scan reads at most n/2 + 1 identifiers and end-of-contents, which are counted in `turns`
+/// (see [`Turns`]).
 pub fn indefinite_len<L: Ledger>(octets: &[u8], turns: &mut Turns<L>) -> Result<Length, Error>
     ensures { turns.new ≤ turns.old + (length octets.now / 2 + 1) }
 {

@@ -1,4 +1,4 @@
-//! A user-defined type that borrows from the input: an `OCTET STRING`.
+//! An example of a user-defined type that borrows from the input: an OCTET STRING.
 ghost use Rattle.std.specs.Prelude.{◌≡◌, false, length};
 ghost use Rattle.std.proofs.Common.{refl};
 ghost use Rattle.der.specs.Prelude.{OctetString};

@@ -1,10 +1,11 @@
-//! Nested parts that are entered and left explicitly.
+//! An example that reads the contents of an element with calls of `enter_nested` and
+//! `close_nested`.
 ghost use Rattle.der.specs.Prelude.{Same, slice_state};
 
 use der::{Error, Reader, ReaderExt, SliceReader, Tag, decode_header};
 
-/// The number of elements directly inside the SEQUENCE at the front of `octets`. Elements that are
-/// nested deeper are not counted. Fails if the first element in `octets` is not a SEQUENCE.
+/// Counts the elements directly inside the SEQUENCE at the front of `octets`. Elements that are
+/// nested deeper are not counted. Fails if the first element in `octets` is not a valid SEQUENCE.
 pub fn count_of_elements(octets: &[u8]) -> Result<usize, Error> {
     let mut reader = SliceReader::new(octets)?;
     let header = decode_header(&mut reader)?;

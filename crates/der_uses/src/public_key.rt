@@ -1,4 +1,4 @@
-//! A public key, read field by field: SubjectPublicKeyInfo of RFC 5280, 4.1.
+//! An example that reads a public key field by field: SubjectPublicKeyInfo of RFC 5280, 4.1.
 ghost use Rattle.std.specs.Prelude.{◌≡◌};
 ghost use Rattle.der.specs.Prelude.{Same, slice_state};
 
@@ -7,12 +7,13 @@ use der::{Error, Reader, ReaderExt, SliceReader, Tag, decode_header};
 /// A public key, borrowed from the input.
 #[derive(Clone, Copy, Debug, PartialEq, Eq)]
 pub struct PublicKey<'a> {
-    /// The contents of the OBJECT IDENTIFIER that names the algorithm.
+    /// The contents octets of the OBJECT IDENTIFIER that names the algorithm.
     pub algorithm: &'a [u8],
-    /// The parameters of the algorithm, as a whole element with its header; `None` if there are
-    /// none.
+    /// The parameters of the algorithm, as a whole element with its header. `None` if there are no
+    /// parameters.
     pub parameters: Option<&'a [u8]>,
-    /// The octets of the key: the contents of the BIT STRING after their first octet.
+    /// The octets of the key. They are the contents of a BIT STRING without the first octet, which
+    /// is the number of unused bits.
     pub key: &'a [u8],
 }
 

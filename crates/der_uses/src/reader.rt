@@ -1,5 +1,5 @@
-//! A user-defined reader, like one over a connection: it copies what it reads, returns no slices of
-//! its input, and one of its reads may fail.
+//! An example of a user-defined reader, such as for a connection. It copies the octets that it
+//! reads, and returns no slices of its input. For tests, one of its reads can be made to fail.
 ghost use Rattle.std.specs.Prelude.{◌≡◌, false};
 ghost use Rattle.der.specs.Prelude.{error_at, reader_position, slice_state};
 ghost use Rattle.der.specs.ErrorKinds.{Reader as CannotRead};
@@ -7,8 +7,9 @@ ghost use Rattle.der.specs.ErrorKinds.{Reader as CannotRead};
 use der::{EncodingRules, Error, ErrorKind, Lends, Length, Reader, Resumption, SliceReader};
 use std::alloc::Allocator;
 
-/// A reader that wraps a [`SliceReader`] and returns no slices of its input. It can read on after
-/// one of its reads has failed.
+/// A reader that wraps a [`SliceReader`], and returns no slices of its input.
+/// [`CopyingReader::failing`] makes a reader in which one read fails. After this read, the reader
+/// can still read.
 #[derive(Drop)]
 pub struct CopyingReader<'a> {
     inner: SliceReader<'a>,
@@ -17,18 +18,18 @@ pub struct CopyingReader<'a> {
 }
 
 impl<'a> CopyingReader<'a> {
-    /// A reader that continues at the position of `inner`. Its copying reads fail only where those
-    /// of `inner` would fail; see [`CopyingReader::failing`] for a reader in which one more read
-    /// fails.
+    /// Creates a reader that continues at the position of `inner`. A read that copies octets fails
+    /// only if `inner` fails.
     pub fn new(inner: SliceReader<'a>) -> Self
         ensures inner { result.inner ≡ inner.entry }
     {
         CopyingReader { inner, reads: 0 }
     }
 
-    /// A reader that continues at the position of `inner`. Its reads are counted from 1, and the
-    /// read with the number `reads` fails even where that of `inner` would succeed. If `reads` is
-    /// 0, no read has that number, and the reader is the same as from [`CopyingReader::new`].
+    /// Creates a reader that continues at the position of `inner`, and in which one read fails.
+    /// `reads` is the number of this read, counted from 1. The read fails even if `inner` could
+    /// read the octets. If `reads` is 0, there is no such read, as in a reader that
+    /// [`CopyingReader::new`] makes.
     pub fn failing(inner: SliceReader<'a>, reads: u32) -> Self
         ensures inner { result.inner ≡ inner.entry }
     {

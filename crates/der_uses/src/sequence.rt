@@ -1,10 +1,10 @@
-//! A SEQUENCE that is read by a function.
+//! An example that reads a SEQUENCE with a function.
 ghost use Rattle.std.specs.Prelude.{◌≡◌};
 ghost use Rattle.der.specs.Prelude.{Same, slice_state};
 
 use der::{Error, Reader, ReaderExt, SliceReader, Tag, decode_header};
 
-/// Reads the octets as exactly one SEQUENCE that holds exactly one OCTET STRING, and returns the
+/// Reads the octets as exactly one SEQUENCE that contains exactly one OCTET STRING. Returns the
 /// contents of the OCTET STRING.
 pub fn wrapped_octets(octets: &[u8]) -> Result<&[u8], Error> {
     let mut reader = SliceReader::new(octets)?;

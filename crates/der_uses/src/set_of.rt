@@ -1,4 +1,5 @@
-//! A SET OF OCTET STRING: its elements are in the order of their encodings (X.690 11.6).
+//! An example of a SET OF OCTET STRING. Its elements are in the order of their encodings (X.690
+//! 11.6).
 ghost use Rattle.std.specs.Prelude.{◌≡◌, ◌+◌, ◌++◌, ◌^◌, ◌<◌, ◌≤◌, ◌⊎◌, ℕ, List, length, Err, IfOk, IsOk, IsErrAnd, OnOk, IsPermutation};
 ghost use Rattle.der.specs.Prelude.{checked_length, error_at, error_of_kind, header_octets, number, IsBefore, byte_order, Set, map_ok, Reads, Same, reader_position, rest_of, slice_state};
 ghost use Rattle.der.specs.ErrorKinds.{Overflow, OutOfMemory, SetOrdering};
@@ -18,8 +19,8 @@ use std::cmp::Ordering;
 ///
 /// # Errors
 ///
-/// - `Overflow` without a position if the contents have more than 4294967295 octets.
-/// - `OutOfMemory` without a position if an allocation fails.
+/// - `Overflow` without a position, if the contents have more than 4294967295 octets.
+/// - `OutOfMemory` without a position, if an allocation fails.
 pub fn set_of_der(alloc: Global, elements: &mut [BorrowedOctets<'_>]) -> Result<Vec<u8>, Error>
     ensures same { IsPermutation elements.old elements.new }
     ensures sorted { StringsAscend (octets_of elements.new) }
@@ -90,14 +91,15 @@ fn write_all(elements: &[BorrowedOctets<'_>], out: &mut Vec<u8>) -> Result<(), E
 ///
 /// # Errors
 ///
-/// - `Overflow` without a position if there are more than 4294967295 octets.
-/// - The errors of decoding the header, as by [`Header::decode`](der::Decode::decode).
-/// - `TagUnexpected` without a position if the tag of the header is not that of a SET.
-/// - `Overflow` and `Incomplete` if the contents are truncated, as by [`Reader::enter_nested`].
-/// - The errors of decoding an element, as by [`ReaderExt::decode`].
-/// - `SetOrdering` at the position of the first element whose encoding is smaller than that of the
-///   element before it (X.690 11.6). Equal elements may follow each other.
-/// - `TrailingData` at the position after the SET if octets are left.
+/// - `Overflow` without a position, if there are more than 4294967295 octets.
+/// - The errors of [`Header::decode`](der::Decode::decode), if the header is not valid.
+/// - `TagUnexpected` without a position, if the header does not have the tag SET.
+/// - The errors `Overflow` and `Incomplete` of [`Reader::enter_nested`], if the contents are
+///   truncated.
+/// - The errors of [`ReaderExt::decode`], if an element is not a valid OCTET STRING.
+/// - `SetOrdering` at the position of the first element whose encoding is smaller than the encoding
+///   of the element before it (X.690 11.6). Equal elements may follow each other.
+/// - `TrailingData` at the position after the SET, if octets are left.
 pub fn set_of_contents(alloc: Global, octets: &[u8]) -> Result<&[u8], Error>
     ensures ok { IfOk result (λ r. (strings : List (List ℕ)) × StringsAscend strings
         × (octets.now ≡ set_octets strings) × (r.now ≡ joined_strings strings)) }

@@ -1,4 +1,4 @@
-//! A user-defined type with just three values: a version, as an INTEGER of one octet.
+//! An example of a user-defined type with just three values: a version, as an INTEGER of one octet.
 ghost use Rattle.std.specs.Prelude.{◌≡◌, false};
 ghost use Rattle.der.specs.Prelude.{Integer};
 ghost use Rattle.der_uses.specs.VersionOctet.{IsVersion, TakesVersion, VersionRead, VersionWritten, version_contents, version_lawful, octet_of_version, version_size};
@@ -12,16 +12,16 @@ use std::alloc::Global;
 /// A version of a certificate (RFC 5280, 4.1.2.1).
 #[derive(Clone, Copy, Debug, PartialEq, Eq)]
 pub enum Version {
-    /// Version 1, written as 0.
+    /// Version 1, which is encoded as the number 0.
     V1,
-    /// Version 2, written as 1.
+    /// Version 2, which is encoded as the number 1.
     V2,
-    /// Version 3, written as 2.
+    /// Version 3, which is encoded as the number 2.
     V3,
 }
 
 impl Version {
-    /// The number that the version is written as: 0, 1 or 2.
+    /// The number as which the version is encoded: 0, 1 or 2.
     pub fn number(self) -> u8
         ensures { result ≡ octet_of_version self }
     {
@@ -65,13 +65,13 @@ impl Lawful for Version {
     ghost lawful = { version_lawful };
 }
 
-/// Reads a version from one octet: 0, 1 or 2.
+/// Reads a version from one octet, which must be 0, 1 or 2.
 ///
 /// # Errors
 ///
-/// - `Failed`, `Overflow` and `Incomplete`, as by [`ReaderExt::read_byte`].
-/// - `Value` at the position after the octet, if the octet is no version; the reader has failed
-///   then.
+/// - The errors `Failed`, `Overflow` and `Incomplete` of [`ReaderExt::read_byte`].
+/// - `Value` at the position after the octet, if the octet is more than 2. The reader has failed
+///   after this error.
 impl<R: Lends> DecodeValue<R> for Version {
     type Error = Error;
 

@@ -1,10 +1,10 @@
-//! A user-defined writer: one that collects what is written.
+//! An example of a user-defined writer. It appends what is written to a vector.
 ghost use Rattle.std.specs.Prelude.{◌≡◌, ◌++◌, true, false, [], OnOk};
 ghost use Rattle.der.specs.Prelude.{tag_octets};
 
 use der::{Encode, Error, ErrorKind, Tag, Writer};
 
-/// A writer that appends the octets it gets to a growing vector.
+/// A writer that appends all octets that are written to a growing vector.
 #[derive(Drop)]
 pub struct Collected {
     /// The octets written so far.

@@ -1,6 +1,6 @@
-//! Tickets and requests of Kerberos (RFC 4120), borrowed from the input. Each type is lawful: decoding
-//! succeeds exactly if the octets are the encoding of a value. Nothing is allocated. The types are
-//! compiled from `asn1/kerberos.asn1`.
+//! Tickets and requests of Kerberos (RFC 4120), borrowed from the input. Each type is lawful:
+//! decoding succeeds if and only if the octets are the encoding of a value. Nothing is allocated.
+//! The types are compiled from `asn1/kerberos.asn1`.
 #![tactic(auto)]
 
 pub mod asn1;

@@ -1,23 +1,26 @@
-//! Addresses and ranges of them.
+//! IP addresses and ranges of IP addresses.
 ghost use Rattle.std.specs.Prelude.{◌≡◌, ◌↔◌, ◌*◌, ◌+◌, ◌<◌, true, EachIndex, bit_and, length, slice_index};
 ghost use Rattle.name_forms.specs.Addresses.{IsAddress, IsAddressWithin, IsRange};
 
-/// Whether the octets are an address: four for version 4, sixteen for version 6.
+/// Whether the octets have the length of an IP address: 4 octets for IPv4, or 16 for IPv6.
 pub fn is_address(octets: &[u8]) -> bool
     ensures { (result ≡ true) ↔ IsAddress octets.now }
 {
     octets.len() == 4 || octets.len() == 16
 }
 
-/// Whether the octets are an address and a mask of the same length.
+/// Whether the octets have the length of a range of IP addresses, which is an address and a mask: 8
+/// octets for IPv4, or 32 for IPv6.
 pub fn is_range(octets: &[u8]) -> bool
     ensures { (result ≡ true) ↔ IsRange octets.now }
 {
     octets.len() == 8 || octets.len() == 32
 }
 
-/// Whether an address is within a range, which is an address and a mask (RFC 5280, 4.2.1.10): they
-/// are equal where the mask has ones. The ones of a mask need not come first.
+/// Whether the address `name` is within the range `base` (RFC 5280, 4.2.1.10). A range is an
+/// address and a mask of the same length. `name` must equal the address of the range in all bits
+/// that are one in the mask. The mask may have zero bits before one bits. False if `base` does not
+/// have twice as many octets as `name`.
 pub fn is_address_within(base: &[u8], name: &[u8]) -> bool
     ensures { (result ≡ true) ↔ IsAddressWithin base.now name.now }
 {

@@ -1,19 +1,25 @@
-//! Host names, compared without case.
+//! Comparison of host names. The case of ASCII letters is ignored.
 ghost use Rattle.std.specs.Prelude.{◌≡◌, ◌↔◌, ◌<◌, ◌∷◌, true, EachIndex, SomeIndex, length, slice_index};
 ghost use Rattle.name_forms.specs.Hosts.{begins_with_dot, HasBefore, IsBelowHost, IsDomainName, IsHostWithin, IsSameHost, is_host_octet, is_letter};
 
 use crate::rest::rest;
 
-/// Whether two host names are the same, but for the case of letters of ASCII (RFC 5280, 7.2).
+/// Whether two host names are the same, ignoring the case of ASCII letters (RFC 5280, 7.2).
 pub fn is_same_host(first: &[u8], second: &[u8]) -> bool
     ensures { (result ≡ true) ↔ IsSameHost first.now second.now }
 {
     first.eq_ignore_ascii_case(second)
 }
 
-/// Whether a dNSName is within a constraint: it is the constraint, or has labels added on the left of
-/// it (RFC 5280, 4.2.1.10). Every name is within the empty constraint. The RFC does not say what a
-/// constraint means that begins with a dot: here one label or more is added on the left of it.
+/// Whether the dNSName `name` is within the constraint `base` (RFC 5280, 4.2.1.10), ignoring the
+/// case of ASCII letters. This is the case if:
+///
+/// - `base` is empty;
+/// - `name` is equal to `base`; or
+/// - `name` ends with a dot and `base`, and has at least one octet before the dot.
+///
+/// The RFC does not define the meaning of a constraint that begins with a dot. This function
+/// decides that `name` is within it if `name` is equal to it, or ends with it and is longer.
 pub fn is_below_host(base: &[u8], name: &[u8]) -> bool
     ensures { (result ≡ true) ↔ IsBelowHost base.now name.now }
 {
@@ -27,9 +33,10 @@ pub fn is_below_host(base: &[u8], name: &[u8]) -> bool
     }
 }
 
-/// Whether the host of a URI or a mailbox is within a constraint (RFC 5280, 4.2.1.10): in the domain
-/// whose name is after a leading dot, but not its own host; or else it is the host that the
-/// constraint names.
+/// Whether the host `name` of a URI or of a mailbox is within the constraint `base` (RFC 5280,
+/// 4.2.1.10), ignoring the case of ASCII letters. If `base` begins with a dot, it is a domain:
+/// `name` must end with `base`, and be longer than it. Otherwise `base` is a host: `name` must be
+/// equal to it.
 pub fn is_host_within(base: &[u8], name: &[u8]) -> bool
     ensures { (result ≡ true) ↔ IsHostWithin base.now name.now }
 {
@@ -67,7 +74,8 @@ fn has_labels_before(end: &[u8], name: &[u8]) -> bool
     name[at - 1] == b'.' && is_same_host(rest(name, at), end)
 }
 
-/// Whether the octets are a host name with a letter: an address of version 4 has none.
+/// Whether all octets are ASCII letters, digits, hyphens and dots, and at least one of them is a
+/// letter. False for an IPv4 address, which has no letter.
 pub fn is_domain_name(octets: &[u8]) -> bool
     ensures { (result ≡ true) ↔ IsDomainName octets.now }
 {

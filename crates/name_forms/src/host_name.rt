@@ -3,7 +3,9 @@ ghost use Rattle.std.specs.Prelude.{◌≡◌, ◌≢◌, ◌⊎◌, ◌↔◌, 
 ghost use Rattle.name_forms.specs.HostNames.{FitsHost, HasLengthOfHost, HasShortLabels, IsBetween, IsHostName, IsOfLabels, is_alphanumeric};
 ghost use Rattle.name_forms.specs.UriSyntax.{IsHost};
 
-/// Whether the octets are a host name, whose first label may be an asterisk.
+/// Whether the octets are a host name of at most 253 octets, with labels of at most 63 octets. The
+/// first label may be an asterisk, if another label follows. An IPv4 address in dotted notation is
+/// also accepted, because its numbers are labels.
 pub fn is_host_name(octets: &[u8]) -> bool
     ensures { (result ≡ true) ↔ IsHostName octets.now }
 {
@@ -16,7 +18,9 @@ fn is_of_labels(octets: &[u8]) -> bool
     all_fit(octets) && has_short_labels(octets)
 }
 
-/// Whether the octets are a host name, or an address of version 4, of any length.
+/// Whether the octets are a host name, or an IPv4 address in dotted notation. The first label of a
+/// host name may be an asterisk, if another label follows. The length of the name, and the lengths
+/// of its labels, are not limited.
 pub fn is_host(octets: &[u8]) -> bool
     ensures { (result ≡ true) ↔ IsHost octets.now }
 {

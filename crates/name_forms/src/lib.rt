@@ -1,14 +1,15 @@
-//! The forms of names in certificates, as octets: texts, host names, mailboxes, URIs and addresses.
+//! The forms of names in certificates, as octets: texts, host names, mailboxes, URIs and IP
+//! addresses.
 //!
-//! The functions compare names as RFC 5280 demands (7.1, 7.2 and 7.5): [`texts_match`],
-//! [`is_same_host`], [`mailboxes_match`]. They compare a name with a constraint of its form
-//! (4.2.1.10): [`is_below_host`], [`is_mail_within`], [`is_uri_within`], [`is_address_within`]. And
-//! they say whether octets have the syntax of a form (4.2.1.6): [`is_host_name`], [`is_mailbox`],
-//! [`is_uri`], [`is_address`].
+//! [`texts_match`], [`is_same_host`] and [`mailboxes_match`] compare two names as RFC 5280 demands
+//! (7.1, 7.2 and 7.5). [`is_below_host`], [`is_mail_within`], [`is_uri_within`] and
+//! [`is_address_within`] compare a name with a constraint of its form (4.2.1.10). [`is_host_name`],
+//! [`is_mailbox`], [`is_uri`] and [`is_address`] say whether octets have the syntax of a form
+//! (4.2.1.6).
 //!
-//! Proved: each answer, exactly. Only letters of ASCII have a case, and only spaces of ASCII are
-//! spaces: the tables of stringprep (RFC 4518) for other characters are not used, and names in other
-//! alphabets are compared octet by octet. Nothing is allocated.
+//! Each result is proved to be exactly what its specification says. Only ASCII letters have a case,
+//! and only ASCII spaces are spaces. The tables of stringprep (RFC 4518) for other characters are
+//! not used: names in other alphabets are compared octet by octet. Nothing is allocated.
 #![tactic(auto)]
 
 mod address;

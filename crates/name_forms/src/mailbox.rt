@@ -1,12 +1,14 @@
-//! Mailboxes, compared with the case of their local parts and without that of their hosts.
+//! Comparison of mailboxes. Local parts are compared octet by octet. Hosts are compared ignoring
+//! the case of ASCII letters.
 ghost use Rattle.std.specs.Prelude.{◌≡◌, ◌↔◌, ◌<◌, true, length, IfNone, IfSome};
 ghost use Rattle.name_forms.specs.Mailboxes.{HasMailbox, HasNoAt, IsLastAt, IsMailWithin, IsSameAt, MailboxesMatch};
 
 use crate::host::{is_host_within, is_same_host};
 use crate::rest::rest;
 
-/// Whether two mailboxes are the same: the same local part, octet by octet, and the same host without
-/// case (RFC 5280, 7.5). The host is after the last @. False if one has no @.
+/// Whether two mailboxes are the same (RFC 5280, 7.5). Local parts are compared octet by octet, and
+/// hosts are compared ignoring the case of ASCII letters. The host is what follows the last @.
+/// False if one of the two mailboxes has no @.
 pub fn mailboxes_match(first: &[u8], second: &[u8]) -> bool
     ensures { (result ≡ true) ↔ MailboxesMatch first.now second.now }
 {
@@ -28,9 +30,12 @@ fn is_same_at(first: &[u8], at: usize, second: &[u8], place: usize) -> bool
     first[..at] == second[..place] && is_same_host(rest(first, at + 1), rest(second, place + 1))
 }
 
-/// Whether a mailbox is within the constraint of an rfc822Name (RFC 5280, 4.2.1.10): the mailbox that
-/// the constraint is, or any at the host that it names, or any in the domain that is after its
-/// leading dot. False if the name has no @.
+/// Whether the mailbox `name` is within the constraint `base` of an rfc822Name (RFC 5280,
+/// 4.2.1.10). False if `name` has no @. The constraint may be:
+///
+/// - a mailbox, which has an @: `name` must be the same mailbox;
+/// - a dot and a domain: the host of `name` must be in the domain;
+/// - a host: the host of `name` must be this host.
 pub fn is_mail_within(base: &[u8], name: &[u8]) -> bool
     ensures { (result ≡ true) ↔ IsMailWithin base.now name.now }
 {
@@ -43,14 +48,14 @@ pub fn is_mail_within(base: &[u8], name: &[u8]) -> bool
     }
 }
 
-/// Whether there is an @, so that the mailbox can be compared.
+/// Whether the octets have an @. Octets without an @ cannot be compared as a mailbox.
 pub fn has_mailbox(octets: &[u8]) -> bool
     ensures { (result ≡ true) ↔ HasMailbox octets.now }
 {
     last_at(octets).is_some()
 }
 
-/// The place of the last @.
+/// The index of the last @, counted from 0; `None` if there is no @.
 pub(crate) fn last_at(octets: &[u8]) -> Option<usize>
     ensures some { IfSome result (IsLastAt octets.now) }
     ensures none { IfNone result (HasNoAt octets.now) }

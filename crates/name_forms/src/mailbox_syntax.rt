@@ -6,8 +6,9 @@ use crate::host_name::{is_alphanumeric, is_between, is_host};
 use crate::mailbox::last_at;
 use crate::rest::{front, rest};
 
-/// Whether the octets are a mailbox: a local part, an @, and a domain, with no phrase, no comment and
-/// no angle brackets (RFC 5280, 4.2.1.6). An address in brackets is not compared with its grammar.
+/// Whether the octets are a mailbox: a local part, an @, and a domain (RFC 5280, 4.2.1.6). A
+/// phrase, a comment and angle brackets are not accepted. If the domain is an address in square
+/// brackets, the syntax of the address is not checked.
 pub fn is_mailbox(octets: &[u8]) -> bool
     ensures { (result ≡ true) ↔ IsMailbox octets.now }
 {

@@ -4,7 +4,8 @@ ghost use Rattle.name_forms.specs.UriSyntax.{HasScheme, fits_scheme, is_scheme_o
 
 use crate::host::is_letter;
 
-/// Whether the octets are a scheme, a colon, and at least one more octet.
+/// Whether the octets begin with a scheme and a colon, and have at least one more octet after the
+/// colon.
 pub fn has_scheme(octets: &[u8]) -> bool
     ensures { (result ≡ true) ↔ HasScheme octets.now }
 {

@@ -1,10 +1,11 @@
-//! Texts of names, compared without case and without spaces that do not count.
+//! Comparison of texts in names. The case of ASCII letters is ignored, and so are spaces at the
+//! ends and repeated spaces.
 ghost use Rattle.std.specs.Prelude.{◌≡◌, ◌↔◌, ◌<◌, ◌≤◌, ◌∷◌, [], true, false, length, drop, slice_index, IfNone, IfSome};
 ghost use Rattle.name_forms.specs.PreparedText.{is_space, spaced, squeezed, TextsMatch};
 
-/// Whether two texts in ASCII or UTF-8 are the same after preparation (RFC 5280, 7.1; RFC 4518):
-/// letters of ASCII have no case, and spaces count only between other characters, as one space.
-/// Characters beyond ASCII are compared octet by octet.
+/// Whether two texts in ASCII or UTF-8 match (RFC 5280, 7.1; RFC 4518). The case of ASCII letters
+/// is ignored. Spaces at the beginning and at the end are ignored too. Several spaces between other
+/// characters count as one. Characters that are not ASCII are compared octet by octet.
 pub fn texts_match(first: &[u8], second: &[u8]) -> bool
     ensures { (result ≡ true) ↔ TextsMatch first.now second.now }
 {

@@ -6,16 +6,18 @@ use crate::host::{is_domain_name, is_host_within};
 use crate::mark::Mark;
 use crate::rest::{front, rest};
 
-/// Whether the host of a URI is within the constraint of a uniformResourceIdentifier (RFC 5280,
-/// 4.2.1.10): the host that the constraint names, or one in the domain that is after its leading
-/// dot. False if the URI has no authority.
+/// Whether the host of a URI is within the constraint `base` of a uniformResourceIdentifier (RFC
+/// 5280, 4.2.1.10). If `base` begins with a dot, it is a domain, and the host must be in this
+/// domain. Otherwise `base` is a host, and the host of the URI must be equal to it. False if the
+/// URI has no authority.
 pub fn is_uri_within(base: &[u8], uri: &[u8]) -> bool
     ensures { (result ≡ true) ↔ IsUriWithin base.now uri.now }
 {
     has_authority(uri) && is_host_within(base, host_of(uri))
 }
 
-/// Whether a URI has a host name, and no address in its place (RFC 5280, 4.2.1.10).
+/// Whether a URI has an authority (RFC 3986, 3.2) whose host is a name and not an IP address (RFC
+/// 5280, 4.2.1.10).
 pub fn has_domain_name(uri: &[u8]) -> bool
     ensures { (result ≡ true) ↔ HasDomainName uri.now }
 {

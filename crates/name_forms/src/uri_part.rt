@@ -1,13 +1,13 @@
 //! Parts of URIs.
 
-/// A part of a URI, by the octets that it may have (RFC 3986, 3).
+/// A part of a URI (RFC 3986, 3). The part decides which octets are allowed in it.
 #[derive(Clone, Copy, Debug, PartialEq, Eq)]
 pub enum UriPart {
     /// The userinfo of an authority (RFC 3986, 3.2.1).
     User,
     /// The name of a host.
     Name,
-    /// The address of a host in brackets.
+    /// The IP address of a host, inside square brackets.
     Literal,
     /// The port of a host.
     Port,

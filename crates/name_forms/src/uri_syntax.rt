@@ -14,9 +14,9 @@ use crate::uri::{
 };
 use crate::uri_part::UriPart;
 
-/// Whether the octets are a URI: a scheme, an authority that may be absent, and a path, a query and a
-/// fragment of the octets that each may have (RFC 3986, 3). The inside of an address in brackets is
-/// not compared with its grammar.
+/// Whether the octets are a URI (RFC 3986, 3): a scheme and a colon, an optional authority, a path,
+/// an optional query and an optional fragment. Each part must have only the octets that are allowed
+/// in it. The syntax of an IP address in square brackets is not checked, only its octets.
 pub fn is_uri(uri: &[u8]) -> bool
     ensures { (result ≡ true) ↔ IsUri uri.now }
 {
@@ -29,8 +29,8 @@ fn has_parts(uri: &[u8]) -> bool
     has_authority_of_form(uri) && is_path(path_of(uri))
 }
 
-/// Whether the authority of a URI has a host name or an address; true if there is no authority (RFC
-/// 5280, 4.2.1.6).
+/// Whether the authority of a URI has a host name or an IP address (RFC 5280, 4.2.1.6). Also true
+/// if the URI has no authority.
 pub fn has_host(uri: &[u8]) -> bool
     ensures { (result ≡ true) ↔ HasHost uri.now }
 {

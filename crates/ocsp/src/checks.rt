@@ -5,7 +5,8 @@ ghost use Rattle.ocsp.specs.Responses.{MatchesResponseStatus};
 use crate::asn1::{OcspResponse, OcspResponseStatus};
 
 impl OcspResponse<'_> {
-    /// Whether the response itself is present exactly if the request was successful (RFC 6960,
+    /// Whether the field `response_bytes` is present exactly when it should be. It should be
+    /// present if the status is `successful`, and absent if the status is another one (RFC 6960,
     /// 4.2.1). Decoding does not check this.
     pub fn has_response_of_status(&self) -> bool
         ensures { (result ≡ true) ↔ MatchesResponseStatus self.now }

@@ -1,7 +1,7 @@
 //! Requests for the status of certificates, and the responses (RFC 6960), borrowed from the input.
-//! Each type is lawful: decoding succeeds exactly if the octets are the encoding of a value. Nothing
-//! is allocated. The types are compiled from `asn1/ocsp.asn1`; `asn1::values` has the identifiers of
-//! responses and extensions.
+//! Each type is lawful: decoding succeeds if and only if the octets are the encoding of a value.
+//! Nothing is allocated. The types are compiled from `asn1/ocsp.asn1`. `asn1::values` has the
+//! identifiers of responses and extensions.
 #![tactic(auto)]
 
 pub mod asn1;

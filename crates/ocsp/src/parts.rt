@@ -8,7 +8,7 @@ use x509::first_field;
 
 impl<'a> BasicOcspResponse<'a> {
     /// The part of `octets` that the signature covers: the element ResponseData, with its header
-    /// (RFC 6960, 4.2.1). `octets` are the whole encoding of this response.
+    /// (RFC 6960, 4.2.1). `octets` must be the whole encoding of this response.
     pub fn signed_octets<'i>(&self, octets: &'i [u8]) -> &'i [u8]
         requires whole { octets.now ≡ element_octets ⟦<BasicOcspResponse<'a> as FixedTag>⟧.tag_is
             (⟦<BasicOcspResponse<'a> as WrittenValue>⟧.contents self.now) }
@@ -24,7 +24,7 @@ impl<'a> BasicOcspResponse<'a> {
 
 impl<'a> OcspRequest<'a> {
     /// The part of `octets` that a signature covers: the element TBSRequest, with its header (RFC
-    /// 6960, 4.1.1). `octets` are the whole encoding of this request.
+    /// 6960, 4.1.1). `octets` must be the whole encoding of this request.
     pub fn signed_octets<'i>(&self, octets: &'i [u8]) -> &'i [u8]
         requires whole { octets.now ≡ element_octets ⟦<OcspRequest<'a> as FixedTag>⟧.tag_is
             (⟦<OcspRequest<'a> as WrittenValue>⟧.contents self.now) }

@@ -1,4 +1,5 @@
-//! Parcels on their way: an example of types that are compiled from ASN.1.
+//! An example of types that are compiled from an ASN.1 module. The module describes parcels on
+//! their way to a recipient.
 #![tactic(auto)]
 
 pub mod asn1;

@@ -5,8 +5,9 @@ ghost use Rattle.pkcs1.specs.RsaPrivateKey.{MatchesRsaVersion};
 use crate::asn1::RsaPrivateKey;
 
 impl RsaPrivateKey<'_> {
-    /// Whether the version is that of the primes: 0 for a key with two primes, 1 for a key with more
-    /// (RFC 8017, A.1.2). Decoding does not check this.
+    /// Whether the version agrees with the number of primes (RFC 8017, A.1.2). The version must be
+    /// 0 for a key with two primes, and 1 for a key with more than two primes. Decoding does not
+    /// check this.
     pub fn has_version_of_primes(&self) -> bool
         ensures { (result ≡ true) ↔ MatchesRsaVersion self.now }
     {

@@ -1,11 +1,12 @@
-//! The default of the sources of labels.
+//! The default of the field pSourceAlgorithm of RSAES-OAEP-params.
 ghost use Rattle.std.specs.Prelude.{[], ◌∷◌};
 
 use der::{IsValue, Tag};
 use der_asn1::{AnyRef, Checked, DefaultEncoding, DefaultOf, Explicit, Optional, has_contents};
 use spki::AlgorithmIdentifierRef;
 
-/// The empty label, the default of the sources of labels in \[2\] (RFC 8017, A.2.1).
+/// The default of the field pSourceAlgorithm, with the tag \[2\], of RSAES-OAEP-params (RFC 8017,
+/// A.2.1): the empty label.
 #[derive(Clone, Copy)]
 pub struct EmptyLabelDefault;
 

@@ -1,7 +1,7 @@
-//! RSA keys and the parameters of algorithms with RSA (RFC 8017, RFC 4055), borrowed from the input.
-//! Each type is lawful: decoding succeeds exactly if the octets are the encoding of a value. Nothing
-//! is allocated. The types are compiled from `asn1/pkcs1.asn1`; `asn1::values` has the identifiers of
-//! algorithms.
+//! RSA keys and the parameters of algorithms with RSA (RFC 8017, RFC 4055), borrowed from the
+//! input. Each type is lawful: decoding succeeds if and only if the octets are the encoding of a
+//! value. Nothing is allocated. The types are compiled from `asn1/pkcs1.asn1`. `asn1::values` has
+//! the identifiers of algorithms.
 #![tactic(auto)]
 
 pub mod asn1;

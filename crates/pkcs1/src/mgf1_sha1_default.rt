@@ -1,11 +1,12 @@
-//! The default of mask generation functions.
+//! The default of the field maskGenAlgorithm of RSAES-OAEP-params and RSASSA-PSS-params.
 ghost use Rattle.std.specs.Prelude.{[], ◌∷◌};
 
 use der::{IsValue, Tag};
 use der_asn1::{AnyRef, Checked, DefaultEncoding, DefaultOf, Explicit, Optional, has_contents};
 use spki::AlgorithmIdentifierRef;
 
-/// MGF1 with SHA-1, the default of mask generation functions in \[1\] (RFC 8017, A.2.1 and A.2.3).
+/// The default of the field maskGenAlgorithm, with the tag \[1\], of RSAES-OAEP-params and
+/// RSASSA-PSS-params (RFC 8017, A.2.1 and A.2.3): MGF1 with SHA-1.
 #[derive(Clone, Copy)]
 pub struct Mgf1Sha1Default;
 

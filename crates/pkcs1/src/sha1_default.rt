@@ -1,11 +1,12 @@
-//! The default of hash algorithms.
+//! The default of the field hashAlgorithm of RSAES-OAEP-params and RSASSA-PSS-params.
 ghost use Rattle.std.specs.Prelude.{[], ◌∷◌};
 
 use der::{IsValue, Tag};
 use der_asn1::{AnyRef, Checked, DefaultEncoding, DefaultOf, Explicit, Optional, has_contents};
 use spki::AlgorithmIdentifierRef;
 
-/// SHA-1 with parameters NULL, the default of hash algorithms in \[0\] (RFC 8017, A.2.1 and A.2.3).
+/// The default of the field hashAlgorithm, with the tag \[0\], of RSAES-OAEP-params and
+/// RSASSA-PSS-params (RFC 8017, A.2.1 and A.2.3): SHA-1 with parameters NULL.
 #[derive(Clone, Copy)]
 pub struct Sha1Default;
 

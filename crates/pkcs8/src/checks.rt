@@ -5,8 +5,8 @@ ghost use Rattle.pkcs8.specs.PrivateKeyInfo.{MatchesPrivateKeyVersion};
 use crate::asn1::{PrivateKeyInfo, Version};
 
 impl PrivateKeyInfo<'_> {
-    /// Whether the version allows the fields that are present: in version 1 the public key must be
-    /// absent (RFC 5958, 2). Decoding does not check this.
+    /// Whether the version allows the fields that are present (RFC 5958, 2). The public key must be
+    /// absent in version 1, which is encoded as 0. Decoding does not check this.
     pub fn has_fields_of_version(&self) -> bool
         ensures { (result ≡ true) ↔ MatchesPrivateKeyVersion self.now }
     {

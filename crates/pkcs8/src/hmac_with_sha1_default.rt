@@ -1,11 +1,12 @@
-//! The default of the functions of PBKDF2.
+//! The default of the field prf of PBKDF2-params.
 ghost use Rattle.std.specs.Prelude.{[], ◌∷◌};
 
 use der::{IsValue, Tag};
 use der_asn1::{AnyRef, Checked, DefaultEncoding, DefaultOf, Optional, has_contents};
 use spki::AlgorithmIdentifierRef;
 
-/// HMAC with SHA-1 and parameters NULL, the default of the functions of PBKDF2 (RFC 8018, A.2).
+/// The default of the field prf, the pseudorandom function, of PBKDF2-params (RFC 8018, A.2): HMAC
+/// with SHA-1 and parameters NULL.
 #[derive(Clone, Copy)]
 pub struct HmacWithSha1Default;
 

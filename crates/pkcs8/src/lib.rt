@@ -1,6 +1,6 @@
 //! Private keys (RFC 5208, RFC 5958) and the parameters of their encryption (RFC 8018, RFC 7914),
-//! borrowed from the input. Each type is lawful: decoding succeeds exactly if the octets are the
-//! encoding of a value. Nothing is allocated. The types are compiled from `asn1/pkcs8.asn1`;
+//! borrowed from the input. Each type is lawful: decoding succeeds if and only if the octets are
+//! the encoding of a value. Nothing is allocated. The types are compiled from `asn1/pkcs8.asn1`.
 //! `asn1::values` has the identifiers of algorithms.
 #![tactic(auto)]
 

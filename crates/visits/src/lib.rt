@@ -1,4 +1,5 @@
-//! Visits to a museum: an example of types that are compiled from ASN.1.
+//! An example of Rattle types that are compiled from an ASN.1 module. The module describes visits
+//! to a museum.
 #![tactic(auto)]
 
 pub mod asn1;

@@ -1,4 +1,5 @@
-//! Extensions and attributes that are assembled from their values, in buffers of the caller.
+//! Making extensions and attributes from their values: the encodings of the values are written into
+//! a buffer of the caller.
 
 mod attribute;
 mod extension;

@@ -1,7 +1,7 @@
 //! Certificates, revocation lists and their extensions (RFC 5280, 4 and 5), and certification
-//! requests (RFC 2986, 4), borrowed from the input. Each type is lawful: decoding succeeds exactly if
-//! the octets are the encoding of a value. Nothing is allocated. The types are compiled from
-//! `asn1/x509.asn1`, except [`Version`].
+//! requests (RFC 2986, 4), borrowed from the input. Each type is lawful: decoding succeeds if and
+//! only if the octets are the encoding of a value. Nothing is allocated. The types are compiled
+//! from `asn1/x509.asn1`, except [`Version`].
 #![tactic(auto)]
 
 mod asn1;

@@ -1,4 +1,5 @@
-//! Parts of the octets of a structure: what its signature covers, names and keys.
+//! Parts of the encoding of a certificate, a request or a revocation list: the octets that its
+//! signature covers, its names and its keys.
 
 mod certificate;
 mod field;

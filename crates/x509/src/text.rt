@@ -1,4 +1,4 @@
-//! The characters of strings.
+//! The characters of strings in names and attributes.
 
 mod bmp;
 mod directory;

@@ -1,4 +1,4 @@
-//! Times of both forms (RFC 5280, 4.1.2.5).
+//! The date and time of a Time, which is a UTCTime or a GeneralizedTime (RFC 5280, 4.1.2.5).
 ghost use Rattle.std.specs.Prelude.{◌≡◌};
 ghost use Rattle.x509.specs.CertificateTimes.{date_time_of};
 

@@ -1,4 +1,4 @@
-//! Version of RFC 5280, 4.1.2.1.
+//! The version of a certificate (RFC 5280, 4.1.2.1).
 ghost use Rattle.std.specs.Prelude.{◌≡◌};
 ghost use Rattle.std.proofs.Common.{arith};
 ghost use Rattle.der.specs.Prelude.{Integer};
@@ -7,8 +7,8 @@ ghost use Rattle.x509.specs.CertificateVersion.{is_version_1, is_certificate_ver
 use der::Tag;
 use der_asn1::{Checked, ContentsGrammar, DefaultContents};
 
-/// The grammar of the contents of a [`Version`]: one octet, which is 0, 1 or 2 for version 1, 2 or
-/// 3.
+/// Describes the contents of a [`Version`]: one octet, which is 0 for version 1, 1 for version 2,
+/// and 2 for version 3.
 pub struct CertificateVersionGrammar;
 
 /// The version of a certificate, borrowed from the input; version 1 is the default.

@@ -1,22 +1,24 @@
-//! Types of extensions that are read under BER too.
+//! Extensions whose contents may be encoded under BER and not under DER.
 
 use der::Lawful;
 use der_asn1::BitStringRef;
 use x509::{BasicConstraints, KnownExtension, ext};
 
-/// A type of an extension with the type that its contents have under BER, for
-/// [`find_lenient`](crate::find_lenient).
+/// A type of extension that [`find_lenient`](crate::find_lenient) can find. The contents of the
+/// extension may be encoded under BER.
 pub trait LenientExtension<'a>: KnownExtension<'a> {
-    /// The type of the contents under BER.
+    /// The type of value that the contents are decoded to under BER.
     type Lenient: Lawful;
 }
 
-/// The bits of a named bit string may have zero bits after them under BER (X.690 11.2.2).
+/// Under BER, the named bits of a keyUsage may have trailing zero bits (X.690 11.2.2). So a
+/// keyUsage is decoded as a BIT STRING without this restriction.
 impl<'a> LenientExtension<'a> for ext::KeyUsage {
     type Lenient = BitStringRef<'a>;
 }
 
-/// A field with a default may be written under BER, with the value of the default too (X.690 8.9.3, 11.5).
+/// Under BER, a field with a DEFAULT may be present even if its value is the default (X.690 8.9.3,
+/// 11.5). So a basicConstraints may contain `cA FALSE`.
 impl<'a> LenientExtension<'a> for ext::BasicConstraints {
     type Lenient = BasicConstraints<'a>;
 }

@@ -1,4 +1,4 @@
-//! Lookup of extensions that may be BER.
+//! Lookup of extensions whose contents may be encoded under BER.
 ghost use Rattle.x509_lenient.specs.Lenient.{BerRead, FindsLenient, IsDerOf, LenientAnswer, SaysDerOf};
 
 use crate::extension::LenientExtension;
@@ -8,13 +8,14 @@ use der_asn1::{Item, lawful_from_der};
 use std::alloc::Global;
 use x509::{Extension, Extensions, FindError, Occurrence};
 
-/// The extension of a type in a list, whose contents may be BER; `None` if no extension has this type.
+/// The extension of type `K` in a list, whose contents may be encoded under BER; `None` if no
+/// extension has this type.
 ///
 /// # Errors
 ///
 /// - `Repeated`, if more than one extension has this type.
-/// - `Contents`, if the contents are not a value under BER, with the error of `from_ber`. Its position counts from the
-///   start of the contents.
+/// - `Contents`, if the contents of the extension are not the BER encoding of a value. It holds the
+///   error of `from_ber`. Positions count from the start of these contents.
 pub fn find_lenient<'a, K: LenientExtension<'a>>(
     alloc: Global,
     extensions: &Extensions<'a>,

@@ -1,15 +1,16 @@
-//! Values of extensions that may be BER.
+//! Extensions whose contents may be encoded under BER.
 
 use der_asn1::BitStringRef;
 
-/// The value of an extension.
+/// An extension whose contents may be encoded under BER. [`find_lenient`](crate::find_lenient)
+/// returns it.
 #[derive(Clone, Copy, Debug, Drop)]
 pub struct Lenient<V> {
     /// Whether an application that does not process the extension must reject the certificate.
     pub critical: bool,
-    /// Whether the contents of the extension are DER.
+    /// Whether the contents of the extension are also valid DER.
     pub is_der: bool,
-    /// The value.
+    /// The value of the extension.
     pub value: V,
 }
 
@@ -17,7 +18,8 @@ impl<'a> Lenient<BitStringRef<'a>> {
     ghost use Rattle.std.specs.Prelude.{◌≡◌};
     ghost use Rattle.der_asn1.specs.NamedBits.{has_bit};
 
-    /// Whether the bit with this number is one; bit 0 is the first. A bit that is absent is zero.
+    /// Whether the bit with this number is one; bit 0 is the first bit. False if the BIT STRING
+    /// does not have the bit.
     pub fn has_bit(&self, number: u32) -> bool
         ensures { result ≡ has_bit number self.now.value.octets.now }
     {

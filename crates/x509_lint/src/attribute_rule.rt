@@ -4,11 +4,12 @@ use std::fmt;
 /// A rule for the attributes of names (RFC 5280, 4.1.2.4).
 #[derive(Clone, Copy, Debug, PartialEq, Eq)]
 pub enum AttributeRule {
-    /// The value has as many characters as A.1 allows for its type.
+    /// The value must have a number of characters within the bounds that RFC 5280, A.1, gives for
+    /// the type of the attribute. The rule holds if A.1 has no bounds for the type.
     Length,
-    /// The value has only characters of the string type that its tag names.
+    /// The value must have only characters of the string type that its tag names.
     Characters,
-    /// The value has a string type that A.1 allows for its type.
+    /// The value must have a string type that RFC 5280, A.1, allows for the type of the attribute.
     StringType,
 }
 

@@ -1,4 +1,4 @@
-//! Rules for the bases of subtrees.
+//! Rules for the bases of the subtrees of a nameConstraints. A base is a GeneralName.
 ghost use Rattle.std.specs.Prelude.{◌≡◌, ◌↔◌, drop, true};
 ghost use Rattle.name_forms.specs.Hosts.{begins_with_dot};
 ghost use Rattle.x509_lint.specs.Bases.{BaseKeeps, IsHostOrDomain};
@@ -11,9 +11,10 @@ use std::fmt;
 /// A rule for the bases of the subtrees of a nameConstraints (RFC 5280, 4.2.1.10).
 #[derive(Clone, Copy, Debug, PartialEq, Eq)]
 pub enum BaseRule {
-    /// The constraint of a URI is a host name or a domain.
+    /// The base must be a host name, or a dot and a host name, if it is a URI constraint. A host
+    /// name stands for one host, and a dot and a host name stand for a domain.
     Domain,
-    /// The constraint of an iPAddress has 8 or 32 octets.
+    /// The base must have 8 or 32 octets, if it is an iPAddress constraint: an address and a mask.
     Range,
 }
 
@@ -30,7 +31,8 @@ impl fmt::Display for BaseRule {
     }
 }
 
-/// Whether the base of a subtree with this tag and these contents keeps the rule.
+/// Whether the base of a subtree keeps the rule. The base is a GeneralName with the tag `tag` and
+/// the contents octets `contents`. True if the rule is for names of another form.
 pub fn base_keeps(tag: Tag, contents: &[u8], rule: BaseRule) -> bool
     ensures { (result ≡ true) ↔ BaseKeeps rule tag contents.now }
 {

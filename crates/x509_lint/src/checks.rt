@@ -35,8 +35,8 @@ pub(crate) fn number_of(octets: &[u8]) -> u8
     }
 }
 
-/// Whether the version allows the fields that are present: unique identifiers must be absent in
-/// version 1, and extensions must be absent in versions 1 and 2 (RFC 5280, 4.1.2.1, 4.1.2.8,
+/// Whether the version allows the fields that are present. The unique identifiers must be absent in
+/// version 1, and the extensions must be absent in versions 1 and 2 (RFC 5280, 4.1.2.1, 4.1.2.8,
 /// 4.1.2.9). Decoding does not check this.
 pub fn has_fields_of_version(signed: &TbsCertificate<'_>) -> bool
     ensures { (result ≡ true) ↔ MatchesCertificateVersion signed.now }
@@ -49,9 +49,9 @@ pub fn has_fields_of_version(signed: &TbsCertificate<'_>) -> bool
     !has_unique_id || number >= 1
 }
 
-/// Whether the field `signature_algorithm` is the same as the field `signature` of the signed
-/// part: the same identifier, and the same parameters or none in both (RFC 5280, 4.1.1.2).
-/// Decoding does not check this.
+/// Whether the field `signature_algorithm` is the same as the field `signature` of the signed part
+/// (RFC 5280, 4.1.1.2). The identifiers must be the same. The parameters must be the same, or
+/// absent in both fields. Decoding does not check this.
 pub fn has_same_algorithms(certificate: &Certificate<'_>) -> bool
     ensures { (result ≡ true) ↔ HasSameAlgorithms certificate.now }
 {

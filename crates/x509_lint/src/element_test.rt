@@ -1,17 +1,17 @@
-//! Tests of elements.
+//! Tests of single elements, by their tag and contents.
 ghost use Rattle.std.specs.Prelude.{◌≡◌, ◌↔◌, ℕ, List, true};
 ghost use Rattle.der.specs.Prelude.{Tag as ATag};
 
 use der::Tag;
 use std::alloc::Global;
 
-/// A test of an element, by its tag and its contents.
+/// A test that an element passes or fails, by its tag and its contents.
 ///
-/// Ghost member (for proofs only): `keeps` says which elements keep the rule.
+/// Ghost member (for proofs only): `keeps` says which elements pass the test.
 pub trait ElementTest {
     ghost keeps: { Self → ATag → List ℕ → Type 0 };
 
-    /// Whether an element with this tag and these contents keeps the rule.
+    /// Whether an element with this tag and these contents passes the test.
     fn keeps(&self, alloc: Global, tag: Tag, contents: &[u8]) -> bool
         ensures { (result ≡ true) ↔ keeps self.now tag contents.now };
 }

@@ -1,4 +1,4 @@
-//! Elements of any tag in octets (X.690 8.1.1).
+//! The elements of which octets consist (X.690 8.1.1).
 ghost use Rattle.std.specs.Prelude.{◌≡◌, ◌↔◌, ℕ, List, true, IfSome, IfNone};
 ghost use Rattle.der.specs.Prelude.{Tag as ATag};
 ghost use Rattle.der_asn1.specs.AnyRef.{any_contents};
@@ -9,7 +9,8 @@ use der::Tag;
 use der_asn1::{AnyRef, SequenceOf};
 use std::alloc::Global;
 
-/// Whether each of the elements that the octets are keeps the rule; true if they are no elements.
+/// Whether each element in `octets` passes the test. `octets` are the encodings of elements, one
+/// after the other. Also true if `octets` are not the encodings of elements.
 pub fn each_element<'a, T: ElementTest>(alloc: Global, octets: &'a [u8], test: &T) -> bool
     ensures { (result ≡ true) ↔ EachElement (T.keeps test.now) octets.now }
 {
@@ -41,8 +42,8 @@ fn is_kept<T: ElementTest>(alloc: Global, element: &AnyRef<'_>, test: &T) -> boo
     test.keeps(alloc, element.tag, element.contents)
 }
 
-/// Whether each of the elements of a SEQUENCE keeps the rule; true if the octets are no SEQUENCE of
-/// elements.
+/// Whether each element inside a SEQUENCE passes the test. `octets` are the encoding of the
+/// SEQUENCE. Also true if `octets` are not the encoding of exactly one SEQUENCE of elements.
 pub fn each_of_sequence<'a, T: ElementTest>(alloc: Global, octets: &'a [u8], test: &T) -> bool
     ensures { (result ≡ true) ↔ EachOfSequence (T.keeps test.now) octets.now }
 {
@@ -52,7 +53,8 @@ pub fn each_of_sequence<'a, T: ElementTest>(alloc: Global, octets: &'a [u8], tes
     }
 }
 
-/// The contents of the only element, if it has this tag.
+/// The contents octets of the element whose encoding is `octets`. Returns `None` if `octets` are
+/// not the encoding of exactly one element, or if the element does not have the tag `tag`.
 pub fn contents_with<'a>(alloc: Global, octets: &'a [u8], tag: Tag) -> Option<&'a [u8]>
     ensures some { IfSome result (λ c. IsElement octets.now tag c.now) }
     ensures none { IfNone result ((c : List ℕ) → IsElement octets.now tag c → ⊥) }
@@ -69,7 +71,8 @@ pub fn contents_with<'a>(alloc: Global, octets: &'a [u8], tag: Tag) -> Option<&'
     }
 }
 
-/// The element that the octets are, if they are one.
+/// The element whose encoding is `octets`. Returns `None` if `octets` are not the encoding of
+/// exactly one element.
 pub fn only_element<'a>(alloc: Global, octets: &'a [u8]) -> Option<AnyRef<'a>>
     ensures some { IfSome result (λ v. IsElement octets.now v.tag (any_contents v)) }
     ensures none { IfNone result ((t : ATag) (c : List ℕ) → IsElement octets.now t c → ⊥) }

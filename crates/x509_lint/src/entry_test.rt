@@ -10,24 +10,26 @@ use crate::part_test::PartTest;
 use der::Tag;
 use std::alloc::Global;
 
-/// A test of the entries of a revocation list (RFC 5280, 5.1.2.6 and 5.3).
+/// A test of an entry of a revocation list (RFC 5280, 5.1.2.6 and 5.3).
 #[derive(Clone, Copy, Debug, PartialEq, Eq)]
 pub enum EntryTest {
-    /// The time has the form that its year requires.
+    /// An entry passes if its revocation date has the form that the year requires: a
+    /// GeneralizedTime must have the year 2050 or a later year.
     Times,
-    /// There are no extensions.
+    /// An entry passes if it has no extensions.
     NoExtensions,
-    /// An extension with this identifier is not critical.
+    /// An entry passes if it has no critical extension with this identifier.
     NotCritical(Identifier),
-    /// A certificateIssuer is critical.
+    /// An entry passes if its certificateIssuer is critical, or if it has no certificateIssuer.
     IssuerCritical,
-    /// The reason is not removeFromCRL.
+    /// An entry passes if it has no reasonCode with the reason removeFromCRL.
     NotRemoved,
-    /// There is no certificateIssuer.
+    /// An entry passes if it has no certificateIssuer.
     NoIssuer,
 }
 
-/// Whether each of the entries keeps the test. This does not use `alloc`.
+/// Whether each entry of a revocation list passes the test. `entries` are the encodings of the
+/// entries, one after the other. The function does not use `alloc`.
 pub fn entries_keep(alloc: Global, entries: &[u8], test: EntryTest) -> bool
     ensures { (result ≡ true) ↔ EachElement (EntryKeeps test) entries.now }
 {

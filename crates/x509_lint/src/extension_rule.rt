@@ -5,19 +5,23 @@ use std::fmt;
 /// A rule for extensions (RFC 5280, 4.2).
 #[derive(Clone, Copy, Debug, PartialEq, Eq)]
 pub enum ExtensionRule {
-    /// No other extension has the same identifier (4.2).
+    /// No other extension may have the same identifier as this extension (RFC 5280, 4.2).
     Instances,
-    /// The extension is critical, if it must be.
+    /// The extension must be critical, if it is one of the extensions that RFC 5280 requires to be
+    /// critical.
     Critical,
-    /// The extension is not critical, if it must not be.
+    /// The extension must not be critical, if it is one of the extensions that RFC 5280 requires to
+    /// be non-critical.
     NotCritical,
-    /// The value is not an empty SEQUENCE, if it must not be.
+    /// The value must not be an empty SEQUENCE, if RFC 5280 requires that this SEQUENCE has an
+    /// element.
     NotEmpty,
-    /// A keyUsage has a bit that is one (4.2.1.3).
+    /// If the extension is a keyUsage, one of its bits must be one (RFC 5280, 4.2.1.3).
     Usage,
-    /// The basicConstraints of an authority is critical (4.2.1.9).
+    /// If the extension is a basicConstraints whose cA is true, the extension must be critical (RFC
+    /// 5280, 4.2.1.9).
     AuthorityCritical,
-    /// The value keeps this rule (4.2.1, 4.2.2).
+    /// The value of the extension must keep this rule (RFC 5280, 4.2.1, 4.2.2).
     Value(ValueRule),
 }
 

@@ -2,21 +2,23 @@
 use std::fmt;
 
 /// A rule for the names in a subjectAltName or an issuerAltName (RFC 5280, 4.2.1.6 and 4.2.1.7).
+/// The names are GeneralNames. Each rule is for names of one form.
 #[derive(Clone, Copy, Debug, PartialEq, Eq)]
 pub enum FormRule {
-    /// An rfc822Name is a mailbox: a local part, an @, and a domain.
+    /// An rfc822Name must be a mailbox: a local part, an @, and a domain.
     Mail,
-    /// A dNSName is a host name in the preferred syntax, or an asterisk and one.
+    /// A dNSName must be a host name in the preferred syntax. The first label may be an asterisk.
     Host,
-    /// A uniformResourceIdentifier has a scheme, and something behind it.
+    /// A uniformResourceIdentifier must have a scheme, a colon, and at least one more octet.
     Scheme,
-    /// A uniformResourceIdentifier has the syntax of RFC 3986.
+    /// A uniformResourceIdentifier must have the syntax of RFC 3986.
     Uri,
-    /// A uniformResourceIdentifier with an authority has a host name or an address in it.
+    /// The authority of a uniformResourceIdentifier (RFC 3986, 3.2) must have a host name or an
+    /// address. A uniformResourceIdentifier without an authority keeps the rule.
     Authority,
-    /// An iPAddress has 4 or 16 octets.
+    /// An iPAddress must have 4 or 16 octets.
     Address,
-    /// A directoryName has a level.
+    /// A directoryName must not be empty.
     Directory,
 }
 

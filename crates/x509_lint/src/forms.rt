@@ -8,7 +8,8 @@ use crate::form_rule::FormRule;
 use der::{Tag, TagNumber};
 use name_forms::{has_host, has_scheme, is_address, is_host_name, is_mailbox, is_uri};
 
-/// Whether a general name with this tag and these contents keeps the rule.
+/// Whether a general name with this tag and these contents keeps the rule. True if the rule is for
+/// names of another form.
 pub fn form_keeps(tag: Tag, contents: &[u8], rule: FormRule) -> bool
     ensures { (result ≡ true) ↔ FormKeeps rule tag contents.now }
 {
@@ -23,14 +24,16 @@ pub fn form_keeps(tag: Tag, contents: &[u8], rule: FormRule) -> bool
     }
 }
 
-/// Whether the tag is context-specific, with this number.
+/// Whether `tag` is the context-specific tag with the number `number`. The tag must be constructed
+/// if `constructed` is true, and primitive if `constructed` is false.
 pub fn is_context(tag: Tag, constructed: bool, number: u32) -> bool
     ensures { (result ≡ true) ↔ (tag ≡ context_tag constructed number) }
 {
     is_same_tag(tag, context(constructed, number))
 }
 
-/// A context-specific tag.
+/// Returns the context-specific tag with the number `number`. The tag is constructed if
+/// `constructed` is true, otherwise primitive.
 pub fn context(constructed: bool, number: u32) -> Tag
     ensures { result ≡ context_tag constructed number }
 {

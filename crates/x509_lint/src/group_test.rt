@@ -1,4 +1,4 @@
-//! Tests of the elements inside of an element.
+//! Tests of the elements inside another element.
 ghost use Rattle.std.specs.Prelude.{◌≡◌, ◌↔◌, true};
 ghost use Rattle.der_asn1.specs.ContextSpecific.{context_tag};
 ghost use Rattle.x509_lint.specs.Groups.{GroupKeeps};
@@ -11,16 +11,19 @@ use crate::part_test::PartTest;
 use der::Tag;
 use std::alloc::Global;
 
-/// A test of the elements inside of one element.
+/// A test that an element passes or fails by the elements inside it.
 #[derive(Clone, Copy, Debug, PartialEq, Eq)]
 pub enum GroupTest {
-    /// A policy mapping (RFC 5280, 4.2.1.5) does not name anyPolicy.
+    /// A policy mapping passes if it does not name anyPolicy (RFC 5280, 4.2.1.5).
     Mapping,
-    /// A distribution point (4.2.1.13) has a name or an issuer of lists.
+    /// A distribution point passes if it has a distributionPoint or a cRLIssuer (RFC 5280,
+    /// 4.2.1.13).
     Point,
-    /// The location of an access description (4.2.2) has a scheme, if it is a URI.
+    /// An access description passes if its location is no URI, or is a URI with a scheme (RFC 5280,
+    /// 4.2.2).
     Location,
-    /// Each of the subtrees (4.2.1.10) has a base alone.
+    /// A list of subtrees passes if each subtree has only a base, and neither minimum nor maximum
+    /// (RFC 5280, 4.2.1.10).
     Subtrees,
 }
 

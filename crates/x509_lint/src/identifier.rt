@@ -1,4 +1,4 @@
-//! Identifiers that are looked for inside of values.
+//! Object identifiers that occur inside extensions and entries.
 ghost use Rattle.std.specs.Prelude.{◌≡◌, ◌↔◌, true};
 ghost use Rattle.x509_lint.specs.Identifiers.{identifier_octets};
 
@@ -8,22 +8,22 @@ use x509::values::{
     id_ce_c_rl_reasons, id_ce_certificate_issuer, id_ce_invalidity_date, id_qt_cps, id_qt_unotice,
 };
 
-/// An identifier that is looked for inside of values.
+/// An object identifier that occurs inside an extension, or in an entry of a revocation list.
 #[derive(Clone, Copy, Debug, PartialEq, Eq)]
 pub enum Identifier {
-    /// The qualifier of a policy that is a CPS pointer (RFC 5280, 4.2.1.4).
+    /// Identifies a policy qualifier that is a CPS pointer (RFC 5280, 4.2.1.4).
     CpsPointer,
-    /// The qualifier of a policy that is a user notice (4.2.1.4).
+    /// Identifies a policy qualifier that is a user notice (RFC 5280, 4.2.1.4).
     UserNotice,
-    /// The extension reasonCode of an entry (5.3.1).
+    /// Identifies the extension reasonCode of an entry (RFC 5280, 5.3.1).
     Reason,
-    /// The extension invalidityDate of an entry (5.3.2).
+    /// Identifies the extension invalidityDate of an entry (RFC 5280, 5.3.2).
     InvalidityDate,
-    /// The extension certificateIssuer of an entry (5.3.3).
+    /// Identifies the extension certificateIssuer of an entry (RFC 5280, 5.3.3).
     CertificateIssuer,
 }
 
-/// Whether the octets are the contents of the identifier.
+/// Whether `octets` are the contents octets of the object identifier `identifier`.
 pub fn is_identifier_of(octets: &[u8], identifier: Identifier) -> bool
     ensures { (result ≡ true) ↔ (octets.now ≡ identifier_octets identifier) }
 {

@@ -1,4 +1,4 @@
-//! Tests of the elements inside of an element.
+//! Tests that an element passes or fails by the elements inside it.
 ghost use Rattle.x509_lint.specs.Tests.{EachKeeps, GuardKeeps, InsideKeeps, LackKeeps};
 
 use crate::element_test::ElementTest;
@@ -6,10 +6,10 @@ use crate::elements::{each_element, is_same_tag};
 use der::Tag;
 use std::alloc::Global;
 
-/// Each element inside of one keeps the test.
+/// A test that an element passes if each element inside it passes `test`.
 #[derive(Clone, Copy)]
 pub struct EachTest<T> {
-    /// The test.
+    /// The test that each element inside the tested element must pass.
     pub test: T,
 }
 
@@ -21,12 +21,13 @@ impl<T: ElementTest> ElementTest for EachTest<T> {
     }
 }
 
-/// Each element inside of one with this tag keeps the test; an element with another tag is passed.
+/// A test for elements with the tag `tag`. An element with this tag passes if each element inside
+/// it passes `test`. An element with another tag always passes.
 #[derive(Clone, Copy)]
 pub struct InsideTest<T> {
-    /// The tag.
+    /// The tag of the elements that are tested. Elements with other tags pass.
     pub tag: Tag,
-    /// The test.
+    /// The test that each element inside the tested element must pass.
     pub test: T,
 }
 
@@ -38,12 +39,14 @@ impl<T: ElementTest> ElementTest for InsideTest<T> {
     }
 }
 
-/// If an element inside of one fails the guard, each of them keeps the test.
+/// A test that an element passes in two cases: each element inside it passes `guard`, or each
+/// element inside it passes `test`.
 #[derive(Clone, Copy)]
 pub struct GuardTest<G, T> {
-    /// The guard.
+    /// The first test: it is enough that each element directly inside the tested element passes it.
     pub guard: G,
-    /// The test.
+    /// The second test: each element directly inside the tested element must pass it, if not all of
+    /// them pass `guard`.
     pub test: T,
 }
 
@@ -55,12 +58,14 @@ impl<G: ElementTest, T: ElementTest> ElementTest for GuardTest<G, T> {
     }
 }
 
-/// If an element inside of one fails the guard, one of them fails the test too.
+/// A test that an element passes in two cases: each element inside it passes `guard`, or at least
+/// one element inside it fails `test`.
 #[derive(Clone, Copy)]
 pub struct LackTest<G, T> {
-    /// The guard.
+    /// The first test: it is enough that each element directly inside the tested element passes it.
     pub guard: G,
-    /// The test.
+    /// The second test: at least one element directly inside the tested element must fail it, if not
+    /// all of them pass `guard`.
     pub test: T,
 }
 

@@ -1,4 +1,4 @@
-//! Values of types in octets.
+//! Whether octets are the encodings of values of a type.
 ghost use Rattle.std.specs.Prelude.{◌≡◌, ◌↔◌, true};
 ghost use Rattle.x509_lint.specs.Items.{AreItems, IsListValue, IsStructValue};
 
@@ -8,7 +8,7 @@ use der::{SliceReader, Tag};
 use der_asn1::{BorrowedItem, DecodeItem, SequenceOf};
 use std::alloc::Global;
 
-/// Whether the octets are a SEQUENCE OF values of the type.
+/// Whether `octets` are the DER encoding of a SEQUENCE OF values of type `T`.
 pub fn is_list_of<'a, T: DecodeItem<SliceReader<'a>> + BorrowedItem>(
     alloc: Global,
     octets: &'a [u8],
@@ -21,7 +21,7 @@ pub fn is_list_of<'a, T: DecodeItem<SliceReader<'a>> + BorrowedItem>(
     }
 }
 
-/// Whether the octets are one value of the type.
+/// Whether `octets` are the DER encoding of exactly one value of type `T`.
 pub fn is_one_of<'a, T: DecodeItem<SliceReader<'a>> + BorrowedItem>(
     alloc: Global,
     octets: &'a [u8],
@@ -31,7 +31,7 @@ pub fn is_one_of<'a, T: DecodeItem<SliceReader<'a>> + BorrowedItem>(
     is_single(alloc, octets) && are_items::<T>(alloc, octets)
 }
 
-/// Whether the octets are values of the type, one after the other.
+/// Whether `octets` are the DER encodings of values of type `T`, one after the other.
 pub fn are_items<'a, T: DecodeItem<SliceReader<'a>> + BorrowedItem>(
     alloc: Global,
     octets: &'a [u8],

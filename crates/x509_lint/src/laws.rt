@@ -1,4 +1,5 @@
-//! Laws of the findings of a certificate, as contracts. Nothing calls the functions of this module.
+//! Properties of [`Lint`] and of the lists of rules, as contracts of functions. The functions exist
+//! for these contracts alone: no code calls them.
 ghost use Rattle.std.specs.Prelude.{◌≡◌, List, Some, length, slice_get};
 ghost use Rattle.std.specs.Iterator.{Drains};
 ghost use Rattle.x509_lint.specs.Lint.{AreFindings};
@@ -13,23 +14,24 @@ use crate::lint::Lint;
 use crate::list_rule::LIST_RULES;
 use crate::rules::RULES;
 
-/// If an iteration comes to its end, it has given exactly the findings of the certificate by the
-/// rules, in the order of the rules.
+/// The contract of this function is about a [`Lint`] that was called until it returned `None`. It
+/// states that the `Lint` has returned exactly the rules that the certificate breaks, in the order
+/// in which it checks them.
 fn gives_all_findings()
     ensures { (lint : ALint) (findings : List AFinding)
         → Drains ⟦<Lint<'static, 'static> as Iterator>⟧.next_gives lint findings
         → AreFindings lint.certificate.now lint.rules.now findings }
 {}
 
-/// Each rule is in the list of all rules, at a place of its own, and the list has no other places. So
-/// no rule is missing, and none is there twice.
+/// The contract of this function states that [`RULES`] has each rule, at an index of its own, and
+/// no other items. So no rule is missing, and no rule is there twice.
 fn lists_each_rule()
     ensures each { (r : ARule) → slice_get RULES (place_of r) ≡ Some r }
     ensures all { length RULES ≡ 58 }
 {}
 
-/// Each rule for revocation lists is in the list of them, at a place of its own, and the list has no
-/// other places.
+/// The contract of this function states that [`LIST_RULES`] has each rule for revocation lists, at
+/// an index of its own, and no other items.
 fn lists_each_list_rule()
     ensures each { (r : AListRule) → slice_get LIST_RULES (list_place_of r) ≡ Some r }
     ensures all { length LIST_RULES ≡ 30 }

@@ -1,5 +1,6 @@
-//! The rules of RFC 5280 for certificates that decoding does not check, and which of them a
-//! certificate breaks.
+//! The rules of RFC 5280 for certificates and revocation lists that decoding does not check.
+//! [`findings`] returns the rules that a certificate breaks. [`list_keeps`] says whether a
+//! revocation list keeps a rule.
 #![tactic(auto)]
 
 mod attribute_rule;

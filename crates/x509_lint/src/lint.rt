@@ -11,9 +11,9 @@ use crate::rules::RULES;
 use std::alloc::Global;
 use x509::Certificate;
 
-/// An iterator over the rules that a certificate breaks, in the order of [`RULES`]. It gives each
-/// rule at most once, with the first place that breaks it, and returns `None` only after every rule
-/// was checked. It does not use memory.
+/// An iterator over the rules that a certificate breaks, in the order of [`RULES`]. `next` returns
+/// each rule at most once, with the first place where the certificate breaks it. `next` returns
+/// `None` only after every rule was checked. Nothing is allocated.
 #[derive(Drop)]
 pub struct Lint<'a, 'c> {
     certificate: &'c Certificate<'a>,
@@ -21,8 +21,8 @@ pub struct Lint<'a, 'c> {
     alloc: Global,
 }
 
-/// An iterator over the rules of RFC 5280 that the certificate breaks and that decoding does
-/// not check. This does not use `alloc`.
+/// An iterator over the rules of RFC 5280 that decoding does not check and that the certificate
+/// breaks. The function does not use `alloc`.
 pub fn findings<'a, 'c>(alloc: Global, certificate: &'c Certificate<'a>) -> Lint<'a, 'c>
     ensures certificate { result.certificate.now ≡ certificate.now }
     ensures rules { result.rules.now ≡ RULES }

@@ -6,59 +6,64 @@ use std::fmt;
 /// A rule for revocation lists that decoding does not check (RFC 5280, 5.1 to 5.3).
 #[derive(Clone, Copy, Debug, PartialEq, Eq)]
 pub enum ListRule {
-    /// Both algorithms of the signature are the same (5.1.1.2, 5.1.2.2).
+    /// The fields signatureAlgorithm and signature must be the same (RFC 5280, 5.1.1.2, 5.1.2.2).
     SameAlgorithms,
-    /// The version is 2, if it is present, and it is present with extensions (5.1.2.1).
+    /// The version must be 2, if it is present. It must be present, if the list has extensions (RFC
+    /// 5280, 5.1.2.1).
     Version,
-    /// The name of the issuer is not empty (5.1.2.3).
+    /// The name of the issuer must not be empty (RFC 5280, 5.1.2.3).
     IssuerPresent,
-    /// The name of the issuer keeps this rule (5.1.2.3).
+    /// The name of the issuer must keep this rule for names (RFC 5280, 5.1.2.3).
     Issuer(NameRule),
-    /// thisUpdate and nextUpdate have the forms that their years require (5.1.2.4, 5.1.2.5).
+    /// thisUpdate and nextUpdate must have the forms that their years require: UTCTime through
+    /// 2049, and GeneralizedTime from 2050 on (RFC 5280, 5.1.2.4, 5.1.2.5).
     TimeForms,
-    /// nextUpdate is present (5.1.2.5).
+    /// nextUpdate must be present (RFC 5280, 5.1.2.5).
     NextUpdate,
-    /// There is a revoked certificate, if the list of them is present (5.1.2.6).
+    /// The field revokedCertificates must have an entry, if it is present (RFC 5280, 5.1.2.6).
     RevokedPresent,
-    /// There is an extension, if the list of them is present (5.1.2.7).
+    /// The field crlExtensions must have an extension, if it is present (RFC 5280, 5.1.2.7).
     ExtensionPresent,
-    /// No extension of the list is there twice (5.2).
+    /// No two extensions of the list may have the same identifier (RFC 5280, 5.2).
     Instances,
-    /// There is an authorityKeyIdentifier with a keyIdentifier (5.2.1).
+    /// The list must have an authorityKeyIdentifier with a keyIdentifier (RFC 5280, 5.2.1).
     KeyIdentifier,
-    /// There is a cRLNumber (5.2.3).
+    /// The list must have a cRLNumber (RFC 5280, 5.2.3).
     Number,
-    /// A cRLNumber is not critical (5.2.3).
+    /// A cRLNumber must not be critical (RFC 5280, 5.2.3).
     NumberNotCritical,
-    /// A deltaCRLIndicator is critical (5.2.4).
+    /// A deltaCRLIndicator must be critical (RFC 5280, 5.2.4).
     DeltaCritical,
-    /// An issuingDistributionPoint is critical (5.2.5).
+    /// An issuingDistributionPoint must be critical (RFC 5280, 5.2.5).
     PointCritical,
-    /// A freshestCRL is not critical (5.2.6).
+    /// A freshestCRL must not be critical (RFC 5280, 5.2.6).
     FreshestNotCritical,
-    /// The times of entries have the forms that their years require (5.1.2.6).
+    /// The revocation dates of entries must have the forms that their years require (RFC 5280,
+    /// 5.1.2.6).
     EntryTimes,
-    /// The version is present, if an entry has extensions (5.1.2.1).
+    /// The version must be present, if an entry has extensions (RFC 5280, 5.1.2.1).
     EntryVersion,
-    /// A cRLNumber has at most 20 octets (5.2.3).
+    /// The INTEGER of a cRLNumber must have at most 20 contents octets (RFC 5280, 5.2.3).
     NumberLength,
-    /// An issuingDistributionPoint is one for one kind of certificates at most (5.2.5).
+    /// An issuingDistributionPoint must have at most one of the fields onlyContainsUserCerts,
+    /// onlyContainsCACerts and onlyContainsAttributeCerts (RFC 5280, 5.2.5).
     PointKinds,
-    /// An issuingDistributionPoint is not an empty SEQUENCE (5.2.5).
+    /// An issuingDistributionPoint must not be an empty SEQUENCE (RFC 5280, 5.2.5).
     PointNotEmpty,
-    /// A freshestCRL is not in a list of changes (5.2.6).
+    /// A delta revocation list must not have a freshestCRL (RFC 5280, 5.2.6).
     FreshestOfComplete,
-    /// An authorityInfoAccess is not critical (5.2.7).
+    /// An authorityInfoAccess must not be critical (RFC 5280, 5.2.7).
     AccessNotCritical,
-    /// A reasonCode is not critical (5.3.1).
+    /// A reasonCode must not be critical (RFC 5280, 5.3.1).
     ReasonNotCritical,
-    /// The reason removeFromCRL is only in lists of changes (5.3.1).
+    /// The reason removeFromCRL may occur only in delta revocation lists (RFC 5280, 5.3.1).
     RemovedInChanges,
-    /// An invalidityDate is not critical (5.3.2).
+    /// An invalidityDate must not be critical (RFC 5280, 5.3.2).
     DateNotCritical,
-    /// A certificateIssuer is critical (5.3.3).
+    /// A certificateIssuer must be critical (RFC 5280, 5.3.3).
     IssuerCritical,
-    /// A certificateIssuer is only in indirect lists (5.3.3).
+    /// A certificateIssuer may occur only in a list whose issuingDistributionPoint has the field
+    /// indirectCRL (RFC 5280, 5.3.3).
     IssuerOfIndirect,
 }
 

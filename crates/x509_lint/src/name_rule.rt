@@ -5,9 +5,9 @@ use std::fmt;
 /// A rule for names (RFC 5280, 4.1.2.4).
 #[derive(Clone, Copy, Debug, PartialEq, Eq)]
 pub enum NameRule {
-    /// Each level has an attribute.
+    /// Each RelativeDistinguishedName of the name must have an attribute (RFC 5280, 4.1.2.4).
     Levels,
-    /// Each attribute keeps this rule.
+    /// Each attribute of the name must keep this rule for attributes.
     Attributes(AttributeRule),
 }
 

@@ -5,18 +5,23 @@ ghost use Rattle.x509_lint.specs.ExtensionTests.{given_of, wanted_of};
 use crate::extension_test::ExtensionTest;
 use std::fmt;
 
-/// A rule for two extensions: with one of them, a certificate must have the other.
+/// A rule for two extensions: a certificate that has the first extension must also have the second.
 #[derive(Clone, Copy, Debug, PartialEq, Eq)]
 pub enum PairRule {
-    /// A certificate whose keyUsage has keyCertSign is one of an authority (RFC 5280, 4.2.1.3).
+    /// A certificate whose keyUsage has keyCertSign must have a basicConstraints whose cA is true
+    /// (RFC 5280, 4.2.1.3).
     CertSignOfAuthority,
-    /// The certificate of an authority has a keyUsage (4.2.1.3).
+    /// A certificate with a basicConstraints whose cA is true must have a keyUsage (RFC 5280,
+    /// 4.2.1.3).
     UsageOfAuthority,
-    /// The certificate of an authority has a subjectKeyIdentifier (4.2.1.2).
+    /// A certificate with a basicConstraints whose cA is true must have a subjectKeyIdentifier (RFC
+    /// 5280, 4.2.1.2).
     KeyIdentifierOfAuthority,
-    /// A certificate with a nameConstraints is one of an authority (4.2.1.10).
+    /// A certificate with a nameConstraints must have a basicConstraints whose cA is true (RFC
+    /// 5280, 4.2.1.10).
     NameConstraintsOfAuthority,
-    /// A certificate with a pathLenConstraint has a keyUsage with keyCertSign (4.2.1.9).
+    /// A certificate with a pathLenConstraint must have a keyUsage with keyCertSign (RFC 5280,
+    /// 4.2.1.9).
     PathLengthOfCertSign,
 }
 

@@ -17,42 +17,49 @@ use der_asn1::ObjectIdentifierRef;
 use name_forms::is_uri;
 use std::alloc::Global;
 
-/// A test of one element.
+/// A test that an element passes or fails. Each variant says what an element must be to pass.
 #[derive(Clone, Copy)]
 pub enum PartTest {
-    /// The element has another tag.
+    /// An element passes if it does not have this tag.
     NotTagged(Tag),
-    /// The element has another tag than these two.
+    /// An element passes if it has neither of these two tags.
     NeitherTagged(Tag, Tag),
-    /// The contents are not those of the identifier anyPolicy.
+    /// An element passes if its contents are not the contents of the object identifier anyPolicy.
     NotAnyPolicy,
-    /// The contents are not those of a negative number, unless the element is a BOOLEAN.
+    /// An element passes if it is a BOOLEAN, or if its contents are not the contents of a negative
+    /// INTEGER.
     NotNegative,
-    /// There are contents octets.
+    /// An element passes if it has contents octets.
     NotEmpty,
-    /// The element is an OBJECT IDENTIFIER.
+    /// An element passes if it is an OBJECT IDENTIFIER.
     Identifier,
-    /// The contents are one element.
+    /// An element passes if its contents are the encoding of exactly one element.
     Single,
-    /// The element is a general name that keeps this rule.
+    /// An element passes if it keeps this rule for general names.
     Form(FormRule),
-    /// The element has this tag.
+    /// An element passes if it has this tag.
     Tagged(Tag),
-    /// The element has another tag than this, or its contents are one element.
+    /// An element passes if it does not have this tag, or if its contents are the encoding of
+    /// exactly one element.
     SingleIn(Tag),
-    /// The contents are not those of this identifier.
+    /// An element passes if its contents are not the contents of this object identifier.
     Other(Identifier),
-    /// An OBJECT IDENTIFIER is that of a CPS pointer or of a user notice (RFC 5280, 4.2.1.4).
+    /// An element passes if it is not an OBJECT IDENTIFIER. An OBJECT IDENTIFIER passes if it
+    /// identifies a CPS pointer or a user notice (RFC 5280, 4.2.1.4).
     Qualifier,
-    /// A text of a user notice has 1 to 200 characters (4.2.1.4).
+    /// An IA5String, VisibleString, BMPString or UTF8String passes if it has 1 to 200 characters,
+    /// as the text of a user notice must have (RFC 5280, 4.2.1.4). Other elements pass.
     NoticeText,
-    /// An IA5String is a URI (4.2.1.4).
+    /// An IA5String passes if it is a URI, as a CPS pointer must be (RFC 5280, 4.2.1.4). Other
+    /// elements pass.
     Pointer,
-    /// The element is the base of a subtree that keeps this rule (4.2.1.10).
+    /// An element passes if it keeps this rule for the base of a subtree (RFC 5280, 4.2.1.10).
     Base(BaseRule),
-    /// A GeneralizedTime is in the year 2050 or later (5.1.2.6).
+    /// A GeneralizedTime passes if its year is 2050 or later (RFC 5280, 5.1.2.6). Other elements
+    /// pass.
     LateTime,
-    /// The contents are not those of the reason removeFromCRL (5.3.1).
+    /// An element passes if its contents are not the value of a reasonCode with the reason
+    /// removeFromCRL (RFC 5280, 5.3.1).
     NotRemoved,
 }
 
@@ -150,7 +157,7 @@ fn is_not_any_policy(contents: &[u8]) -> bool
     contents != [0x55, 0x1D, 0x20, 0x00].as_slice()
 }
 
-/// Whether the octets are one element.
+/// Whether `octets` are the encoding of exactly one element.
 pub fn is_single(alloc: Global, octets: &[u8]) -> bool
     ensures { (result ≡ true) ↔ IsSingle octets.now }
 {
@@ -160,7 +167,7 @@ pub fn is_single(alloc: Global, octets: &[u8]) -> bool
     }
 }
 
-/// Whether the contents of an INTEGER are those of a negative number.
+/// Whether an INTEGER with the contents `octets` is negative.
 pub fn has_minus_sign(octets: &[u8]) -> bool
     ensures { result ≡ is_negative octets.now }
 {

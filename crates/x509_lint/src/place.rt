@@ -1,17 +1,20 @@
 //! Where a certificate breaks a rule.
 use std::fmt;
 
-/// Where a certificate breaks a rule. Places are counted from 0.
+/// The place where a certificate breaks a rule. The numbers are indices, counted from 0.
 #[derive(Clone, Copy, Debug, PartialEq, Eq)]
 pub enum Place {
-    /// The certificate as a whole.
+    /// The rule is about the certificate as a whole, not about one of its parts.
     Certificate,
-    /// The first level of a name that breaks the rule.
+    /// The index, in a name, of the first RelativeDistinguishedName that breaks the rule. The rule
+    /// says whether the name is the name of the issuer or of the subject.
     Level(usize),
-    /// The first level of a name with an attribute that breaks the rule, and the first such
-    /// attribute in it.
+    /// Two indices. The first one gives the first RelativeDistinguishedName of a name that has an
+    /// attribute that breaks the rule. The second one gives the first of these attributes in this
+    /// RelativeDistinguishedName.
     Attribute(usize, usize),
-    /// The first extension that breaks the rule.
+    /// The index of the first extension that breaks the rule, in the certificate's list of
+    /// extensions.
     Extension(usize),
 }
 

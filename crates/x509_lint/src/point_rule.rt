@@ -4,11 +4,12 @@ use std::fmt;
 /// A rule for the fields of distribution points (RFC 5280, 4.2.1.13).
 #[derive(Clone, Copy, Debug, PartialEq, Eq)]
 pub enum PointRule {
-    /// A URI in the name of a distribution point has a scheme.
+    /// A URI in the name of a distribution point must have a scheme.
     Scheme,
-    /// The names in cRLIssuer are directory names.
+    /// The names in cRLIssuer must be directory names.
     IssuerName,
-    /// There is one cRLIssuer at most beside a relative name.
+    /// If a distribution point has a nameRelativeToCRLIssuer and a cRLIssuer, its cRLIssuer must
+    /// have exactly one name.
     OneIssuer,
 }
 

@@ -4,13 +4,13 @@ use std::fmt;
 /// A rule for the qualifiers of a certificatePolicies (RFC 5280, 4.2.1.4).
 #[derive(Clone, Copy, Debug, PartialEq, Eq)]
 pub enum PolicyRule {
-    /// The policy anyPolicy has no other qualifiers than CPS pointers and user notices.
+    /// The policy anyPolicy may have no other qualifiers than CPS pointers and user notices.
     Qualifiers,
-    /// The text of a user notice is no VisibleString and no BMPString.
+    /// The text of a user notice must not be a VisibleString or a BMPString.
     TextTypes,
-    /// The text of a user notice has 1 to 200 characters.
+    /// The text of a user notice must have 1 to 200 characters.
     TextLengths,
-    /// A CPS pointer is a URI.
+    /// A CPS pointer must be a URI.
     Pointers,
 }
 

@@ -7,41 +7,46 @@ use std::fmt;
 /// A rule for certificates that decoding does not check (RFC 5280, 4.1 and 4.2).
 #[derive(Clone, Copy, Debug, PartialEq, Eq)]
 pub enum Rule {
-    /// The version allows the fields that are present (4.1.2.1, 4.1.2.8, 4.1.2.9).
+    /// Only the fields that the version allows may be present (RFC 5280, 4.1.2.1, 4.1.2.8,
+    /// 4.1.2.9).
     VersionFields,
-    /// Both algorithms of the signature are the same (4.1.1.2).
+    /// The fields signatureAlgorithm and signature must be the same (RFC 5280, 4.1.1.2).
     SameAlgorithms,
-    /// The serial number is positive, and has at most 20 octets (4.1.2.2).
+    /// The serial number must be positive, and must have at most 20 octets (RFC 5280, 4.1.2.2).
     SerialNumber,
-    /// The name of the issuer is not empty (4.1.2.4).
+    /// The name of the issuer must not be empty (RFC 5280, 4.1.2.4).
     IssuerPresent,
-    /// The subject has a name: its name is not empty, or there is a critical subjectAltName
-    /// (4.1.2.6, 4.2.1.6).
+    /// The subject must have a name: its name is not empty, or there is a critical subjectAltName
+    /// (RFC 5280, 4.1.2.6, 4.2.1.6).
     SubjectPresent,
-    /// There are no unique identifiers (4.1.2.8).
+    /// The certificate must have neither an issuerUniqueID nor a subjectUniqueID (RFC 5280,
+    /// 4.1.2.8).
     UniqueIdentifiers,
-    /// The name of the subject is not empty, if it is an authority (4.1.2.6).
+    /// The name of the subject must not be empty, if the cA of the basicConstraints is true (RFC
+    /// 5280, 4.1.2.6).
     AuthoritySubject,
-    /// There is an authorityKeyIdentifier with a keyIdentifier, if issuer and subject are not the
-    /// same (4.2.1.1).
+    /// The certificate must have an authorityKeyIdentifier with a keyIdentifier, unless its issuer
+    /// and its subject have the same name (RFC 5280, 4.2.1.1).
     KeyIdentifier,
-    /// Each time has the form that its year requires (4.1.2.5).
+    /// Each time must have the form that its year requires: UTCTime through 2049, and
+    /// GeneralizedTime from 2050 on (RFC 5280, 4.1.2.5).
     TimeForms,
-    /// The period of validity does not end before it begins (4.1.2.5).
+    /// The period of validity must not end before it begins (RFC 5280, 4.1.2.5).
     TimeOrder,
-    /// The name of the issuer keeps this rule (4.1.2.4).
+    /// The name of the issuer must keep this rule for names (RFC 5280, 4.1.2.4).
     Issuer(NameRule),
-    /// The name of the subject keeps this rule (4.1.2.6).
+    /// The name of the subject must keep this rule for names (RFC 5280, 4.1.2.6).
     Subject(NameRule),
-    /// There is an extension if the field `extensions` is present (4.1).
+    /// The field `extensions` must have an extension, if it is present (RFC 5280, 4.1).
     ExtensionPresent,
-    /// Each extension keeps this rule (4.2).
+    /// Each extension must keep this rule for extensions (RFC 5280, 4.2).
     Extension(ExtensionRule),
-    /// With the one extension, there is the other (4.2.1).
+    /// If the certificate has the first extension of this rule, it must also have the second one
+    /// (RFC 5280, 4.2.1).
     Pair(PairRule),
 }
 
-/// One sentence, which says how a certificate breaks the rule, and the section of the rule.
+/// Prints how a certificate breaks the rule, and the section of RFC 5280 with the rule.
 impl fmt::Display for Rule {
     fn fmt<W: fmt::Write>(&self, f: &mut fmt::Formatter<W>) -> fmt::Result {
         match self {

@@ -1,4 +1,4 @@
-//! All rules.
+//! The list of all rules for certificates.
 use crate::attribute_rule::AttributeRule;
 use crate::base_rule::BaseRule;
 use crate::extension_rule::ExtensionRule;
@@ -10,7 +10,7 @@ use crate::policy_rule::PolicyRule;
 use crate::rule::Rule;
 use crate::value_rule::ValueRule;
 
-/// All rules, in the order in which [`Lint`](crate::Lint) goes through them.
+/// All rules for certificates, in the order in which [`Lint`](crate::Lint) checks them.
 pub const RULES: [Rule; 58] = [
     Rule::VersionFields,
     Rule::SameAlgorithms,

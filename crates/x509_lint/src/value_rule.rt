@@ -8,39 +8,45 @@ use std::fmt;
 /// A rule for the values of extensions (RFC 5280, 4.2.1 and 4.2.2).
 #[derive(Clone, Copy, Debug, PartialEq, Eq)]
 pub enum ValueRule {
-    /// The value is one of the type of the extension.
+    /// The value must be an encoding of the type that RFC 5280 gives to the extension.
     Contents,
-    /// A basicConstraints has a pathLenConstraint only if its cA is true (4.2.1.9).
+    /// A basicConstraints may have a pathLenConstraint only if its cA is true (RFC 5280, 4.2.1.9).
     PathLengthOfAuthority,
-    /// The pathLenConstraint of a basicConstraints is not negative (4.2.1.9).
+    /// The pathLenConstraint of a basicConstraints must not be negative (RFC 5280, 4.2.1.9).
     PathLength,
-    /// The numbers of a policyConstraints are not negative (4.2.1.11).
+    /// The numbers of a policyConstraints must not be negative (RFC 5280, 4.2.1.11).
     PolicyNumbers,
-    /// The number of an inhibitAnyPolicy is not negative (4.2.1.14).
+    /// The number of an inhibitAnyPolicy must not be negative (RFC 5280, 4.2.1.14).
     AnyPolicyNumber,
-    /// No policy occurs twice in a certificatePolicies (4.2.1.4).
+    /// No policy may occur twice in a certificatePolicies (RFC 5280, 4.2.1.4).
     DistinctPolicies,
-    /// A policyMappings does not name anyPolicy (4.2.1.5).
+    /// A policyMappings must not name anyPolicy (RFC 5280, 4.2.1.5).
     Mappings,
-    /// Each distribution point has a name or an issuer of lists (4.2.1.13).
+    /// Each distribution point must have a distributionPoint or a cRLIssuer (RFC 5280, 4.2.1.13).
     Points,
-    /// Each subtree of a nameConstraints has neither minimum nor maximum (4.2.1.10).
+    /// Each subtree of a nameConstraints must have neither minimum nor maximum (RFC 5280,
+    /// 4.2.1.10).
     Subtrees,
-    /// Each list of subtrees of a nameConstraints has an item (4.2.1.10).
+    /// The permittedSubtrees and the excludedSubtrees of a nameConstraints must not be empty, if
+    /// they are present (RFC 5280, 4.2.1.10).
     SubtreesPresent,
-    /// Each location of an authorityInfoAccess or a subjectInfoAccess has a scheme, if it is a URI
-    /// (4.2.2).
+    /// Each location of an authorityInfoAccess or a subjectInfoAccess must have a scheme, if the
+    /// location is a URI (RFC 5280, 4.2.2).
     Locations,
-    /// An authorityKeyIdentifier has both the name and the serial number of an issuer, or neither
-    /// (4.2.1.1).
+    /// An authorityKeyIdentifier must have both an authorityCertIssuer and an
+    /// authorityCertSerialNumber, or neither of them (RFC 5280, 4.2.1.1).
     IssuerAndSerial,
-    /// The qualifiers of a certificatePolicies keep this rule (4.2.1.4).
+    /// The qualifiers of a certificatePolicies must keep this rule for qualifiers (RFC 5280,
+    /// 4.2.1.4).
     Policies(PolicyRule),
-    /// The fields of the distribution points keep this rule (4.2.1.13).
+    /// The fields of the distribution points must keep this rule for distribution points (RFC 5280,
+    /// 4.2.1.13).
     PointFields(PointRule),
-    /// The bases of the subtrees of a nameConstraints keep this rule (4.2.1.10).
+    /// The bases of the subtrees of a nameConstraints must keep this rule for bases (RFC 5280,
+    /// 4.2.1.10).
     Bases(BaseRule),
-    /// Each name of a subjectAltName or an issuerAltName keeps this rule (4.2.1.6, 4.2.1.7).
+    /// Each name of a subjectAltName or an issuerAltName must keep this rule for names (RFC 5280,
+    /// 4.2.1.6, 4.2.1.7).
     Names(FormRule),
 }
 

@@ -1,4 +1,4 @@
-//! What the values of extensions are.
+//! Properties of the values of extensions.
 ghost use Rattle.std.specs.Prelude.{◌≡◌, ◌∷◌, ◌↔◌, ℕ, List, ◌<◌, EachIndex, false, length, true};
 ghost use Rattle.der_asn1.specs.ContextSpecific.{context_tag};
 ghost use Rattle.der_asn1.specs.NamedBits.{has_bit};
@@ -10,15 +10,14 @@ use crate::part_test::{PartTest, has_minus_sign};
 use der::Tag;
 use std::alloc::Global;
 
-/// Whether one of the elements of a SEQUENCE has this tag.
+/// Whether `octets` are the encoding of a SEQUENCE with a component that has the tag `tag`.
 pub fn has_part(alloc: Global, octets: &[u8], tag: Tag) -> bool
     ensures { (result ≡ true) ↔ HasPart tag octets.now }
 {
     !each_of_sequence(alloc, octets, &PartTest::NotTagged(tag))
 }
 
-/// Whether the value of a basicConstraints says that the subject is an authority (RFC 5280,
-/// 4.2.1.9).
+/// Whether `octets` are the value of a basicConstraints whose cA is true (RFC 5280, 4.2.1.9).
 pub fn has_authority(alloc: Global, octets: &[u8]) -> bool
     ensures { (result ≡ true) ↔ HasAuthority octets.now }
 {
@@ -34,7 +33,7 @@ fn begins_with_true(contents: &[u8]) -> bool
     matches!(contents, [0x01, 0x01, 0xFF, ..])
 }
 
-/// Whether the value of a keyUsage has the bit keyCertSign (RFC 5280, 4.2.1.3).
+/// Whether `octets` are the value of a keyUsage with the bit keyCertSign (RFC 5280, 4.2.1.3).
 pub fn has_cert_sign(alloc: Global, octets: &[u8]) -> bool
     ensures { (result ≡ true) ↔ HasCertSign octets.now }
 {
@@ -53,7 +52,8 @@ fn has_bit_5(contents: &[u8]) -> bool
     }
 }
 
-/// Whether a BIT STRING has a bit that is one (RFC 5280, 4.2.1.3); true if the octets are no BIT
+/// Whether one of the bits of a BIT STRING is one, as a keyUsage requires (RFC 5280, 4.2.1.3).
+/// `octets` are the encoding of the BIT STRING. Also true if `octets` are not the encoding of a BIT
 /// STRING.
 pub fn has_usage(alloc: Global, octets: &[u8]) -> bool
     ensures { (result ≡ true) ↔ HasUsage octets.now }
@@ -76,7 +76,7 @@ fn are_zero(contents: &[u8]) -> bool
     true
 }
 
-/// Whether the octets are no negative INTEGER; true if they are no INTEGER.
+/// False if `octets` are the encoding of a negative INTEGER, otherwise true.
 pub fn is_not_negative(alloc: Global, octets: &[u8]) -> bool
     ensures { (result ≡ true) ↔ IsNotNegative octets.now }
 {
@@ -86,7 +86,8 @@ pub fn is_not_negative(alloc: Global, octets: &[u8]) -> bool
     }
 }
 
-/// Whether the octets are an INTEGER of more than 20 octets (RFC 5280, 5.2.3).
+/// Whether `octets` are the encoding of an INTEGER with more than 20 contents octets (RFC 5280,
+/// 5.2.3).
 pub fn is_long_number(alloc: Global, octets: &[u8]) -> bool
     ensures { (result ≡ true) ↔ IsLongNumber octets.now }
 {
@@ -102,8 +103,8 @@ fn is_longer_than_20(contents: &[u8]) -> bool
     contents.len() > 20
 }
 
-/// Whether an issuingDistributionPoint is one for more than one kind of certificates (RFC 5280,
-/// 5.2.5).
+/// Whether `octets` are the value of an issuingDistributionPoint with more than one of the fields
+/// onlyContainsUserCerts, onlyContainsCACerts and onlyContainsAttributeCerts (RFC 5280, 5.2.5).
 #[tactic(auto, unfolding(crate::specs::Values::HasMixedKinds))]
 pub fn has_mixed_kinds(alloc: Global, octets: &[u8]) -> bool
     ensures { (result ≡ true) ↔ HasMixedKinds octets.now }

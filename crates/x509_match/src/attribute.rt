@@ -1,4 +1,4 @@
-//! Attributes of names compared.
+//! Comparison of the attributes of names.
 ghost use Rattle.std.specs.Prelude.{◌≡◌, ◌↔◌, ◌&&◌, true};
 ghost use Rattle.x509_match.specs.NameMatching.{AttributesMatch, IsSameElement, ValuesMatch, is_text_tag};
 
@@ -7,9 +7,10 @@ use der_asn1::AnyRef;
 use name_forms::texts_match;
 use x509::AttributeTypeAndValue;
 
-/// Whether two attributes have the same type and values that match (RFC 5280, 7.1): of
-/// PrintableStrings, UTF8Strings and IA5Strings the prepared texts are the same, and other values
-/// are the same element, octet by octet.
+/// Whether two attributes have the same type, and values that match (RFC 5280, 7.1). If each value
+/// is a PrintableString, a UTF8String or an IA5String, the texts are compared by [`texts_match`],
+/// which ignores the case of ASCII letters and some spaces. Other values match if they have the
+/// same tag and the same contents octets.
 pub fn attributes_match(
     first: &AttributeTypeAndValue<'_>,
     second: &AttributeTypeAndValue<'_>,

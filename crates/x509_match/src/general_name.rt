@@ -1,4 +1,4 @@
-//! General names compared.
+//! Comparison of general names.
 ghost use Rattle.std.specs.Prelude.{◌≡◌, ◌↔◌, true};
 ghost use Rattle.x509_match.specs.GeneralNames.{GeneralNamesMatch, IsWithinBase, OtherNamesMatch};
 
@@ -10,10 +10,14 @@ use name_forms::{
 use std::alloc::Global;
 use x509::{GeneralName, OtherName};
 
-/// Whether two general names have the same form and match (RFC 5280, 7.2 to 7.5): dNSNames without
-/// case, rfc822Names with the case of their local parts alone, directoryNames as
-/// [`names_match`](crate::names_match) says, and the other forms octet by octet. URIs too are
-/// compared octet by octet, and two ediPartyNames do not match. This does not use `alloc`.
+/// Whether two general names have the same form and match (RFC 5280, 7.2 to 7.5). The function does
+/// not use `alloc`.
+///
+/// - dNSNames are compared ignoring the case of ASCII letters.
+/// - rfc822Names are compared in two parts: the local parts octet by octet, and the hosts ignoring
+///   the case of ASCII letters.
+/// - directoryNames are compared by [`names_match`](crate::names_match).
+/// - Names of other forms, also URIs, are compared octet by octet. Two ediPartyNames never match.
 pub fn general_names_match(alloc: Global, first: &GeneralName<'_>, second: &GeneralName<'_>) -> bool
     ensures { (result ≡ true) ↔ GeneralNamesMatch first.now second.now }
 {
@@ -50,9 +54,9 @@ fn other_names_match(first: &OtherName<'_>, second: &OtherName<'_>) -> bool
         && elements_match(&first.value.0, &second.value.0)
 }
 
-/// Whether a name is within the base of a subtree of its form (RFC 5280, 4.2.1.10). False if the base
-/// has another form, and for otherNames, x400Addresses, ediPartyNames and registeredIDs, for which
-/// the RFC has no constraints. This does not use `alloc`.
+/// Whether `name` is within the subtree with the base `base` (RFC 5280, 4.2.1.10). False if `base`
+/// and `name` have different forms. Also false for otherNames, x400Addresses, ediPartyNames and
+/// registeredIDs, for which the RFC has no constraints. The function does not use `alloc`.
 pub fn is_within_base(alloc: Global, base: &GeneralName<'_>, name: &GeneralName<'_>) -> bool
     ensures { (result ≡ true) ↔ IsWithinBase base.now name.now }
 {

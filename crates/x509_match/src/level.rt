@@ -1,4 +1,4 @@
-//! Levels of names compared.
+//! Comparison of RelativeDistinguishedNames.
 ghost use Rattle.std.specs.Prelude.{◌≡◌, ◌↔◌, true};
 ghost use Rattle.x509.specs.CertificateLists.{level_octets};
 ghost use Rattle.x509_match.specs.NameMatching.{AreAsMany, HasMatch, HaveMatches, LevelsMatch};
@@ -7,8 +7,8 @@ use crate::attribute::attributes_match;
 use std::alloc::Global;
 use x509::{AttributeTypeAndValue, RelativeDistinguishedName};
 
-/// Whether two levels have as many attributes, and each of the first has a match in the second (RFC
-/// 5280, 7.1).
+/// Whether two RelativeDistinguishedNames match (RFC 5280, 7.1). They must have the same number of
+/// attributes, and each attribute of the first must match an attribute of the second.
 pub fn levels_match(
     alloc: Global,
     first: &RelativeDistinguishedName<'_>,

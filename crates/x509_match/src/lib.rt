@@ -1,18 +1,20 @@
-//! Names of certificates compared, as RFC 5280 demands (7.1).
+//! Comparison of the names of certificates, as RFC 5280 demands (7.1).
 //!
-//! [`names_match`] says whether two names are the same, as those of an issuer and of the subject of
-//! the authority above it, and [`is_name_within`] whether a name is within the subtree of another, as
-//! a constraint of names has it (4.2.1.10). [`general_names_match`] and [`is_within_base`] say the
-//! same of general names of all forms. [`name_verdict`] and [`names_verdict`] say what a whole
-//! nameConstraints says of a general name and of a list of them: permitted, outside, excluded, or that
-//! they cannot be compared.
+//! [`names_match`] says whether two names are the same. An example is the issuer of a certificate
+//! and the subject of the certificate of its authority. [`is_name_within`] says whether a name is
+//! within the subtree of another name, which is how constraints of names are given (4.2.1.10).
+//! [`general_names_match`] and [`is_within_base`] say the same of general names of all forms.
+//! [`name_verdict`] and [`names_verdict`] compare a general name, and a list of general names, with
+//! a whole nameConstraints. The result is a [`Verdict`].
 //!
-//! Proved: each answer, exactly. Values that are PrintableStrings, UTF8Strings or IA5Strings are
-//! compared after preparation by `name_forms::texts_match`: without the case of ASCII, and with
-//! spaces between other characters alone. Values of other types are compared octet by octet. Nothing
-//! is allocated. The time is in proportion to the size of the names, and within one level to the
-//! product of the numbers of attributes. A list of names is compared in time in proportion to the
-//! product of its size and that of the nameConstraints, so a caller should limit both.
+//! Each result is proved to be exactly what its specification says. Values that are
+//! PrintableStrings, UTF8Strings or IA5Strings are compared by `name_forms::texts_match`. It
+//! ignores the case of ASCII letters. It ignores spaces at the beginning and the end, and takes
+//! several spaces for one. Values of other types are compared octet by octet. Nothing is allocated.
+//!
+//! The time is in proportion to the size of the names, and within one RelativeDistinguishedName to
+//! the product of the numbers of attributes. A list of names is compared in time in proportion to
+//! its size times the size of the nameConstraints. So a caller should limit the sizes of both.
 #![tactic(auto)]
 
 mod attribute;

@@ -1,4 +1,4 @@
-//! Names compared.
+//! Comparison of names.
 ghost use Rattle.std.specs.Prelude.{◌≡◌, ◌↔◌, true};
 ghost use Rattle.x509_match.specs.NameMatching.{HasLevelsOf, IsNameWithin, NamesMatch};
 
@@ -6,16 +6,18 @@ use crate::level::levels_match;
 use std::alloc::Global;
 use x509::Name;
 
-/// Whether two names match (RFC 5280, 7.1): as many levels, which match in the same order. This does
-/// not use `alloc`.
+/// Whether two names match (RFC 5280, 7.1). They must have the same number of
+/// RelativeDistinguishedNames, and these must match one after the other, in the same order. The
+/// function does not use `alloc`.
 pub fn names_match(alloc: Global, first: &Name<'_>, second: &Name<'_>) -> bool
     ensures { (result ≡ true) ↔ NamesMatch first.now second.now }
 {
     has_levels_of(alloc, first, second, true)
 }
 
-/// Whether a name is within the subtree of another (RFC 5280, 7.1 and 4.2.1.10): it begins with
-/// levels that match those of the other. This does not use `alloc`.
+/// Whether `name` is within the subtree of `base` (RFC 5280, 7.1 and 4.2.1.10). The first
+/// RelativeDistinguishedNames of `name` must match all RelativeDistinguishedNames of `base`, in the
+/// same order. The function does not use `alloc`.
 pub fn is_name_within(alloc: Global, base: &Name<'_>, name: &Name<'_>) -> bool
     ensures { (result ≡ true) ↔ IsNameWithin base.now name.now }
 {

@@ -1,4 +1,4 @@
-//! What a nameConstraints says of the names of a list.
+//! Comparison of a list of names with a nameConstraints.
 ghost use Rattle.std.specs.Prelude.{◌≡◌};
 ghost use Rattle.x509_match.specs.Verdicts.{HaveVerdict, first_refusal};
 
@@ -6,10 +6,13 @@ use crate::verdict::{Verdict, name_verdict};
 use std::alloc::Global;
 use x509::{GeneralNames, NameConstraints};
 
-/// Compares each name of a list with the subtrees of a nameConstraints: [`Verdict::Permitted`] if all
-/// are permitted, otherwise the verdict of the first name that is not (RFC 5280, 6.1.3 (b) and (c)).
-/// The subject of the certificate is no part of the list, nor is an emailAddress in it: a caller
-/// compares them too, by [`name_verdict`](crate::name_verdict). This does not use `alloc`.
+/// Compares each name of a list, such as a subjectAltName, with the subtrees of a nameConstraints
+/// (RFC 5280, 6.1.3 (b) and (c)). Returns [`Verdict::Permitted`] if all names are permitted, and
+/// otherwise the verdict of the first name that is not permitted.
+///
+/// The subject of the certificate, and an emailAddress in the subject, are not in the list. The
+/// caller must compare them too, by [`name_verdict`](crate::name_verdict). The function does not
+/// use `alloc`.
 pub fn names_verdict(
     alloc: Global,
     constraints: &NameConstraints<'_>,

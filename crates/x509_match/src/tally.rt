@@ -1,4 +1,4 @@
-//! What a list of subtrees says of a name.
+//! Comparison of a name with the subtrees of one list.
 ghost use Rattle.std.specs.Prelude.{◌≡◌, ◌↔◌, ◌⊎◌, true, false};
 ghost use Rattle.x509_match.specs.Constraints.{CanBeCompared, Concerns, Contains, HasBaseAlone, IsBase, IsTally, IsUnclear, IsUsable, form_of};
 
@@ -7,18 +7,19 @@ use name_forms::{has_domain_name, has_mailbox, is_address, is_range};
 use std::alloc::Global;
 use x509::{GeneralName, GeneralSubtree, GeneralSubtrees};
 
-/// What a list of subtrees says of a name.
+/// The result of a comparison of a name with each subtree of a list.
 #[derive(Clone, Copy, Drop)]
 pub(crate) struct Tally {
-    /// A subtree has the form of the name.
+    /// Whether a subtree of the list has a base of the same form as the name.
     pub(crate) concerned: bool,
-    /// The name is within a subtree.
+    /// Whether the name is within a subtree of the list.
     pub(crate) within: bool,
-    /// A subtree has the form of the name, and cannot be compared with it.
+    /// Whether a subtree of the list has a base of the same form as the name, but cannot be
+    /// compared with the name.
     pub(crate) unclear: bool,
 }
 
-/// Compares a name with each subtree of a list. This does not use `alloc`.
+/// Compares a name with each subtree of a list. The function does not use `alloc`.
 pub(crate) fn tally_of(
     alloc: Global,
     subtrees: &GeneralSubtrees<'_>,

@@ -1,4 +1,4 @@
-//! What a nameConstraints says of a name.
+//! Comparison of a name with a nameConstraints.
 ghost use Rattle.std.specs.Prelude.{◌≡◌, []};
 ghost use Rattle.x509.specs.declared.asn1.general_name.GeneralName.{GeneralName as AGeneralName};
 ghost use Rattle.x509_match.specs.Constraints.{IsTally};
@@ -8,27 +8,33 @@ use crate::tally::{Tally, tally_of};
 use std::alloc::Global;
 use x509::{GeneralName, NameConstraints};
 
-/// What a nameConstraints says of a name (RFC 5280, 4.2.1.10).
+/// The result of a comparison of a name with a nameConstraints (RFC 5280, 4.2.1.10). A subtree has
+/// the form of the name if its base has this form. For example, both are dNSNames.
 #[derive(Clone, Copy, Debug, Drop, PartialEq, Eq)]
 pub enum Verdict {
-    /// The name is within a permitted subtree, or no permitted subtree has its form; and it is within
-    /// no excluded subtree.
+    /// The name is within a permitted subtree, or no permitted subtree has the form of the name.
+    /// Furthermore, the name is within no excluded subtree.
     Permitted,
-    /// A permitted subtree has the form of the name, and the name is within none of these.
+    /// A permitted subtree has the form of the name, but the name is within no permitted subtree.
     Outside,
-    /// The name is within an excluded subtree, and is not outside.
+    /// The name is within an excluded subtree, and the result is not [`Verdict::Outside`].
     Excluded,
-    /// A subtree has the form of the name, and they cannot be compared: the form is otherName,
-    /// x400Address, ediPartyName or registeredID; or the subtree has a minimum or a maximum; or an
-    /// rfc822Name has no @, a URI no host name, or an address or a range another length. The RFC
-    /// demands to reject such a certificate if the extension is critical.
+    /// A subtree has the form of the name, but the subtree and the name cannot be compared. RFC
+    /// 5280 demands that the certificate is rejected if the extension is critical. The subtree and
+    /// the name cannot be compared in these cases:
+    ///
+    /// - The form is otherName, x400Address, ediPartyName or registeredID.
+    /// - The subtree has a minimum or a maximum.
+    /// - The name is an rfc822Name without an @, or a URI without a host name.
+    /// - The name is an iPAddress that does not have 4 or 16 octets.
+    /// - The base is an iPAddress that does not have 8 or 32 octets.
     Unclear,
 }
 
-/// Compares a name with the subtrees of a nameConstraints: [`Verdict::Unclear`] if there is a subtree
-/// of its form with which it cannot be compared, otherwise [`Verdict::Outside`],
-/// [`Verdict::Excluded`] or [`Verdict::Permitted`], as RFC 5280 has it (4.2.1.10; 6.1.3 (b) and
-/// (c)): outside comes first. This does not use `alloc`.
+/// Compares a name with the subtrees of a nameConstraints (RFC 5280, 4.2.1.10; 6.1.3 (b) and (c)).
+/// Returns the first of [`Verdict::Unclear`], [`Verdict::Outside`] and [`Verdict::Excluded`] that
+/// applies. Returns [`Verdict::Permitted`] if none of them applies. The function does not use
+/// `alloc`.
 pub fn name_verdict(
     alloc: Global,
     constraints: &NameConstraints<'_>,

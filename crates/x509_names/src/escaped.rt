@@ -1,4 +1,4 @@
-//! Characters of values, escaped.
+//! Characters of attribute values, escaped as in RFC 4514.
 
 use std::fmt;
 

@@ -7,12 +7,15 @@ use std::alloc::Global;
 use std::fmt;
 use x509::GeneralName;
 
-/// A name of a subjectAltName, which is printed as its kind in the words of openssl, and its value:
-/// `DNS:example.org`, `IP Address:192.0.2.1`. Characters are escaped as in [`NameText`](crate::NameText), so that no
-/// `,` or line break of a value looks like the end of it. Of the names that are structures, an
-/// x400Address and an ediPartyName, the kind alone is printed; of an otherName its type, too.
+/// A name of a subjectAltName, for printing. First comes its kind, in the words of openssl, then
+/// its value, such as `DNS:example.org` or `IP Address:192.0.2.1`. Characters are escaped as in
+/// [`NameText`](crate::NameText), so a `,` or a line break in a value cannot be mistaken for the
+/// end of the value.
 ///
-/// Printing fails if there is no memory.
+/// An x400Address and an ediPartyName are printed as their kind only. An otherName is printed as
+/// its kind and its type.
+///
+/// Printing fails if an allocation fails.
 #[derive(Drop)]
 pub struct GeneralNameText<'n, 'a> {
     name: &'n GeneralName<'a>,
@@ -20,7 +23,8 @@ pub struct GeneralNameText<'n, 'a> {
 }
 
 impl<'n, 'a> GeneralNameText<'n, 'a> {
-    /// The text of this name.
+    /// Wraps `name` for printing. When a directoryName is printed, memory is allocated with
+    /// `alloc`.
     pub fn new(alloc: Global, name: &'n GeneralName<'a>) -> Self {
         GeneralNameText { name, alloc }
     }

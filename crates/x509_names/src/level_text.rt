@@ -1,15 +1,15 @@
-//! Levels of names as text.
+//! RelativeDistinguishedNames as text.
 
 use crate::name_text::write_level;
 use std::alloc::Global;
 use std::fmt;
 use x509::RelativeDistinguishedName;
 
-/// A level of a name, which is printed as RFC 4514 writes it: its attributes with `+` between them,
-/// as in [`NameText`](crate::NameText).
+/// A RelativeDistinguishedName, for printing as in RFC 4514. Its attributes are printed with `+`
+/// between them, in the form that [`NameText`](crate::NameText) uses.
 ///
-/// Printing takes time in proportion to the size of the level. It takes no memory: the allocator is
-/// that of decoding, which does not use it.
+/// Printing takes time in proportion to the size of the RelativeDistinguishedName. It allocates
+/// nothing.
 #[derive(Drop)]
 pub struct LevelText<'n, 'a> {
     level: &'n RelativeDistinguishedName<'a>,
@@ -17,7 +17,7 @@ pub struct LevelText<'n, 'a> {
 }
 
 impl<'n, 'a> LevelText<'n, 'a> {
-    /// The text of this level.
+    /// Wraps `level` for printing. Nothing is allocated, although `alloc` is required.
     pub fn new(alloc: Global, level: &'n RelativeDistinguishedName<'a>) -> Self {
         LevelText { level, alloc }
     }

@@ -1,10 +1,11 @@
 //! Names of certificates as text.
 //!
-//! [`NameText`] prints a name as RFC 4514 writes it, [`LevelText`] a level of one,
-//! [`GeneralNameText`] a name of a subjectAltName, and [`SerialNumberText`] a serial number.
+//! [`NameText`] prints a name as RFC 4514 writes it. [`LevelText`] prints one
+//! RelativeDistinguishedName of a name. [`GeneralNameText`] prints a name of a subjectAltName.
+//! [`SerialNumberText`] prints a serial number.
 //!
-//! Proved: each call is safe and returns. Not proved: which text is printed; the tests compare it
-//! with openssl.
+//! It is proved that each call is safe and returns. It is not proved which text is printed; the
+//! tests compare the text with the output of openssl.
 #![tactic(auto)]
 
 mod attribute_text;

@@ -6,12 +6,14 @@ use std::fmt;
 use std::vec::Vec;
 use x509::{Name, RelativeDistinguishedName};
 
-/// A name, which is printed as RFC 4514 writes it: the last level first, with `,` between levels and
-/// `+` between the attributes of a level, as `CN=example.org,O=Example`. A type without a short name
-/// in RFC 4514 or RFC 4519 is written as its OBJECT IDENTIFIER, and its value in hexadecimal.
+/// A name, for printing as in RFC 4514. The last RelativeDistinguishedName is printed first. `,`
+/// stands between RelativeDistinguishedNames, and `+` between the attributes of one
+/// RelativeDistinguishedName, such as `CN=example.org,O=Example`. If RFC 4514 and RFC 4519 have no
+/// short name for an attribute type, the type is printed as its OBJECT IDENTIFIER and the value in
+/// hexadecimal.
 ///
-/// Printing takes time and memory in proportion to the size of the name. It fails if there is no
-/// memory.
+/// Printing takes time and memory in proportion to the size of the name. It fails if an allocation
+/// fails.
 #[derive(Drop)]
 pub struct NameText<'n, 'a> {
     name: &'n Name<'a>,
@@ -19,7 +21,7 @@ pub struct NameText<'n, 'a> {
 }
 
 impl<'n, 'a> NameText<'n, 'a> {
-    /// The text of this name.
+    /// Wraps `name` for printing. When the name is printed, memory is allocated with `alloc`.
     pub fn new(alloc: Global, name: &'n Name<'a>) -> Self {
         NameText { name, alloc }
     }

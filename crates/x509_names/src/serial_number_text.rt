@@ -4,9 +4,10 @@ use crate::octets_text::OctetsText;
 use der_asn1::IntRef;
 use std::fmt;
 
-/// A serial number, which is printed as the octets of its INTEGER in hexadecimal with `:` between
-/// them, as `0D:F6:CA`. The octet 0 before a positive number whose first bit is set is left out. A
-/// negative number is printed in two's complement, as it is encoded.
+/// A serial number, for printing: the contents octets of its INTEGER in hexadecimal with `:`
+/// between them, such as `0D:F6:CA`. If there are several octets and the first one is 0, the first
+/// one is not printed; it only shows that the number is positive. A negative number is printed in
+/// two's complement, as it is encoded.
 #[derive(Drop)]
 pub struct SerialNumberText<'a>(pub IntRef<'a>);
 

@@ -553,8 +553,8 @@ impl RawSpan<'_> {
 #[repr(C)]
 #[derive(Clone, Copy, Default, PartialEq, Eq, Hash, Debug)]
 pub struct Node {
-    /// The tag as a word: the first octet of its identifier, plus 256 times the tag number if the
-    /// number is 31 or more.
+    /// The tag word, `der_tag` in C: the first octet of the identifier, plus 256 times the tag
+    /// number if the number is 31 or more.
     pub tag: u64,
     /// The position at which the header begins.
     pub start: u32,
@@ -562,7 +562,8 @@ pub struct Node {
     pub contents_start: u32,
     /// The position at which the contents end, before any end-of-contents octets.
     pub end: u32,
-    /// The number of elements of the tree that enclose this element; 0 for an outermost element.
+    /// The number of elements of the tree that enclose this element. It is 0 for an outermost
+    /// element.
     pub depth: u8,
     /// Whether the constructed bit of the identifier is set.
     pub constructed: bool,

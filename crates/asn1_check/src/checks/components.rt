@@ -7,8 +7,8 @@ use crate::tag_set::TagSet;
 use asn1_syntax::{Component, Failure, Presence, Refusal, Tag, TagClass};
 use std::alloc::{AllocError, Global};
 
-/// The tags of all alternatives, or components of a SET; refuses one whose tags one before it has
-/// (X.680, 27.3 and 29.3).
+/// Returns the tags of all alternatives of a CHOICE, or of all components of a SET. Fails if two
+/// alternatives or two components have a tag in common (X.680, 27.3 and 29.3).
 pub fn check_alternatives<'a>(
     alloc: Global,
     module: &Module<'a>,
@@ -30,8 +30,9 @@ pub fn check_alternatives<'a>(
     Ok(before)
 }
 
-/// Checks the tags of components: those of optional ones, and of the one after these, are distinct
-/// (X.680, 25.6).
+/// Checks the tags of the components of a SEQUENCE. Fails if a component has a tag in common with
+/// an earlier component that may be absent, and no required component is between the two (X.680,
+/// 25.6).
 pub fn check_sequence<'a>(
     alloc: Global,
     module: &Module<'a>,
@@ -71,7 +72,8 @@ fn not_distinct<'a>(
     Failure::Refused(refusal)
 }
 
-/// The tags that values of a component begin with.
+/// The tags that values of a component may begin with. If `is_numbered` is true, the component has
+/// an automatic tag: this is the only tag, of the context-specific class and with this `number`.
 pub fn component_tags(
     alloc: Global,
     table: &Vec<TagSet>,
@@ -91,8 +93,9 @@ pub fn component_tags(
     )
 }
 
-/// The number of the component with this index, where components get tags by their numbers: those
-/// that are no additions are counted first (X.680, 25.7).
+/// The tag number that AUTOMATIC TAGS gives the component with this index. The components of the
+/// extension root have the first numbers, and the extension additions have the numbers after these
+/// (X.680, 25.7). The result is 0 if AUTOMATIC TAGS gives no numbers to these components.
 pub fn automatic_number(components: &Vec<Component<'_>>, index: usize) -> usize {
     match components.get(index) {
         Some(component) => component.number.unwrap_or(0),
@@ -100,7 +103,7 @@ pub fn automatic_number(components: &Vec<Component<'_>>, index: usize) -> usize 
     }
 }
 
-/// Whether these components get tags by their numbers (X.680, 25.2).
+/// Whether AUTOMATIC TAGS gives these components tags with ascending numbers (X.680, 25.2).
 pub fn are_numbered(components: &Vec<Component<'_>>) -> bool {
     components
         .iter()

@@ -1,12 +1,12 @@
-//! Constraints that a type allows.
+//! Checks that constraints fit their types.
 
 use crate::base::base_form;
 use crate::bounds::range_at;
 use crate::module::Module;
 use asn1_syntax::{Constraint, Endpoint, Range, Refusal, SimpleType, TypeForm, TypeNode};
 
-/// Checks that each constraint is one that its type allows (X.680, 51; X.682, 11), and that some
-/// number meets all ranges of a type.
+/// Checks that the type of each constraint allows a constraint of its kind (X.680, 51; X.682, 11).
+/// Also checks that all ranges of a type have at least one number in common.
 pub fn check_constraints<'a>(module: &Module<'a>) -> Result<(), Refusal<'a>> {
     for (index, node) in module.nodes.iter().enumerate() {
         check_node(module, index, node)?;

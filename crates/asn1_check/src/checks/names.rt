@@ -1,4 +1,4 @@
-//! Names that are defined, once.
+//! Checks that each name is defined exactly once.
 
 use super::seen_numbers::SeenNumbers;
 use crate::module::Module;
@@ -22,7 +22,7 @@ pub fn is_imported(module: &Module<'_>, name: &str) -> bool {
     module.index.imports.has(name)
 }
 
-/// Checks that each name is defined once, and that each name that is used is defined.
+/// Checks that no name is defined twice, and that each name that is used is defined.
 pub fn check_names<'a>(alloc: Global, module: &Module<'a>) -> Result<(), Failure<'a>> {
     check_types(module)?;
     check_values(module)?;

@@ -9,8 +9,8 @@ use std::alloc::{AllocError, Global};
 
 const LOOP: &str = "a type that does not contain itself";
 
-/// The indices of all types, each after those that it is made of. Refuses types that contain
-/// themselves.
+/// Returns the indices of all types. The index of a type comes after the indices of the types that
+/// it is made of. Fails if a type contains itself.
 pub fn order_of<'a>(alloc: Global, module: &Module<'a>) -> Result<Vec<usize>, Failure<'a>> {
     let order = parts_in_order(alloc, module)?;
     let ready = marks_of(alloc, module, &order)?;
@@ -18,7 +18,8 @@ pub fn order_of<'a>(alloc: Global, module: &Module<'a>) -> Result<Vec<usize>, Fa
     Ok(order)
 }
 
-/// Adds the refusals of types that contain themselves, and of those that contain these.
+/// Adds a refusal to `found` for each named type that contains itself, or that contains a type
+/// which contains itself.
 pub fn add_loops<'a>(
     alloc: Global,
     module: &Module<'a>,
@@ -34,7 +35,9 @@ pub fn add_loops<'a>(
     Ok(())
 }
 
-/// The indices of types that do not contain themselves, each after those that it is made of.
+/// Returns the indices of types. The index of a type comes after the indices of the types that it
+/// is made of. A type is left out if it contains itself, or if it contains a type that contains
+/// itself.
 pub fn parts_in_order(alloc: Global, module: &Module<'_>) -> Result<Vec<usize>, AllocError> {
     let mut parts = Parts::of(alloc, module)?;
     let mut order = parts.without_parts(alloc)?;
@@ -47,7 +50,8 @@ pub fn parts_in_order(alloc: Global, module: &Module<'_>) -> Result<Vec<usize>, 
     Ok(order)
 }
 
-/// Marks for the indices in an order.
+/// Whether the index of a type is in `order`, for each type of the module. The place in the result
+/// is the index of the type.
 pub fn marks_of(
     alloc: Global,
     module: &Module<'_>,
@@ -140,7 +144,7 @@ fn component_of(ready: &Vec<bool>, components: &Vec<Component<'_>>) -> Option<us
     None
 }
 
-/// Whether this index is marked.
+/// Whether the `bool` at this index is true. False if there is no such index.
 pub fn is_marked(marks: &Vec<bool>, index: usize) -> bool {
     match marks.get(index) {
         Some(mark) => *mark,
@@ -148,7 +152,7 @@ pub fn is_marked(marks: &Vec<bool>, index: usize) -> bool {
     }
 }
 
-/// Marks this index.
+/// Sets the `bool` at this index to true.
 pub fn mark(marks: &mut Vec<bool>, index: usize) {
     if let Some(place) = marks.get_mut(index) {
         *place = true;

@@ -1,4 +1,4 @@
-//! Which types others are made of.
+//! Finds which types other types are made of.
 
 use super::names::find_type;
 use crate::bounds::contained;
@@ -6,7 +6,8 @@ use crate::module::Module;
 use asn1_syntax::{Component, TypeForm, TypeNode};
 use std::alloc::{AllocError, Global};
 
-/// Which types others are made of, while these are put in an order.
+/// Helps to put types in an order in which each type comes after the types that it is made of. It
+/// keeps which types each type is made of, and how many of these are not in the order yet.
 #[derive(Drop)]
 pub struct Parts {
     // The number of parts of each type that are not in the order, by index.
@@ -16,7 +17,7 @@ pub struct Parts {
 }
 
 impl Parts {
-    /// The parts of the types of a module, none of which is in the order.
+    /// Finds what each type of a module is made of. No type is in the order yet.
     pub fn of(alloc: Global, module: &Module<'_>) -> Result<Self, AllocError> {
         let mut parts = Parts {
             missing: vec![in alloc; 0usize; module.nodes.len()]?,
@@ -79,7 +80,7 @@ impl Parts {
         Ok(())
     }
 
-    /// The types without parts.
+    /// The indices of the types that are not made of other types. They can be first in the order.
     pub fn without_parts(&self, alloc: Global) -> Result<Vec<usize>, AllocError> {
         let mut found = Vec::new(alloc);
         for (index, missing) in self.missing.iter().enumerate() {
@@ -90,8 +91,9 @@ impl Parts {
         Ok(found)
     }
 
-    /// Adds to the order the types of which the type with this index, which is in the order, is the
-    /// last part that was missing.
+    /// Tells that the type with this index is in the order, and appends to `order` the types that
+    /// can come next. A type can come next if all types that it is made of are in the order, and
+    /// this type is the last of them.
     pub fn add_complete(&mut self, index: usize, order: &mut Vec<usize>) -> Result<(), AllocError> {
         let Some(wholes) = self.wholes.get(index) else {
             return Ok(());

@@ -1,4 +1,4 @@
-//! Types that lead back to themselves.
+//! Types that contain themselves.
 
 use super::names::find_type;
 use super::order::{is_marked, mark, marks_of, parts_in_order};
@@ -8,9 +8,14 @@ use crate::module::Module;
 use asn1_syntax::{Component, SimpleType, TypeForm};
 use std::alloc::{AllocError, Global};
 
-/// Puts types whose values are not read in the place of names that lead back to the type that they
-/// name: a SEQUENCE that is not read for a SEQUENCE or SEQUENCE OF, and ANY for a CHOICE. The items
-/// of the types remain. Names of other types remain, and those which are a whole assignment.
+/// Changes types that contain themselves so that they can be compiled. In each of these types, the
+/// name that leads back to the type is replaced by a type whose values are not read. The
+/// replacement is ANY if the name stands for a CHOICE. It is a SEQUENCE of unknown components if
+/// the name stands for a SEQUENCE or a SEQUENCE OF. The [`TypeNode::item`](asn1_syntax::TypeNode)
+/// of a replacement is still the name.
+///
+/// The names of other types are not replaced. A name that is the whole right side of an assignment
+/// is not replaced either.
 pub fn cut_recursion(alloc: Global, module: &mut Module<'_>) -> Result<(), AllocError> {
     let order = parts_in_order(alloc, module)?;
     if order.len() == module.nodes.len() {
@@ -122,8 +127,9 @@ fn add_components(
     Ok(())
 }
 
-/// The name of the type that leads back to itself in the component with this index, if a type stands
-/// in its place.
+/// The name that [`cut_recursion`] has replaced in a component. `index` is the index of the
+/// component's type. The name may also be the item type of a SEQUENCE OF or SET OF, or come after a
+/// tag. `None` if no name was replaced.
 pub fn recursive_name<'a>(module: &Module<'a>, index: usize) -> Option<&'a str> {
     let mut index = index;
     for _ in module.nodes.iter() {

@@ -1,10 +1,10 @@
-//! Named numbers that are there.
+//! Checks that named numbers have different names and different numbers.
 
 use asn1_syntax::{Endpoint, NameIndex, NamedNumber, Refusal};
 use std::alloc::{AllocError, Global};
 use std::collections::HashSet;
 
-/// The names and the numbers, as they are written, of named numbers.
+/// The names and the numbers that the named numbers of a type have, as far as they were added.
 #[derive(Drop)]
 pub struct SeenNumbers<'a> {
     names: NameIndex<'a>,
@@ -17,7 +17,7 @@ pub struct SeenNumbers<'a> {
 }
 
 impl<'a> SeenNumbers<'a> {
-    /// None.
+    /// A set without named numbers.
     pub fn new(alloc: Global) -> Self {
         SeenNumbers {
             names: NameIndex::new(alloc),
@@ -27,7 +27,8 @@ impl<'a> SeenNumbers<'a> {
         }
     }
 
-    /// Adds a named number; why it is refused, if another one has its name or its number.
+    /// Adds a named number. Returns a refusal if an earlier one has the same name or the same
+    /// number.
     pub fn add(&mut self, named: &NamedNumber<'a>) -> Result<Option<Refusal<'a>>, AllocError> {
         let name = named.name;
         if !self.names.add(name.text, 0)? {

@@ -1,4 +1,4 @@
-//! SETs with components, as DER writes them.
+//! SETs with components, which DER encodes in the order of their tags.
 
 use super::components::{are_numbered, automatic_number, component_tags};
 use crate::module::Module;
@@ -13,9 +13,9 @@ const NO_TAG: &str = "no CHOICE and no ANY without a tag in a SET";
 
 const CLOSED: &str = "elements that no component names are refused";
 
-/// Puts a SEQUENCE of the same components in the order of their tags, after the tag of a SET, in the
-/// place of each SET with components (X.690, 10.3). The table has the tags of each type. Returns
-/// whether there is one.
+/// Replaces each SET with components by a SEQUENCE that has the tag of a SET. The components of the
+/// SEQUENCE are in the order of their tags (X.690, 10.3). `table` has the tags of each type, at the
+/// index of the type. Returns whether the module has a SET with components.
 pub fn sort_sets<'a>(
     alloc: Global,
     module: &mut Module<'a>,

@@ -8,8 +8,13 @@ use crate::tag_set::TagSet;
 use asn1_syntax::{Failure, Refusal, TagPrefix, Tagging, TypeForm, TypeNode};
 use std::alloc::{AllocError, Global};
 
-/// The tags of each type, by its index. Refuses a CHOICE, and an optional component of a SEQUENCE,
-/// whose tags are not distinct.
+/// Returns the tags that values of each type may begin with, in a list by the index of the type.
+/// Fails if tags are not distinct where they must be:
+///
+/// - the tags of the alternatives of a CHOICE;
+/// - the tags of the components of a SET;
+/// - in a SEQUENCE, the tags of a component that may be absent and of the components after it, up
+///   to the first required one.
 pub fn tags_in_order<'a>(
     alloc: Global,
     module: &Module<'a>,
@@ -125,7 +130,8 @@ fn tagged<'a>(
     Ok(TagSet::of(alloc, prefix.tag)?)
 }
 
-/// Whether the type with this index is a CHOICE or ANY without a tag, under any names.
+/// Whether the type with this index has no tag of its own, as a CHOICE and ANY have none. If the
+/// type is a reference, the answer is for the type that it refers to.
 pub fn has_no_tag(module: &Module<'_>, index: usize) -> bool {
     let Some(node) = module.nodes.get(base_of(module, index)) else {
         return false;

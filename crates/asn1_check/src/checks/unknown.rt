@@ -1,12 +1,12 @@
-//! Types that the library does not know.
+//! Built-in types that are not compiled.
 
 use super::order::{is_marked, mark};
 use crate::module::Module;
 use asn1_syntax::{Component, Failure, Refusal, TypeForm};
 use std::alloc::{AllocError, Global};
 
-/// Checks that a type which the library does not know is an alternative of a CHOICE, where it is
-/// left out.
+/// Checks that each built-in type that is not compiled is an alternative of a CHOICE. The compiler
+/// can leave out only an alternative.
 pub fn check_unknown<'a>(alloc: Global, module: &Module<'a>) -> Result<(), Failure<'a>> {
     let mut found = Vec::new(alloc);
     add_unknown(alloc, module, &mut found)?;
@@ -16,7 +16,8 @@ pub fn check_unknown<'a>(alloc: Global, module: &Module<'a>) -> Result<(), Failu
     }
 }
 
-/// Adds the refusals of types which the library does not know and that are no alternatives.
+/// Adds a refusal to `found` for each built-in type that is not compiled, unless the type is an
+/// alternative of a CHOICE.
 pub fn add_unknown<'a>(
     alloc: Global,
     module: &Module<'a>,

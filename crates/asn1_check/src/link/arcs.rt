@@ -9,8 +9,9 @@ const NO_ARC: &str = "a number, or a name that stands for one";
 
 const TOO_LARGE: &str = "an arc below 18446744073709551616";
 
-/// The arcs between braces, of which `brace` is the first one (X.680, 32.3); `None` if they have a
-/// name that is not known yet.
+/// The arcs of an OBJECT IDENTIFIER (X.680, 32.3). `items` are the lexical items between its
+/// braces, and `brace` is the opening brace. `None` if one of the items is the name of a value that
+/// is not computed yet.
 pub fn arcs_of<'a>(
     alloc: Global,
     scope: &Scope<'_, 'a>,

@@ -4,11 +4,15 @@ use asn1_syntax::{Endpoint, Failure, NamedNumber, Refusal};
 use std::alloc::{AllocError, Global};
 use std::collections::HashSet;
 
-/// The items of an ENUMERATED, each with a number. The items in front of an extension mark that
-/// have none get the least numbers, from 0 up, that none of these items has (X.680, 20.3). An
-/// addition without one gets the least number that is above those of all additions in front, and
-/// that no item in front of the mark has (20.6). Refuses an addition whose number is not above those
-/// in front.
+/// Gives a number to each item of an ENUMERATED that is written without one:
+///
+/// - An item before the extension marker gets the least number that no item before the marker has
+///   (X.680, 20.3). Numbers begin at 0.
+/// - An addition, which is an item after the marker, gets the least number that is above the
+///   numbers of all additions before it, and that no item before the marker has (20.6).
+///
+/// Fails if an addition is written with a number that is not above the numbers of the additions
+/// before it.
 pub fn numbered_items<'a>(
     alloc: Global,
     items: &Vec<NamedNumber<'a>>,

@@ -8,17 +8,17 @@ use crate::external_types::ExternalTypes;
 use asn1_syntax::{Failure, Import, ItemKind, ParsedModule, Refusal};
 use std::alloc::Global;
 
-/// What a module imports.
+/// What a module imports from modules of other crates.
 #[derive(Drop)]
 pub struct Imported<'a> {
-    /// Its types that have names.
+    /// The types that it imports.
     pub types: ExternalTypes<'a>,
-    /// Its values.
+    /// The values that it imports.
     pub values: Constants<'a>,
 }
 
-/// The types and values that a module imports. Refuses a module that is not given, a name that it
-/// does not assign, and a name that is imported twice.
+/// Returns the types and the values that a module imports. Fails if the module of an import is not
+/// among `externals`, or does not define the imported name. Also fails if a name is imported twice.
 pub fn imported_by<'a>(
     alloc: Global,
     module: &ParsedModule<'a>,

@@ -1,11 +1,12 @@
-//! Types that are items of lists.
+//! Item types of SEQUENCE OF and SET OF.
 
 use crate::base::base_of;
 use crate::module::Module;
 use asn1_syntax::TypeForm;
 use std::alloc::{AllocError, Global};
 
-/// Whether each type, by its index, is an item of a list, maybe by name.
+/// Whether a type is the item type of a SEQUENCE OF or SET OF, directly or by name, for each type.
+/// The place in the list is the index of the type.
 pub fn list_items_of(alloc: Global, module: &Module<'_>) -> Result<Vec<bool>, AllocError> {
     let mut marks = vec![in alloc; false; module.nodes.len()]?;
     for node in module.nodes.iter() {

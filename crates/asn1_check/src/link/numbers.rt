@@ -1,4 +1,4 @@
-//! Names of numbers in types.
+//! Names that stand for numbers.
 
 use super::enumerations::numbered_items;
 use super::scope::Scope;
@@ -9,8 +9,8 @@ use asn1_syntax::{
 };
 use std::alloc::Global;
 
-/// Puts numbers in the place of names, in named numbers and in constraints. Refuses names that are
-/// not defined.
+/// Replaces names by the numbers for which they stand, in named numbers and in constraints. Fails
+/// if a name is not defined, or does not stand for a number.
 pub fn resolve_numbers<'a>(alloc: Global, module: &mut Module<'a>) -> Result<(), Failure<'a>> {
     for index in 0..module.nodes.len() {
         let Some((form, constraints)) = resolved(alloc, module, index)? else {

@@ -1,4 +1,4 @@
-//! The values that are known while others are computed.
+//! The values that can be used while other values are computed.
 
 use crate::checks::has_value;
 use crate::constant::Constant;
@@ -8,17 +8,18 @@ use asn1_syntax::{Endpoint, Item, NamedNumber, Refusal};
 
 const UNDEFINED: &str = "a value that this module defines or imports";
 
-/// A module, and those of its values that are known.
+/// A module, with the values of the module that are already computed.
 #[derive(Clone, Copy)]
 pub struct Scope<'s, 'a> {
     /// The module.
     pub module: &'s Module<'a>,
-    /// The values.
+    /// The values that are already computed.
     pub known: &'s Constants<'a>,
 }
 
 impl<'s, 'a> Scope<'s, 'a> {
-    /// The value with this name; `None` if it is not known yet. Refuses a name that is not defined.
+    /// Returns the value with this name. `None` if that value is not computed yet. Fails if the
+    /// name is not defined.
     pub fn find(&self, name: Item<'a>) -> Result<Option<&'s Constant>, Refusal<'a>> {
         match self.known.find(name.text) {
             Some(constant) => Ok(Some(constant)),
@@ -27,8 +28,9 @@ impl<'s, 'a> Scope<'s, 'a> {
         }
     }
 
-    /// The number that this name stands for: one of the named numbers, or a value; `None` if it is
-    /// not known yet. Refuses a name that is not defined, or that of another value.
+    /// Returns the number that a name stands for. The name is one of the named `numbers` of a type,
+    /// or the name of a value of the module. `None` if that value is not computed yet. Fails if the
+    /// name is not defined, or stands for a value that is not a number.
     pub fn number_named(
         &self,
         numbers: &Vec<NamedNumber<'a>>,
@@ -55,7 +57,8 @@ impl<'s, 'a> Scope<'s, 'a> {
         }
     }
 
-    /// The number that the value with this name is; `None` if it is not known yet.
+    /// Returns the value with this name, which must be a number. `None` if that value is not
+    /// computed yet. Fails if the name is not defined, or if the value is not a number.
     pub fn value_number(&self, name: Item<'a>) -> Result<Option<Endpoint<'a>>, Refusal<'a>> {
         let Some(constant) = self.find(name)? else {
             return Ok(None);

@@ -1,4 +1,4 @@
-//! Values of a module.
+//! Computes the values of a module.
 
 use super::arcs::arcs_of;
 use super::numbers::is_named;
@@ -15,8 +15,8 @@ use std::alloc::{AllocError, Global};
 
 const NOT_INTEGER: &str = "a number from -9223372036854775808 to 18446744073709551615, or its name";
 
-/// The values that a module imports, and those that it assigns. Refuses a value that is not one of
-/// its type, and a value that is defined by itself.
+/// Returns the values that a module imports, and the values that it assigns. Fails if a value is
+/// not valid for its type, or if its definition leads back to the value itself.
 pub fn constants_of<'a>(alloc: Global, module: &Module<'a>) -> Result<Constants<'a>, Failure<'a>> {
     let mut known = imported_constants(alloc, module)?;
     for _ in 0..module.values.len() {

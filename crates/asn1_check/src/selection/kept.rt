@@ -1,11 +1,12 @@
-//! A module without what is left out.
+//! Removes the assignments that are not compiled from a module.
 
 use super::left::missing;
 use crate::external::External;
 use asn1_syntax::{Item, NameIndex, ParsedModule, SimpleType, TypeForm, TypeNode};
 use std::alloc::{AllocError, Global};
 
-/// Keeps the assignments with these names, and the imports that are there.
+/// Removes from a module the assignments whose names are not in `wanted`. Also removes the imports
+/// that cannot be found in `externals`. The types that remain keep their indices.
 pub fn keep<'a>(
     alloc: Global,
     parsed: &mut ParsedModule<'a>,

@@ -1,4 +1,4 @@
-//! What is left out of a module.
+//! Finds the assignments that are left out of a module.
 
 use super::used::Used;
 use crate::external::External;
@@ -11,7 +11,9 @@ const NOT_ASSIGNED: &str = "a name that is not left out of its module";
 
 const LEFT_OUT: &str = "a name that is not left out";
 
-/// The assignments that are left out of a module, in the order of the module.
+/// The assignments that are left out of a module, in the order of the text. An assignment is left
+/// out if it is not supported, or if it refers to something that is not supported or cannot be
+/// imported.
 pub fn left_out_of<'a>(
     alloc: Global,
     parsed: &ParsedModule<'a>,
@@ -41,7 +43,8 @@ pub fn left_out_of<'a>(
     Ok(found)
 }
 
-/// Why a name that a module imports is not there, if its module is not given or leaves it out.
+/// Why a name cannot be imported: its module is not among `externals`, or that module leaves out
+/// the name. `None` if the name can be imported.
 pub fn missing<'a>(externals: &Vec<External<'a>>, import: &Import<'a>) -> Option<Refusal<'a>> {
     for external in externals.iter() {
         if external.module == import.module.text {

@@ -1,4 +1,4 @@
-//! The names that assignments use.
+//! The names that each assignment refers to.
 
 use asn1_syntax::{
     Component, Constraint, Endpoint, Item, ItemKind, NamedNumber, ParsedModule, Presence, Range,
@@ -6,19 +6,21 @@ use asn1_syntax::{
 };
 use std::alloc::{AllocError, Global};
 
-/// An assignment, with the names in it.
+/// An assignment, and the names that it refers to.
 #[derive(Drop)]
 pub struct Used<'a> {
-    /// The name of the type, the value, the object or the set.
+    /// The name of the type, value, object or object set that is assigned.
     pub name: Item<'a>,
-    /// The names of types and of values in it, and other names.
+    /// The names of types and values that the assignment refers to. If one of these types or values
+    /// is left out, the assignment is left out, too. The list may also have other names.
     pub names: Vec<Item<'a>>,
-    /// The names of objects and of sets in it: it is compiled without those that are left out.
+    /// The names of objects and object sets that the assignment refers to. The assignment is kept
+    /// even if some of these are left out.
     pub members: Vec<Item<'a>>,
 }
 
-/// The assignments that are supported, in their order. Of objects and sets, with `are_types` there are
-/// none.
+/// The supported assignments of a module, in the order of the text, each with the names that it
+/// refers to. If `are_types` is true, information objects and object sets are not included.
 pub fn used_by<'a>(
     alloc: Global,
     parsed: &ParsedModule<'a>,

@@ -4,9 +4,14 @@ use super::used::Used;
 use asn1_syntax::{Failure, Item, LeftOut, NameIndex, ParsedModule, Refusal};
 use std::alloc::{AllocError, Global};
 
-/// The names that are compiled: those that are not left out, of which with `is_first` those of the
-/// first module and of what they name, and with `only` those of its types and of what they name.
-/// Refuses a name of `only` that is left out, or not there.
+/// Returns the names of the assignments to compile:
+///
+/// - If `only` is not empty, the names of `only`, and the names that these refer to.
+/// - If `only` is empty and `is_first` is true, the names of the first module, and the names that
+///   these refer to.
+/// - Otherwise all names.
+///
+/// No name is returned that is left out. Fails if a name of `only` is left out or does not exist.
 pub fn wanted_of<'a>(
     alloc: Global,
     parsed: &ParsedModule<'a>,
@@ -78,7 +83,7 @@ fn asked_for<'a>(
     Ok(found)
 }
 
-/// The refusal of the module with this name, which lacks a type that is asked for.
+/// The refusal of a module that does not have a type which the caller asked for.
 pub fn not_there<'a>(module: Item<'a>) -> Refusal<'a> {
     Refusal::of(module, "a module that has each type that is asked for")
 }

@@ -1,12 +1,13 @@
-//! What types of other crates have to have, to be in lists.
+//! Types that can be items of a SEQUENCE OF or SET OF, in particular types of other crates.
 
 use super::lists::list_field;
 use asn1_check::{ExternalType, Module, base_of, find_type};
 use asn1_syntax::{Item, Refusal, TypeForm};
 use std::alloc::AllocError;
 
-/// Whether the type with this index has what an item of a list needs: all but a list that is no
-/// struct has it.
+/// Whether the type with this index can be the item of a SEQUENCE OF or SET OF in Rust. A SEQUENCE
+/// OF or SET OF can only be an item if it is a Rust struct of its own. All other types of the
+/// module can. For an imported type, the answer is [`ExternalType::is_item`].
 pub fn has_item(module: &Module<'_>, index: usize) -> bool {
     let (base, name) = end_of_names(module, index);
     if let Some(external) = external_at(module, name) {
@@ -22,8 +23,8 @@ fn is_list(module: &Module<'_>, index: usize) -> bool {
     }
 }
 
-/// Adds the refusal of each imported type that is in a list, and whose crate has not what that
-/// needs.
+/// Adds a refusal to `found` for each imported type that is an item of a SEQUENCE OF or SET OF, but
+/// cannot be one, because its crate does not have the needed implementations.
 pub fn add_imported<'a>(
     module: &Module<'a>,
     found: &mut Vec<Refusal<'a>>,

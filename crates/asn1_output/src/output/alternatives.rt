@@ -10,16 +10,17 @@ use asn1_check::{Module, RustKind, RustType};
 use asn1_syntax::{Component, Failure, Item, TypeForm};
 use std::alloc::{AllocError, Global};
 
-const UNKNOWN: &str = "    /// An alternative of a later version, as it was.\n";
+const UNKNOWN: &str =
+    "    /// An alternative that the ASN.1 module does not have, as it was read.\n";
 
-/// The type of an alternative.
+/// An alternative of a CHOICE, as a variant of a Rust enum.
 #[derive(Drop)]
 pub struct Alternative {
     /// The name of the variant.
     pub name: String,
-    /// The lines of its documentation.
+    /// The lines of the doc comment of the variant.
     pub doc: String,
-    /// Its type.
+    /// The Rust type of the value of the alternative.
     pub of: RustType,
 }
 
@@ -33,8 +34,9 @@ impl Places for Alternative {
     }
 }
 
-/// The alternatives for which the library has a type, and one for others, if the CHOICE with the name
-/// `keeping` keeps them.
+/// The alternatives of a CHOICE whose types are supported. If `keeping` is given, one more
+/// alternative is added, for elements that the CHOICE does not describe. `keeping` is the Rust name
+/// of the CHOICE.
 pub fn alternatives<'a>(
     alloc: Global,
     module: &Module<'a>,
@@ -50,7 +52,7 @@ pub fn alternatives<'a>(
             let name = variant_name(alloc, component.name)?;
             found.push(Alternative {
                 name: taken.take_free(alloc, name.as_str(), ALONE, "")?,
-                doc: component_doc(alloc, module, component)?,
+                doc: component_doc(alloc, module, component, "The alternative")?,
                 of: of.copy(alloc)?,
             })?;
         }
@@ -65,7 +67,8 @@ pub fn alternatives<'a>(
     Ok(found)
 }
 
-/// The names of the alternatives for which the library has no type.
+/// The names of all alternatives in a module that are left out, because their types are not
+/// supported.
 pub fn left_out<'a>(alloc: Global, module: &Module<'a>) -> Result<Vec<Item<'a>>, AllocError> {
     let mut names = Vec::new(alloc);
     for node in module.nodes.iter() {

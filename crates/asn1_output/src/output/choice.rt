@@ -1,4 +1,4 @@
-//! The text of a CHOICE.
+//! The Rust text for a CHOICE.
 ghost use Rattle.std.specs.Prelude.{◌<◌};
 
 use super::alternatives::Alternative;
@@ -9,14 +9,14 @@ use super::nest::{MEANING, Nest, TYPES, lifetime_of, push_meaning, push_types};
 use super::template::{Places, fill};
 use std::alloc::{AllocError, Global};
 
-/// A CHOICE.
+/// The Rust enum to be written for a CHOICE.
 #[derive(Drop)]
 pub struct ChoiceText {
     /// The name of the enum.
     pub name: String,
-    /// The lines of its documentation.
+    /// The lines of the doc comment of the enum.
     pub doc: String,
-    /// The alternatives.
+    /// The alternatives of the CHOICE, which are the variants of the enum.
     pub alternatives: Vec<Alternative>,
 }
 
@@ -42,7 +42,8 @@ impl@L DescribedChoice for @N@L {
 
 ";
 
-const DECODE: &str = "/// Decodes the alternative whose tag is next, with the errors of [`Either`].
+const DECODE: &str =
+    "/// Decodes the alternative with the next tag. The errors are those of decoding an [`Either`].
 impl<'a, R: Lends<Borrowed = &'a [u8]>> Decode<R> for @N@L {
     type Error = Error;
 
@@ -80,7 +81,8 @@ impl<'a, R: Lends<Borrowed = &'a [u8]>> DecodeChoice<R> for @N@L {
 
 ";
 
-const ENCODE: &str = "/// Writes the alternative that the value has.
+const ENCODE: &str =
+    "/// Writes the alternative that the value has. The errors are those of writing it.
 impl@L Encode for @N@L {
     ghost encoding = { λ v. ⟦<@NAlternatives@L as Encode>⟧.encoding
         (⟦<@N@L as FromFields<@NAlternatives@L>>⟧.fields v) };
@@ -166,18 +168,19 @@ const PART_PATTERN: &str = "            @X@NPart@Q { choice: @Yvalue@J }@K => @N
 // The arm that writes an alternative so that it ends before an index of a buffer.
 const ENCODED_BEFORE: &str = "            @N::@V(value) => value.encode_before(buf, end),\n";
 
-/// The most parts of a CHOICE: more of them take the checker's bound too far.
+/// The greatest number of parts into which the alternatives of a CHOICE are divided. The proof
+/// checker reaches its limit with more parts.
 const PARTS: usize = 3;
 
 impl ChoiceText {
-    /// Adds the text of the enum and of its implementations.
+    /// Appends the text of the enum and of its implementations.
     pub fn push_body(&self, out: &mut String) -> Result<(), AllocError> {
         fill(out, ENUM, self)?;
         fill(out, DECODE, self)?;
         fill(out, ENCODE, self)
     }
 
-    /// The proofs of its functions.
+    /// The proofs for those functions of the enum that need one.
     pub fn proofs(&self, alloc: Global) -> Result<Vec<Proof>, AllocError> {
         let encode = self.proof_of(alloc, "encode", ENCODE_PROOF)?;
         let len_before = self.proof_of(alloc, "len_before", LEN_BEFORE_PROOF)?;
@@ -202,17 +205,20 @@ impl ChoiceText {
         if self.has_parts() {
             "// The alternatives, as nested choices of two.\npub(crate)"
         } else {
-            "/// The alternatives, as nested choices of two.\npub"
+            "/// The alternatives as one type: an [`Either`] of two, which may be [`Either`]s in turn.\npub"
         }
     }
 
-    /// Whether the alternatives are in parts.
+    /// Whether the alternatives are divided into parts. Each part is a Rust type of its own. The
+    /// alternatives of a large CHOICE are divided, since the proof checker cannot take all of them
+    /// at once.
     pub fn has_parts(&self) -> bool {
         self.alternatives.len() > self.part_len()
     }
 
-    /// The number of alternatives of each part but the last one. The checker takes a third of the
-    /// time for a part of two, but not more than three parts.
+    /// The number of alternatives of each part. The last part may have fewer. It is 2 if that leads
+    /// to at most three parts, since the proof checker is three times as fast with 2. Otherwise it
+    /// is 3.
     pub fn part_len(&self) -> usize
         ensures { 0 < result }
     {
@@ -223,12 +229,12 @@ impl ChoiceText {
         }
     }
 
-    /// The number of parts.
+    /// The number of parts into which the alternatives are divided.
     pub fn part_count(&self) -> usize {
         self.alternatives.chunks(self.part_len()).count()
     }
 
-    /// The part with this index.
+    /// The part with this index, from 0.
     pub fn part(&self, index: usize) -> ChoicePart<'_> {
         let alternatives = match self.alternatives.chunks(self.part_len()).nth(index) {
             Some(alternatives) => alternatives,

@@ -1,4 +1,4 @@
-//! The lines of a CHOICE for its alternatives.
+//! The lines of text that a CHOICE has for each of its alternatives.
 
 use super::alternatives::Alternative;
 use super::choice::ChoiceText;
@@ -6,12 +6,12 @@ use super::template::Places;
 use std::alloc::AllocError;
 use std::fmt::Write;
 
-/// An alternative of a CHOICE, for which lines are written.
+/// An alternative of a CHOICE, as the source of a line of Rust text.
 #[derive(Clone, Copy)]
 pub struct Line<'c> {
-    /// The CHOICE.
+    /// The CHOICE with this alternative.
     pub of: &'c ChoiceText,
-    /// The index of the alternative.
+    /// The index of the alternative, from 0.
     pub index: usize,
     /// The alternative.
     pub alternative: &'c Alternative,
@@ -80,7 +80,9 @@ impl<'c> Places for Line<'c> {
     }
 }
 
-/// The way to an item of so many in nested pairs.
+/// The position of an item in nested pairs, by the index of the item. A list of `count` items is
+/// written as a pair of the first item and of the other items, which are nested in the same way.
+/// The last item alone is in no pair of its own.
 #[derive(Clone, Copy)]
 struct Way {
     count: usize,

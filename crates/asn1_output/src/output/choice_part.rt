@@ -1,4 +1,4 @@
-//! The text of a part of a CHOICE.
+//! The Rust text for some of the alternatives of a CHOICE.
 
 use super::alternatives::Alternative;
 use super::nest::{lifetime_of, push_meaning, push_types};
@@ -86,24 +86,24 @@ impl@L Encode for @N@L {
 }
 ";
 
-/// A part of a CHOICE.
+/// Some of the alternatives of a CHOICE, which are written as a Rust type of their own.
 #[derive(Clone, Copy)]
 pub struct ChoicePart<'c> {
-    /// The name of the CHOICE.
+    /// The Rust name of the CHOICE.
     pub of: &'c str,
-    /// The number that is in the name of the part.
+    /// The number of the part, from 1. The name of the Rust type of the part has this number.
     pub number: usize,
-    /// Its alternatives.
+    /// The alternatives of the part.
     pub alternatives: &'c [Alternative],
 }
 
 impl<'c> ChoicePart<'c> {
-    /// Adds the text of the part.
+    /// Appends the Rust text of the part.
     pub fn push_body(&self, out: &mut String) -> Result<(), AllocError> {
         fill(out, PART, self)
     }
 
-    /// The name of the part.
+    /// The name of the Rust type of the part.
     pub fn name(&self, alloc: Global) -> Result<String, AllocError> {
         filled(alloc, "@N", self)
     }

@@ -1,18 +1,19 @@
-//! Types for which there is text, and how many components they have.
+//! Checks for which types Rust text can be written.
 
 use super::directive::own_type;
 use asn1_check::Module;
 use asn1_syntax::{Component, Refusal, TagClass, TypeForm, TypeNode};
 use std::alloc::AllocError;
 
-/// The most fields of a SEQUENCE: the checker proves no more.
+/// The greatest number of components of a SEQUENCE or SET. The proof checker does not take more.
 const MOST_FIELDS: usize = 10;
 
-/// The most alternatives of a CHOICE.
+/// The greatest number of alternatives of a CHOICE.
 const MOST_ALTERNATIVES: usize = 25;
 
-/// Adds the refusal of each SEQUENCE and each CHOICE that has too many components, and of each type
-/// for which there is no text, unless its type of Rust is written by hand.
+/// Adds a refusal to `found` for each type for which no Rust text can be written: for a SEQUENCE,
+/// SET or CHOICE with no or too many components, and for a tag of class UNIVERSAL. A type is not
+/// refused if its Rust type is written by hand.
 pub fn add_counts<'a>(module: &Module<'a>, found: &mut Vec<Refusal<'a>>) -> Result<(), AllocError> {
     for (index, node) in module.nodes.iter().enumerate() {
         if own_type(module, index).is_none()

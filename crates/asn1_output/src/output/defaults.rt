@@ -1,4 +1,4 @@
-//! Types of fields that have a default.
+//! Rust types of fields with a DEFAULT.
 
 use super::default_place::DefaultPlace;
 use super::directive::own_type;
@@ -13,17 +13,18 @@ use asn1_syntax::{Failure, NamedNumber, Refusal, SimpleType, TypeForm, Value, Va
 use std::alloc::{AllocError, Global};
 use std::fmt::Write;
 
-/// The type of a DEFAULT field.
+/// The Rust type of a field that has a DEFAULT.
 #[derive(Drop)]
 pub struct DefaultType {
-    /// The type.
+    /// The type of the field.
     pub of: RustType,
-    /// The type that stands for the default, if the library has none for it.
+    /// The Rust type that stands for the default value, if the compiler has to write this type.
+    /// `None` if the library has a type for the default value.
     pub own: Option<OwnDefault>,
 }
 
 impl DefaultType {
-    /// The type of a field that needs no type for its default.
+    /// The type of a field for whose default value no Rust type has to be written.
     pub fn plain(alloc: Global, of: &RustType) -> Result<Self, AllocError> {
         Ok(DefaultType {
             of: of.copy(alloc)?,
@@ -32,12 +33,12 @@ impl DefaultType {
     }
 }
 
-/// A type that stands for the default of one field.
+/// A Rust type that the compiler writes to stand for the default value of one field.
 #[derive(Drop)]
 pub struct OwnDefault {
-    /// Its name.
+    /// The name of the type.
     pub name: String,
-    /// Its text.
+    /// The Rust text that defines the type.
     pub text: String,
 }
 
@@ -69,7 +70,8 @@ impl DefaultOf<@T> for @N {
 
 const NO_ITEM: &str = "the name of a number of this type";
 
-/// The type of a DEFAULT field with this default.
+/// The Rust type of a field with this DEFAULT value. Fails if the value is not valid for its type,
+/// or is not supported.
 pub fn default_type<'a>(
     alloc: Global,
     module: &Module<'a>,

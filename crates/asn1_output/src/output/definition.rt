@@ -1,9 +1,9 @@
-//! What a file defines.
+//! Definitions, which are the contents of the Rust files.
 
 use super::rust_names::snake_name;
 use std::alloc::{AllocError, Global};
 
-/// The kind of a definition, which decides what its clauses import.
+/// What the file of a definition defines. The imports for the contracts in the file depend on it.
 #[derive(Clone, Copy, Debug, PartialEq, Eq)]
 pub enum DefinitionKind {
     Sequence,
@@ -16,22 +16,23 @@ pub enum DefinitionKind {
     Alias,
 }
 
-/// What a file defines: a type, and the text of the file without its imports.
+/// The contents of a Rust file that defines a type.
 #[derive(Drop)]
 pub struct Definition {
-    /// The name of the file, without its ending.
+    /// The name of the file, without its extension.
     pub file: String,
-    /// The name of the type.
+    /// The name of the type that the file defines.
     pub name: String,
-    /// All names that the other files may import, each on its line.
+    /// The names that other files may import from this file, one on each line.
     pub names: String,
-    /// Whether these names are public.
+    /// Whether the names in `names` are public.
     pub is_public: bool,
-    /// What it defines.
+    /// The kind of the definition.
     pub kind: DefinitionKind,
-    /// The text.
+    /// The text of the file, without its imports.
     pub body: String,
-    /// The proofs of those of its functions for which the checker finds none.
+    /// The proofs of functions in the file. A function has one here if the proof checker does not
+    /// find a proof by itself.
     pub proofs: Vec<Proof>,
 }
 
@@ -40,13 +41,13 @@ pub struct Definition {
 pub struct Proof {
     /// The name of the function.
     pub function: &'static str,
-    /// The text without its imports.
+    /// The text of the proof, without its imports.
     pub text: String,
 }
 
 impl Definition {
-    /// A definition without text of a type with this name and, if `end` is not empty, one with
-    /// `end` after the name.
+    /// A definition of the type `name`, without text. Other files may import `name` from it. If
+    /// `end` is not empty, they may also import the name that is `name` followed by `end`.
     pub fn new(
         alloc: Global,
         name: &str,

@@ -1,10 +1,10 @@
-//! Definitions that are collected.
+//! A list of definitions.
 
 use super::definition::Definition;
 use std::alloc::{AllocError, Global};
 use std::collections::HashSet;
 
-/// The Rust definitions to be written for a module, in the order in which they were added.
+/// The definitions of a module that are to be written as Rust files.
 #[derive(Drop)]
 pub struct Definitions {
     list: Vec<Definition>,
@@ -13,7 +13,7 @@ pub struct Definitions {
 }
 
 impl Definitions {
-    /// No definitions.
+    /// A list without definitions.
     pub fn new(alloc: Global) -> Self {
         Definitions {
             list: Vec::new(alloc),
@@ -26,12 +26,14 @@ impl Definitions {
         Ok(self.list.push(definition)?)
     }
 
-    /// Whether a struct that stands for a CHOICE inside an explicit tag comes for the first time.
+    /// Returns true if this is the first call with this name. The names are those of structs that
+    /// stand for a CHOICE inside an explicit tag. The caller writes each of these structs only
+    /// once.
     pub fn begins(&mut self, alloc: Global, name: &str) -> Result<bool, AllocError> {
         Ok(self.tagged.insert(String::from_str(alloc, name)?)?)
     }
 
-    /// The definitions in the order of the names of their files.
+    /// Returns the definitions, sorted by the names of their files.
     pub fn in_order(self, alloc: Global) -> Result<Vec<Definition>, AllocError> {
         let mut list = self.list;
         list.sort_by(|one, two| one.file.as_str().cmp(two.file.as_str()))?;

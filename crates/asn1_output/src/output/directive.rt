@@ -1,4 +1,4 @@
-//! Names that a module chooses for Rust, in comments.
+//! Directives: comments in a module that choose names and types for Rust.
 
 use super::rust_names::{pascal_name, snake_name};
 use super::words::is_used;
@@ -7,28 +7,31 @@ use asn1_syntax::{Item, comment_text, is_digit, is_word_octet};
 use asn1_table::is_schema_line;
 use std::alloc::{AllocError, Global};
 
-/// What begins the line of a comment that gives the name of a type, a field or a variant.
+/// The start of a comment line that gives the Rust name of a type, a field or a variant.
 pub const NAME: &str = "Rust name:";
 
-/// What begins the line of a comment that gives the name of the one field of a list.
+/// The start of a comment line that makes a Rust struct of a SEQUENCE OF or SET OF. The name of the
+/// only field of the struct follows.
 pub const FIELD: &str = "Rust field:";
 
-/// What begins the line of a comment that gives a type of Rust that is written by hand.
+/// The start of a comment line that names a Rust type which is written by hand. The compiler uses
+/// it for the type after the comment.
 pub const TYPE: &str = "Rust type:";
 
-/// What begins the line of a comment that gives the type that stands for the default of a component
-/// and is written by hand.
+/// The start of a comment line that names a Rust type which is written by hand. The type stands for
+/// the default value of the component after the comment.
 pub const DEFAULT: &str = "Rust default:";
 
-/// What begins the line of a comment that gives the type of numbers of a component with a default,
-/// which is `u64`.
+/// The start of a comment line that gives the Rust type of the number in a component with a
+/// DEFAULT. Only `u64` may follow.
 pub const INTEGER: &str = "Rust integer:";
 
-/// What begins the line of a comment that says what becomes of numbers, elements and tags that the
-/// module does not name, where a type has an extension mark: they are kept, unless it says `refused`.
+/// The start of a comment line for a type with an extension marker. If `refused` follows, unknown
+/// numbers, components and alternatives are refused. Without this line, they are kept.
 pub const EXTENSIONS: &str = "Rust extensions:";
 
-/// Whether the line of a comment, without its marks, says something of Rust or of a table.
+/// Whether a line of a comment is a directive for Rust types or for tables of types. The comment
+/// marks must already be removed from the line.
 pub fn is_directive(line: &str) -> bool {
     line.starts_with(NAME)
         || line.starts_with(FIELD)
@@ -39,7 +42,8 @@ pub fn is_directive(line: &str) -> bool {
         || is_schema_line(line)
 }
 
-/// The name that a comment gives after `key`, if it is a name of Rust.
+/// The name after the directive `key` in these comments. `None` if the comments do not have this
+/// directive, or if no Rust identifier follows it.
 pub fn directive<'a>(comments: &'a str, key: &str) -> Option<&'a str> {
     for line in comments.lines() {
         if let Some(rest) = comment_text(line).strip_prefix(key) {
@@ -52,8 +56,8 @@ pub fn directive<'a>(comments: &'a str, key: &str) -> Option<&'a str> {
     None
 }
 
-/// The type of Rust that the module gives for the type with this index, which the root of the crate
-/// has.
+/// The Rust type that a comment `Rust type:` names for the type with this index. It is written by
+/// hand, and the root of the crate exports it. `None` if there is no such comment.
 pub fn own_type<'a>(module: &Module<'a>, index: usize) -> Option<&'a str> {
     own_type_in(module.assignment(index)?.name.comments)
 }
@@ -67,8 +71,8 @@ fn own_type_in<'a>(comments: &'a str) -> Option<&'a str> {
     None
 }
 
-/// Whether the type with this index refuses what its module does not name at its extension mark, since
-/// a comment says so.
+/// Whether a comment `Rust extensions: refused` is in front of the type with this index. The type
+/// then refuses unknown values at its extension marker.
 pub fn is_closed_by(module: &Module<'_>, index: usize) -> bool {
     match module.assignment(index) {
         Some(assigned) => directive(assigned.name.comments, EXTENSIONS) == Some("refused"),
@@ -76,18 +80,19 @@ pub fn is_closed_by(module: &Module<'_>, index: usize) -> bool {
     }
 }
 
-/// The type that stands for the default of the component with this name, if it is written by hand:
-/// the root of the crate has it.
+/// The name of the Rust type that stands for the default value of the component with this name, as a
+/// comment `Rust default:` above the component says. That type is written by hand, and the root of
+/// the crate exports it. `None` if there is no such comment.
 pub fn own_default<'a>(name: Item<'a>) -> Option<&'a str> {
     directive(name.comments, DEFAULT)
 }
 
-/// Whether the comment in front of a component asks for numbers of 64 bits without a sign.
+/// Whether a comment `Rust integer: u64` is in front of the component with this name.
 pub fn is_word(name: Item<'_>) -> bool {
     directive(name.comments, INTEGER) == Some("u64")
 }
 
-/// The name of a type of Rust, without its parameters.
+/// The name of a Rust type without its generic parameters.
 pub fn name_of_type(text: &str) -> &str {
     match text.split_once('<') {
         Some((name, _)) => name,
@@ -113,7 +118,8 @@ fn are_word_octets(octets: &[u8]) -> bool {
     true
 }
 
-/// The name that the comment in front of the name of a type chooses for Rust.
+/// The Rust name that a comment in front of `name` chooses: a comment `Rust type:`, or else a
+/// comment `Rust name:`. `None` if there is no such comment.
 pub fn chosen_name<'a>(name: Item<'a>) -> Option<&'a str> {
     match own_type_in(name.comments) {
         Some(own) => Some(name_of_type(own)),
@@ -121,8 +127,8 @@ pub fn chosen_name<'a>(name: Item<'a>) -> Option<&'a str> {
     }
 }
 
-/// The name of the type or the variant with this name in the module. One that files need for
-/// something else gets a `_` after it.
+/// The Rust name of the type with this ASN.1 name. If the written files use the name for something
+/// else, a `_` is appended.
 pub fn type_name(alloc: Global, name: Item<'_>) -> Result<String, AllocError> {
     if let Some(chosen) = chosen_name(name) {
         return String::from_str(alloc, chosen);
@@ -134,7 +140,7 @@ pub fn type_name(alloc: Global, name: Item<'_>) -> Result<String, AllocError> {
     Ok(text)
 }
 
-/// The name of the variant with this name in the module.
+/// The Rust name of the variant for the alternative or item with this ASN.1 name.
 pub fn variant_name(alloc: Global, name: Item<'_>) -> Result<String, AllocError> {
     match chosen_name(name) {
         Some(chosen) => String::from_str(alloc, chosen),
@@ -143,7 +149,7 @@ pub fn variant_name(alloc: Global, name: Item<'_>) -> Result<String, AllocError>
     }
 }
 
-/// The name of the field with this name in the module.
+/// The Rust name of the field for the component with this ASN.1 name.
 pub fn field_name(alloc: Global, name: Item<'_>) -> Result<String, AllocError> {
     match directive(name.comments, NAME) {
         Some(chosen) => String::from_str(alloc, chosen),

@@ -1,21 +1,25 @@
-//! Comments of the module as documentation.
+//! Makes doc comments of the comments in a module.
 
 use super::directive::is_directive;
 use asn1_check::{Module, recursive_name};
-use asn1_syntax::{Component, comment_text};
+use asn1_syntax::{Component, Item, comment_text};
 use std::alloc::{AllocError, Global};
 
-/// The comment in front of a name, without its marks, on lines that begin with `indent`; or
-/// `instead` if there is none. What is on the line of the item before belongs to that item.
+/// The doc comment of the item with this name. It is the comment in front of the name in the
+/// module, without comment marks and directives. The part of the comment that is on the line of the
+/// previous item is left out, since it belongs to that item.
+///
+/// If nothing is left, the doc comment is `kind` and the name, such as "The field `version`.". Each
+/// line begins with `indent`.
 pub fn doc_of(
     alloc: Global,
-    comments: &str,
+    name: &Item<'_>,
     indent: &str,
-    instead: &str,
+    kind: &str,
 ) -> Result<String, AllocError> {
-    let own = match comments.split_once('\n') {
+    let own = match name.comments.split_once('\n') {
         Some((_, own)) => own,
-        None => comments,
+        None => name.comments,
     };
     let mut doc = String::new(alloc);
     for line in own.lines() {
@@ -25,24 +29,27 @@ pub fn doc_of(
         }
     }
     if doc.is_empty() {
-        push_line(&mut doc, indent, instead)?;
+        let text = name.text;
+        let line = format!(in alloc; "{kind} `{text}`.")?;
+        push_line(&mut doc, indent, line.as_str())?;
     }
     Ok(doc)
 }
 
-const KEPT: &str = "its element is kept, which `decode_as` of `AnyRef` decodes.";
+const KEPT: &str = "the element is kept as it was read. `decode_as` of `AnyRef` decodes it.";
 
-/// The documentation of a component. It says that the element of a type which leads back to itself is
-/// kept.
+/// The doc comment of a component or alternative. `kind` says which of them it is. If the type of
+/// the component contains itself, the doc comment says that decoding keeps the element as it was
+/// read.
 pub fn component_doc(
     alloc: Global,
     module: &Module<'_>,
     component: &Component<'_>,
+    kind: &str,
 ) -> Result<String, AllocError> {
-    let name = component.name;
-    let mut doc = doc_of(alloc, name.comments, "    ", name.text)?;
+    let mut doc = doc_of(alloc, &component.name, "    ", kind)?;
     if let Some(of) = recursive_name(module, component.of) {
-        let line = format!(in alloc; "`{of}` leads back to itself here: {KEPT}")?;
+        let line = format!(in alloc; "`{of}` contains itself here: {KEPT}")?;
         push_line(&mut doc, "    ", line.as_str())?;
     }
     Ok(doc)

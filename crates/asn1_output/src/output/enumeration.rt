@@ -1,4 +1,4 @@
-//! The text of an ENUMERATED, and of the bits of a BIT STRING.
+//! The Rust text for an ENUMERATED, and for the named bits of a BIT STRING.
 
 use super::directive::variant_name;
 use super::taken::{ALONE, Taken};
@@ -91,7 +91,8 @@ impl<'t> Places for Line<'t> {
     }
 }
 
-/// Adds the text of an enum with these items; `is_enumerated` if it is that of an ENUMERATED.
+/// Appends the text of a Rust enum with these items. If `is_enumerated` is true, they are the items
+/// of an ENUMERATED, and what an ENUMERATED needs is appended, too.
 pub fn push_enumeration<'a>(
     alloc: Global,
     out: &mut String,
@@ -127,7 +128,7 @@ fn variants_of<'a>(
     Ok(variants)
 }
 
-/// The names of the variants of these items.
+/// The Rust names of the variants for these items, in the order of the items.
 pub fn variant_names(
     alloc: Global,
     items: &Vec<NamedNumber<'_>>,
@@ -141,7 +142,7 @@ pub fn variant_names(
     Ok(names)
 }
 
-/// The number of an item.
+/// The number of an item. Fails if it is not from 0 to 4294967295.
 pub fn number_of_item<'a>(item: &NamedNumber<'a>) -> Result<u64, Failure<'a>> {
     match item.number {
         Some(Endpoint::Number(number)) if number < 4294967296 => Ok(number),

@@ -1,4 +1,4 @@
-//! Fields of a struct.
+//! Fields of a Rust struct.
 
 use super::defaults::OwnDefault;
 use super::template::{Items, Places, Tuples, fill, push_tuple};
@@ -6,33 +6,37 @@ use asn1_check::RustType;
 use std::alloc::AllocError;
 use std::fmt::Write;
 
-/// Whether a field may be absent.
+/// Whether the component of a field may be absent from an encoding.
 #[derive(Drop)]
 pub enum FieldPresence {
-    /// It may not.
+    /// The component must be present.
     Required,
-    /// It may.
+    /// The component may be absent.
     Optional,
-    /// It is absent if it has the default of its type.
+    /// The component is absent if its value is the default value. The Rust type of the field has
+    /// the default value.
     Defaulted,
-    /// It is absent if it has the default for which the type with this name stands.
+    /// The component is absent if its value is the default value. The Rust type with this name
+    /// stands for the default value. It is written by hand.
     DefaultedTo(String),
-    /// It is any number of components that the module does not name.
+    /// The field stands for any number of components: all that the SEQUENCE does not describe.
     Additions,
 }
 
-/// A field of a struct, for a component of a SEQUENCE.
+/// A field of a Rust struct, for a component of a SEQUENCE.
 #[derive(Drop)]
 pub struct Field {
-    /// The name.
+    /// The name of the field.
     pub name: String,
-    /// What the comments of the module say of it, or its name in the module.
+    /// The lines of the doc comment of the field. They come from the comment in the module, or else
+    /// have the name in the module.
     pub doc: String,
-    /// The type after OPTIONAL or DEFAULT.
+    /// The Rust type of the field, without what OPTIONAL or DEFAULT adds.
     pub of: RustType,
-    /// Whether it may be absent.
+    /// Whether the component of the field may be absent.
     pub presence: FieldPresence,
-    /// The type that stands for its default, if the library has none for it.
+    /// The Rust type that the compiler writes for the default value of the field. `None` if no type
+    /// has to be written.
     pub own: Option<OwnDefault>,
 }
 
@@ -51,7 +55,7 @@ const CHECK_OPTIONAL_CHOICE: &str = "        if let Some(value) = &self.@N.0 {
 ";
 
 impl Field {
-    /// What the field costs the checker, beside one that is required.
+    /// How much work the field is for the proof checker. A required field counts as 1.
     pub fn weight(&self) -> usize {
         match &self.presence {
             FieldPresence::Required => 1,
@@ -64,7 +68,7 @@ impl Field {
         }
     }
 
-    /// Adds the type of the field.
+    /// Appends the type of the field, including what OPTIONAL or DEFAULT adds.
     pub fn push_whole_type(&self, out: &mut String) -> Result<(), AllocError> {
         let text = self.of.text.as_str();
         match &self.presence {
@@ -78,7 +82,7 @@ impl Field {
         }
     }
 
-    /// What the field means, as a term of a clause and a template.
+    /// A template for a term in a contract. The term describes the encodings of the field.
     pub fn meaning(&self) -> &'static str {
         match self.presence {
             FieldPresence::Required => "(field @M)",
@@ -89,7 +93,8 @@ impl Field {
         }
     }
 
-    /// The statement which checks that the value of the field is one of its type, as a template.
+    /// A template for a Rust statement. The statement checks whether the value of the field is a
+    /// valid value of its type.
     pub fn check(&self) -> &'static str {
         match (self.of.arms.is_empty(), &self.presence) {
             (true, FieldPresence::Optional) => CHECK_OPTIONAL,
@@ -132,7 +137,8 @@ impl Places for Field {
     }
 }
 
-/// The lifetime of a struct with these fields, or nothing.
+/// The lifetime parameter of a struct with these fields, as Rust text. Empty if the struct needs
+/// none.
 pub fn lifetime_of(fields: &[Field]) -> &'static str {
     for field in fields {
         if field.of.has_lifetime {
@@ -142,21 +148,21 @@ pub fn lifetime_of(fields: &[Field]) -> &'static str {
     ""
 }
 
-/// What is written of each of some fields.
+/// What a tuple has as the member for each field of a struct.
 #[derive(Clone, Copy)]
 pub enum Row {
-    /// Its type.
+    /// The member is the type of the field.
     Types,
-    /// Its name.
+    /// The member is the name of the field.
     Names,
-    /// Its value in the value `v`.
+    /// The member is the value of the field in the struct value `v`.
     Values,
-    /// What it means, as a term of a clause.
+    /// The member is the term for a contract that describes the encodings of the field.
     Meaning,
 }
 
 impl Row {
-    /// What a tuple of so many members begins with.
+    /// The text in front of the first member of a tuple with `count` members.
     pub fn open(self, count: usize) -> &'static str {
         match self {
             Row::Meaning => meaning_of(count),
@@ -164,7 +170,7 @@ impl Row {
         }
     }
 
-    /// What is between members.
+    /// The text between two members of a tuple.
     pub fn between(self) -> &'static str {
         match self {
             Row::Meaning => " ",
@@ -221,12 +227,13 @@ fn meaning_of(count: usize) -> &'static str {
     }
 }
 
-/// Adds what is written of each of these fields, as a tuple.
+/// Appends a tuple with one member for each of these fields. `row` says what the members are.
 pub fn push_row(out: &mut String, fields: &[Field], row: Row) -> Result<(), AllocError> {
     push_tuple(out, &FieldRow { fields, row }, fields.len())
 }
 
-/// Adds a template for each of these fields.
+/// Appends the template once for each of these fields. Its placeholders are replaced by the
+/// properties of the field.
 pub fn push_fields(out: &mut String, fields: &[Field], template: &str) -> Result<(), AllocError> {
     for field in fields {
         fill(out, template, field)?;
@@ -234,7 +241,8 @@ pub fn push_fields(out: &mut String, fields: &[Field], template: &str) -> Result
     Ok(())
 }
 
-/// Adds the statements which check that the values of these fields are of their types.
+/// Appends a Rust statement for each of these fields. The statement checks whether the value of the
+/// field is a valid value of its type.
 pub fn push_checks(out: &mut String, fields: &[Field]) -> Result<(), AllocError> {
     for field in fields {
         fill(out, field.check(), field)?;

@@ -1,4 +1,4 @@
-//! The fields of a SEQUENCE.
+//! The Rust fields for the components of a SEQUENCE.
 
 use super::default_place::DefaultPlace;
 use super::defaults::{DefaultType, default_type};
@@ -15,11 +15,13 @@ use asn1_check::{Module, RustType};
 use asn1_syntax::{Component, Failure, Presence};
 use std::alloc::{AllocError, Global};
 
-const ADDITIONS: &str = "    /// The elements of later versions, as they were.\n";
+const ADDITIONS: &str =
+    "    /// The fields that the ASN.1 module does not have, as they were read.\n";
 
 impl<'m, 'a> Written<'m, 'a> {
-    /// The fields for these components of the type with the name `owner`, and for others if it keeps
-    /// them: those are at `additions`.
+    /// The Rust fields for these components. `owner` is the Rust name of the type with the
+    /// components. If `additions` is given, the type keeps unknown components. Then one more field
+    /// for them is added in front of the field with this index.
     pub fn fields(
         &self,
         alloc: Global,
@@ -79,7 +81,8 @@ fn default_name(
     format!(in alloc; "{owner}{end}Default")
 }
 
-/// The names of the fields for these components, and one for those that the module does not name.
+/// The Rust names of the fields for these components. The last name is one more, for the field with
+/// unknown components.
 pub fn field_names(
     alloc: Global,
     components: &Vec<Component<'_>>,
@@ -120,7 +123,7 @@ fn field_of(
     let DefaultType { of, own } = found;
     Ok(Field {
         name,
-        doc: component_doc(alloc, module, component)?,
+        doc: component_doc(alloc, module, component, "The field")?,
         of,
         presence: presence_of(alloc, component)?,
         own,
@@ -138,13 +141,15 @@ fn presence_of(alloc: Global, component: &Component<'_>) -> Result<FieldPresence
     }
 }
 
-/// The struct that stands for a CHOICE inside an explicit tag, with this name.
+/// The Rust struct for a CHOICE that is inside an explicit tag. `name` is the name of the struct.
 pub fn tagged_text(alloc: Global, name: String, of: &RustType) -> Result<SequenceText, AllocError> {
     let choice = name_of_type(of.text.as_str());
     Ok(SequenceText {
         name,
         lifetime: if of.has_lifetime { "<'a>" } else { "" },
-        doc: format!(in alloc; "/// What an explicit tag has in it: a [`{choice}`].\n")?,
+        doc: format!(in alloc;
+            "/// The contents of an element with an explicit tag: a [`{choice}`].\n"
+        )?,
         fields: vec![in alloc; tagged_field(alloc, of)?]?,
     })
 }
@@ -152,7 +157,7 @@ pub fn tagged_text(alloc: Global, name: String, of: &RustType) -> Result<Sequenc
 fn tagged_field(alloc: Global, of: &RustType) -> Result<Field, AllocError> {
     Ok(Field {
         name: String::from_str(alloc, "value")?,
-        doc: String::from_str(alloc, "    /// The value after the tag.\n")?,
+        doc: String::from_str(alloc, "    /// The value inside the explicit tag.\n")?,
         of: of.copy(alloc)?,
         presence: FieldPresence::Required,
         own: None,

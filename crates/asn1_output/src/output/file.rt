@@ -1,4 +1,4 @@
-//! Files of Rust.
+//! Rust files to be written.
 
 use super::definition::{Definition, DefinitionKind};
 use super::imports::{push_ghost_use, push_use, words_of};
@@ -13,9 +13,9 @@ use std::fmt::Write;
 /// A file that the compiler writes.
 #[derive(Drop)]
 pub struct OutputFile {
-    /// The path beneath the folder of the crate.
+    /// The path of the file, relative to the folder of the crate.
     pub path: String,
-    /// The text.
+    /// The text of the file.
     pub text: String,
 }
 
@@ -58,7 +58,7 @@ ten_fields
 three_fields
 twelve_fields";
 
-/// The file of a definition, with its imports.
+/// Makes the file for a definition, with the imports that its text needs.
 pub fn file_of(
     alloc: Global,
     module: &Module<'_>,

@@ -1,4 +1,4 @@
-//! The `use` lines of a file, from the names in its text.
+//! Writes the `use` lines of a file. The text of the file decides which names are imported.
 
 use asn1_syntax::{NameIndex, is_word_octet, push_line};
 use std::alloc::{AllocError, Global};
@@ -6,8 +6,8 @@ use std::fmt::Write;
 
 const WIDTH: usize = 100;
 
-/// Adds a line that imports those of the names, each on its line, that are among the words of a
-/// text.
+/// Appends a `use` line for some of `names`: those that are among `words`, the words of a text.
+/// `names` has one name on each line. Appends nothing if no name is among `words`.
 pub fn push_use(
     alloc: Global,
     out: &mut String,
@@ -30,7 +30,8 @@ fn words_in(alloc: Global, words: &NameIndex<'_>, names: &str) -> Result<String,
     Ok(found)
 }
 
-/// Adds a line that imports these names, each on its line, if there are any.
+/// Appends a `use` line for all of `names`, which has one name on each line. Appends nothing if
+/// `names` is empty.
 pub fn push_names(
     alloc: Global,
     out: &mut String,
@@ -79,7 +80,8 @@ fn push_lines(alloc: Global, out: &mut String, names: &str) -> Result<(), AllocE
     out.push_str(line.as_str())
 }
 
-/// The words of a text. A word after `::` needs no import, and is left out.
+/// The words of a Rust text that may need an import. A word after `::` is left out, since it needs
+/// none.
 pub fn words_of<'t>(alloc: Global, text: &'t str) -> Result<NameIndex<'t>, AllocError> {
     let octets = text.as_bytes();
     let mut words = NameIndex::new(alloc);
@@ -109,8 +111,9 @@ fn add_word<'t>(
     Ok(())
 }
 
-/// Adds a line that imports those of the names for clauses, each on its line, that are among the
-/// words of a text.
+/// Appends a `ghost use` line, which imports names for contracts. It has those of `names` that are
+/// among `words`, the words of a text. `names` has one name on each line. Appends nothing if no
+/// name is among `words`.
 pub fn push_ghost_use(
     alloc: Global,
     out: &mut String,

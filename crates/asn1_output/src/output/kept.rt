@@ -1,4 +1,4 @@
-//! Types that keep what their modules do not name.
+//! Finds the types with an extension marker that keep unknown components and alternatives.
 
 use super::directive::{is_closed_by, own_type};
 use asn1_check::{
@@ -7,14 +7,17 @@ use asn1_check::{
 use asn1_syntax::{Component, Mark, Presence, TypeForm, TypeNode};
 use std::alloc::{AllocError, Global};
 
-/// The most components of a SEQUENCE that keeps others: the checker proves no more with them.
+/// The greatest number of components of a SEQUENCE that keeps unknown components. The proof checker
+/// does not take more. A SEQUENCE with more components refuses unknown ones.
 const MOST_FIELDS: usize = 9;
 
-/// The most alternatives of a CHOICE that keeps others.
+/// The greatest number of alternatives of a CHOICE that keeps unknown alternatives. A CHOICE with
+/// more alternatives refuses unknown ones.
 const MOST_ALTERNATIVES: usize = 24;
 
-/// For each type, by its index, the tags that it knows at its extension mark; `None` for a type that
-/// refuses other tags there, or has no mark.
+/// Returns the tags that each type with an extension marker knows where the marker is. Elements
+/// with other tags are kept there as unknown elements. The place in the result is the index of the
+/// type. `None` for a type that refuses unknown elements, or that has no extension marker.
 pub fn kept_of(
     alloc: Global,
     module: &Module<'_>,
@@ -35,7 +38,7 @@ pub fn kept_of(
     Ok(kept)
 }
 
-/// Whether the type with this index keeps what its module does not name.
+/// Whether the type with this index keeps unknown components or alternatives.
 pub fn is_kept(kept: &Vec<Option<TagSet>>, index: usize) -> bool {
     matches!(kept.get(index), Some(Some(_)))
 }

@@ -1,4 +1,4 @@
-//! The text of the tags that a type knows at its extension mark.
+//! The Rust text for the tags that a type with an extension marker knows.
 
 use super::template::{Places, fill};
 use asn1_check::TagSet;
@@ -6,7 +6,8 @@ use asn1_syntax::{Tag, TagClass};
 use std::alloc::{AllocError, Global};
 use std::fmt::Write;
 
-const KNOWN: &str = "/// The tags that a [`@N`] knows at its extension mark.
+const KNOWN: &str =
+    "/// The tags of the components of [`@N`]. An element with another tag is kept as it was read.
 #[derive(Clone, Copy, Debug, PartialEq, Eq)]
 pub struct @NKnown;
 
@@ -19,17 +20,18 @@ impl KnownTags for @NKnown {
 }
 ";
 
-/// The tags that a type with this name knows at its extension mark.
+/// The tags that a type knows where its extension marker is. Elements with other tags are kept
+/// there as unknown elements.
 #[derive(Clone, Copy)]
 pub struct KnownText<'t> {
-    /// The name.
+    /// The Rust name of the type.
     pub name: &'t str,
-    /// The tags.
+    /// The known tags.
     pub tags: &'t TagSet,
 }
 
 impl<'t> KnownText<'t> {
-    /// Adds the text.
+    /// Appends the text of a Rust type that stands for these tags.
     pub fn push_body(&self, out: &mut String) -> Result<(), AllocError> {
         fill(out, KNOWN, self)
     }
@@ -71,12 +73,14 @@ fn class_of(tag: &Tag) -> u8 {
     }
 }
 
-/// The type of the field for the components that a SEQUENCE with this name does not name.
+/// The Rust type of the field with the unknown components of a SEQUENCE. `name` is the Rust name of
+/// the SEQUENCE.
 pub fn additions_type(alloc: Global, name: &str) -> Result<String, AllocError> {
     format!(in alloc; "Additions<'a, {name}Known>")
 }
 
-/// The type of the alternative for those that a CHOICE with this name does not name.
+/// The Rust type of the variant for the unknown alternatives of a CHOICE. `name` is the Rust name
+/// of the CHOICE.
 pub fn unknown_type(alloc: Global, name: &str) -> Result<String, AllocError> {
     format!(in alloc; "UnknownElement<'a, {name}Known>")
 }

@@ -1,4 +1,4 @@
-//! Lists that are structs of their own.
+//! The Rust text for a SEQUENCE OF or SET OF that is a Rust struct of its own.
 
 use super::directive::{FIELD, directive};
 use super::sequence::ITEM;
@@ -8,7 +8,7 @@ use std::alloc::AllocError;
 
 const LIST: &str = "@D#[derive(Clone, Copy, Debug, Drop, PartialEq, Eq)]
 pub struct @N<'a> {
-    /// The list: a @W OF its items.
+    /// The items, as a @W OF.
     pub @F: @T,
 }
 
@@ -73,7 +73,7 @@ impl<'a> Lawful for @N<'a> {
 
 ";
 
-const BOTH: &str = "/// Decodes the list, with the errors of [`@O`].
+const BOTH: &str = "/// Decodes the list. The errors are those of decoding a [`@O`].
 impl<'a, R: Lends<Borrowed = &'a [u8]>> DecodeValue<R> for @N<'a> {
     type Error = Error;
 
@@ -95,7 +95,7 @@ impl<'a> IsValue for @N<'a> {
     }
 }
 
-/// Writes the list, with the errors of [`@O`].
+/// Writes the list. The errors are those of writing a [`@O`].
 impl<'a> EncodeValue for @N<'a> {
     ghost value_size = { λ v. ⟦<Items<'a> as EncodeValue>⟧.value_size v.@F };
 
@@ -119,21 +119,21 @@ impl<'a> EncodeValue for @N<'a> {
 }
 ";
 
-/// A struct around a list.
+/// A Rust struct for a SEQUENCE OF or SET OF. Its only field is the list.
 #[derive(Clone, Copy)]
 pub struct ListText<'t> {
-    /// The lines of its documentation.
+    /// The lines of the doc comment of the struct.
     pub doc: &'t str,
-    /// Its name.
+    /// The name of the struct.
     pub name: &'t str,
-    /// The name of the field that is the list.
+    /// The name of the only field of the struct.
     pub field: &'t str,
-    /// The type of the list.
+    /// The Rust type of the list, which is the type of the field.
     pub list: &'t str,
 }
 
 impl<'t> ListText<'t> {
-    /// Adds the text of the struct and of its implementations.
+    /// Appends the text of the struct and of its implementations.
     pub fn push_body(&self, out: &mut String) -> Result<(), AllocError> {
         fill(out, LIST, self)?;
         fill(out, if self.is_set() { SET } else { SEQUENCE }, self)?;
@@ -161,8 +161,10 @@ impl<'t> Places for ListText<'t> {
     }
 }
 
-/// The name of the field of the struct for this list: the one that `Rust field:` gives, or `items` if the
-/// list is an item of another list; `None` if the list is not a struct.
+/// The name of the field that holds the items, if the SEQUENCE OF or SET OF with the index `index`
+/// becomes a Rust struct. A comment `Rust field: NAME` above the type in the module gives this name.
+/// Without this comment, the list becomes a struct only if it is the item of another list; the field
+/// is `items` then. `None` if the list does not become a struct.
 pub fn list_field<'a>(module: &Module<'a>, index: usize) -> Option<&'a str> {
     if let Some(assigned) = module.assignment(index)
         && let Some(field) = directive(assigned.name.comments, FIELD)

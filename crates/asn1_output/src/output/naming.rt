@@ -1,4 +1,4 @@
-//! Names of Rust for types, also for those without a name.
+//! Rust names of types. Types without an ASN.1 name get one, too.
 
 use super::directive::{chosen_name, type_name};
 use super::lists::list_field;
@@ -9,9 +9,9 @@ use asn1_check::{Module, contained};
 use asn1_syntax::{Component, Item, TypeForm};
 use std::alloc::{AllocError, Global};
 
-/// A name for each type, by its index; an empty one for types of values alone. A type without a
-/// name has that of the type around it and that of the component. No two types for which text is
-/// written have the same.
+/// The Rust names of all types, by the index of the type. Types for which Rust text is written have
+/// different names. A type without an ASN.1 name gets the name of the type around it, followed by
+/// the name of its component. The name is empty for a type that occurs only as the type of a value.
 pub fn names_of(alloc: Global, module: &Module<'_>) -> Result<Vec<String>, AllocError> {
     let mut taken = imported_names(alloc, module)?;
     let mut names = empty_names(alloc, module.nodes.len())?;
@@ -61,7 +61,8 @@ fn imported_names(alloc: Global, module: &Module<'_>) -> Result<Taken, AllocErro
     Ok(taken)
 }
 
-/// The names that types would have if none were the same, by index.
+/// The names that all types would have in Rust, by the index of the type, if equal names were
+/// allowed.
 pub fn plain_names_of(alloc: Global, module: &Module<'_>) -> Result<Vec<String>, AllocError> {
     let mut names = empty_names(alloc, module.nodes.len())?;
     add_plain(alloc, module, &mut names)?;
@@ -140,7 +141,7 @@ fn free_name(
     taken.take_free(alloc, name, ends_at(module, index), "")
 }
 
-/// Whether text is written for the type with this index, if it has no name in the module.
+/// Whether the type with this index gets Rust text of its own, even if it has no ASN.1 name.
 pub fn is_written(module: &Module<'_>, index: usize) -> bool {
     match module.nodes.get(index) {
         Some(node) => match &node.form {
@@ -175,7 +176,7 @@ fn empty_names(alloc: Global, count: usize) -> Result<Vec<String>, AllocError> {
     Ok(names)
 }
 
-/// The text at this index.
+/// The text with this index; empty if there is none.
 pub fn text_at(texts: &Vec<String>, index: usize) -> &str {
     match texts.get(index) {
         Some(text) => text.as_str(),
@@ -183,7 +184,7 @@ pub fn text_at(texts: &Vec<String>, index: usize) -> &str {
     }
 }
 
-/// Whether the type with this index has a name in the module.
+/// Whether the module has a type assignment that gives the type with this index a name.
 pub fn is_assigned(module: &Module<'_>, index: usize) -> bool {
     module.assignment(index).is_some()
 }

@@ -1,28 +1,29 @@
-//! Alternatives in nested choices of two.
+//! Writes the alternatives of a CHOICE as nested pairs.
 
 use super::alternatives::Alternative;
 use super::template::fill;
 use std::alloc::AllocError;
 
-/// How items are nested: each but the last one is in a pair with what follows it.
+/// How nested pairs are written. The first item is in a pair with the other items, which are nested
+/// in the same way. The last item alone is in no pair of its own.
 #[derive(Clone, Copy)]
 pub struct Nest {
-    /// What begins a pair.
+    /// The text in front of the first member of a pair.
     pub open: &'static str,
-    /// What is between its parts.
+    /// The text between the two members of a pair.
     pub between: &'static str,
-    /// What ends it.
+    /// The character after the second member of a pair.
     pub close: char,
 }
 
-/// How types are nested.
+/// Nested pairs of Rust types.
 pub const TYPES: Nest = Nest {
     open: "Either<",
     between: ", ",
     close: '>',
 };
 
-/// How terms that say what alternatives mean are nested.
+/// Nested pairs of terms in a contract. Each term describes the encodings of an alternative.
 pub const MEANING: Nest = Nest {
     open: "(either ",
     between: " ",
@@ -30,7 +31,8 @@ pub const MEANING: Nest = Nest {
 };
 
 impl Nest {
-    /// Adds what is in front of the item with this index of so many.
+    /// Appends the text that is written in front of the item with this index. There are `count`
+    /// items.
     pub fn push_before(
         &self,
         out: &mut String,
@@ -46,7 +48,7 @@ impl Nest {
         Ok(())
     }
 
-    /// Adds what is after so many items.
+    /// Appends the text that is written after the last one of `count` items.
     pub fn push_end(&self, out: &mut String, count: usize) -> Result<(), AllocError> {
         for _ in 1..count {
             out.push(self.close)?;
@@ -55,7 +57,8 @@ impl Nest {
     }
 }
 
-/// The lifetime of an enum with these alternatives, or nothing.
+/// The lifetime parameter of an enum with these alternatives, as Rust text. Empty if the enum needs
+/// none.
 pub fn lifetime_of(alternatives: &[Alternative]) -> &'static str {
     for alternative in alternatives {
         if alternative.of.has_lifetime {
@@ -65,12 +68,13 @@ pub fn lifetime_of(alternatives: &[Alternative]) -> &'static str {
     ""
 }
 
-/// Adds the types of alternatives, as nested choices of two.
+/// Appends the Rust types of these alternatives, as nested pairs.
 pub fn push_types(out: &mut String, alternatives: &[Alternative]) -> Result<(), AllocError> {
     push_nested(out, alternatives, TYPES, "@T")
 }
 
-/// Adds what alternatives mean, as a term.
+/// Appends the terms that describe the encodings of these alternatives in a contract, as nested
+/// pairs.
 pub fn push_meaning(out: &mut String, alternatives: &[Alternative]) -> Result<(), AllocError> {
     push_nested(out, alternatives, MEANING, "@M")
 }

@@ -1,4 +1,4 @@
-//! Defaults that are numbers.
+//! DEFAULT values that are numbers.
 
 use super::default_place::DefaultPlace;
 use super::defaults::{DefaultType, OwnDefault};
@@ -40,7 +40,8 @@ impl<'a> DefaultOf<@T> for @N {
 const NO_NUMBER: &str =
     "a number, or the name of one, from -18446744073709551615 to 18446744073709551615";
 
-/// Checks that a default is a number in the range of its type, and returns it.
+/// Returns the number for which a DEFAULT value stands. Fails if the value is not a number, or if
+/// the number is not in the range of its type.
 pub fn check_range<'a>(
     module: &Module<'a>,
     place: &DefaultPlace<'_>,
@@ -56,7 +57,7 @@ pub fn check_range<'a>(
     Ok(number)
 }
 
-/// The type of a field whose default is a number.
+/// The Rust type of a field whose DEFAULT value is a number.
 pub fn integer<'a>(
     alloc: Global,
     module: &Module<'a>,
@@ -131,7 +132,8 @@ fn number_default<'a>(
     })
 }
 
-/// The number that a value is, as it is written, by a named number, or by a value of the module.
+/// The number for which a value stands. The value may be a number, the name of a named number, or
+/// the name of a value of the module. `None` if it is none of these.
 pub fn number_of<'a>(
     module: &Module<'a>,
     numbers: &Vec<NamedNumber<'a>>,
@@ -151,7 +153,7 @@ pub fn number_of<'a>(
     }
 }
 
-/// The number with this name.
+/// The number with this name among the named `numbers` of a type; `None` if there is none.
 pub fn named<'a>(numbers: &Vec<NamedNumber<'a>>, name: &str) -> Option<Endpoint<'a>> {
     for named in numbers.iter() {
         if named.name.text == name {

@@ -1,19 +1,21 @@
-//! INTEGERs with bounds.
+//! INTEGERs with bounds, and ENUMERATEDs.
 
 use super::directive::is_closed_by;
 use asn1_check::{Module, range_at};
 use asn1_syntax::{Endpoint, NamedNumber, TypeForm};
 
-/// The type of an ENUMERATED that may have numbers which no item has.
+/// The Rust type of an ENUMERATED that keeps the numbers of unknown items.
 pub const OPEN: &str = "EnumeratedOf<i64>";
 
-/// The bounds of the type with this index, if it has two that are 0 or more.
+/// The lowest and the highest number that the type with this index allows. `None` if there is no
+/// such bound on one side, or if a bound is below 0.
 pub fn bounds(module: &Module<'_>, index: usize) -> Option<(u64, u64)> {
     range_at(module, index).numbers()
 }
 
-/// Whether the type with this index is read as an item of an enumeration: an ENUMERATED, or an
-/// INTEGER whose bounds allow its named numbers and no others.
+/// Whether the type with this index becomes a Rust enum. This is true for an ENUMERATED whose
+/// numbers are all from 0 to 4294967295, and for an INTEGER whose bounds allow exactly its named
+/// numbers.
 pub fn is_enumeration(module: &Module<'_>, index: usize) -> bool {
     match module.nodes.get(index) {
         Some(node) => match &node.form {
@@ -25,7 +27,7 @@ pub fn is_enumeration(module: &Module<'_>, index: usize) -> bool {
     }
 }
 
-/// Whether the bounds of the INTEGER with this index allow its named numbers and no others.
+/// Whether the bounds of the INTEGER with this index allow exactly its named numbers.
 pub fn is_closed(module: &Module<'_>, index: usize, numbers: &Vec<NamedNumber<'_>>) -> bool {
     let Some((low, high)) = bounds(module, index) else {
         return false;
@@ -36,8 +38,8 @@ pub fn is_closed(module: &Module<'_>, index: usize, numbers: &Vec<NamedNumber<'_
     high - low == numbers.len() as u64 - 1 && are_within(numbers, low, high)
 }
 
-/// Whether the ENUMERATED with this index is read as a number of 64 bits, since it has an extension
-/// mark, and the module does not ask to refuse numbers that no item has.
+/// Whether the ENUMERATED with this index keeps the numbers of unknown items. This is true if it
+/// has an extension marker, unless there is a comment `Rust extensions: refused`.
 pub fn is_open(module: &Module<'_>, index: usize) -> bool {
     match module.nodes.get(index) {
         Some(node) => {
@@ -47,7 +49,8 @@ pub fn is_open(module: &Module<'_>, index: usize) -> bool {
     }
 }
 
-/// Whether an enum can have these items: whether their numbers are from 0 to 2^32 - 1.
+/// Whether all items have numbers from 0 to 4294967295. The items of a Rust enum must have such
+/// numbers.
 pub fn are_small(items: &Vec<NamedNumber<'_>>) -> bool {
     are_within(items, 0, 4294967295)
 }

@@ -1,4 +1,4 @@
-//! Names that are others in Rust, since two would be the same.
+//! Warnings about names that are changed in Rust, because they would be equal to others.
 
 use super::directive::{field_name, variant_name};
 use super::enumeration::variant_names;
@@ -11,7 +11,7 @@ use super::written::Written;
 use asn1_syntax::{Component, Item, NamedNumber, TypeForm, Warning};
 use std::alloc::{AllocError, Global};
 
-/// Adds a warning for each name that has a number or a `_` after it in Rust.
+/// Adds a warning to `found` for each name that gets a number or a `_` at its end in Rust.
 pub fn add_renamed<'a>(
     alloc: Global,
     written: &Written<'_, 'a>,

@@ -1,4 +1,5 @@
-//! The files that name others, and the proofs beside them.
+//! Makes the root file of the compiled types, the root file of the crate, and the files with
+//! proofs.
 
 use super::definition::{Definition, Proof};
 use super::file::OutputFile;
@@ -12,7 +13,8 @@ const LIBRARY: &str = "//! Types that are compiled from ASN.1.
 pub mod asn1;
 ";
 
-/// The file that names all others.
+/// The file `src/asn1.rt`. It declares the file of each definition as a Rust module, and exports
+/// the public types.
 pub fn root_of(
     alloc: Global,
     module: &str,
@@ -65,7 +67,8 @@ fn push_export(alloc: Global, out: &mut String, definition: &Definition) -> Resu
     push_use(alloc, out, &words, file, definition.names.as_str())
 }
 
-/// The file of a proof of a function that a definition implements for `Encode`.
+/// The file with the proof of a function. The type of the definition implements the function for
+/// the trait `Encode`.
 pub fn proof_file(
     alloc: Global,
     krate: &str,
@@ -82,7 +85,7 @@ pub fn proof_file(
     })
 }
 
-/// The root of a crate that holds the module and nothing else.
+/// The file `src/lib.rt`, for a crate that has nothing but the compiled types.
 pub fn library_of(alloc: Global, all: &Vec<Definition>) -> Result<OutputFile, AllocError> {
     let mut file = OutputFile {
         path: String::from_str(alloc, "src/lib.rt")?,

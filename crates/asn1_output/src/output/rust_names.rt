@@ -1,4 +1,4 @@
-//! Names of Rust for names of the notation.
+//! Makes Rust names of ASN.1 names.
 
 use asn1_syntax::{is_digit, is_line_of, is_lower, is_upper};
 use std::alloc::{AllocError, Global};
@@ -51,8 +51,8 @@ where
 while
 yield";
 
-/// The name in words of lower case with `_` between them: `tbsCertificate` is `tbs_certificate`. A
-/// keyword of Rust gets a `_` after it.
+/// The name in lower case with `_` between its words: `tbsCertificate` becomes `tbs_certificate`. A
+/// Rust keyword gets a `_` at its end.
 pub fn snake_name(alloc: Global, name: &str) -> Result<String, AllocError> {
     let mut text = String::new(alloc);
     let octets = name.as_bytes();
@@ -72,7 +72,8 @@ pub fn snake_name(alloc: Global, name: &str) -> Result<String, AllocError> {
     Ok(text)
 }
 
-/// The name in words that begin in upper case: `TBSCertificate` is `TbsCertificate`.
+/// The name in which each word begins with an upper-case letter: `TBSCertificate` becomes
+/// `TbsCertificate`.
 pub fn pascal_name(alloc: Global, name: &str) -> Result<String, AllocError> {
     let mut text = String::new(alloc);
     let octets = name.as_bytes();

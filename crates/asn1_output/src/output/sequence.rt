@@ -1,4 +1,4 @@
-//! Writes the Rust source of a SEQUENCE type.
+//! The Rust text for a SEQUENCE.
 ghost use Rattle.std.specs.Prelude.{◌<◌};
 
 use super::field::{Field, FieldPresence, Row, lifetime_of, push_checks, push_fields, push_row};
@@ -7,16 +7,16 @@ use super::template::{Items, Places, Tuples, fill, push_tuple};
 use std::alloc::{AllocError, Global};
 use std::fmt::Write;
 
-/// A SEQUENCE.
+/// The Rust struct to be written for a SEQUENCE.
 #[derive(Drop)]
 pub struct SequenceText {
     /// The name of the struct.
     pub name: String,
-    /// Its lifetime, or nothing.
+    /// The lifetime parameter of the struct, as Rust text. Empty if the struct needs none.
     pub lifetime: &'static str,
-    /// The lines of its documentation.
+    /// The lines of the doc comment of the struct.
     pub doc: String,
-    /// The fields.
+    /// The fields of the struct, one for each component of the SEQUENCE.
     pub fields: Vec<Field>,
 }
 
@@ -24,7 +24,7 @@ const STRUCT: &str = "@D#[derive(@K)]
 pub struct @N@L {
 @F}
 
-/// The fields of a [`@N`], in the order in which they are encoded.
+/// The fields of [`@N`] as one type, in the order in which they are encoded.
 pub type @NFields@L = @T;
 
 impl@L FromFields<@Q> for @N@L {
@@ -45,7 +45,7 @@ impl@L Sequence for @N@L {
 ";
 
 const DECODE: &str =
-    "/// Decodes the fields one after the other, with the errors of every [`Sequence`].
+    "/// Decodes the fields, first to last. The errors are those that [`Sequence`] lists.
 impl<'a, R: Lends<Borrowed = &'a [u8]>> DecodeValue<R> for @N@L {
     type Error = Error;
 
@@ -65,7 +65,7 @@ impl@L IsValue for @N@L {
 @C    }
 }
 
-/// Writes the fields one after the other, with the errors of every [`Sequence`].
+/// Writes the fields, first to last. The errors are those that [`Sequence`] lists.
 impl@L HasFields for @N@L {
     ghost fields_size = { λ v. ⟦<@NFields@L as Encode>⟧.size @E };
 
@@ -82,7 +82,8 @@ impl@L HasFields for @N@L {
 }
 ";
 
-/// What an item of a list needs.
+/// A template for the implementations that a struct needs to be the item of a SEQUENCE OF or SET
+/// OF.
 pub const ITEM: &str = "
 impl@L Item for @N@L {
     ghost item = { sequence_item ⟦<@N@L as Described>⟧.element };
@@ -114,14 +115,16 @@ const SEEN_PART: &str = "(seen ⟦<@N@L as FromFields<@NFields@L>>⟧.fields @M)
 
 const ENCODED_PART: &str = "⟦<@N@L as FromFields<@NFields@L>>⟧.fields (@Q v).@J";
 
-/// The most fields of a part.
+/// The greatest number of fields of a part. The fields of a large SEQUENCE are divided into parts,
+/// since the proof checker cannot take all of them at once.
 const PART: usize = 12;
 
-/// The greatest weight of the fields of a part. With 20 the checker stops at its limit of steps.
+/// The greatest sum of [`Field::weight`] over the fields of a part. With a sum of 20, the proof
+/// checker reaches its limit of steps.
 const WEIGHT: usize = 17;
 
 impl SequenceText {
-    /// A SEQUENCE with this name.
+    /// A struct with this name, this doc comment and these fields.
     pub fn new(
         alloc: Global,
         name: &str,
@@ -136,7 +139,7 @@ impl SequenceText {
         })
     }
 
-    /// Adds the text of the struct and of its implementations.
+    /// Appends the text of the struct and of its implementations.
     pub fn push_body(&self, out: &mut String) -> Result<(), AllocError> {
         fill(out, STRUCT, self)?;
         fill(out, DECODE, self)?;
@@ -159,13 +162,14 @@ impl SequenceText {
         "Clone, Copy, Debug, Drop, PartialEq, Eq"
     }
 
-    /// Whether the fields are in parts.
+    /// Whether the fields are divided into parts. Each part is a Rust type of its own. The fields
+    /// of a large SEQUENCE are divided, since the proof checker cannot take all of them at once.
     pub fn has_parts(&self) -> bool {
         self.fields.len() > self.part_len()
     }
 
-    /// The number of fields of each part but the last one: as many as the checker can take at once,
-    /// with at most five parts.
+    /// The number of fields of each part. The last part may have fewer. It is the largest number
+    /// that the proof checker can take at once, but large enough for at most five parts.
     pub fn part_len(&self) -> usize
         ensures { 0 < result }
     {
@@ -178,12 +182,12 @@ impl SequenceText {
         (self.fields.len().saturating_add(4) / 5).max(1)
     }
 
-    /// The number of parts.
+    /// The number of parts into which the fields are divided.
     pub fn part_count(&self) -> usize {
         self.fields.chunks(self.part_len()).count()
     }
 
-    /// The part with this index.
+    /// The fields of the part with this index, from 0; no fields if there is no such part.
     pub fn part(&self, index: usize) -> PartText<'_> {
         let fields = match self.fields.chunks(self.part_len()).nth(index) {
             Some(fields) => fields,
@@ -245,7 +249,8 @@ impl SequenceText {
         out.push_str(" v)")
     }
 
-    /// Adds what takes a value apart, as a term of a clause.
+    /// Appends a term for a contract. It is the function that returns the fields of a value of the
+    /// struct.
     pub fn push_made(&self, out: &mut String) -> Result<(), AllocError> {
         let (name, lifetime) = (self.name.as_str(), self.lifetime);
         write!(out, "⟦<{name}{lifetime} as FromFields<")?;

@@ -1,4 +1,4 @@
-//! The text of a part of a SEQUENCE.
+//! The Rust text for some of the fields of a SEQUENCE.
 
 use super::field::{Field, Row, lifetime_of, push_fields, push_row};
 use super::sequence::SequenceText;
@@ -46,29 +46,29 @@ impl<'a, R: Lends<Borrowed = &'a [u8]>> Decode<R> for @N@L {
 }
 ";
 
-/// A part of a SEQUENCE.
+/// Some of the fields of a SEQUENCE, which are written as a Rust type of their own.
 #[derive(Clone, Copy)]
 pub struct PartText<'s> {
-    /// The SEQUENCE.
+    /// The SEQUENCE with these fields.
     pub of: &'s SequenceText,
-    /// The index of the part.
+    /// The index of the part, from 0.
     pub index: usize,
-    /// Its fields.
+    /// The fields of the part.
     pub fields: &'s [Field],
 }
 
 impl<'s> PartText<'s> {
-    /// The number that is in the name of the part.
+    /// The number of the part, from 1. The name of the Rust type of the part has this number.
     pub fn number(&self) -> usize {
         self.index.saturating_add(1)
     }
 
-    /// Adds the text of the part.
+    /// Appends the Rust text of the part.
     pub fn push_body(&self, out: &mut String) -> Result<(), AllocError> {
         fill(out, PART, self)
     }
 
-    /// The name of the part.
+    /// The name of the Rust type of the part.
     pub fn name(&self, alloc: Global) -> Result<String, AllocError> {
         filled(alloc, "@N", self)
     }
@@ -79,7 +79,7 @@ impl<'s> PartText<'s> {
         write!(out, "{of}Part{number}")
     }
 
-    /// Adds the type of the part.
+    /// Appends the name of the Rust type of the part, with its lifetime parameter if there is one.
     pub fn push_type(&self, out: &mut String) -> Result<(), AllocError> {
         let (of, number, lifetime) = (
             self.of.name.as_str(),

@@ -1,4 +1,4 @@
-//! Where the files of a module import their types from.
+//! Finds the files and crates from which the Rust files import names.
 
 use super::definition::Definition;
 use super::directive::{name_of_type, own_default, own_type};
@@ -7,7 +7,8 @@ use asn1_check::{ExternalType, Module};
 use asn1_syntax::{Component, NameIndex, TypeForm, is_line_of, push_line};
 use std::alloc::{AllocError, Global};
 
-/// Where the files of a module import their types from.
+/// The files and the crates from which names are imported. For each name that a Rust file may use,
+/// there is one file or crate.
 #[derive(Drop)]
 pub struct Sources<'m> {
     // The types that are written by hand, each on its line.
@@ -19,7 +20,7 @@ pub struct Sources<'m> {
     crates: Vec<OtherCrate<'m>>,
 }
 
-/// A crate that holds imported types.
+/// Another crate, and the types that are imported from it.
 #[derive(Drop)]
 struct OtherCrate<'m> {
     name: &'m str,
@@ -28,7 +29,7 @@ struct OtherCrate<'m> {
 }
 
 impl<'m> Sources<'m> {
-    /// The sources of the files of these definitions.
+    /// Finds the files and crates from which the files of these definitions may import.
     pub fn of(
         alloc: Global,
         module: &'m Module<'_>,
@@ -69,8 +70,9 @@ impl<'m> Sources<'m> {
         Ok(())
     }
 
-    /// Adds the imports of those types of other definitions, and of those written by hand, that are
-    /// among the words of a definition.
+    /// Appends the imports from files of the same crate that a definition needs. `words` are the
+    /// words of its text. Imported are the types of other definitions, and types that are written
+    /// by hand.
     pub fn push_own(
         &self,
         alloc: Global,
@@ -104,7 +106,8 @@ impl<'m> Sources<'m> {
         Ok(places)
     }
 
-    /// Adds the imports of those types of other crates that are among the words.
+    /// Appends the imports from other crates that a definition needs. `words` are the words of its
+    /// text.
     pub fn push_imported(
         &self,
         alloc: Global,

@@ -1,4 +1,4 @@
-//! What other modules may import from a module.
+//! What other modules may import from a compiled module.
 
 use super::abilities::has_item;
 use super::naming::text_at;
@@ -11,8 +11,8 @@ use asn1_check::{
 use asn1_syntax::{LeftOut, NameIndex, TypeAssignment, TypeForm, is_word_octet};
 use std::alloc::{AllocError, Global};
 
-/// What other modules may import from a module that the crate `krate` holds, and from which these
-/// assignments are left out.
+/// Returns what other modules may import from a module that is compiled in the crate `krate`.
+/// `left_out` are the assignments of the module that are not compiled.
 pub fn external_of<'a>(
     alloc: Global,
     written: &Written<'_, 'a>,

@@ -1,4 +1,4 @@
-//! Tags in front of types.
+//! Rust types for types with tags.
 
 use super::directive::{name_of_type, own_type};
 use super::numbers::bounds;
@@ -6,7 +6,7 @@ use asn1_check::{Module, RustKind, RustType, base_of, find_type};
 use asn1_syntax::{Tag, TagClass, TagPrefix, Tagging, TypeForm};
 use std::alloc::{AllocError, Global};
 
-/// The type of a tag in front of the type with the index `of`.
+/// The Rust type for the type with the index `of` with a tag in front of it.
 pub fn tagged(
     alloc: Global,
     module: &Module<'_>,
@@ -36,7 +36,7 @@ fn tagged_choice(alloc: Global, found: &RustType, tag: Tag) -> Result<RustType, 
     wrapped(alloc, "Implicit", inside.as_str(), tag)
 }
 
-/// The name of the struct that stands for this CHOICE inside an explicit tag.
+/// The name of the Rust struct for this CHOICE when it is inside an explicit tag.
 pub fn tagged_name(alloc: Global, choice: &RustType) -> Result<String, AllocError> {
     let name = name_of_type(choice.text.as_str());
     format!(in alloc; "{name}Tagged")
@@ -69,7 +69,7 @@ fn wrapped_text(alloc: Global, word: &str, inside: &str, tag: Tag) -> Result<Str
     }
 }
 
-/// The tag of a component that the module numbers so.
+/// The tag that a component with this number gets from AUTOMATIC TAGS.
 pub fn numbered(number: usize) -> TagPrefix {
     let tag = Tag {
         class: TagClass::ContextSpecific,
@@ -78,8 +78,11 @@ pub fn numbered(number: usize) -> TagPrefix {
     TagPrefix { tag, tagging: None }
 }
 
-/// The type with this index, if `inside` is after all its tags and names; `None` if a type
-/// that is written by hand, or an imported one with a tag of its own, is among them.
+/// The Rust type `inside` with tags around it: all tags of the type with this index, and of the
+/// types that it refers to by name. Returns `None` in these cases:
+///
+/// - One of these types is written by hand.
+/// - One of these types is imported, and has a tag that is not of class UNIVERSAL.
 pub fn after_tags(
     alloc: Global,
     module: &Module<'_>,
@@ -96,7 +99,8 @@ pub fn after_tags(
     Ok(Some(text))
 }
 
-/// The type of this tag in front of the type of an element.
+/// The Rust type for the type `inside` with this tag around it. The type `inside` must be decoded
+/// as an element.
 pub fn after_tag(alloc: Global, prefix: TagPrefix, inside: &str) -> Result<String, AllocError> {
     wrapped_text(alloc, word_of(tagging(prefix.tagging)), inside, prefix.tag)
 }
@@ -132,8 +136,9 @@ fn prefixes_at(
     Ok(None)
 }
 
-/// Whether decoding checks the bounds of the INTEGER with this index: whether there are two that
-/// are 0 or more, and its type of Rust is written for this module.
+/// Whether decoding checks the bounds of the INTEGER with this index. This is true if the INTEGER
+/// has a lower and an upper bound, neither is below 0, and its Rust type is neither written by hand
+/// nor imported.
 pub fn is_checked(module: &Module<'_>, index: usize) -> bool {
     if bounds(module, index).is_none() {
         return false;
@@ -162,7 +167,8 @@ fn is_imported_plain(module: &Module<'_>, name: &str) -> bool {
     }
 }
 
-/// The type after the tags of a type.
+/// The index of the type behind the tags of the type with this index. References to other types are
+/// not followed.
 pub fn leaf_of(module: &Module<'_>, index: usize) -> usize {
     let mut index = index;
     for _ in module.nodes.iter() {
@@ -177,8 +183,8 @@ pub fn leaf_of(module: &Module<'_>, index: usize) -> usize {
     index
 }
 
-/// The type after the tags and the names of a type; the last name, if another crate holds what it
-/// stands for.
+/// The index of the type behind the tags and references of the type with this index. If that type
+/// is of another crate, it is the index of the reference to it.
 pub fn end_of(module: &Module<'_>, index: usize) -> usize {
     let mut index = index;
     for _ in module.nodes.iter() {

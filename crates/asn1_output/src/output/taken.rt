@@ -1,15 +1,15 @@
-//! Names of Rust that are taken.
+//! Rust names that are in use.
 
 use super::rust_names::snake_name;
 use std::alloc::{AllocError, Global};
 use std::collections::HashSet;
 use std::fmt::Write;
 
-/// The ends of a name that is alone.
+/// The argument `ends` for a name that is used without anything after it. It has one empty line.
 pub const ALONE: &str = "\n";
 
-/// Names that are taken. Two names whose words are the same are one, since files have the names of
-/// types in lower case.
+/// The Rust names that are in use. Two names count as equal if they are equal in snake case, since
+/// the name of a file is the name of its type in snake case.
 #[derive(Drop)]
 pub struct Taken {
     // The words of each name.
@@ -17,14 +17,15 @@ pub struct Taken {
 }
 
 impl Taken {
-    /// No names.
+    /// A set without names.
     pub fn new(alloc: Global) -> Self {
         Taken {
             names: HashSet::new(alloc),
         }
     }
 
-    /// Takes a name with each of these ends, each on its line.
+    /// Marks names as in use: `name` followed by each of `ends`. `ends` has one ending on each
+    /// line.
     pub fn take(&mut self, alloc: Global, name: &str, ends: &str) -> Result<(), AllocError> {
         for end in ends.lines() {
             let whole = format!(in alloc; "{name}{end}")?;
@@ -33,8 +34,10 @@ impl Taken {
         Ok(())
     }
 
-    /// Takes a name with these ends, or if it is not free the first one that is free of those with
-    /// a number after it, from 2 on; `between` is in front of the number.
+    /// Finds a free name, marks it as in use as [`Taken::take`] does, and returns it. The result is
+    /// `name` if it is free, with each of `ends` after it. Otherwise it is `name`, `between` and a
+    /// number. The number is the first one, from 2 on, with which the name is free with each of
+    /// `ends` after it.
     pub fn take_free(
         &mut self,
         alloc: Global,

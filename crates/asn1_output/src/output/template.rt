@@ -1,14 +1,15 @@
-//! Texts with places to be filled.
+//! Templates: texts with placeholders.
 
 use std::alloc::{AllocError, Global};
 
-/// What is in the places of a template.
+/// The texts for the placeholders of a template.
 pub trait Places {
-    /// Adds the text in the place of this letter.
+    /// Appends the text for the placeholder with this letter.
     fn push_place(&self, out: &mut String, letter: char) -> Result<(), AllocError>;
 }
 
-/// Adds a template, in which each `@` and the letter after it stand for the text of that place.
+/// Appends a template to `out`. Each `@` with the letter after it is a placeholder: it is replaced
+/// by the text that `places` has for the letter.
 pub fn fill<P: Places>(out: &mut String, template: &str, places: &P) -> Result<(), AllocError> {
     let mut is_place = false;
     for character in template.chars() {
@@ -24,29 +25,32 @@ pub fn fill<P: Places>(out: &mut String, template: &str, places: &P) -> Result<(
     Ok(())
 }
 
-/// The text that a template stands for.
+/// The text of a template, in which the placeholders are replaced.
 pub fn filled<P: Places>(alloc: Global, template: &str, places: &P) -> Result<String, AllocError> {
     let mut text = String::new(alloc);
     fill(&mut text, template, places)?;
     Ok(text)
 }
 
-/// Texts that are one after the other, by index.
+/// A list of texts, each with an index from 0.
 pub trait Items {
-    /// Adds the item with this index.
+    /// Appends the text with this index.
     fn push_item(&self, out: &mut String, index: usize) -> Result<(), AllocError>;
 }
 
-/// What is around and between the members of tuples.
+/// A list of texts that [`push_tuple`] writes as a tuple. The texts are only the members of the
+/// tuple. This trait has what is written in front of the first member and between two members.
 pub trait Tuples: Items {
-    /// What a tuple of so many members begins with.
+    /// The text in front of the first member of a tuple with `count` members. It has the opening
+    /// parenthesis.
     fn open(&self, count: usize) -> &'static str;
 
-    /// What is between members.
+    /// The text between two members of a tuple, such as a comma and a space.
     fn between(&self) -> &'static str;
 }
 
-/// Adds so many items as a tuple. One item is no tuple.
+/// Appends the first `count` texts as a tuple, with parentheses. A single text is appended without
+/// parentheses.
 pub fn push_tuple<T: Tuples>(out: &mut String, items: &T, count: usize) -> Result<(), AllocError> {
     if count > 1 {
         out.push_str(items.open(count))?;

@@ -1,4 +1,4 @@
-//! The type of Rust of each type.
+//! The Rust types for ASN.1 types.
 
 use super::alternatives::{Alternative, alternatives};
 use super::directive::{is_word, own_type};
@@ -18,7 +18,7 @@ use asn1_syntax::{
 use std::alloc::{AllocError, Global};
 use std::fmt::Write;
 
-/// The types of Rust, by index.
+/// The Rust types of all ASN.1 types of a module, by the index of the ASN.1 type.
 pub fn types_in_order<'a>(
     alloc: Global,
     module: &Module<'a>,
@@ -266,7 +266,8 @@ fn narrowed(
     after_tags(alloc, module, of, inside)
 }
 
-/// The type that a name stands for, if it is that of the type with this index.
+/// The Rust type for a type that has a name in the module. `of` is the index of the type that is
+/// assigned to the name.
 pub fn named_type(
     alloc: Global,
     module: &Module<'_>,
@@ -287,7 +288,7 @@ pub fn named_type(
     found.renamed(alloc, text.as_str())
 }
 
-/// The type of a list, with that of its items.
+/// The Rust type of a SEQUENCE OF or SET OF, with the Rust type of its items.
 pub fn list_text(
     alloc: Global,
     table: &Vec<RustType>,
@@ -313,7 +314,8 @@ fn text_of(table: &Vec<RustType>, index: usize) -> &str {
     }
 }
 
-/// The type of each component, without OPTIONAL and DEFAULT, with the tags that the module numbers.
+/// The Rust type of each component. It includes the tag that the component gets from AUTOMATIC
+/// TAGS. It does not include what OPTIONAL and DEFAULT add.
 pub fn component_types<'a>(
     alloc: Global,
     module: &Module<'a>,
@@ -330,7 +332,8 @@ pub fn component_types<'a>(
     Ok(types)
 }
 
-/// The tag of the component with this index, if the module numbers it.
+/// The tag that the component with this index gets from AUTOMATIC TAGS. `None` if it gets no tag
+/// from AUTOMATIC TAGS.
 pub fn automatic_tag(
     module: &Module<'_>,
     components: &Vec<Component<'_>>,

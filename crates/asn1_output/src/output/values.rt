@@ -1,4 +1,4 @@
-//! The file of the values of a module.
+//! Makes the Rust file with the values of a module.
 
 use super::definition::Definition;
 use super::docs::doc_of;
@@ -33,15 +33,18 @@ const IDENTIFIER: &str = "
 ";
 
 const NAME_OF: &str = "
-/// The name that the module has for an OBJECT IDENTIFIER; the first one if it has several.
+/// The name of an OBJECT IDENTIFIER in the ASN.1 module, or the first of several; `None` if it
+/// has no name there.
 pub fn name_of(oid: &ObjectIdentifierRef<'_>) -> Option<&'static str> {
     match oid.octets() {
 ";
 
-/// The least arc that is too large for the checker to compute octets from it.
+/// The least arc of an OBJECT IDENTIFIER that is too large for the proof checker: it cannot compute
+/// the octets of this arc.
 const LARGE: u64 = 1048576;
 
-/// The name of the file, without its ending: one that no type has.
+/// The name of the file with the values, without its extension. No definition has a file of this
+/// name.
 pub fn values_name(definitions: &Vec<Definition>) -> &'static str {
     for definition in definitions.iter() {
         if definition.file.as_str() == "values" {
@@ -51,8 +54,8 @@ pub fn values_name(definitions: &Vec<Definition>) -> &'static str {
     "values"
 }
 
-/// The file of the values of a module: numbers and truth values as constants, and each OBJECT
-/// IDENTIFIER as a function; `None` if there are none of them.
+/// The Rust file with the values of a module. It has a constant for each number and each BOOLEAN,
+/// and a function for each OBJECT IDENTIFIER. `None` if the module has none of these values.
 pub fn values_file(
     alloc: Global,
     module: &Module<'_>,
@@ -137,7 +140,7 @@ fn constant_of<'m>(module: &'m Module<'_>, assigned: &ValueAssignment<'_>) -> Op
     module.constants.find(assigned.name.text)
 }
 
-/// Whether a value is written as a constant or a function.
+/// Whether a value is written to the file, as a constant or as a function.
 pub fn is_written(module: &Module<'_>, assigned: &ValueAssignment<'_>) -> bool {
     match constant_of(module, assigned) {
         Some(constant) => !matches!(constant, Constant::Other),
@@ -145,7 +148,8 @@ pub fn is_written(module: &Module<'_>, assigned: &ValueAssignment<'_>) -> bool {
     }
 }
 
-/// The names of the values of a module; an empty one for a value that is not written.
+/// The Rust names of the values of a module, in the order of the values. The name is empty for a
+/// value that is not written.
 pub fn value_names(alloc: Global, module: &Module<'_>) -> Result<Vec<String>, AllocError> {
     let mut names = Vec::new(alloc);
     let mut taken = Taken::new(alloc);
@@ -168,7 +172,7 @@ fn push_constant(
     name: &str,
     constant: &Constant,
 ) -> Result<(), AllocError> {
-    let doc = doc_of(alloc, assigned.name.comments, "", assigned.name.text)?;
+    let doc = doc_of(alloc, &assigned.name, "", "The value")?;
     let name = constant_name(alloc, name)?;
     let (doc, name) = (doc.as_str(), name.as_str());
     match constant {
@@ -206,7 +210,7 @@ fn push_identifier(
     name: &str,
     arcs: &Vec<u64>,
 ) -> Result<(), AllocError> {
-    let doc = doc_of(alloc, assigned.name.comments, "", assigned.name.text)?;
+    let doc = doc_of(alloc, &assigned.name, "", "The OBJECT IDENTIFIER")?;
     let text = IdentifierText {
         doc,
         name: String::from_str(alloc, name)?,
@@ -248,7 +252,7 @@ fn push_arcs(out: &mut String, arcs: &Vec<u64>) -> Result<(), AllocError> {
     out.push_str("[])")
 }
 
-/// Adds octets as a list of a clause.
+/// Appends octets to `out`, written as a list for a contract.
 pub fn push_list(out: &mut String, octets: &Vec<u8>) -> Result<(), AllocError> {
     for octet in octets.iter() {
         write!(out, "{octet} ∷ ")?;
@@ -256,7 +260,7 @@ pub fn push_list(out: &mut String, octets: &Vec<u8>) -> Result<(), AllocError> {
     out.push_str("[]")
 }
 
-/// Adds octets with commas between them.
+/// Appends octets to `out`, written as numbers with commas in between.
 pub fn push_octets(out: &mut String, octets: &Vec<u8>) -> Result<(), AllocError> {
     for (count, octet) in octets.iter().enumerate() {
         if count > 0 {

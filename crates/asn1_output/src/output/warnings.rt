@@ -1,4 +1,4 @@
-//! What a module says that its types of Rust do not check or do not have.
+//! Warnings about what the Rust types of a module do not check or leave out.
 
 use super::directive::own_type;
 use super::kept::is_kept;
@@ -32,8 +32,8 @@ const CLOSED_CHOICE: &str = "tags that no alternative has are refused";
 const NOT_WRITTEN: &str =
     "this value is left out, since it is no INTEGER, BOOLEAN or OBJECT IDENTIFIER";
 
-/// The warnings of a module, from which these assignments are left out, in the order of their
-/// places.
+/// The warnings about a module, sorted by their offsets in the text. `left_out` are the assignments
+/// that are not compiled.
 pub fn warnings_of<'a>(
     alloc: Global,
     written: &Written<'_, 'a>,
@@ -83,7 +83,7 @@ fn add_left_out<'a>(
     Ok(())
 }
 
-/// Adds the warning of an item.
+/// Adds a warning about a lexical item.
 pub fn add_item<'a>(
     alloc: Global,
     found: &mut Vec<Warning<'a>>,

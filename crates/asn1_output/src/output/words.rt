@@ -1,8 +1,8 @@
-//! Names that files use.
+//! The names that the Rust files import from other crates.
 
 use asn1_syntax::is_line_of;
 
-/// The names of `der` that files import.
+/// The names that the written files may import from the crate `der`, one on each line.
 pub const DER: &str = "Decode
 DecodeValue
 Encode
@@ -29,7 +29,7 @@ decode_sequence
 decode_wrapped
 field_refs";
 
-/// The names of `der_asn1` that files import.
+/// The names that the written files may import from the crate `der_asn1`, one on each line.
 pub const DER_ASN1: &str = "Additions
 AnyRef
 Application
@@ -90,7 +90,7 @@ WrittenItem
 decode_choice
 is_among";
 
-/// The names of `der_universal` that files import.
+/// The names that the written files may import from the crate `der_universal`, one on each line.
 pub const DER_UNIVERSAL: &str = "AsSet
 GeneralStringRef
 RealRef
@@ -121,7 +121,8 @@ Some
 String
 Vec";
 
-/// Whether files need this name for something else than a type of the module.
+/// Whether the written files may use this name for something that is not a type of the module. No
+/// type of the module can then have the name.
 pub fn is_used(name: &str) -> bool {
     is_line_of(DER, name)
         || is_line_of(DER_ASN1, name)

@@ -1,11 +1,12 @@
-//! Long clauses on several lines.
+//! Breaks long contracts into several lines.
 
 use std::alloc::{AllocError, Global};
 
 const WIDTH: usize = 100;
 
-/// Adds a text, with long clauses broken in front of words that begin with `(` or `⟦`, after `;`
-/// and, if they quote no types, after `,`.
+/// Appends a text to `out`, and breaks long contracts in the text into several lines. A line is
+/// broken before a word that begins with `(` or `⟦`, and after `;`. It is also broken after `,` if
+/// the contract names no types.
 pub fn push_wrapped(alloc: Global, out: &mut String, text: &str) -> Result<(), AllocError> {
     for line in text.lines() {
         if is_long_clause(line) {

@@ -1,4 +1,4 @@
-//! A module as the definitions that its files have.
+//! A module, with the definitions to be written for it.
 
 use super::alternatives::alternatives;
 use super::choice::ChoiceText;
@@ -23,16 +23,17 @@ use asn1_syntax::{Component, Failure, NamedNumber, TypeForm, TypeNode, push_line
 use std::alloc::{AllocError, Global};
 use std::fmt::Write;
 
-/// A module with what is known of its types.
+/// A module, and the Rust names and types for its types.
 #[derive(Clone, Copy)]
 pub struct Written<'m, 'a> {
-    /// The module.
+    /// The module that is compiled.
     pub module: &'m Module<'a>,
-    /// The names of its types, by index.
+    /// The Rust name of each type of the module, by the index of the type.
     pub names: &'m Vec<String>,
-    /// The types of Rust, by index.
+    /// The Rust type for each type of the module, by the index of the type.
     pub types: &'m Vec<RustType>,
-    /// The tags that types know at their extension marks, by index.
+    /// The tags that each type knows where its extension marker is, by the index of the type.
+    /// `None` for a type that keeps no unknown elements.
     pub kept: &'m Vec<Option<TagSet>>,
 }
 
@@ -45,7 +46,7 @@ struct Named<'m, 'a> {
 }
 
 impl<'m, 'a> Written<'m, 'a> {
-    /// The definitions of all types, in the order of the names of their files.
+    /// Makes the definitions for all types of the module, sorted by the names of their files.
     pub fn definitions(&self, alloc: Global) -> Result<Vec<Definition>, Failure<'a>> {
         let mut definitions = Definitions::new(alloc);
         for (index, node) in self.module.nodes.iter().enumerate() {
@@ -224,8 +225,11 @@ impl<'m, 'a> Written<'m, 'a> {
     // What the module says of a type.
     fn doc(&self, alloc: Global, of: Named<'_, 'a>) -> Result<String, AllocError> {
         match self.module.assignment(of.index) {
-            Some(assigned) => doc_of(alloc, assigned.name.comments, "", assigned.name.text),
-            None => doc_of(alloc, "", "", of.name),
+            Some(assigned) => doc_of(alloc, &assigned.name, "", "The type"),
+            None => String::from_str(
+                alloc,
+                "/// A type inside another type, to which the ASN.1 module gives no name. Its name here is made of the\n/// names of the types and components around it.\n",
+            ),
         }
     }
 

@@ -15,7 +15,9 @@ use crate::type_node::TypeForm;
 const NO_MACRO: &str = "no notation of a macro, which is not read";
 
 impl<'a> Parser<'a> {
-    /// Parses the assignments of a module, up to what is after its `END`.
+    /// Parses the assignments of one module, up to and with its `END`, and adds them to `module`.
+    /// `number` is the index of the module in the text, from 0. After the first module, another
+    /// module or the end of the text must come next; otherwise this fails.
     pub(super) fn assignments_of(
         &mut self,
         number: usize,
@@ -69,8 +71,8 @@ impl<'a> Parser<'a> {
         Ok(())
     }
 
-    /// Parses what follows the name of an assignment. Classes, macros and what has parameters are
-    /// passed over: they are read where they are used.
+    /// Parses what follows the `name` of an assignment. Classes, macros and assignments with
+    /// parameters are skipped here, since the parser reads them where they are used.
     fn assignment(
         &mut self,
         number: usize,

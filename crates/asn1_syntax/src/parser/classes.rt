@@ -1,4 +1,4 @@
-//! Classes and their fields (X.681).
+//! Information object classes and their fields (X.681).
 
 use super::places::{Back, Place};
 use super::{Parser, unsupported};
@@ -8,13 +8,14 @@ use crate::item_kind::ItemKind;
 use crate::simple_type::SimpleType;
 
 impl<'a> Parser<'a> {
-    /// Whether a class is here after `::=`.
+    /// Whether the next lexical items are `::=` and then a class, or the name of a class.
     pub(super) fn is_class(&self) -> bool {
         let of = self.peek_second();
         self.peek().is("::=") && self.is_class_name(of)
     }
 
-    /// The brace that opens the fields of the class with this name.
+    /// The place of the opening brace of the class that this name stands for. `None` if no module
+    /// of the text defines a class with this name.
     pub(super) fn class_named(&self, name: Item<'a>) -> Option<Place> {
         if !Parser::is_reference(name) {
             return None;
@@ -35,7 +36,7 @@ impl<'a> Parser<'a> {
         None
     }
 
-    /// Whether this name stands for a class, which may be built in.
+    /// Whether this name stands for a class, either built in or defined in a module of the text.
     pub(super) fn is_class_name(&self, name: Item<'a>) -> bool {
         let (mut item, mut frame) = (name, self.frame);
         for _ in 0..16u32 {
@@ -54,7 +55,9 @@ impl<'a> Parser<'a> {
         false
     }
 
-    /// The number of the item that a name stands for: the argument, or what stands after `::=`.
+    /// The index, among the lexical items, of the first item of what is defined at a place. This is
+    /// the first item of an argument, or the item after the `::=` of an assignment. `None` if the
+    /// name of an assignment is not followed by `::=`.
     pub(super) fn after_assign(&self, place: Place) -> Option<usize> {
         if place.is_argument {
             return Some(place.at);
@@ -66,8 +69,12 @@ impl<'a> Parser<'a> {
         None
     }
 
-    /// Parses a field of a class, as a type. Moves to the type if the class has one for the field; else
-    /// the field has any type.
+    /// Reads a field of a class (`CLASS.&field`) that is used as a type.
+    ///
+    /// - If the class defines a type for the field, moves the parser to that type, and returns
+    ///   where the parser must come back to.
+    /// - Otherwise returns `None`. The field is then read as `ANY`, except that a field of a
+    ///   built-in class gets the type that X.681 defines.
     pub(super) fn class_field(&mut self, name: Item<'a>) -> Result<Option<Back>, Failure<'a>> {
         self.at = self.at.saturating_add(1);
         if !self.takes("&") {
@@ -97,7 +104,8 @@ impl<'a> Parser<'a> {
         Ok(Some(self.go(place, name, Vec::new(self.alloc))?))
     }
 
-    /// The place after the name of a field of the class whose fields are in these braces.
+    /// The place after the name of a field, where a class defines the field. `class` is the place
+    /// of the opening brace of the class. `None` if the class has no field with this name.
     pub(super) fn after_field(&self, class: Place, field: Item<'a>) -> Option<Place> {
         let end = self.end_of_group(class.at);
         for at in class.at..end {

@@ -11,8 +11,9 @@ use crate::object_set::TableUse;
 use crate::range::Range;
 
 impl<'a> Parser<'a> {
-    /// Parses a constraint without a type in it, up to the parenthesis after it. One that is no
-    /// range and no size is not read.
+    /// Parses a range or a size constraint, without the parenthesis that closes it. Any other
+    /// constraint is skipped, and returned as [`Constraint::Unread`]. The caller must handle
+    /// `CONTAINING` and table constraints before.
     pub(super) fn constraint(&mut self) -> Result<Constraint<'a>, Failure<'a>> {
         let item = self.peek();
         if !self.begins_range() {
@@ -29,7 +30,8 @@ impl<'a> Parser<'a> {
         Ok(constraint)
     }
 
-    /// Moves past what a constraint says of values that it does not allow, if it does (X.680, 53).
+    /// Moves past the exception identifier of a constraint (`!` and a value, X.680, 53), if there
+    /// is one.
     pub(super) fn pass_exception(&mut self) {
         if !self.takes("!") {
             return;
@@ -48,8 +50,9 @@ impl<'a> Parser<'a> {
         }
     }
 
-    /// Parses a constraint which says that a field of a class is in the objects of a set, if this is
-    /// one, up to the parenthesis after it (X.682, 10).
+    /// Parses a table constraint (X.682, 10), without the parenthesis that closes it. `field` is
+    /// the field of a class that the constraint follows. Returns `None`, and parses nothing, if
+    /// `field` is `None` or if the next lexical item is not an opening brace.
     pub(super) fn table(
         &mut self,
         field: Option<Item<'a>>,
@@ -101,7 +104,8 @@ impl<'a> Parser<'a> {
         Ok(members)
     }
 
-    /// Moves past `ENCODED BY` and the value after it (X.682, 11).
+    /// Moves past `ENCODED BY` and the value after it (X.682, 11), if the next lexical item is
+    /// `ENCODED`.
     pub(super) fn encoded_by(&mut self) -> Result<(), Failure<'a>> {
         if self.takes("ENCODED") {
             self.expect("BY")?;
@@ -110,7 +114,7 @@ impl<'a> Parser<'a> {
         Ok(())
     }
 
-    /// Parses the size after the word SIZE.
+    /// Parses the size constraint that follows the word SIZE, with its parentheses.
     pub(super) fn size(&mut self) -> Result<Constraint<'a>, Failure<'a>> {
         let item = self.peek();
         self.expect("(")?;

@@ -1,4 +1,4 @@
-//! Digits in lexical items.
+//! Checks of the digits in lexical items.
 
 use super::refused;
 use crate::failure::Failure;
@@ -6,8 +6,8 @@ use crate::item::Item;
 use crate::item_kind::ItemKind;
 use crate::octet_class::{is_digit, is_space};
 
-/// Checks that numbers have no zero in front (X.680, 12.8), and that strings of digits have no other
-/// octets than theirs (12.10 and 12.12).
+/// Checks that no number has a leading zero (X.680, 12.8), and that binary and hexadecimal strings
+/// have only digits of their kind and white space (12.10 and 12.12).
 pub fn check_digits<'a>(items: &Vec<Item<'a>>) -> Result<(), Failure<'a>> {
     for item in items.iter() {
         match item.kind {

@@ -1,4 +1,4 @@
-//! Types that are read in the place of names.
+//! Expansions: names that are replaced by the types for which they stand.
 
 use super::next_assignment::{closes, opens};
 use super::places::{Back, Parameter, Place};
@@ -8,14 +8,20 @@ use crate::failure::Failure;
 use crate::item::Item;
 use crate::item_kind::ItemKind;
 
-/// The most types that are read in the place of names in one assignment.
+/// The greatest number of names that the parser may replace by types in one assignment.
 const MOST_EXPANSIONS: u32 = 1000;
 
 const NO_CHOICE: &str = "an alternative of a CHOICE of a module that is given";
 
 impl<'a> Parser<'a> {
-    /// Moves to the type for which this item stands, if that is read in its place: an argument, a
-    /// type with parameters, the type of a field of a class, or that of an alternative.
+    /// If `item` is a name in whose place a type must be read, moves the parser to that type, and
+    /// returns where the parser must come back to. Otherwise returns `None`. These names stand for
+    /// types that are read in their place:
+    ///
+    /// - the name of a parameter, for its argument;
+    /// - the name of a type with parameters;
+    /// - a field of a class (`CLASS.&field`), for the type of the field;
+    /// - an alternative of a CHOICE (`a < Choice`), for the type of the alternative.
     pub(super) fn expand(&mut self, item: Item<'a>) -> Result<Option<Back>, Failure<'a>> {
         if item.kind == ItemKind::LowerName && self.takes("<") {
             return self.alternative(item);
@@ -42,7 +48,8 @@ impl<'a> Parser<'a> {
         Ok(Some(self.go(Place { at, ..place }, item, parameters)?))
     }
 
-    /// Counts a type that is read in the place of this name.
+    /// Counts one more name that is replaced by a type. Fails if more than [`MOST_EXPANSIONS`]
+    /// names of the assignment are replaced.
     pub(super) fn count_expansion(&mut self, item: Item<'a>) -> Result<(), Failure<'a>> {
         if self.expansions >= MOST_EXPANSIONS {
             return Err(unsupported(item, "at most 1000 types in the place of names"));
@@ -138,7 +145,9 @@ impl<'a> Parser<'a> {
         end
     }
 
-    /// The brace that opens the components of the type with this name, after its names and tags.
+    /// The place of the opening brace of the SEQUENCE, SET or CHOICE that this name stands for.
+    /// Tags in front of the type are skipped, and names that stand for other names are followed.
+    /// `None` if the name stands for another type.
     pub(super) fn structure(&self, name: Item<'a>) -> Option<Place> {
         let mut place = self.find(name.text)?;
         for _ in 0..16u32 {
@@ -177,7 +186,7 @@ impl<'a> Parser<'a> {
         at
     }
 
-    /// Adds constraints to a type.
+    /// Adds constraints to the type with this index among the `nodes`.
     pub(super) fn add_constraints(
         &mut self,
         index: usize,

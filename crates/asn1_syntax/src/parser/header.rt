@@ -1,4 +1,4 @@
-//! The header of a module, and what it exports and imports.
+//! The header of a module, its exports and its imports.
 
 use super::{Parser, refused};
 use crate::failure::Failure;
@@ -10,7 +10,8 @@ use crate::tagging::TagDefault;
 const NO_MARKS: &str = "types get no extension marks: what they do not name is refused";
 
 impl<'a> Parser<'a> {
-    /// Parses up to `BEGIN`: the name of the module, and what it says of its tags.
+    /// Parses the header up to `BEGIN`. Returns the name of the module, and whether its tags are
+    /// explicit, implicit or automatic.
     pub(super) fn header(&mut self) -> Result<(Item<'a>, TagDefault), Failure<'a>> {
         let name = self.module_name()?;
         self.expect("DEFINITIONS")?;
@@ -38,7 +39,8 @@ impl<'a> Parser<'a> {
         Ok(tags)
     }
 
-    /// Parses `EXPORTS`, and returns the names after it.
+    /// Parses `EXPORTS`, and returns the names after it. Returns no names if the next lexical item
+    /// is not `EXPORTS`, and for `EXPORTS ALL`.
     pub(super) fn exports(&mut self) -> Result<Vec<Item<'a>>, Failure<'a>> {
         let mut names = Vec::new(self.alloc);
         if !self.takes("EXPORTS") {
@@ -60,7 +62,8 @@ impl<'a> Parser<'a> {
         Err(refused(self.peek(), ";"))
     }
 
-    /// Parses `IMPORTS`.
+    /// Parses `IMPORTS`, and returns the imported names. Returns no names if the next lexical item
+    /// is not `IMPORTS`.
     pub(super) fn imports(&mut self) -> Result<Vec<Import<'a>>, Failure<'a>> {
         let mut imports = Vec::new(self.alloc);
         if !self.takes("IMPORTS") {

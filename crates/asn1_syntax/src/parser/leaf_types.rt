@@ -1,4 +1,4 @@
-//! Types whose parts are no types.
+//! Types that are not made of other types, and references.
 
 use super::{Parser, refused, unsupported};
 use crate::failure::Failure;
@@ -9,7 +9,9 @@ use crate::simple_type::SimpleType;
 use crate::type_node::{Mark, TypeForm};
 
 impl<'a> Parser<'a> {
-    /// Parses a type whose parts are no types.
+    /// Parses a built-in type that is not made of other types, or a reference to a type. `item` is
+    /// the first lexical item of the type; the parser is already past this item. `mark` is set to
+    /// the extension marker of an ENUMERATED that has one.
     pub(super) fn leaf(
         &mut self,
         item: Item<'a>,

@@ -1,4 +1,4 @@
-//! Extension marks, versions and commas between components.
+//! Extension markers, versions and commas between components.
 
 use super::{Parser, refused};
 use crate::failure::Failure;
@@ -8,8 +8,9 @@ use crate::item_kind::ItemKind;
 const VERSION: &str = "that these components come together is not checked";
 
 impl<'a> Parser<'a> {
-    /// Moves past an extension mark after so many others, and returns it. A CHOICE has an alternative
-    /// in front of its first one.
+    /// Moves past an extension marker (`...`), and returns it. `marks` is the number of extension
+    /// markers that the type has before it. Fails if `marks` is 2 or more. Also fails if the marker
+    /// comes first in a CHOICE, which must begin with an alternative.
     pub(super) fn component_mark(
         &mut self,
         marks: usize,
@@ -32,7 +33,9 @@ impl<'a> Parser<'a> {
         }
     }
 
-    /// Moves past the comma after a component, unless the components end there.
+    /// Moves past the end of a component: past `]]` if brackets `[[` are open, and past the comma.
+    /// There is no comma if the closing brace comes next. Fails if the comma is missing between two
+    /// components, or if the closing brace follows a comma.
     pub(super) fn component_end(&mut self) -> Result<(), Failure<'a>> {
         if self.ends_version() {
             return match self.versions {
@@ -47,9 +50,10 @@ impl<'a> Parser<'a> {
         Ok(())
     }
 
-    /// Moves past `[[`, with the number of a version if one is after it, where additions are
-    /// and no brackets are open; whether it is here (X.680, 25.1). What these brackets are around
-    /// is read like other additions.
+    /// Moves past `[[`, and past the version number after it if there is one (X.680, 25.1). Returns
+    /// whether `[[` was there. Nothing happens outside the extension additions (if `are_additions`
+    /// is false), or while other brackets `[[` are open. The components between `[[` and `]]` are
+    /// read like all other additions.
     pub(super) fn takes_version(&mut self, are_additions: bool) -> Result<bool, Failure<'a>> {
         if !self.peek().is("[[") || !are_additions || self.versions > 0 {
             return Ok(false);

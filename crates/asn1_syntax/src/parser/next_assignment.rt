@@ -7,8 +7,8 @@ use crate::reserved::is_reserved;
 use crate::simple_type::SimpleType;
 
 impl<'a> Parser<'a> {
-    /// Moves from an assignment that is not supported, which begins at this index, to the one after
-    /// it, or to the end of the module.
+    /// Moves past an assignment without parsing it: to the next assignment, or to the end of the
+    /// module. `start` is the index of the first item of the assignment among the lexical items.
     pub(super) fn to_next_assignment(&mut self, start: usize) {
         let own = self.assign_from(start.saturating_add(1));
         let from = if self.item_at(own.saturating_sub(1)).is("MACRO") {
@@ -24,7 +24,8 @@ impl<'a> Parser<'a> {
         };
     }
 
-    /// Whether a type, and a set of its values after `::=`, are here.
+    /// Whether the next lexical items belong to the assignment of a value set or an object set. The
+    /// items are a type or a class, then `::=`, then an opening brace.
     pub(super) fn is_set_assignment(&self) -> bool {
         let assign = self.assign_from(self.at);
         !self.peek().is("::=")
@@ -132,17 +133,17 @@ impl<'a> Parser<'a> {
     }
 }
 
-/// Whether brackets open at this item.
+/// Whether this item is an opening bracket, brace or parenthesis.
 pub fn opens(item: Item<'_>) -> bool {
     item.is("{") || item.is("(") || item.is("[") || item.is("[[")
 }
 
-/// Whether brackets close at this item.
+/// Whether this item is a closing bracket, brace or parenthesis.
 pub fn closes(item: Item<'_>) -> bool {
     item.is("}") || item.is(")") || item.is("]") || item.is("]]")
 }
 
-/// How many brackets open or close at this item.
+/// How many brackets an opening or closing bracket counts as: 2 for `[[` and `]]`, otherwise 1.
 pub fn weight(item: Item<'_>) -> u64 {
     if item.is("[[") || item.is("]]") { 2 } else { 1 }
 }

@@ -1,4 +1,4 @@
-//! The numbers of components that get tags.
+//! Tag numbers that components get from AUTOMATIC TAGS.
 
 use super::{Parser, refused};
 use crate::component::Component;
@@ -9,8 +9,13 @@ const TAGGED_ADDITION: &str =
     "an addition without a tag, since the components in front of it have none";
 
 impl<'a> Parser<'a> {
-    /// Numbers components in a module with AUTOMATIC TAGS, unless one of them is written with a tag:
-    /// first those that are no additions (X.680, 25.2 and 25.7). Additions have no tags then.
+    /// Sets the `number` of each component, which is the number of its automatic tag. The
+    /// components are numbered if the module has AUTOMATIC TAGS and no component of the extension
+    /// root is written with a tag (X.680, 25.2 and 25.7). The components of the extension root get
+    /// the first numbers, and the extension additions get the numbers after these. Otherwise each
+    /// `number` is set to `None`.
+    ///
+    /// Fails if the components are numbered and an extension addition is written with a tag.
     pub(super) fn number_components(
         &self,
         components: &mut Vec<Component<'a>>,
@@ -44,7 +49,7 @@ impl<'a> Parser<'a> {
         Ok(())
     }
 
-    /// What the module that is read says of tags.
+    /// Whether the module that the parser reads now has explicit, implicit or automatic tags.
     pub(super) fn module_tags(&self) -> TagDefault {
         let Some(frame) = self.frames.get(self.frame) else {
             return TagDefault::Explicit;
@@ -56,12 +61,14 @@ impl<'a> Parser<'a> {
     }
 }
 
-/// The number of a component that gets one, unless it is written with a tag.
+/// The `number` of a component until [`Parser::number_components`] sets it: `None` if the component
+/// is written with a tag, otherwise 0.
 pub(super) fn written_number(is_tagged: bool) -> Option<usize> {
     if is_tagged { None } else { Some(0) }
 }
 
-/// Lets components get numbers, which are not written where they are added.
+/// Makes components count as written without tags. They come from a type that another type includes
+/// by COMPONENTS OF. So the other type can number them as its own.
 pub(super) fn unnumber(components: &mut Vec<Component<'_>>) {
     for component in components.iter_mut() {
         component.number = written_number(false);

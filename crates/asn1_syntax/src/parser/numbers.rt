@@ -1,4 +1,4 @@
-//! Numbers, and names of numbers.
+//! Numbers, and names that stand for numbers.
 
 use super::{Parser, refused, unsupported};
 use crate::endpoint::Endpoint;
@@ -20,7 +20,7 @@ impl<'a> Parser<'a> {
         }
     }
 
-    /// Parses the number of a tag, which may be the name of a number.
+    /// Parses the number of a tag: a number, or the name of a value that is a number.
     pub(super) fn tag_number(&mut self) -> Result<u64, Failure<'a>> {
         let item = self.peek();
         if item.kind != ItemKind::LowerName {
@@ -41,7 +41,7 @@ impl<'a> Parser<'a> {
         }
     }
 
-    /// Parses an end of a range, or a number that may have a name.
+    /// Parses a number or one end of a range. Both may be given by a name.
     pub(super) fn endpoint(&mut self) -> Result<Endpoint<'a>, Failure<'a>> {
         if self.takes("MIN") {
             return Ok(Endpoint::Min);
@@ -84,7 +84,7 @@ impl<'a> Parser<'a> {
         }
     }
 
-    /// Parses names with numbers in braces: named numbers or named bits.
+    /// Parses the named numbers or the named bits of a type: braces with names and their numbers.
     pub(super) fn named_numbers(&mut self) -> Result<Vec<NamedNumber<'a>>, Failure<'a>> {
         self.expect("{")?;
         let mut numbers = Vec::new(self.alloc);
@@ -98,7 +98,8 @@ impl<'a> Parser<'a> {
         Ok(numbers)
     }
 
-    /// Parses the items of an ENUMERATED in braces, with its extension mark if it has one.
+    /// Parses the items of an ENUMERATED in braces. `mark` is set to the extension marker if there
+    /// is one.
     pub(super) fn enumeration_items(
         &mut self,
         mark: &mut Option<Mark<'a>>,

@@ -1,4 +1,4 @@
-//! Objects and sets of objects (X.681).
+//! Information objects and information object sets (X.681).
 
 use super::next_assignment::{closes, opens};
 use super::places::Place;
@@ -10,7 +10,8 @@ use crate::item_kind::ItemKind;
 use crate::object_set::ObjectSet;
 
 impl<'a> Parser<'a> {
-    /// Parses an object of this class.
+    /// Parses an information object, and adds it to the objects of the module. `class` is the place
+    /// of the opening brace of its class.
     pub(super) fn object(&mut self, name: Item<'a>, class: Place) -> Result<(), Failure<'a>> {
         let first = self.nodes.len();
         let syntax = self.end_of_group(class.at);
@@ -126,7 +127,8 @@ impl<'a> Parser<'a> {
         after.is(",") || after.is("}") || after.is("OPTIONAL") || after.is("DEFAULT")
     }
 
-    /// Parses a set of objects of this class.
+    /// Parses a set of information objects. `class` is the place of the opening brace of their
+    /// class.
     pub(super) fn object_set(
         &mut self,
         name: Item<'a>,

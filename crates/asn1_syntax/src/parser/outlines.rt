@@ -12,7 +12,8 @@ use crate::outline::ModuleOutline;
 use crate::tagging::TagDefault;
 
 impl<'a> Parser<'a> {
-    /// Finds the modules of the text, and their assignments.
+    /// Finds the modules of the text, and the names of their assignments. The assignments are not
+    /// parsed.
     pub(super) fn outline(&mut self) -> Result<(), Failure<'a>> {
         for _ in 0..self.items.len() {
             let number = self.modules.len();
@@ -33,7 +34,7 @@ impl<'a> Parser<'a> {
         self.add_own_names()
     }
 
-    /// Whether a module begins here.
+    /// Whether the next lexical items begin a module.
     pub(super) fn begins_module(&self) -> bool {
         self.peek().kind == ItemKind::UpperName
             && (self.peek_second().is("DEFINITIONS") || self.peek_second().is("{"))
@@ -116,7 +117,7 @@ impl<'a> Parser<'a> {
         Ok(())
     }
 
-    /// The first module, without its types and values.
+    /// The first module with its header, exports and imports, but without its assignments.
     pub(super) fn first_module(&self) -> Result<ParsedModule<'a>, Failure<'a>> {
         let mut module = ParsedModule {
             name: Item::END,

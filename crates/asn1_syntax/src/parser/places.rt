@@ -8,40 +8,45 @@ use crate::item_kind::ItemKind;
 use crate::module::Import;
 use crate::reserved::is_reserved;
 
-/// The names that stand for others while a type is read in the place of its name.
+/// The scope in which names are looked up while a type is read. It is the module of the type, and
+/// the parameters of the type if there are any.
 #[derive(Drop)]
 pub struct Frame<'a> {
-    /// The number of the module in which the type is.
+    /// The index of the module that contains the type.
     pub module: usize,
-    /// The offset of the place at which it is used, which its items get; `None` where it is defined.
+    /// The offset in the text of the name in whose place the type is read. The items of the type
+    /// get this offset. `None` if the type is read where it is defined.
     pub offset: Option<usize>,
-    /// The frame in which the arguments are read.
+    /// The scope in which names in the arguments are looked up, as an index among the `frames` of
+    /// the parser.
     pub outer: usize,
-    /// The parameters.
+    /// The parameters of the type, each with its argument. Empty if the type has no parameters.
     pub parameters: Vec<Parameter<'a>>,
 }
 
-/// A parameter with its argument.
+/// A parameter of a type, with the argument that is given for it.
 #[derive(Clone, Copy, Debug)]
 pub struct Parameter<'a> {
-    /// The name.
+    /// The name of the parameter.
     pub name: &'a str,
-    /// The number of the first item of the argument.
+    /// The index, among the lexical items, of the first item of the argument.
     pub at: usize,
 }
 
-/// Where a name is defined.
+/// Where a name is defined: at its assignment, or, for a parameter, where its argument is written.
 #[derive(Clone, Copy, Debug)]
 pub struct Place {
-    /// The number of an item: of the name in an assignment, or of the first item of an argument.
+    /// An index among the lexical items: that of the assigned name, or that of the first item of
+    /// the argument.
     pub at: usize,
-    /// The frame in which it is read.
+    /// The scope ([`Frame`]) in which names at this place are looked up, as an index among the
+    /// `frames` of the parser.
     pub frame: usize,
-    /// Whether it is an argument.
+    /// Whether the name is a parameter, and the place is where its argument is written.
     pub is_argument: bool,
 }
 
-/// A place to return to.
+/// The place to which the parser comes back after it has read a type elsewhere.
 #[derive(Clone, Copy, Debug)]
 pub struct Back {
     at: usize,
@@ -52,12 +57,14 @@ pub struct Back {
 const NOT_IMPORTED: &str = "a name of a module that is given";
 
 impl<'a> Parser<'a> {
-    /// Where this name is defined, for what is here.
+    /// Where this name is defined, as seen from the current scope ([`Frame`]). `None` if no module
+    /// of the text defines the name.
     pub(super) fn find(&self, name: &str) -> Option<Place> {
         self.find_at(self.frame, name)
     }
 
-    /// Where this name is defined, for what is read in a frame.
+    /// Where this name is defined, as seen from the scope ([`Frame`]) with this index. `None` if no
+    /// module of the text defines the name.
     pub(super) fn find_at(&self, frame: usize, name: &str) -> Option<Place> {
         let of = self.frames.get(frame)?;
         for parameter in of.parameters.iter() {
@@ -90,7 +97,8 @@ impl<'a> Parser<'a> {
         None
     }
 
-    /// Moves to a place, at which the items of what the item `used` stands for are read.
+    /// Moves the parser to a place, where it reads what the name `used` stands for. `parameters`
+    /// are the parameters of the type at that place. Returns where the parser must come back to.
     pub(super) fn go(
         &mut self,
         place: Place,
@@ -117,14 +125,15 @@ impl<'a> Parser<'a> {
         Ok(back)
     }
 
-    /// Returns from a place.
+    /// Moves back to where the parser was before [`Parser::go`].
     pub(super) fn come_back(&mut self, back: Back) {
         self.at = back.at;
         self.frame = back.frame;
         self.frames.truncate(back.frames);
     }
 
-    /// The place after the names of parameters that an item stands for.
+    /// Follows the names of parameters. While the item at the place is the name of a parameter, the
+    /// place of its argument is taken instead. Returns the last place.
     pub(super) fn after_parameters(&self, place: Place) -> Place {
         let mut place = place;
         for _ in 0..self.frames.len() {
@@ -136,12 +145,14 @@ impl<'a> Parser<'a> {
         place
     }
 
-    /// This item, with a name that no other module has if it is the name of an assignment.
+    /// Replaces the name of an assignment by the name that is unique among the modules of the text.
+    /// Returns `item` itself if it is not the name of an assignment.
     pub(super) fn own_name(&self, item: Item<'a>) -> Result<Item<'a>, Failure<'a>> {
         self.own_name_at(self.frame, item)
     }
 
-    /// The same for an item that is read in a frame.
+    /// Does what [`Parser::own_name`] does, but looks up the name in the scope ([`Frame`]) with
+    /// this index.
     pub(super) fn own_name_at(
         &self,
         frame: usize,
@@ -153,7 +164,9 @@ impl<'a> Parser<'a> {
         }
     }
 
-    /// The name of an assignment of this module, which no other module has.
+    /// The item with the name that an assignment of this module has after renaming. The name
+    /// becomes `name-Module` if another module of the text keeps the name, as
+    /// [`own_names`](super::own_names) describes. Otherwise the name stays.
     pub(super) fn name_in(&self, module: usize, item: Item<'a>) -> Result<Item<'a>, Failure<'a>> {
         match self.owners.find(item.text) {
             Some(owner) if owner != module => {}
@@ -173,8 +186,10 @@ impl<'a> Parser<'a> {
         }
     }
 
-    /// Checks that a name which is no name of this text is imported, and adds the import to those of
-    /// the first module.
+    /// Adds the import of a name to the imports of the first module. No module of the text defines
+    /// the name, and the module that is read now uses it. Does nothing if that is the first module.
+    /// Fails if the module does not import the name, or if the name already stands for something
+    /// else.
     pub(super) fn import(&mut self, item: Item<'a>) -> Result<(), Failure<'a>> {
         let module = self.module();
         if module == 0 {
@@ -216,7 +231,8 @@ impl<'a> Parser<'a> {
         false
     }
 
-    /// The number of the item after the brackets that open at this one.
+    /// The index, among the lexical items, after the bracket that closes the opening bracket at the
+    /// index `at`. The number of lexical items if that bracket is not closed.
     pub(super) fn end_of_group(&self, at: usize) -> usize {
         let mut depth = 0u64;
         for end in at..self.items.len() {

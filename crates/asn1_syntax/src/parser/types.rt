@@ -18,7 +18,8 @@ use std::alloc::AllocError;
 const NO_STRUCTURE: &str = "a SEQUENCE or a SET of a module that is given";
 
 impl<'a> Parser<'a> {
-    /// Parses a type in which types may be at so many levels, and returns its index.
+    /// Parses a type, and returns its index among the `nodes`. Fails if more than `depth` types are
+    /// nested in one another; the type itself counts.
     #[cycle(types)]
     pub(super) fn type_at(&mut self, depth: u32) -> Result<usize, Failure<'a>> {
         let item = self.next();

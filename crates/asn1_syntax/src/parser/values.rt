@@ -106,7 +106,8 @@ impl<'a> Parser<'a> {
         Ok(found)
     }
 
-    /// Moves past braces, and returns the items between them.
+    /// Moves past an opening brace and the brace that closes it. Returns the lexical items between
+    /// them.
     pub(super) fn braces(&mut self) -> Result<Vec<Item<'a>>, Failure<'a>> {
         self.expect("{")?;
         let mut between = Vec::new(self.alloc);

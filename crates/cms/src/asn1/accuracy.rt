@@ -18,18 +18,19 @@ use der_asn1::{
 };
 use std::alloc::Global;
 
-/// How exact a time is (RFC 3161, 2.4.2), borrowed from the input. A part that is absent is 0.
+/// How far the time of a timestamp may be off: the sum of the three fields (RFC 3161, 2.4.2),
+/// borrowed from the input. An absent field counts as 0.
 #[derive(Clone, Copy, Debug, Drop, PartialEq, Eq)]
 pub struct Accuracy<'a> {
-    /// Seconds, if present.
+    /// The seconds, if present.
     pub seconds: Optional<IntRef<'a>>,
-    /// Thousandths of a second, from 1 to 999, if present.
+    /// The milliseconds, from 1 to 999, if present.
     pub millis: Optional<Implicit<IntegerIn<1, 999>, 0>>,
-    /// Millionths of a second, from 1 to 999, if present.
+    /// The microseconds, from 1 to 999, if present.
     pub micros: Optional<Implicit<IntegerIn<1, 999>, 1>>,
 }
 
-/// The fields of a [`Accuracy`], in the order in which they are encoded.
+/// The fields of [`Accuracy`] as one type, in the order in which they are encoded.
 pub type AccuracyFields<'a> = (
     Optional<IntRef<'a>>,
     Optional<Implicit<IntegerIn<1, 999>, 0>>,
@@ -59,7 +60,7 @@ impl<'a> Sequence for Accuracy<'a> {
     ghost fits = { (refl, refl) };
 }
 
-/// Decodes the fields one after the other, with the errors of every [`Sequence`].
+/// Decodes the fields, first to last. The errors are those that [`Sequence`] lists.
 impl<'a, R: Lends<Borrowed = &'a [u8]>> DecodeValue<R> for Accuracy<'a> {
     type Error = Error;
 
@@ -89,7 +90,7 @@ impl<'a> IsValue for Accuracy<'a> {
     }
 }
 
-/// Writes the fields one after the other, with the errors of every [`Sequence`].
+/// Writes the fields, first to last. The errors are those that [`Sequence`] lists.
 impl<'a> HasFields for Accuracy<'a> {
     ghost fields_size = { λ v. ⟦<AccuracyFields<'a> as Encode>⟧.size
         (⟦<Accuracy<'a> as FromFields<AccuracyFields<'a>>>⟧.fields v) };

@@ -15,11 +15,11 @@ use der_asn1::{BorrowedItem, DecodeItem, Described, Item, Nestable, SetOf, Writt
 use std::alloc::Global;
 use x509::Attribute;
 
-/// Attributes beside a message authentication code (RFC 5652, 9.1), in ascending order of their
-/// encodings.
+/// Attributes of a message with a message authentication code (RFC 5652, 9.1), in ascending order
+/// of their encodings.
 #[derive(Clone, Copy, Debug, Drop, PartialEq, Eq)]
 pub struct AuthAttributes<'a> {
-    /// The list: a SET OF its items.
+    /// The items, as a SET OF.
     pub items: SetOf<'a, Attribute<'a>>,
 }
 
@@ -72,7 +72,7 @@ impl<'a> Lawful for AuthAttributes<'a> {
     ghost lawful = { ⟦<AuthAttributes<'a> as Described>⟧.element.lawful refl };
 }
 
-/// Decodes the list, with the errors of [`SetOf`].
+/// Decodes the list. The errors are those of decoding a [`SetOf`].
 impl<'a, R: Lends<Borrowed = &'a [u8]>> DecodeValue<R> for AuthAttributes<'a> {
     type Error = Error;
 
@@ -94,7 +94,7 @@ impl<'a> IsValue for AuthAttributes<'a> {
     }
 }
 
-/// Writes the list, with the errors of [`SetOf`].
+/// Writes the list. The errors are those of writing a [`SetOf`].
 impl<'a> EncodeValue for AuthAttributes<'a> {
     ghost value_size = { λ v. ⟦<Items<'a> as EncodeValue>⟧.value_size v.items };
 

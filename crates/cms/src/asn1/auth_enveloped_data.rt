@@ -29,22 +29,23 @@ use std::alloc::Global;
 pub struct AuthEnvelopedData<'a> {
     /// The version, which is 0. Decoding does not check this.
     pub version: CmsVersion<'a>,
-    /// What recipients may need to know of the originator, if present.
+    /// Certificates of the originator, and information about revoked certificates, if present.
     pub originator_info: Optional<Implicit<OriginatorInfo<'a>, 0>>,
-    /// The key for each recipient. That there is at least one is not checked.
+    /// The encrypted key of the content, for each recipient. That there is at least one is not
+    /// checked.
     pub recipient_infos: RecipientInfos<'a>,
     /// The encrypted content.
     pub auth_encrypted_content_info: EncryptedContentInfo<'a>,
-    /// The attributes that the code covers, if present. Here they have the tag 1, and the code
-    /// covers them with the tag of a SET OF.
+    /// The attributes that the message authentication code covers, if present. They have the tag 1
+    /// here. In the octets that the code covers, they have the tag of a SET OF instead.
     pub auth_attrs: Optional<Implicit<AuthAttributes<'a>, 1>>,
     /// The octets of the message authentication code.
     pub mac: OctetStringRef<'a>,
-    /// The attributes that the code does not cover, if present.
+    /// The attributes that the message authentication code does not cover, if present.
     pub unauth_attrs: Optional<Implicit<AuthAttributes<'a>, 2>>,
 }
 
-/// The fields of a [`AuthEnvelopedData`], in the order in which they are encoded.
+/// The fields of [`AuthEnvelopedData`] as one type, in the order in which they are encoded.
 pub type AuthEnvelopedDataFields<'a> = (
     CmsVersion<'a>,
     Optional<Implicit<OriginatorInfo<'a>, 0>>,
@@ -102,7 +103,7 @@ impl<'a> Sequence for AuthEnvelopedData<'a> {
     ghost fits = { (refl, refl) };
 }
 
-/// Decodes the fields one after the other, with the errors of every [`Sequence`].
+/// Decodes the fields, first to last. The errors are those that [`Sequence`] lists.
 impl<'a, R: Lends<Borrowed = &'a [u8]>> DecodeValue<R> for AuthEnvelopedData<'a> {
     type Error = Error;
 
@@ -136,7 +137,7 @@ impl<'a> IsValue for AuthEnvelopedData<'a> {
     }
 }
 
-/// Writes the fields one after the other, with the errors of every [`Sequence`].
+/// Writes the fields, first to last. The errors are those that [`Sequence`] lists.
 impl<'a> HasFields for AuthEnvelopedData<'a> {
     ghost fields_size = { λ v. ⟦<AuthEnvelopedDataFields<'a> as Encode>⟧.size
         (⟦<AuthEnvelopedData<'a> as FromFields<AuthEnvelopedDataFields<'a>>>⟧.fields v) };

@@ -30,27 +30,28 @@ use std::alloc::Global;
 pub struct AuthenticatedData<'a> {
     /// The version: 0, 1 or 3. Decoding does not check this.
     pub version: CmsVersion<'a>,
-    /// What recipients may need to know of the originator, if present.
+    /// Certificates of the originator, and information about revoked certificates, if present.
     pub originator_info: Optional<Implicit<OriginatorInfo<'a>, 0>>,
-    /// The key for each recipient. That there is at least one is not checked.
+    /// The encrypted key of the message authentication code, for each recipient. That there is at
+    /// least one is not checked.
     pub recipient_infos: RecipientInfos<'a>,
-    /// The algorithm of the code.
+    /// The algorithm of the message authentication code.
     pub mac_algorithm: AlgorithmIdentifierRef<'a>,
-    /// The algorithm of the digest of the content, if present. The RFC requires it exactly if there
-    /// are attributes that the code covers, but decoding does not check this.
+    /// The algorithm of the digest of the content, if present. The RFC requires it exactly if
+    /// `auth_attrs` is present, but decoding does not check this.
     pub digest_algorithm: Optional<Implicit<AlgorithmIdentifierRef<'a>, 1>>,
-    /// The content.
+    /// The content that the message authentication code covers.
     pub encap_content_info: EncapsulatedContentInfo<'a>,
-    /// The attributes that the code covers, if present. Here they have the tag 2, and the code
-    /// covers them with the tag of a SET OF.
+    /// The attributes that the message authentication code covers, if present. They have the tag 2
+    /// here. In the octets that the code covers, they have the tag of a SET OF instead.
     pub auth_attrs: Optional<Implicit<AuthAttributes<'a>, 2>>,
-    /// The octets of the code.
+    /// The octets of the message authentication code.
     pub mac: OctetStringRef<'a>,
-    /// The attributes that the code does not cover, if present.
+    /// The attributes that the message authentication code does not cover, if present.
     pub unauth_attrs: Optional<Implicit<AuthAttributes<'a>, 3>>,
 }
 
-/// The fields of a [`AuthenticatedData`], in the order in which they are encoded.
+/// The fields of [`AuthenticatedData`] as one type, in the order in which they are encoded.
 pub type AuthenticatedDataFields<'a> = (
     CmsVersion<'a>,
     Optional<Implicit<OriginatorInfo<'a>, 0>>,
@@ -118,7 +119,7 @@ impl<'a> Sequence for AuthenticatedData<'a> {
     ghost fits = { (refl, refl) };
 }
 
-/// Decodes the fields one after the other, with the errors of every [`Sequence`].
+/// Decodes the fields, first to last. The errors are those that [`Sequence`] lists.
 impl<'a, R: Lends<Borrowed = &'a [u8]>> DecodeValue<R> for AuthenticatedData<'a> {
     type Error = Error;
 
@@ -156,7 +157,7 @@ impl<'a> IsValue for AuthenticatedData<'a> {
     }
 }
 
-/// Writes the fields one after the other, with the errors of every [`Sequence`].
+/// Writes the fields, first to last. The errors are those that [`Sequence`] lists.
 impl<'a> HasFields for AuthenticatedData<'a> {
     ghost fields_size = { λ v. ⟦<AuthenticatedDataFields<'a> as Encode>⟧.size
         (⟦<AuthenticatedData<'a> as FromFields<AuthenticatedDataFields<'a>>>⟧.fields v) };

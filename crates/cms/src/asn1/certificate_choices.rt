@@ -21,11 +21,11 @@ use der_asn1::{
 use std::alloc::Global;
 use x509::Certificate;
 
-/// A certificate of some kind (RFC 5652, 10.2.2), borrowed from the input. The contents of those
-/// with the tags 0 to 2 are not checked.
+/// A certificate of one of several kinds (RFC 5652, 10.2.2), borrowed from the input. The contents
+/// of the alternatives with the tags 0 to 2 are not checked.
 #[derive(Clone, Copy, Debug, Drop, PartialEq, Eq)]
 pub enum CertificateChoices<'a> {
-    /// A certificate of RFC 5280.
+    /// A certificate as in RFC 5280.
     Certificate(Certificate<'a>),
     /// A certificate of PKCS #6, which is obsolete.
     ExtendedCertificate(Implicit<SequenceRef<'a>, 0>),
@@ -33,7 +33,7 @@ pub enum CertificateChoices<'a> {
     V1AttrCert(Implicit<SequenceRef<'a>, 1>),
     /// An attribute certificate of version 2.
     V2AttrCert(Implicit<SequenceRef<'a>, 2>),
-    /// A certificate of another kind.
+    /// A certificate of another kind, which an object identifier names.
     Other(Implicit<OtherCertificateFormat<'a>, 3>),
 }
 
@@ -92,7 +92,7 @@ impl<'a> DescribedChoice for CertificateChoices<'a> {
         ⟦<CertificateChoices<'a> as FromFields<CertificateChoicesAlternatives<'a>>>⟧.fields };
 }
 
-/// Decodes the alternative whose tag is next, with the errors of [`Either`].
+/// Decodes the alternative with the next tag. The errors are those of decoding an [`Either`].
 impl<'a, R: Lends<Borrowed = &'a [u8]>> Decode<R> for CertificateChoices<'a> {
     type Error = Error;
 
@@ -130,7 +130,7 @@ impl<'a, R: Lends<Borrowed = &'a [u8]>> DecodeChoice<R> for CertificateChoices<'
     ghost begins = { ⟦<CertificateChoices<'a> as DescribedChoice>⟧.alternative.begins };
 }
 
-/// Writes the alternative that the value has.
+/// Writes the alternative that the value has. The errors are those of writing it.
 impl<'a> Encode for CertificateChoices<'a> {
     ghost encoding = { λ v. ⟦<CertificateChoicesAlternatives<'a> as Encode>⟧.encoding
         (⟦<CertificateChoices<'a> as FromFields<CertificateChoicesAlternatives<'a>>>⟧.fields v) };

@@ -18,7 +18,7 @@ use std::alloc::Global;
 /// Certificates (RFC 5652, 10.2.3), in ascending order of their encodings.
 #[derive(Clone, Copy, Debug, Drop, PartialEq, Eq)]
 pub struct CertificateSet<'a> {
-    /// The list: a SET OF its items.
+    /// The items, as a SET OF.
     pub items: SetOf<'a, CertificateChoices<'a>>,
 }
 
@@ -71,7 +71,7 @@ impl<'a> Lawful for CertificateSet<'a> {
     ghost lawful = { ⟦<CertificateSet<'a> as Described>⟧.element.lawful refl };
 }
 
-/// Decodes the list, with the errors of [`SetOf`].
+/// Decodes the list. The errors are those of decoding a [`SetOf`].
 impl<'a, R: Lends<Borrowed = &'a [u8]>> DecodeValue<R> for CertificateSet<'a> {
     type Error = Error;
 
@@ -93,7 +93,7 @@ impl<'a> IsValue for CertificateSet<'a> {
     }
 }
 
-/// Writes the list, with the errors of [`SetOf`].
+/// Writes the list. The errors are those of writing a [`SetOf`].
 impl<'a> EncodeValue for CertificateSet<'a> {
     ghost value_size = { λ v. ⟦<Items<'a> as EncodeValue>⟧.value_size v.items };
 

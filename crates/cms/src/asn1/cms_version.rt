@@ -4,6 +4,6 @@
 
 use der_asn1::IntRef;
 
-/// The version of the syntax of a structure (RFC 5652, 10.2.5). Decoding accepts every number. That
-/// it fits to the other fields is not checked.
+/// The version of the syntax of a structure (RFC 5652, 10.2.5). Decoding accepts every number, and
+/// does not compare it with the other fields.
 pub type CmsVersion<'a> = IntRef<'a>;

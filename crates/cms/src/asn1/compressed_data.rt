@@ -29,7 +29,7 @@ pub struct CompressedData<'a> {
     pub encap_content_info: EncapsulatedContentInfo<'a>,
 }
 
-/// The fields of a [`CompressedData`], in the order in which they are encoded.
+/// The fields of [`CompressedData`] as one type, in the order in which they are encoded.
 pub type CompressedDataFields<'a> = (
     CmsVersion<'a>,
     AlgorithmIdentifierRef<'a>,
@@ -59,7 +59,7 @@ impl<'a> Sequence for CompressedData<'a> {
     ghost fits = { (refl, refl) };
 }
 
-/// Decodes the fields one after the other, with the errors of every [`Sequence`].
+/// Decodes the fields, first to last. The errors are those that [`Sequence`] lists.
 impl<'a, R: Lends<Borrowed = &'a [u8]>> DecodeValue<R> for CompressedData<'a> {
     type Error = Error;
 
@@ -83,7 +83,7 @@ impl<'a> IsValue for CompressedData<'a> {
     }
 }
 
-/// Writes the fields one after the other, with the errors of every [`Sequence`].
+/// Writes the fields, first to last. The errors are those that [`Sequence`] lists.
 impl<'a> HasFields for CompressedData<'a> {
     ghost fields_size = { λ v. ⟦<CompressedDataFields<'a> as Encode>⟧.size
         (⟦<CompressedData<'a> as FromFields<CompressedDataFields<'a>>>⟧.fields v) };

@@ -15,7 +15,7 @@ use der::{
 use der_asn1::{BorrowedItem, DecodeItem, Described, ExplicitAny, Item, Nestable, WrittenItem};
 use std::alloc::Global;
 
-/// A message of some type (RFC 5652, 3), borrowed from the input.
+/// A message: a content of any type, and the type (RFC 5652, 3), borrowed from the input.
 #[derive(Clone, Copy, Debug, Drop, PartialEq, Eq)]
 pub struct ContentInfo<'a> {
     /// The type of the content.
@@ -24,7 +24,7 @@ pub struct ContentInfo<'a> {
     pub content: ExplicitAny<'a, 0>,
 }
 
-/// The fields of a [`ContentInfo`], in the order in which they are encoded.
+/// The fields of [`ContentInfo`] as one type, in the order in which they are encoded.
 pub type ContentInfoFields<'a> = (ContentType<'a>, ExplicitAny<'a, 0>);
 
 impl<'a> FromFields<ContentInfoFields<'a>> for ContentInfo<'a> {
@@ -48,7 +48,7 @@ impl<'a> Sequence for ContentInfo<'a> {
     ghost fits = { (refl, refl) };
 }
 
-/// Decodes the fields one after the other, with the errors of every [`Sequence`].
+/// Decodes the fields, first to last. The errors are those that [`Sequence`] lists.
 impl<'a, R: Lends<Borrowed = &'a [u8]>> DecodeValue<R> for ContentInfo<'a> {
     type Error = Error;
 
@@ -71,7 +71,7 @@ impl<'a> IsValue for ContentInfo<'a> {
     }
 }
 
-/// Writes the fields one after the other, with the errors of every [`Sequence`].
+/// Writes the fields, first to last. The errors are those that [`Sequence`] lists.
 impl<'a> HasFields for ContentInfo<'a> {
     ghost fields_size = { λ v. ⟦<ContentInfoFields<'a> as Encode>⟧.size
         (⟦<ContentInfo<'a> as FromFields<ContentInfoFields<'a>>>⟧.fields v) };

@@ -4,5 +4,5 @@
 
 use crate::asn1::signer_info::SignerInfo;
 
-/// A signature of the octets of a signature (RFC 5652, 11.4): the value of an attribute.
+/// A signature of another signature (RFC 5652, 11.4): the value of an attribute.
 pub type Countersignature<'a> = SignerInfo<'a>;

@@ -26,13 +26,13 @@ pub struct DigestedData<'a> {
     pub version: CmsVersion<'a>,
     /// The algorithm of the digest.
     pub digest_algorithm: AlgorithmIdentifierRef<'a>,
-    /// The content.
+    /// The content that has the digest.
     pub encap_content_info: EncapsulatedContentInfo<'a>,
     /// The octets of the digest.
     pub digest: OctetStringRef<'a>,
 }
 
-/// The fields of a [`DigestedData`], in the order in which they are encoded.
+/// The fields of [`DigestedData`] as one type, in the order in which they are encoded.
 pub type DigestedDataFields<'a> = (
     CmsVersion<'a>,
     AlgorithmIdentifierRef<'a>,
@@ -65,7 +65,7 @@ impl<'a> Sequence for DigestedData<'a> {
     ghost fits = { (refl, refl) };
 }
 
-/// Decodes the fields one after the other, with the errors of every [`Sequence`].
+/// Decodes the fields, first to last. The errors are those that [`Sequence`] lists.
 impl<'a, R: Lends<Borrowed = &'a [u8]>> DecodeValue<R> for DigestedData<'a> {
     type Error = Error;
 
@@ -90,7 +90,7 @@ impl<'a> IsValue for DigestedData<'a> {
     }
 }
 
-/// Writes the fields one after the other, with the errors of every [`Sequence`].
+/// Writes the fields, first to last. The errors are those that [`Sequence`] lists.
 impl<'a> HasFields for DigestedData<'a> {
     ghost fields_size = { λ v. ⟦<DigestedDataFields<'a> as Encode>⟧.size
         (⟦<DigestedData<'a> as FromFields<DigestedDataFields<'a>>>⟧.fields v) };

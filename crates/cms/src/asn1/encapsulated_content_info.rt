@@ -19,18 +19,18 @@ use der_asn1::{
 use std::alloc::Global;
 
 /// A content inside a message (RFC 5652, 5.2), borrowed from the input. In PKCS #7 the content may
-/// be an element with another tag than OCTET STRING (RFC 5652, 5.2.1): decoding refuses that here, and
-/// accepts it in a Pkcs7ContentInfo.
+/// be an element with another tag than OCTET STRING (RFC 5652, 5.2.1). Decoding refuses such a
+/// content here, and accepts it in a Pkcs7ContentInfo.
 #[derive(Clone, Copy, Debug, Drop, PartialEq, Eq)]
 pub struct EncapsulatedContentInfo<'a> {
     /// The type of the content.
     pub e_content_type: ContentType<'a>,
-    /// The octets of the content, which are not checked. They are absent if the content is
+    /// The octets of the content, which are not checked. They are absent if they are stored
     /// elsewhere, as for a detached signature.
     pub e_content: Optional<Explicit<Segmented<'a>, 0>>,
 }
 
-/// The fields of a [`EncapsulatedContentInfo`], in the order in which they are encoded.
+/// The fields of [`EncapsulatedContentInfo`] as one type, in the order in which they are encoded.
 pub type EncapsulatedContentInfoFields<'a> = (
     ContentType<'a>,
     Optional<Explicit<Segmented<'a>, 0>>,
@@ -57,7 +57,7 @@ impl<'a> Sequence for EncapsulatedContentInfo<'a> {
     ghost fits = { (refl, refl) };
 }
 
-/// Decodes the fields one after the other, with the errors of every [`Sequence`].
+/// Decodes the fields, first to last. The errors are those that [`Sequence`] lists.
 impl<'a, R: Lends<Borrowed = &'a [u8]>> DecodeValue<R> for EncapsulatedContentInfo<'a> {
     type Error = Error;
 
@@ -82,7 +82,7 @@ impl<'a> IsValue for EncapsulatedContentInfo<'a> {
     }
 }
 
-/// Writes the fields one after the other, with the errors of every [`Sequence`].
+/// Writes the fields, first to last. The errors are those that [`Sequence`] lists.
 impl<'a> HasFields for EncapsulatedContentInfo<'a> {
     ghost fields_size = { λ v. ⟦<EncapsulatedContentInfoFields<'a> as Encode>⟧.size
         (⟦<EncapsulatedContentInfo<'a> as FromFields<EncapsulatedContentInfoFields<'a>>>⟧.fields v) };

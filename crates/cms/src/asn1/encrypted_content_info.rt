@@ -27,11 +27,11 @@ pub struct EncryptedContentInfo<'a> {
     pub content_type: ContentType<'a>,
     /// The algorithm of the encryption.
     pub content_encryption_algorithm: AlgorithmIdentifierRef<'a>,
-    /// The octets of the encryption. They are absent if they are elsewhere.
+    /// The encrypted octets. They are absent if they are stored elsewhere.
     pub encrypted_content: Optional<EncryptedOctets<'a>>,
 }
 
-/// The fields of a [`EncryptedContentInfo`], in the order in which they are encoded.
+/// The fields of [`EncryptedContentInfo`] as one type, in the order in which they are encoded.
 pub type EncryptedContentInfoFields<'a> = (
     ContentType<'a>,
     AlgorithmIdentifierRef<'a>,
@@ -61,7 +61,7 @@ impl<'a> Sequence for EncryptedContentInfo<'a> {
     ghost fits = { (refl, refl) };
 }
 
-/// Decodes the fields one after the other, with the errors of every [`Sequence`].
+/// Decodes the fields, first to last. The errors are those that [`Sequence`] lists.
 impl<'a, R: Lends<Borrowed = &'a [u8]>> DecodeValue<R> for EncryptedContentInfo<'a> {
     type Error = Error;
 
@@ -87,7 +87,7 @@ impl<'a> IsValue for EncryptedContentInfo<'a> {
     }
 }
 
-/// Writes the fields one after the other, with the errors of every [`Sequence`].
+/// Writes the fields, first to last. The errors are those that [`Sequence`] lists.
 impl<'a> HasFields for EncryptedContentInfo<'a> {
     ghost fields_size = { λ v. ⟦<EncryptedContentInfoFields<'a> as Encode>⟧.size
         (⟦<EncryptedContentInfo<'a> as FromFields<EncryptedContentInfoFields<'a>>>⟧.fields v) };

@@ -32,7 +32,7 @@ pub struct EncryptedData<'a> {
     pub unprotected_attrs: Optional<Implicit<Attributes<'a>, 1>>,
 }
 
-/// The fields of a [`EncryptedData`], in the order in which they are encoded.
+/// The fields of [`EncryptedData`] as one type, in the order in which they are encoded.
 pub type EncryptedDataFields<'a> = (
     CmsVersion<'a>,
     EncryptedContentInfo<'a>,
@@ -62,7 +62,7 @@ impl<'a> Sequence for EncryptedData<'a> {
     ghost fits = { (refl, refl) };
 }
 
-/// Decodes the fields one after the other, with the errors of every [`Sequence`].
+/// Decodes the fields, first to last. The errors are those that [`Sequence`] lists.
 impl<'a, R: Lends<Borrowed = &'a [u8]>> DecodeValue<R> for EncryptedData<'a> {
     type Error = Error;
 
@@ -88,7 +88,7 @@ impl<'a> IsValue for EncryptedData<'a> {
     }
 }
 
-/// Writes the fields one after the other, with the errors of every [`Sequence`].
+/// Writes the fields, first to last. The errors are those that [`Sequence`] lists.
 impl<'a> HasFields for EncryptedData<'a> {
     ghost fields_size = { λ v. ⟦<EncryptedDataFields<'a> as Encode>⟧.size
         (⟦<EncryptedData<'a> as FromFields<EncryptedDataFields<'a>>>⟧.fields v) };

@@ -28,9 +28,10 @@ use x509::Attributes;
 pub struct EnvelopedData<'a> {
     /// The version: 0, 2, 3 or 4. Decoding does not check this.
     pub version: CmsVersion<'a>,
-    /// What recipients may need to know of the originator, if present.
+    /// Certificates of the originator, and information about revoked certificates, if present.
     pub originator_info: Optional<Implicit<OriginatorInfo<'a>, 0>>,
-    /// The key for each recipient. That there is at least one is not checked.
+    /// The encrypted key of the content, for each recipient. That there is at least one is not
+    /// checked.
     pub recipient_infos: RecipientInfos<'a>,
     /// The encrypted content.
     pub encrypted_content_info: EncryptedContentInfo<'a>,
@@ -38,7 +39,7 @@ pub struct EnvelopedData<'a> {
     pub unprotected_attrs: Optional<Implicit<Attributes<'a>, 1>>,
 }
 
-/// The fields of a [`EnvelopedData`], in the order in which they are encoded.
+/// The fields of [`EnvelopedData`] as one type, in the order in which they are encoded.
 pub type EnvelopedDataFields<'a> = (
     CmsVersion<'a>,
     Optional<Implicit<OriginatorInfo<'a>, 0>>,
@@ -81,7 +82,7 @@ impl<'a> Sequence for EnvelopedData<'a> {
     ghost fits = { (refl, refl) };
 }
 
-/// Decodes the fields one after the other, with the errors of every [`Sequence`].
+/// Decodes the fields, first to last. The errors are those that [`Sequence`] lists.
 impl<'a, R: Lends<Borrowed = &'a [u8]>> DecodeValue<R> for EnvelopedData<'a> {
     type Error = Error;
 
@@ -111,7 +112,7 @@ impl<'a> IsValue for EnvelopedData<'a> {
     }
 }
 
-/// Writes the fields one after the other, with the errors of every [`Sequence`].
+/// Writes the fields, first to last. The errors are those that [`Sequence`] lists.
 impl<'a> HasFields for EnvelopedData<'a> {
     ghost fields_size = { λ v. ⟦<EnvelopedDataFields<'a> as Encode>⟧.size
         (⟦<EnvelopedData<'a> as FromFields<EnvelopedDataFields<'a>>>⟧.fields v) };

@@ -17,7 +17,7 @@ use der_asn1::{
 };
 use std::alloc::Global;
 
-/// What identifies a certificate (RFC 5035, 6), borrowed from the input.
+/// What identifies a certificate: its SHA-1 hash (RFC 5035, 6), borrowed from the input.
 #[derive(Clone, Copy, Debug, Drop, PartialEq, Eq)]
 pub struct EssCertId<'a> {
     /// The SHA-1 hash of the certificate. The number of its octets is not checked.
@@ -26,7 +26,7 @@ pub struct EssCertId<'a> {
     pub issuer_serial: Optional<IssuerSerial<'a>>,
 }
 
-/// The fields of a [`EssCertId`], in the order in which they are encoded.
+/// The fields of [`EssCertId`] as one type, in the order in which they are encoded.
 pub type EssCertIdFields<'a> = (OctetStringRef<'a>, Optional<IssuerSerial<'a>>);
 
 impl<'a> FromFields<EssCertIdFields<'a>> for EssCertId<'a> {
@@ -50,7 +50,7 @@ impl<'a> Sequence for EssCertId<'a> {
     ghost fits = { (refl, refl) };
 }
 
-/// Decodes the fields one after the other, with the errors of every [`Sequence`].
+/// Decodes the fields, first to last. The errors are those that [`Sequence`] lists.
 impl<'a, R: Lends<Borrowed = &'a [u8]>> DecodeValue<R> for EssCertId<'a> {
     type Error = Error;
 
@@ -75,7 +75,7 @@ impl<'a> IsValue for EssCertId<'a> {
     }
 }
 
-/// Writes the fields one after the other, with the errors of every [`Sequence`].
+/// Writes the fields, first to last. The errors are those that [`Sequence`] lists.
 impl<'a> HasFields for EssCertId<'a> {
     ghost fields_size = { λ v. ⟦<EssCertIdFields<'a> as Encode>⟧.size
         (⟦<EssCertId<'a> as FromFields<EssCertIdFields<'a>>>⟧.fields v) };

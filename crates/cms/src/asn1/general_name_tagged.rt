@@ -15,14 +15,14 @@ use der_asn1::{BorrowedItem, DecodeItem, Described, DescribedChoice, Item, Nesta
 use std::alloc::Global;
 use x509::GeneralName;
 
-/// What an explicit tag has in it: a [`GeneralName`].
+/// The contents of an element with an explicit tag: a [`GeneralName`].
 #[derive(Clone, Copy, Debug, Drop, PartialEq, Eq)]
 pub struct GeneralNameTagged<'a> {
-    /// The value after the tag.
+    /// The value inside the explicit tag.
     pub value: GeneralName<'a>,
 }
 
-/// The fields of a [`GeneralNameTagged`], in the order in which they are encoded.
+/// The fields of [`GeneralNameTagged`] as one type, in the order in which they are encoded.
 pub type GeneralNameTaggedFields<'a> = GeneralName<'a>;
 
 impl<'a> FromFields<GeneralNameTaggedFields<'a>> for GeneralNameTagged<'a> {
@@ -41,7 +41,7 @@ impl<'a> Sequence for GeneralNameTagged<'a> {
     ghost fits = { (refl, refl) };
 }
 
-/// Decodes the fields one after the other, with the errors of every [`Sequence`].
+/// Decodes the fields, first to last. The errors are those that [`Sequence`] lists.
 impl<'a, R: Lends<Borrowed = &'a [u8]>> DecodeValue<R> for GeneralNameTagged<'a> {
     type Error = Error;
 
@@ -73,7 +73,7 @@ impl<'a> IsValue for GeneralNameTagged<'a> {
     }
 }
 
-/// Writes the fields one after the other, with the errors of every [`Sequence`].
+/// Writes the fields, first to last. The errors are those that [`Sequence`] lists.
 impl<'a> HasFields for GeneralNameTagged<'a> {
     ghost fields_size = { λ v. ⟦<GeneralNameTaggedFields<'a> as Encode>⟧.size
         (⟦<GeneralNameTagged<'a> as FromFields<GeneralNameTaggedFields<'a>>>⟧.fields v) };

@@ -18,13 +18,13 @@ use x509::{CertificateSerialNumber, Name};
 /// The issuer and the serial number of a certificate (RFC 5652, 10.2.4), borrowed from the input.
 #[derive(Clone, Copy, Debug, Drop, PartialEq, Eq)]
 pub struct IssuerAndSerialNumber<'a> {
-    /// The issuer.
+    /// The issuer of the certificate.
     pub issuer: Name<'a>,
-    /// The serial number.
+    /// The serial number of the certificate.
     pub serial_number: CertificateSerialNumber<'a>,
 }
 
-/// The fields of a [`IssuerAndSerialNumber`], in the order in which they are encoded.
+/// The fields of [`IssuerAndSerialNumber`] as one type, in the order in which they are encoded.
 pub type IssuerAndSerialNumberFields<'a> = (Name<'a>, CertificateSerialNumber<'a>);
 
 impl<'a> FromFields<IssuerAndSerialNumberFields<'a>> for IssuerAndSerialNumber<'a> {
@@ -47,7 +47,7 @@ impl<'a> Sequence for IssuerAndSerialNumber<'a> {
     ghost fits = { (refl, refl) };
 }
 
-/// Decodes the fields one after the other, with the errors of every [`Sequence`].
+/// Decodes the fields, first to last. The errors are those that [`Sequence`] lists.
 impl<'a, R: Lends<Borrowed = &'a [u8]>> DecodeValue<R> for IssuerAndSerialNumber<'a> {
     type Error = Error;
 
@@ -70,7 +70,7 @@ impl<'a> IsValue for IssuerAndSerialNumber<'a> {
     }
 }
 
-/// Writes the fields one after the other, with the errors of every [`Sequence`].
+/// Writes the fields, first to last. The errors are those that [`Sequence`] lists.
 impl<'a> HasFields for IssuerAndSerialNumber<'a> {
     ghost fields_size = { λ v. ⟦<IssuerAndSerialNumberFields<'a> as Encode>⟧.size
         (⟦<IssuerAndSerialNumber<'a> as FromFields<IssuerAndSerialNumberFields<'a>>>⟧.fields v) };

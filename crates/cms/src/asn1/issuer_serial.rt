@@ -21,11 +21,11 @@ pub struct IssuerSerial<'a> {
     /// The names of the issuer. The RFC requires that there is one, a directoryName, for a
     /// certificate of a public key, but decoding does not check this.
     pub issuer: GeneralNames<'a>,
-    /// The serial number.
+    /// The serial number of the certificate.
     pub serial_number: CertificateSerialNumber<'a>,
 }
 
-/// The fields of a [`IssuerSerial`], in the order in which they are encoded.
+/// The fields of [`IssuerSerial`] as one type, in the order in which they are encoded.
 pub type IssuerSerialFields<'a> = (GeneralNames<'a>, CertificateSerialNumber<'a>);
 
 impl<'a> FromFields<IssuerSerialFields<'a>> for IssuerSerial<'a> {
@@ -49,7 +49,7 @@ impl<'a> Sequence for IssuerSerial<'a> {
     ghost fits = { (refl, refl) };
 }
 
-/// Decodes the fields one after the other, with the errors of every [`Sequence`].
+/// Decodes the fields, first to last. The errors are those that [`Sequence`] lists.
 impl<'a, R: Lends<Borrowed = &'a [u8]>> DecodeValue<R> for IssuerSerial<'a> {
     type Error = Error;
 
@@ -72,7 +72,7 @@ impl<'a> IsValue for IssuerSerial<'a> {
     }
 }
 
-/// Writes the fields one after the other, with the errors of every [`Sequence`].
+/// Writes the fields, first to last. The errors are those that [`Sequence`] lists.
 impl<'a> HasFields for IssuerSerial<'a> {
     ghost fields_size = { λ v. ⟦<IssuerSerialFields<'a> as Encode>⟧.size
         (⟦<IssuerSerial<'a> as FromFields<IssuerSerialFields<'a>>>⟧.fields v) };

@@ -19,18 +19,19 @@ use der_asn1::{
 };
 use std::alloc::Global;
 
-/// What identifies a key (RFC 5652, 6.2.3), borrowed from the input.
+/// What identifies a key that the originator and the recipient share (RFC 5652, 6.2.3), borrowed
+/// from the input.
 #[derive(Clone, Copy, Debug, Drop, PartialEq, Eq)]
 pub struct KekIdentifier<'a> {
     /// The octets that identify the key.
     pub key_identifier: OctetStringRef<'a>,
-    /// From which of several keys of that identifier it is, if present.
+    /// The date that tells this key from others with the same identifier, if present.
     pub date: Optional<GeneralizedTime>,
     /// Further information that identifies the key, if present.
     pub other: Optional<OtherKeyAttribute<'a>>,
 }
 
-/// The fields of a [`KekIdentifier`], in the order in which they are encoded.
+/// The fields of [`KekIdentifier`] as one type, in the order in which they are encoded.
 pub type KekIdentifierFields<'a> = (
     OctetStringRef<'a>,
     Optional<GeneralizedTime>,
@@ -60,7 +61,7 @@ impl<'a> Sequence for KekIdentifier<'a> {
     ghost fits = { (refl, refl) };
 }
 
-/// Decodes the fields one after the other, with the errors of every [`Sequence`].
+/// Decodes the fields, first to last. The errors are those that [`Sequence`] lists.
 impl<'a, R: Lends<Borrowed = &'a [u8]>> DecodeValue<R> for KekIdentifier<'a> {
     type Error = Error;
 
@@ -88,7 +89,7 @@ impl<'a> IsValue for KekIdentifier<'a> {
     }
 }
 
-/// Writes the fields one after the other, with the errors of every [`Sequence`].
+/// Writes the fields, first to last. The errors are those that [`Sequence`] lists.
 impl<'a> HasFields for KekIdentifier<'a> {
     ghost fields_size = { λ v. ⟦<KekIdentifierFields<'a> as Encode>⟧.size
         (⟦<KekIdentifier<'a> as FromFields<KekIdentifierFields<'a>>>⟧.fields v) };

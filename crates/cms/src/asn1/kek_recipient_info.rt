@@ -18,20 +18,21 @@ use der_asn1::{BorrowedItem, DecodeItem, Described, Item, Nestable, OctetStringR
 use spki::AlgorithmIdentifierRef;
 use std::alloc::Global;
 
-/// A key that is encrypted with a key that both have (RFC 5652, 6.2.3), borrowed from the input.
+/// A key that is encrypted with a key that the originator and the recipient share already (RFC
+/// 5652, 6.2.3), borrowed from the input.
 #[derive(Clone, Copy, Debug, Drop, PartialEq, Eq)]
 pub struct KekRecipientInfo<'a> {
     /// The version, which is 4. Decoding does not check this.
     pub version: CmsVersion<'a>,
-    /// The key that both have.
+    /// What identifies the shared key.
     pub kekid: KekIdentifier<'a>,
     /// The algorithm of the encryption.
     pub key_encryption_algorithm: AlgorithmIdentifierRef<'a>,
-    /// The octets of the encryption.
+    /// The encrypted key, as octets.
     pub encrypted_key: OctetStringRef<'a>,
 }
 
-/// The fields of a [`KekRecipientInfo`], in the order in which they are encoded.
+/// The fields of [`KekRecipientInfo`] as one type, in the order in which they are encoded.
 pub type KekRecipientInfoFields<'a> = (
     CmsVersion<'a>,
     KekIdentifier<'a>,
@@ -64,7 +65,7 @@ impl<'a> Sequence for KekRecipientInfo<'a> {
     ghost fits = { (refl, refl) };
 }
 
-/// Decodes the fields one after the other, with the errors of every [`Sequence`].
+/// Decodes the fields, first to last. The errors are those that [`Sequence`] lists.
 impl<'a, R: Lends<Borrowed = &'a [u8]>> DecodeValue<R> for KekRecipientInfo<'a> {
     type Error = Error;
 
@@ -89,7 +90,7 @@ impl<'a> IsValue for KekRecipientInfo<'a> {
     }
 }
 
-/// Writes the fields one after the other, with the errors of every [`Sequence`].
+/// Writes the fields, first to last. The errors are those that [`Sequence`] lists.
 impl<'a> HasFields for KekRecipientInfo<'a> {
     ghost fields_size = { λ v. ⟦<KekRecipientInfoFields<'a> as Encode>⟧.size
         (⟦<KekRecipientInfo<'a> as FromFields<KekRecipientInfoFields<'a>>>⟧.fields v) };

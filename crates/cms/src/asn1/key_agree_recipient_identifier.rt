@@ -21,13 +21,13 @@ use std::alloc::Global;
 /// What identifies the public key of a recipient (RFC 5652, 6.2.2), borrowed from the input.
 #[derive(Clone, Copy, Debug, Drop, PartialEq, Eq)]
 pub enum KeyAgreeRecipientIdentifier<'a> {
-    /// Its certificate, by issuer and serial number.
+    /// The issuer and the serial number of the certificate that has the key.
     IssuerAndSerialNumber(IssuerAndSerialNumber<'a>),
-    /// Its certificate, by the identifier of the key.
+    /// The identifier of the key, which its certificate has.
     RKeyId(Implicit<RecipientKeyIdentifier<'a>, 0>),
 }
 
-/// The alternatives, as nested choices of two.
+/// The alternatives as one type: an [`Either`] of two, which may be [`Either`]s in turn.
 pub type KeyAgreeRecipientIdentifierAlternatives<'a> = Either<
     IssuerAndSerialNumber<'a>,
     Implicit<RecipientKeyIdentifier<'a>, 0>,
@@ -55,7 +55,7 @@ impl<'a> DescribedChoice for KeyAgreeRecipientIdentifier<'a> {
         ⟦<KeyAgreeRecipientIdentifier<'a> as FromFields<KeyAgreeRecipientIdentifierAlternatives<'a>>>⟧.fields };
 }
 
-/// Decodes the alternative whose tag is next, with the errors of [`Either`].
+/// Decodes the alternative with the next tag. The errors are those of decoding an [`Either`].
 impl<'a, R: Lends<Borrowed = &'a [u8]>> Decode<R> for KeyAgreeRecipientIdentifier<'a> {
     type Error = Error;
 
@@ -93,7 +93,7 @@ impl<'a, R: Lends<Borrowed = &'a [u8]>> DecodeChoice<R> for KeyAgreeRecipientIde
     ghost begins = { ⟦<KeyAgreeRecipientIdentifier<'a> as DescribedChoice>⟧.alternative.begins };
 }
 
-/// Writes the alternative that the value has.
+/// Writes the alternative that the value has. The errors are those of writing it.
 impl<'a> Encode for KeyAgreeRecipientIdentifier<'a> {
     ghost encoding = { λ v. ⟦<KeyAgreeRecipientIdentifierAlternatives<'a> as Encode>⟧.encoding
         (⟦<KeyAgreeRecipientIdentifier<'a> as FromFields<KeyAgreeRecipientIdentifierAlternatives<'a>>>⟧.fields v) };

@@ -22,23 +22,23 @@ use der_asn1::{
 use spki::AlgorithmIdentifierRef;
 use std::alloc::Global;
 
-/// A key that is encrypted for recipients with keys from a key agreement (RFC 5652, 6.2.2), borrowed
-/// from the input.
+/// A key that is encrypted with keys from a key agreement, one for each recipient (RFC 5652,
+/// 6.2.2), borrowed from the input.
 #[derive(Clone, Copy, Debug, Drop, PartialEq, Eq)]
 pub struct KeyAgreeRecipientInfo<'a> {
     /// The version, which is 3. Decoding does not check this.
     pub version: CmsVersion<'a>,
-    /// The public key of the originator.
+    /// What identifies the public key of the originator, or the key itself.
     pub originator: Implicit<OriginatorIdentifierOrKeyTagged<'a>, 0>,
-    /// Octets of the originator that make the key another one each time, if present.
+    /// Octets from the originator, if present. They make the agreed key differ each time.
     pub ukm: Optional<Explicit<OctetStringRef<'a>, 1>>,
-    /// The algorithm of the agreement. Its parameters are that of the encryption.
+    /// The algorithm of the key agreement. Its parameters are the algorithm that encrypts the keys.
     pub key_encryption_algorithm: AlgorithmIdentifierRef<'a>,
     /// The encrypted key for each recipient.
     pub recipient_encrypted_keys: SequenceOf<'a, RecipientEncryptedKey<'a>>,
 }
 
-/// The fields of a [`KeyAgreeRecipientInfo`], in the order in which they are encoded.
+/// The fields of [`KeyAgreeRecipientInfo`] as one type, in the order in which they are encoded.
 pub type KeyAgreeRecipientInfoFields<'a> = (
     CmsVersion<'a>,
     Implicit<OriginatorIdentifierOrKeyTagged<'a>, 0>,
@@ -80,7 +80,7 @@ impl<'a> Sequence for KeyAgreeRecipientInfo<'a> {
     ghost fits = { (refl, refl) };
 }
 
-/// Decodes the fields one after the other, with the errors of every [`Sequence`].
+/// Decodes the fields, first to last. The errors are those that [`Sequence`] lists.
 impl<'a, R: Lends<Borrowed = &'a [u8]>> DecodeValue<R> for KeyAgreeRecipientInfo<'a> {
     type Error = Error;
 
@@ -108,7 +108,7 @@ impl<'a> IsValue for KeyAgreeRecipientInfo<'a> {
     }
 }
 
-/// Writes the fields one after the other, with the errors of every [`Sequence`].
+/// Writes the fields, first to last. The errors are those that [`Sequence`] lists.
 impl<'a> HasFields for KeyAgreeRecipientInfo<'a> {
     ghost fields_size = { λ v. ⟦<KeyAgreeRecipientInfoFields<'a> as Encode>⟧.size
         (⟦<KeyAgreeRecipientInfo<'a> as FromFields<KeyAgreeRecipientInfoFields<'a>>>⟧.fields v) };

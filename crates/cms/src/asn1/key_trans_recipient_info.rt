@@ -29,15 +29,15 @@ pub struct KeyTransRecipientInfo<'a> {
     /// The version: 0 if the recipient is named by issuer and serial number, or else 2. Decoding
     /// does not check this.
     pub version: CmsVersion<'a>,
-    /// The certificate of the recipient.
+    /// What identifies the certificate of the recipient.
     pub rid: RecipientIdentifier<'a>,
     /// The algorithm of the encryption.
     pub key_encryption_algorithm: AlgorithmIdentifierRef<'a>,
-    /// The octets of the encryption.
+    /// The encrypted key, as octets.
     pub encrypted_key: OctetStringRef<'a>,
 }
 
-/// The fields of a [`KeyTransRecipientInfo`], in the order in which they are encoded.
+/// The fields of [`KeyTransRecipientInfo`] as one type, in the order in which they are encoded.
 pub type KeyTransRecipientInfoFields<'a> = (
     CmsVersion<'a>,
     RecipientIdentifier<'a>,
@@ -70,7 +70,7 @@ impl<'a> Sequence for KeyTransRecipientInfo<'a> {
     ghost fits = { (refl, refl) };
 }
 
-/// Decodes the fields one after the other, with the errors of every [`Sequence`].
+/// Decodes the fields, first to last. The errors are those that [`Sequence`] lists.
 impl<'a, R: Lends<Borrowed = &'a [u8]>> DecodeValue<R> for KeyTransRecipientInfo<'a> {
     type Error = Error;
 
@@ -98,7 +98,7 @@ impl<'a> IsValue for KeyTransRecipientInfo<'a> {
     }
 }
 
-/// Writes the fields one after the other, with the errors of every [`Sequence`].
+/// Writes the fields, first to last. The errors are those that [`Sequence`] lists.
 impl<'a> HasFields for KeyTransRecipientInfo<'a> {
     ghost fields_size = { λ v. ⟦<KeyTransRecipientInfoFields<'a> as Encode>⟧.size
         (⟦<KeyTransRecipientInfo<'a> as FromFields<KeyTransRecipientInfoFields<'a>>>⟧.fields v) };

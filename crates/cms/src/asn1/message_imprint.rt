@@ -24,7 +24,7 @@ pub struct MessageImprint<'a> {
     pub hashed_message: OctetStringRef<'a>,
 }
 
-/// The fields of a [`MessageImprint`], in the order in which they are encoded.
+/// The fields of [`MessageImprint`] as one type, in the order in which they are encoded.
 pub type MessageImprintFields<'a> = (AlgorithmIdentifierRef<'a>, OctetStringRef<'a>);
 
 impl<'a> FromFields<MessageImprintFields<'a>> for MessageImprint<'a> {
@@ -48,7 +48,7 @@ impl<'a> Sequence for MessageImprint<'a> {
     ghost fits = { (refl, refl) };
 }
 
-/// Decodes the fields one after the other, with the errors of every [`Sequence`].
+/// Decodes the fields, first to last. The errors are those that [`Sequence`] lists.
 impl<'a, R: Lends<Borrowed = &'a [u8]>> DecodeValue<R> for MessageImprint<'a> {
     type Error = Error;
 
@@ -71,7 +71,7 @@ impl<'a> IsValue for MessageImprint<'a> {
     }
 }
 
-/// Writes the fields one after the other, with the errors of every [`Sequence`].
+/// Writes the fields, first to last. The errors are those that [`Sequence`] lists.
 impl<'a> HasFields for MessageImprint<'a> {
     ghost fields_size = { λ v. ⟦<MessageImprintFields<'a> as Encode>⟧.size
         (⟦<MessageImprint<'a> as FromFields<MessageImprintFields<'a>>>⟧.fields v) };

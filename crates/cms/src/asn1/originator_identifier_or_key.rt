@@ -21,14 +21,15 @@ use der_asn1::{
 use std::alloc::Global;
 use x509::SubjectKeyIdentifier;
 
-/// What identifies the public key of the originator (RFC 5652, 6.2.2), borrowed from the input.
+/// What identifies the public key of the originator, or the key itself (RFC 5652, 6.2.2), borrowed
+/// from the input.
 #[derive(Clone, Copy, Debug, Drop, PartialEq, Eq)]
 pub enum OriginatorIdentifierOrKey<'a> {
-    /// Its certificate, by issuer and serial number.
+    /// The issuer and the serial number of the certificate that has the key.
     IssuerAndSerialNumber(IssuerAndSerialNumber<'a>),
-    /// Its certificate, by the identifier of the key.
+    /// The identifier of the key, which its certificate has.
     SubjectKeyIdentifier(Implicit<SubjectKeyIdentifier<'a>, 0>),
-    /// The key itself.
+    /// The public key itself.
     OriginatorKey(Implicit<OriginatorPublicKey<'a>, 1>),
 }
 
@@ -70,7 +71,7 @@ impl<'a> DescribedChoice for OriginatorIdentifierOrKey<'a> {
         ⟦<OriginatorIdentifierOrKey<'a> as FromFields<OriginatorIdentifierOrKeyAlternatives<'a>>>⟧.fields };
 }
 
-/// Decodes the alternative whose tag is next, with the errors of [`Either`].
+/// Decodes the alternative with the next tag. The errors are those of decoding an [`Either`].
 impl<'a, R: Lends<Borrowed = &'a [u8]>> Decode<R> for OriginatorIdentifierOrKey<'a> {
     type Error = Error;
 
@@ -108,7 +109,7 @@ impl<'a, R: Lends<Borrowed = &'a [u8]>> DecodeChoice<R> for OriginatorIdentifier
     ghost begins = { ⟦<OriginatorIdentifierOrKey<'a> as DescribedChoice>⟧.alternative.begins };
 }
 
-/// Writes the alternative that the value has.
+/// Writes the alternative that the value has. The errors are those of writing it.
 impl<'a> Encode for OriginatorIdentifierOrKey<'a> {
     ghost encoding = { λ v. ⟦<OriginatorIdentifierOrKeyAlternatives<'a> as Encode>⟧.encoding
         (⟦<OriginatorIdentifierOrKey<'a> as FromFields<OriginatorIdentifierOrKeyAlternatives<'a>>>⟧.fields v) };

@@ -15,14 +15,14 @@ use der::{
 use der_asn1::{BorrowedItem, DecodeItem, Described, DescribedChoice, Item, Nestable, WrittenItem};
 use std::alloc::Global;
 
-/// What an explicit tag has in it: a [`OriginatorIdentifierOrKey`].
+/// The contents of an element with an explicit tag: a [`OriginatorIdentifierOrKey`].
 #[derive(Clone, Copy, Debug, Drop, PartialEq, Eq)]
 pub struct OriginatorIdentifierOrKeyTagged<'a> {
-    /// The value after the tag.
+    /// The value inside the explicit tag.
     pub value: OriginatorIdentifierOrKey<'a>,
 }
 
-/// The fields of a [`OriginatorIdentifierOrKeyTagged`], in the order in which they are encoded.
+/// The fields of [`OriginatorIdentifierOrKeyTagged`] as one type, in the order in which they are encoded.
 pub type OriginatorIdentifierOrKeyTaggedFields<'a> = OriginatorIdentifierOrKey<'a>;
 
 impl<'a> FromFields<OriginatorIdentifierOrKeyTaggedFields<'a>>
@@ -43,7 +43,7 @@ impl<'a> Sequence for OriginatorIdentifierOrKeyTagged<'a> {
     ghost fits = { (refl, refl) };
 }
 
-/// Decodes the fields one after the other, with the errors of every [`Sequence`].
+/// Decodes the fields, first to last. The errors are those that [`Sequence`] lists.
 impl<'a, R: Lends<Borrowed = &'a [u8]>> DecodeValue<R> for OriginatorIdentifierOrKeyTagged<'a> {
     type Error = Error;
 
@@ -69,7 +69,7 @@ impl<'a> IsValue for OriginatorIdentifierOrKeyTagged<'a> {
     }
 }
 
-/// Writes the fields one after the other, with the errors of every [`Sequence`].
+/// Writes the fields, first to last. The errors are those that [`Sequence`] lists.
 impl<'a> HasFields for OriginatorIdentifierOrKeyTagged<'a> {
     ghost fields_size = { λ v. ⟦<OriginatorIdentifierOrKeyTaggedFields<'a> as Encode>⟧.size
         (⟦<OriginatorIdentifierOrKeyTagged<'a> as FromFields<OriginatorIdentifierOrKeyTaggedFields<'a>>>⟧.fields v) };

@@ -18,17 +18,17 @@ use der_asn1::{
 };
 use std::alloc::Global;
 
-/// Certificates of the originator and information on revoked ones (RFC 5652, 6.1), borrowed from the
-/// input.
+/// Certificates of the originator of a message, and information about revoked certificates (RFC
+/// 5652, 6.1), borrowed from the input.
 #[derive(Clone, Copy, Debug, Drop, PartialEq, Eq)]
 pub struct OriginatorInfo<'a> {
     /// The certificates, if present.
     pub certs: Optional<Implicit<CertificateSet<'a>, 0>>,
-    /// The information on revoked certificates, if present.
+    /// The information about revoked certificates, if present.
     pub crls: Optional<Implicit<RevocationInfoChoices<'a>, 1>>,
 }
 
-/// The fields of a [`OriginatorInfo`], in the order in which they are encoded.
+/// The fields of [`OriginatorInfo`] as one type, in the order in which they are encoded.
 pub type OriginatorInfoFields<'a> = (
     Optional<Implicit<CertificateSet<'a>, 0>>,
     Optional<Implicit<RevocationInfoChoices<'a>, 1>>,
@@ -52,7 +52,7 @@ impl<'a> Sequence for OriginatorInfo<'a> {
     ghost fits = { (refl, refl) };
 }
 
-/// Decodes the fields one after the other, with the errors of every [`Sequence`].
+/// Decodes the fields, first to last. The errors are those that [`Sequence`] lists.
 impl<'a, R: Lends<Borrowed = &'a [u8]>> DecodeValue<R> for OriginatorInfo<'a> {
     type Error = Error;
 
@@ -79,7 +79,7 @@ impl<'a> IsValue for OriginatorInfo<'a> {
     }
 }
 
-/// Writes the fields one after the other, with the errors of every [`Sequence`].
+/// Writes the fields, first to last. The errors are those that [`Sequence`] lists.
 impl<'a> HasFields for OriginatorInfo<'a> {
     ghost fields_size = { λ v. ⟦<OriginatorInfoFields<'a> as Encode>⟧.size
         (⟦<OriginatorInfo<'a> as FromFields<OriginatorInfoFields<'a>>>⟧.fields v) };

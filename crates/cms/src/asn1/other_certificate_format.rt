@@ -4,6 +4,7 @@
 
 use x509::AttributeTypeAndValue;
 
-/// A certificate of a kind that its `oid` names (RFC 5652, 10.2.2). Its `value` is not checked. It
-/// has the form of an attribute of a name, and its type.
+/// A certificate of another kind (RFC 5652, 10.2.2): `oid` names the kind, and `value` is the
+/// certificate, which is not checked. It has the same fields as an attribute of a name, so it is
+/// the same type in Rust.
 pub type OtherCertificateFormat<'a> = AttributeTypeAndValue<'a>;

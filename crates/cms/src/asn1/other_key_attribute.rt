@@ -4,7 +4,7 @@
 
 use spki::AlgorithmIdentifierRef;
 
-/// Information that identifies a key (RFC 5652, 10.2.7), of the kind that its `oid` names. It has
-/// the form of an algorithm with parameters, and its type: the keyAttr of the RFC is the field
-/// `parameters`.
+/// Further information that identifies a key (RFC 5652, 10.2.7): `oid` names the kind of
+/// information. It has the same fields as an algorithm with parameters, so it is the same type in
+/// Rust: keyAttr of the RFC is the field `parameters`.
 pub type OtherKeyAttribute<'a> = AlgorithmIdentifierRef<'a>;

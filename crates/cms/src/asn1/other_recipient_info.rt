@@ -4,6 +4,7 @@
 
 use x509::AttributeTypeAndValue;
 
-/// A key for a recipient, in a way that its `oid` names (RFC 5652, 6.2.5). Its `value` is not
-/// checked. It has the form of an attribute of a name, and its type.
+/// A key that is encrypted for a recipient in another way (RFC 5652, 6.2.5): `oid` names the way,
+/// and `value` is not checked. It has the same fields as an attribute of a name, so it is the same
+/// type in Rust.
 pub type OtherRecipientInfo<'a> = AttributeTypeAndValue<'a>;

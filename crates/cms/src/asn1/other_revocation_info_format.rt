@@ -4,6 +4,7 @@
 
 use x509::AttributeTypeAndValue;
 
-/// Information of a kind that its `oid` names (RFC 5652, 10.2.1). Its `value` is not checked. It has
-/// the form of an attribute of a name, and its type.
+/// Information about revoked certificates of another kind (RFC 5652, 10.2.1): `oid` names the kind,
+/// and `value` is the information, which is not checked. It has the same fields as an attribute of
+/// a name, so it is the same type in Rust.
 pub type OtherRevocationInfoFormat<'a> = AttributeTypeAndValue<'a>;

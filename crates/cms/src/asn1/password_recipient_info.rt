@@ -20,7 +20,8 @@ use der_asn1::{
 use spki::AlgorithmIdentifierRef;
 use std::alloc::Global;
 
-/// A key that is encrypted with a key from a password (RFC 5652, 6.2.4), borrowed from the input.
+/// A key that is encrypted with a key that is derived from a password (RFC 5652, 6.2.4), borrowed
+/// from the input.
 #[derive(Clone, Copy, Debug, Drop, PartialEq, Eq)]
 pub struct PasswordRecipientInfo<'a> {
     /// The version, which is 0. Decoding does not check this.
@@ -29,11 +30,11 @@ pub struct PasswordRecipientInfo<'a> {
     pub key_derivation_algorithm: Optional<Implicit<AlgorithmIdentifierRef<'a>, 0>>,
     /// The algorithm of the encryption.
     pub key_encryption_algorithm: AlgorithmIdentifierRef<'a>,
-    /// The octets of the encryption.
+    /// The encrypted key, as octets.
     pub encrypted_key: OctetStringRef<'a>,
 }
 
-/// The fields of a [`PasswordRecipientInfo`], in the order in which they are encoded.
+/// The fields of [`PasswordRecipientInfo`] as one type, in the order in which they are encoded.
 pub type PasswordRecipientInfoFields<'a> = (
     CmsVersion<'a>,
     Optional<Implicit<AlgorithmIdentifierRef<'a>, 0>>,
@@ -71,7 +72,7 @@ impl<'a> Sequence for PasswordRecipientInfo<'a> {
     ghost fits = { (refl, refl) };
 }
 
-/// Decodes the fields one after the other, with the errors of every [`Sequence`].
+/// Decodes the fields, first to last. The errors are those that [`Sequence`] lists.
 impl<'a, R: Lends<Borrowed = &'a [u8]>> DecodeValue<R> for PasswordRecipientInfo<'a> {
     type Error = Error;
 
@@ -98,7 +99,7 @@ impl<'a> IsValue for PasswordRecipientInfo<'a> {
     }
 }
 
-/// Writes the fields one after the other, with the errors of every [`Sequence`].
+/// Writes the fields, first to last. The errors are those that [`Sequence`] lists.
 impl<'a> HasFields for PasswordRecipientInfo<'a> {
     ghost fields_size = { λ v. ⟦<PasswordRecipientInfoFields<'a> as Encode>⟧.size
         (⟦<PasswordRecipientInfo<'a> as FromFields<PasswordRecipientInfoFields<'a>>>⟧.fields v) };

@@ -22,12 +22,12 @@ use std::alloc::Global;
 pub struct Pkcs7ContentInfo<'a> {
     /// The type of the content.
     pub content_type: ContentType<'a>,
-    /// The content: an element of any tag. Its contents are not checked. It is absent if the content
-    /// is elsewhere, as for a detached signature.
+    /// The content: an element of any tag. Its contents are not checked. It is absent if it is
+    /// stored elsewhere, as for a detached signature.
     pub content: Optional<ExplicitAny<'a, 0>>,
 }
 
-/// The fields of a [`Pkcs7ContentInfo`], in the order in which they are encoded.
+/// The fields of [`Pkcs7ContentInfo`] as one type, in the order in which they are encoded.
 pub type Pkcs7ContentInfoFields<'a> = (ContentType<'a>, Optional<ExplicitAny<'a, 0>>);
 
 impl<'a> FromFields<Pkcs7ContentInfoFields<'a>> for Pkcs7ContentInfo<'a> {
@@ -51,7 +51,7 @@ impl<'a> Sequence for Pkcs7ContentInfo<'a> {
     ghost fits = { (refl, refl) };
 }
 
-/// Decodes the fields one after the other, with the errors of every [`Sequence`].
+/// Decodes the fields, first to last. The errors are those that [`Sequence`] lists.
 impl<'a, R: Lends<Borrowed = &'a [u8]>> DecodeValue<R> for Pkcs7ContentInfo<'a> {
     type Error = Error;
 
@@ -76,7 +76,7 @@ impl<'a> IsValue for Pkcs7ContentInfo<'a> {
     }
 }
 
-/// Writes the fields one after the other, with the errors of every [`Sequence`].
+/// Writes the fields, first to last. The errors are those that [`Sequence`] lists.
 impl<'a> HasFields for Pkcs7ContentInfo<'a> {
     ghost fields_size = { λ v. ⟦<Pkcs7ContentInfoFields<'a> as Encode>⟧.size
         (⟦<Pkcs7ContentInfo<'a> as FromFields<Pkcs7ContentInfoFields<'a>>>⟧.fields v) };

@@ -23,25 +23,25 @@ use der_asn1::{
 use spki::AlgorithmIdentifierRef;
 use std::alloc::Global;
 
-/// A content with signatures in PKCS #7 (RFC 2315, 9.1), such as a signature of Authenticode, borrowed
-/// from the input. The content may be an element of any tag.
+/// A content with signatures in PKCS #7 (RFC 2315, 9.1), such as a signature of Authenticode,
+/// borrowed from the input. The content may be an element of any tag.
 #[derive(Clone, Copy, Debug, Drop, PartialEq, Eq)]
 pub struct Pkcs7SignedData<'a> {
     /// The version: 1. Decoding does not check this.
     pub version: CmsVersion<'a>,
     /// The digest algorithms of the signatures, in ascending order of their encodings.
     pub digest_algorithms: SetOf<'a, AlgorithmIdentifierRef<'a>>,
-    /// The content.
+    /// The content that is signed.
     pub content_info: Pkcs7ContentInfo<'a>,
     /// Certificates that help to verify the signatures, if present.
     pub certificates: Optional<Implicit<CertificateSet<'a>, 0>>,
-    /// Information on revoked certificates, if present.
+    /// Information about revoked certificates, if present.
     pub crls: Optional<Implicit<RevocationInfoChoices<'a>, 1>>,
     /// The signatures, in ascending order of their encodings. There may be none.
     pub signer_infos: SetOf<'a, SignerInfo<'a>>,
 }
 
-/// The fields of a [`Pkcs7SignedData`], in the order in which they are encoded.
+/// The fields of [`Pkcs7SignedData`] as one type, in the order in which they are encoded.
 pub type Pkcs7SignedDataFields<'a> = (
     CmsVersion<'a>,
     SetOf<'a, AlgorithmIdentifierRef<'a>>,
@@ -87,7 +87,7 @@ impl<'a> Sequence for Pkcs7SignedData<'a> {
     ghost fits = { (refl, refl) };
 }
 
-/// Decodes the fields one after the other, with the errors of every [`Sequence`].
+/// Decodes the fields, first to last. The errors are those that [`Sequence`] lists.
 impl<'a, R: Lends<Borrowed = &'a [u8]>> DecodeValue<R> for Pkcs7SignedData<'a> {
     type Error = Error;
 
@@ -118,7 +118,7 @@ impl<'a> IsValue for Pkcs7SignedData<'a> {
     }
 }
 
-/// Writes the fields one after the other, with the errors of every [`Sequence`].
+/// Writes the fields, first to last. The errors are those that [`Sequence`] lists.
 impl<'a> HasFields for Pkcs7SignedData<'a> {
     ghost fields_size = { λ v. ⟦<Pkcs7SignedDataFields<'a> as Encode>⟧.size
         (⟦<Pkcs7SignedData<'a> as FromFields<Pkcs7SignedDataFields<'a>>>⟧.fields v) };

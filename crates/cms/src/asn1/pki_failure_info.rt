@@ -4,8 +4,8 @@
 
 use der_asn1::NamedBitsRef;
 
-/// Why a request was not granted (RFC 3161, 2.4.2), borrowed from the input. `has_bit` says whether
-/// a bit is one. Its number is that of a [`PkiFailureInfoBit`], as a `u32`.
+/// Why a request was not granted (RFC 3161, 2.4.2), borrowed from the input. `has_bit` takes a
+/// [`PkiFailureInfoBit`] as a `u32`, and says whether this bit is one.
 pub type PkiFailureInfo<'a> = NamedBitsRef<'a>;
 
 /// The named bits of a [`PkiFailureInfo`], with their numbers.

@@ -6,8 +6,8 @@ ghost use Rattle.cms.specs.declared.asn1.pki_status.PkiStatus.TheVariants as var
 
 use der_asn1::Enumeration;
 
-/// Whether a request was granted (RFC 3161, 2.4.2). No other number is accepted, as the RFC requires
-/// of clients.
+/// Whether a request was granted (RFC 3161, 2.4.2). No other number is accepted, as the RFC
+/// requires of clients.
 #[derive(Clone, Copy, Debug, PartialEq, Eq)]
 pub enum PkiStatus {
     Granted = 0,

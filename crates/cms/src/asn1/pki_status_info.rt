@@ -23,15 +23,15 @@ use std::alloc::Global;
 /// Whether a request was granted, or why it was not (RFC 3161, 2.4.2), borrowed from the input.
 #[derive(Clone, Copy, Debug, Drop, PartialEq, Eq)]
 pub struct PkiStatusInfo<'a> {
-    /// Whether it was granted.
+    /// Whether the request was granted.
     pub status: NamedInteger<PkiStatus>,
     /// The reason as texts, if present. That there is at least one is not checked.
     pub status_string: Optional<SequenceOf<'a, Utf8StringRef<'a>>>,
-    /// The reason as bits, if present.
+    /// The reason as named bits, if present.
     pub fail_info: Optional<PkiFailureInfo<'a>>,
 }
 
-/// The fields of a [`PkiStatusInfo`], in the order in which they are encoded.
+/// The fields of [`PkiStatusInfo`] as one type, in the order in which they are encoded.
 pub type PkiStatusInfoFields<'a> = (
     NamedInteger<PkiStatus>,
     Optional<SequenceOf<'a, Utf8StringRef<'a>>>,
@@ -61,7 +61,7 @@ impl<'a> Sequence for PkiStatusInfo<'a> {
     ghost fits = { (refl, refl) };
 }
 
-/// Decodes the fields one after the other, with the errors of every [`Sequence`].
+/// Decodes the fields, first to last. The errors are those that [`Sequence`] lists.
 impl<'a, R: Lends<Borrowed = &'a [u8]>> DecodeValue<R> for PkiStatusInfo<'a> {
     type Error = Error;
 
@@ -89,7 +89,7 @@ impl<'a> IsValue for PkiStatusInfo<'a> {
     }
 }
 
-/// Writes the fields one after the other, with the errors of every [`Sequence`].
+/// Writes the fields, first to last. The errors are those that [`Sequence`] lists.
 impl<'a> HasFields for PkiStatusInfo<'a> {
     ghost fields_size = { λ v. ⟦<PkiStatusInfoFields<'a> as Encode>⟧.size
         (⟦<PkiStatusInfo<'a> as FromFields<PkiStatusInfoFields<'a>>>⟧.fields v) };

@@ -18,16 +18,16 @@ use der_asn1::{
 };
 use std::alloc::Global;
 
-/// A key that is encrypted for a recipient (RFC 5652, 6.2.2), borrowed from the input.
+/// A key that is encrypted for one recipient (RFC 5652, 6.2.2), borrowed from the input.
 #[derive(Clone, Copy, Debug, Drop, PartialEq, Eq)]
 pub struct RecipientEncryptedKey<'a> {
-    /// The public key of the recipient.
+    /// What identifies the public key of the recipient.
     pub rid: KeyAgreeRecipientIdentifier<'a>,
-    /// The octets of the encryption.
+    /// The encrypted key, as octets.
     pub encrypted_key: OctetStringRef<'a>,
 }
 
-/// The fields of a [`RecipientEncryptedKey`], in the order in which they are encoded.
+/// The fields of [`RecipientEncryptedKey`] as one type, in the order in which they are encoded.
 pub type RecipientEncryptedKeyFields<'a> = (KeyAgreeRecipientIdentifier<'a>, OctetStringRef<'a>);
 
 impl<'a> FromFields<RecipientEncryptedKeyFields<'a>> for RecipientEncryptedKey<'a> {
@@ -48,7 +48,7 @@ impl<'a> Sequence for RecipientEncryptedKey<'a> {
     ghost fits = { (refl, refl) };
 }
 
-/// Decodes the fields one after the other, with the errors of every [`Sequence`].
+/// Decodes the fields, first to last. The errors are those that [`Sequence`] lists.
 impl<'a, R: Lends<Borrowed = &'a [u8]>> DecodeValue<R> for RecipientEncryptedKey<'a> {
     type Error = Error;
 
@@ -74,7 +74,7 @@ impl<'a> IsValue for RecipientEncryptedKey<'a> {
     }
 }
 
-/// Writes the fields one after the other, with the errors of every [`Sequence`].
+/// Writes the fields, first to last. The errors are those that [`Sequence`] lists.
 impl<'a> HasFields for RecipientEncryptedKey<'a> {
     ghost fields_size = { λ v. ⟦<RecipientEncryptedKeyFields<'a> as Encode>⟧.size
         (⟦<RecipientEncryptedKey<'a> as FromFields<RecipientEncryptedKeyFields<'a>>>⟧.fields v) };

@@ -4,6 +4,6 @@
 
 use crate::asn1::signer_identifier::SignerIdentifier;
 
-/// What identifies the certificate of a recipient (RFC 5652, 6.2.1). It has the form of a signer's,
-/// and its type.
+/// What identifies the certificate of a recipient (RFC 5652, 6.2.1). It has the same alternatives
+/// as a SignerIdentifier, so it is the same type in Rust.
 pub type RecipientIdentifier<'a> = SignerIdentifier<'a>;

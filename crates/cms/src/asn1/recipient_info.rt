@@ -24,19 +24,19 @@ use der_asn1::{
 };
 use std::alloc::Global;
 
-/// The key of a content, encrypted for a recipient in one of five ways (RFC 5652, 6.2), borrowed
+/// The key of a content, encrypted for one recipient in one of five ways (RFC 5652, 6.2), borrowed
 /// from the input.
 #[derive(Clone, Copy, Debug, Drop, PartialEq, Eq)]
 pub enum RecipientInfo<'a> {
-    /// With the public key of the recipient.
+    /// The key is encrypted with the public key of the recipient.
     Ktri(KeyTransRecipientInfo<'a>),
-    /// With a key that the two agree on.
+    /// The key is encrypted with a key that the originator and the recipient agree on.
     Kari(Implicit<KeyAgreeRecipientInfo<'a>, 1>),
-    /// With a key that both have.
+    /// The key is encrypted with a key that the originator and the recipient share already.
     Kekri(Implicit<KekRecipientInfo<'a>, 2>),
-    /// With a key from a password.
+    /// The key is encrypted with a key that is derived from a password.
     Pwri(Implicit<PasswordRecipientInfo<'a>, 3>),
-    /// In another way.
+    /// The key is encrypted in another way, which an object identifier names.
     Ori(Implicit<OtherRecipientInfo<'a>, 4>),
 }
 
@@ -95,7 +95,7 @@ impl<'a> DescribedChoice for RecipientInfo<'a> {
         ⟦<RecipientInfo<'a> as FromFields<RecipientInfoAlternatives<'a>>>⟧.fields };
 }
 
-/// Decodes the alternative whose tag is next, with the errors of [`Either`].
+/// Decodes the alternative with the next tag. The errors are those of decoding an [`Either`].
 impl<'a, R: Lends<Borrowed = &'a [u8]>> Decode<R> for RecipientInfo<'a> {
     type Error = Error;
 
@@ -131,7 +131,7 @@ impl<'a, R: Lends<Borrowed = &'a [u8]>> DecodeChoice<R> for RecipientInfo<'a> {
     ghost begins = { ⟦<RecipientInfo<'a> as DescribedChoice>⟧.alternative.begins };
 }
 
-/// Writes the alternative that the value has.
+/// Writes the alternative that the value has. The errors are those of writing it.
 impl<'a> Encode for RecipientInfo<'a> {
     ghost encoding = { λ v. ⟦<RecipientInfoAlternatives<'a> as Encode>⟧.encoding
         (⟦<RecipientInfo<'a> as FromFields<RecipientInfoAlternatives<'a>>>⟧.fields v) };

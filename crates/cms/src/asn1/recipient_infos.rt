@@ -15,10 +15,11 @@ use der::{
 use der_asn1::{BorrowedItem, DecodeItem, Described, Item, Nestable, SetOf, WrittenItem};
 use std::alloc::Global;
 
-/// Keys for recipients (RFC 5652, 6.1), in ascending order of their encodings.
+/// The encrypted key of a content, for each recipient (RFC 5652, 6.1), in ascending order of the
+/// encodings.
 #[derive(Clone, Copy, Debug, Drop, PartialEq, Eq)]
 pub struct RecipientInfos<'a> {
-    /// The list: a SET OF its items.
+    /// The items, as a SET OF.
     pub items: SetOf<'a, RecipientInfo<'a>>,
 }
 
@@ -71,7 +72,7 @@ impl<'a> Lawful for RecipientInfos<'a> {
     ghost lawful = { ⟦<RecipientInfos<'a> as Described>⟧.element.lawful refl };
 }
 
-/// Decodes the list, with the errors of [`SetOf`].
+/// Decodes the list. The errors are those of decoding a [`SetOf`].
 impl<'a, R: Lends<Borrowed = &'a [u8]>> DecodeValue<R> for RecipientInfos<'a> {
     type Error = Error;
 
@@ -93,7 +94,7 @@ impl<'a> IsValue for RecipientInfos<'a> {
     }
 }
 
-/// Writes the list, with the errors of [`SetOf`].
+/// Writes the list. The errors are those of writing a [`SetOf`].
 impl<'a> EncodeValue for RecipientInfos<'a> {
     ghost value_size = { λ v. ⟦<Items<'a> as EncodeValue>⟧.value_size v.items };
 

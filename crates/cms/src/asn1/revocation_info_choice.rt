@@ -18,16 +18,16 @@ use der_asn1::{
 use std::alloc::Global;
 use x509::CertificateList;
 
-/// Information on revoked certificates (RFC 5652, 10.2.1), borrowed from the input.
+/// Information about revoked certificates (RFC 5652, 10.2.1), borrowed from the input.
 #[derive(Clone, Copy, Debug, Drop, PartialEq, Eq)]
 pub enum RevocationInfoChoice<'a> {
-    /// A revocation list of RFC 5280.
+    /// A revocation list as in RFC 5280.
     Crl(CertificateList<'a>),
-    /// Information of another kind, as a response of OCSP.
+    /// Information of another kind, such as a response of OCSP.
     Other(Implicit<OtherRevocationInfoFormat<'a>, 1>),
 }
 
-/// The alternatives, as nested choices of two.
+/// The alternatives as one type: an [`Either`] of two, which may be [`Either`]s in turn.
 pub type RevocationInfoChoiceAlternatives<'a> = Either<
     CertificateList<'a>,
     Implicit<OtherRevocationInfoFormat<'a>, 1>,
@@ -54,7 +54,7 @@ impl<'a> DescribedChoice for RevocationInfoChoice<'a> {
         ⟦<RevocationInfoChoice<'a> as FromFields<RevocationInfoChoiceAlternatives<'a>>>⟧.fields };
 }
 
-/// Decodes the alternative whose tag is next, with the errors of [`Either`].
+/// Decodes the alternative with the next tag. The errors are those of decoding an [`Either`].
 impl<'a, R: Lends<Borrowed = &'a [u8]>> Decode<R> for RevocationInfoChoice<'a> {
     type Error = Error;
 
@@ -92,7 +92,7 @@ impl<'a, R: Lends<Borrowed = &'a [u8]>> DecodeChoice<R> for RevocationInfoChoice
     ghost begins = { ⟦<RevocationInfoChoice<'a> as DescribedChoice>⟧.alternative.begins };
 }
 
-/// Writes the alternative that the value has.
+/// Writes the alternative that the value has. The errors are those of writing it.
 impl<'a> Encode for RevocationInfoChoice<'a> {
     ghost encoding = { λ v. ⟦<RevocationInfoChoiceAlternatives<'a> as Encode>⟧.encoding
         (⟦<RevocationInfoChoice<'a> as FromFields<RevocationInfoChoiceAlternatives<'a>>>⟧.fields v) };

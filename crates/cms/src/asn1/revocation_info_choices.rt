@@ -15,10 +15,10 @@ use der::{
 use der_asn1::{BorrowedItem, DecodeItem, Described, Item, Nestable, SetOf, WrittenItem};
 use std::alloc::Global;
 
-/// Information on revoked certificates (RFC 5652, 10.2.1), in ascending order of its encodings.
+/// Information about revoked certificates (RFC 5652, 10.2.1), in ascending order of the encodings.
 #[derive(Clone, Copy, Debug, Drop, PartialEq, Eq)]
 pub struct RevocationInfoChoices<'a> {
-    /// The list: a SET OF its items.
+    /// The items, as a SET OF.
     pub items: SetOf<'a, RevocationInfoChoice<'a>>,
 }
 
@@ -71,7 +71,7 @@ impl<'a> Lawful for RevocationInfoChoices<'a> {
     ghost lawful = { ⟦<RevocationInfoChoices<'a> as Described>⟧.element.lawful refl };
 }
 
-/// Decodes the list, with the errors of [`SetOf`].
+/// Decodes the list. The errors are those of decoding a [`SetOf`].
 impl<'a, R: Lends<Borrowed = &'a [u8]>> DecodeValue<R> for RevocationInfoChoices<'a> {
     type Error = Error;
 
@@ -93,7 +93,7 @@ impl<'a> IsValue for RevocationInfoChoices<'a> {
     }
 }
 
-/// Writes the list, with the errors of [`SetOf`].
+/// Writes the list. The errors are those of writing a [`SetOf`].
 impl<'a> EncodeValue for RevocationInfoChoices<'a> {
     ghost value_size = { λ v. ⟦<Items<'a> as EncodeValue>⟧.value_size v.items };
 

@@ -23,24 +23,24 @@ use der_asn1::{
 use spki::AlgorithmIdentifierRef;
 use std::alloc::Global;
 
-/// A content with signatures (RFC 5652, 5.1), borrowed from the input.
+/// A content with signatures of it (RFC 5652, 5.1), borrowed from the input.
 #[derive(Clone, Copy, Debug, Drop, PartialEq, Eq)]
 pub struct SignedData<'a> {
     /// The version: 1, 3, 4 or 5. Decoding does not check this.
     pub version: CmsVersion<'a>,
     /// The digest algorithms of the signatures, in ascending order of their encodings.
     pub digest_algorithms: SetOf<'a, AlgorithmIdentifierRef<'a>>,
-    /// The content.
+    /// The content that is signed.
     pub encap_content_info: EncapsulatedContentInfo<'a>,
     /// Certificates that help to verify the signatures, if present.
     pub certificates: Optional<Implicit<CertificateSet<'a>, 0>>,
-    /// Information on revoked certificates, if present.
+    /// Information about revoked certificates, if present.
     pub crls: Optional<Implicit<RevocationInfoChoices<'a>, 1>>,
     /// The signatures, in ascending order of their encodings. There may be none.
     pub signer_infos: SetOf<'a, SignerInfo<'a>>,
 }
 
-/// The fields of a [`SignedData`], in the order in which they are encoded.
+/// The fields of [`SignedData`] as one type, in the order in which they are encoded.
 pub type SignedDataFields<'a> = (
     CmsVersion<'a>,
     SetOf<'a, AlgorithmIdentifierRef<'a>>,
@@ -87,7 +87,7 @@ impl<'a> Sequence for SignedData<'a> {
     ghost fits = { (refl, refl) };
 }
 
-/// Decodes the fields one after the other, with the errors of every [`Sequence`].
+/// Decodes the fields, first to last. The errors are those that [`Sequence`] lists.
 impl<'a, R: Lends<Borrowed = &'a [u8]>> DecodeValue<R> for SignedData<'a> {
     type Error = Error;
 
@@ -118,7 +118,7 @@ impl<'a> IsValue for SignedData<'a> {
     }
 }
 
-/// Writes the fields one after the other, with the errors of every [`Sequence`].
+/// Writes the fields, first to last. The errors are those that [`Sequence`] lists.
 impl<'a> HasFields for SignedData<'a> {
     ghost fields_size = { λ v. ⟦<SignedDataFields<'a> as Encode>⟧.size
         (⟦<SignedData<'a> as FromFields<SignedDataFields<'a>>>⟧.fields v) };

@@ -21,11 +21,11 @@ use std::alloc::Global;
 pub struct SignedMessage<'a> {
     /// The type of the content. That it is id-signedData is not checked.
     pub content_type: ContentType<'a>,
-    /// The content.
+    /// The SignedData.
     pub content: Explicit<SignedData<'a>, 0>,
 }
 
-/// The fields of a [`SignedMessage`], in the order in which they are encoded.
+/// The fields of [`SignedMessage`] as one type, in the order in which they are encoded.
 pub type SignedMessageFields<'a> = (ContentType<'a>, Explicit<SignedData<'a>, 0>);
 
 impl<'a> FromFields<SignedMessageFields<'a>> for SignedMessage<'a> {
@@ -49,7 +49,7 @@ impl<'a> Sequence for SignedMessage<'a> {
     ghost fits = { (refl, refl) };
 }
 
-/// Decodes the fields one after the other, with the errors of every [`Sequence`].
+/// Decodes the fields, first to last. The errors are those that [`Sequence`] lists.
 impl<'a, R: Lends<Borrowed = &'a [u8]>> DecodeValue<R> for SignedMessage<'a> {
     type Error = Error;
 
@@ -72,7 +72,7 @@ impl<'a> IsValue for SignedMessage<'a> {
     }
 }
 
-/// Writes the fields one after the other, with the errors of every [`Sequence`].
+/// Writes the fields, first to last. The errors are those that [`Sequence`] lists.
 impl<'a> HasFields for SignedMessage<'a> {
     ghost fields_size = { λ v. ⟦<SignedMessageFields<'a> as Encode>⟧.size
         (⟦<SignedMessage<'a> as FromFields<SignedMessageFields<'a>>>⟧.fields v) };

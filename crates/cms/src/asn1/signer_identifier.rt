@@ -21,13 +21,13 @@ use x509::SubjectKeyIdentifier;
 /// What identifies the certificate of a signer (RFC 5652, 5.3), borrowed from the input.
 #[derive(Clone, Copy, Debug, Drop, PartialEq, Eq)]
 pub enum SignerIdentifier<'a> {
-    /// issuerAndSerialNumber
+    /// The issuer and the serial number of the certificate.
     IssuerAndSerialNumber(IssuerAndSerialNumber<'a>),
-    /// subjectKeyIdentifier
+    /// The identifier of the certificate's public key.
     SubjectKeyIdentifier(Implicit<SubjectKeyIdentifier<'a>, 0>),
 }
 
-/// The alternatives, as nested choices of two.
+/// The alternatives as one type: an [`Either`] of two, which may be [`Either`]s in turn.
 pub type SignerIdentifierAlternatives<'a> = Either<
     IssuerAndSerialNumber<'a>,
     Implicit<SubjectKeyIdentifier<'a>, 0>,
@@ -54,7 +54,7 @@ impl<'a> DescribedChoice for SignerIdentifier<'a> {
         ⟦<SignerIdentifier<'a> as FromFields<SignerIdentifierAlternatives<'a>>>⟧.fields };
 }
 
-/// Decodes the alternative whose tag is next, with the errors of [`Either`].
+/// Decodes the alternative with the next tag. The errors are those of decoding an [`Either`].
 impl<'a, R: Lends<Borrowed = &'a [u8]>> Decode<R> for SignerIdentifier<'a> {
     type Error = Error;
 
@@ -90,7 +90,7 @@ impl<'a, R: Lends<Borrowed = &'a [u8]>> DecodeChoice<R> for SignerIdentifier<'a>
     ghost begins = { ⟦<SignerIdentifier<'a> as DescribedChoice>⟧.alternative.begins };
 }
 
-/// Writes the alternative that the value has.
+/// Writes the alternative that the value has. The errors are those of writing it.
 impl<'a> Encode for SignerIdentifier<'a> {
     ghost encoding = { λ v. ⟦<SignerIdentifierAlternatives<'a> as Encode>⟧.encoding
         (⟦<SignerIdentifier<'a> as FromFields<SignerIdentifierAlternatives<'a>>>⟧.fields v) };

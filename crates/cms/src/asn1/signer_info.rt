@@ -22,18 +22,18 @@ use spki::AlgorithmIdentifierRef;
 use std::alloc::Global;
 use x509::Attributes;
 
-/// A signature of one signer (RFC 5652, 5.3), borrowed from the input.
+/// The signature of one signer (RFC 5652, 5.3), borrowed from the input.
 #[derive(Clone, Copy, Debug, Drop, PartialEq, Eq)]
 pub struct SignerInfo<'a> {
     /// The version: 1 if the signer is named by issuer and serial number, or else 3. Decoding does
     /// not check this.
     pub version: CmsVersion<'a>,
-    /// Whose signature it is.
+    /// What identifies the certificate of the signer.
     pub sid: SignerIdentifier<'a>,
-    /// The algorithm of the digest.
+    /// The algorithm of the digest of the content.
     pub digest_algorithm: AlgorithmIdentifierRef<'a>,
-    /// The attributes that the signature covers, if present. Here they have the tag 0, and the
-    /// signature covers them with the tag of a SET OF.
+    /// The attributes that the signature covers, if present. They have the tag 0 here. In the
+    /// octets that the signature covers, they have the tag of a SET OF instead.
     pub signed_attrs: Optional<Implicit<Attributes<'a>, 0>>,
     /// The algorithm of the signature.
     pub signature_algorithm: AlgorithmIdentifierRef<'a>,
@@ -43,7 +43,7 @@ pub struct SignerInfo<'a> {
     pub unsigned_attrs: Optional<Implicit<Attributes<'a>, 1>>,
 }
 
-/// The fields of a [`SignerInfo`], in the order in which they are encoded.
+/// The fields of [`SignerInfo`] as one type, in the order in which they are encoded.
 pub type SignerInfoFields<'a> = (
     CmsVersion<'a>,
     SignerIdentifier<'a>,
@@ -101,7 +101,7 @@ impl<'a> Sequence for SignerInfo<'a> {
     ghost fits = { (refl, refl) };
 }
 
-/// Decodes the fields one after the other, with the errors of every [`Sequence`].
+/// Decodes the fields, first to last. The errors are those that [`Sequence`] lists.
 impl<'a, R: Lends<Borrowed = &'a [u8]>> DecodeValue<R> for SignerInfo<'a> {
     type Error = Error;
 
@@ -136,7 +136,7 @@ impl<'a> IsValue for SignerInfo<'a> {
     }
 }
 
-/// Writes the fields one after the other, with the errors of every [`Sequence`].
+/// Writes the fields, first to last. The errors are those that [`Sequence`] lists.
 impl<'a> HasFields for SignerInfo<'a> {
     ghost fields_size = { λ v. ⟦<SignerInfoFields<'a> as Encode>⟧.size
         (⟦<SignerInfo<'a> as FromFields<SignerInfoFields<'a>>>⟧.fields v) };

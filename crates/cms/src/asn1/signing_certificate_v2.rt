@@ -18,18 +18,18 @@ use der_asn1::{
 use std::alloc::Global;
 use x509::PolicyInformation;
 
-/// With which certificate a signature is to be verified, by hashes of any algorithm (RFC 5035, 3),
-/// borrowed from the input: the value of an attribute.
+/// The certificate with which a signature is to be verified, identified by hashes of any algorithm
+/// (RFC 5035, 3): the value of an attribute, borrowed from the input.
 #[derive(Clone, Copy, Debug, Drop, PartialEq, Eq)]
 pub struct SigningCertificateV2<'a> {
-    /// Identifies by its hash the certificate of the signer, then others that may be used with it.
-    /// An empty list is not refused.
+    /// What identifies the certificate of the signer, and then what identifies each other
+    /// certificate that may be used to verify the signature. Decoding accepts an empty list.
     pub certs: SequenceOf<'a, EssCertIdV2<'a>>,
-    /// The policies that are to be used, if they are limited.
+    /// The certificate policies that may be used; if absent, there is no limit.
     pub policies: Optional<SequenceOf<'a, PolicyInformation<'a>>>,
 }
 
-/// The fields of a [`SigningCertificateV2`], in the order in which they are encoded.
+/// The fields of [`SigningCertificateV2`] as one type, in the order in which they are encoded.
 pub type SigningCertificateV2Fields<'a> = (
     SequenceOf<'a, EssCertIdV2<'a>>,
     Optional<SequenceOf<'a, PolicyInformation<'a>>>,
@@ -53,7 +53,7 @@ impl<'a> Sequence for SigningCertificateV2<'a> {
     ghost fits = { (refl, refl) };
 }
 
-/// Decodes the fields one after the other, with the errors of every [`Sequence`].
+/// Decodes the fields, first to last. The errors are those that [`Sequence`] lists.
 impl<'a, R: Lends<Borrowed = &'a [u8]>> DecodeValue<R> for SigningCertificateV2<'a> {
     type Error = Error;
 
@@ -78,7 +78,7 @@ impl<'a> IsValue for SigningCertificateV2<'a> {
     }
 }
 
-/// Writes the fields one after the other, with the errors of every [`Sequence`].
+/// Writes the fields, first to last. The errors are those that [`Sequence`] lists.
 impl<'a> HasFields for SigningCertificateV2<'a> {
     ghost fields_size = { λ v. ⟦<SigningCertificateV2Fields<'a> as Encode>⟧.size
         (⟦<SigningCertificateV2<'a> as FromFields<SigningCertificateV2Fields<'a>>>⟧.fields v) };

@@ -26,19 +26,19 @@ use x509::Extensions;
 pub struct TimeStampReq<'a> {
     /// The version, which is 1. Decoding does not check this.
     pub version: IntRef<'a>,
-    /// The digest of the octets that get the timestamp.
+    /// The digest of the octets that are to be timestamped.
     pub message_imprint: MessageImprint<'a>,
     /// The policy that the timestamp should have, if present.
     pub req_policy: Optional<TsaPolicyId<'a>>,
-    /// A number that connects the response with the request, if present.
+    /// A number that the response repeats, if present.
     pub nonce: Optional<IntRef<'a>>,
-    /// Whether the response should have the certificate of the authority. The default is false.
+    /// Whether the response must include the certificate of the authority. The default is false.
     pub cert_req: Defaulted<BooleanRef<'a>>,
-    /// The extensions, if present.
+    /// The extensions of the request, if present.
     pub extensions: Optional<Implicit<Extensions<'a>, 0>>,
 }
 
-/// The fields of a [`TimeStampReq`], in the order in which they are encoded.
+/// The fields of [`TimeStampReq`] as one type, in the order in which they are encoded.
 pub type TimeStampReqFields<'a> = (
     IntRef<'a>,
     MessageImprint<'a>,
@@ -84,7 +84,7 @@ impl<'a> Sequence for TimeStampReq<'a> {
     ghost fits = { (refl, refl) };
 }
 
-/// Decodes the fields one after the other, with the errors of every [`Sequence`].
+/// Decodes the fields, first to last. The errors are those that [`Sequence`] lists.
 impl<'a, R: Lends<Borrowed = &'a [u8]>> DecodeValue<R> for TimeStampReq<'a> {
     type Error = Error;
 
@@ -117,7 +117,7 @@ impl<'a> IsValue for TimeStampReq<'a> {
     }
 }
 
-/// Writes the fields one after the other, with the errors of every [`Sequence`].
+/// Writes the fields, first to last. The errors are those that [`Sequence`] lists.
 impl<'a> HasFields for TimeStampReq<'a> {
     ghost fields_size = { λ v. ⟦<TimeStampReqFields<'a> as Encode>⟧.size
         (⟦<TimeStampReq<'a> as FromFields<TimeStampReqFields<'a>>>⟧.fields v) };

@@ -26,7 +26,7 @@ pub struct TimeStampResp<'a> {
     pub time_stamp_token: Optional<TimeStampToken<'a>>,
 }
 
-/// The fields of a [`TimeStampResp`], in the order in which they are encoded.
+/// The fields of [`TimeStampResp`] as one type, in the order in which they are encoded.
 pub type TimeStampRespFields<'a> = (PkiStatusInfo<'a>, Optional<TimeStampToken<'a>>);
 
 impl<'a> FromFields<TimeStampRespFields<'a>> for TimeStampResp<'a> {
@@ -50,7 +50,7 @@ impl<'a> Sequence for TimeStampResp<'a> {
     ghost fits = { (refl, refl) };
 }
 
-/// Decodes the fields one after the other, with the errors of every [`Sequence`].
+/// Decodes the fields, first to last. The errors are those that [`Sequence`] lists.
 impl<'a, R: Lends<Borrowed = &'a [u8]>> DecodeValue<R> for TimeStampResp<'a> {
     type Error = Error;
 
@@ -75,7 +75,7 @@ impl<'a> IsValue for TimeStampResp<'a> {
     }
 }
 
-/// Writes the fields one after the other, with the errors of every [`Sequence`].
+/// Writes the fields, first to last. The errors are those that [`Sequence`] lists.
 impl<'a> HasFields for TimeStampResp<'a> {
     ghost fields_size = { λ v. ⟦<TimeStampRespFields<'a> as Encode>⟧.size
         (⟦<TimeStampResp<'a> as FromFields<TimeStampRespFields<'a>>>⟧.fields v) };

@@ -24,33 +24,33 @@ use der_asn1::{
 use std::alloc::Global;
 use x509::Extensions;
 
-/// What a timestamp says (RFC 3161, 2.4.2), borrowed from the input.
+/// The content of a timestamp (RFC 3161, 2.4.2), borrowed from the input.
 #[derive(Clone, Copy, Debug, Drop, PartialEq, Eq)]
 pub struct TstInfo<'a> {
     /// The version, which is 1. Decoding does not check this.
     pub version: IntRef<'a>,
-    /// The policy of the timestamp.
+    /// The policy under which the timestamp was made.
     pub policy: TsaPolicyId<'a>,
-    /// The digest of the octets that have the timestamp.
+    /// The digest of the octets that are timestamped.
     pub message_imprint: MessageImprint<'a>,
     /// The serial number of the timestamp.
     pub serial_number: IntRef<'a>,
     /// When the timestamp was made. It may have a fraction of a second.
     pub gen_time: FractionalTimeRef<'a>,
-    /// How exact the time is, if present.
+    /// How far the time may be off, if present.
     pub accuracy: Optional<Accuracy<'a>>,
-    /// Whether the order of all timestamps of the authority is that of their times. The default is
+    /// Whether all timestamps of the authority can be ordered by their times alone. The default is
     /// false.
     pub ordering: Defaulted<BooleanRef<'a>>,
-    /// The number of the request, if it has one.
+    /// The nonce of the request, if it has one.
     pub nonce: Optional<IntRef<'a>>,
     /// The name of the authority, if present.
     pub tsa: Optional<Implicit<GeneralNameTagged<'a>, 0>>,
-    /// The extensions, if present.
+    /// The extensions of the timestamp, if present.
     pub extensions: Optional<Implicit<Extensions<'a>, 1>>,
 }
 
-/// The fields of a [`TstInfo`], in the order in which they are encoded.
+/// The fields of [`TstInfo`] as one type, in the order in which they are encoded.
 pub type TstInfoFields<'a> = (
     IntRef<'a>,
     TsaPolicyId<'a>,
@@ -123,7 +123,7 @@ impl<'a> Sequence for TstInfo<'a> {
     ghost fits = { (refl, refl) };
 }
 
-/// Decodes the fields one after the other, with the errors of every [`Sequence`].
+/// Decodes the fields, first to last. The errors are those that [`Sequence`] lists.
 impl<'a, R: Lends<Borrowed = &'a [u8]>> DecodeValue<R> for TstInfo<'a> {
     type Error = Error;
 
@@ -162,7 +162,7 @@ impl<'a> IsValue for TstInfo<'a> {
     }
 }
 
-/// Writes the fields one after the other, with the errors of every [`Sequence`].
+/// Writes the fields, first to last. The errors are those that [`Sequence`] lists.
 impl<'a> HasFields for TstInfo<'a> {
     ghost fields_size = { λ v. ⟦<TstInfoFields<'a> as Encode>⟧.size
         (⟦<TstInfo<'a> as FromFields<TstInfoFields<'a>>>⟧.fields v) };

@@ -16,7 +16,7 @@ pub fn pkcs() -> ObjectIdentifierRef<'static>
     value
 }
 
-/// Content that is octets of any kind, in an OCTET STRING (RFC 5652, 4).
+/// The type of a content that is octets of any kind, in an OCTET STRING (RFC 5652, 4).
 pub fn id_data() -> ObjectIdentifierRef<'static>
     ensures { result.octets.now ≡ oid_octets (1 ∷ 2 ∷ 840 ∷ 113549 ∷ 1 ∷ 7 ∷ 1 ∷ []) }
 {
@@ -28,7 +28,7 @@ pub fn id_data() -> ObjectIdentifierRef<'static>
     value
 }
 
-/// Content that is a SignedData (RFC 5652, 5.1).
+/// The type of a content that is a SignedData (RFC 5652, 5.1).
 pub fn id_signed_data() -> ObjectIdentifierRef<'static>
     ensures { result.octets.now ≡ oid_octets (1 ∷ 2 ∷ 840 ∷ 113549 ∷ 1 ∷ 7 ∷ 2 ∷ []) }
 {
@@ -40,7 +40,7 @@ pub fn id_signed_data() -> ObjectIdentifierRef<'static>
     value
 }
 
-/// Content that is an EnvelopedData (RFC 5652, 6.1).
+/// The type of a content that is an EnvelopedData (RFC 5652, 6.1).
 pub fn id_enveloped_data() -> ObjectIdentifierRef<'static>
     ensures { result.octets.now ≡ oid_octets (1 ∷ 2 ∷ 840 ∷ 113549 ∷ 1 ∷ 7 ∷ 3 ∷ []) }
 {
@@ -52,7 +52,7 @@ pub fn id_enveloped_data() -> ObjectIdentifierRef<'static>
     value
 }
 
-/// Content that is a DigestedData (RFC 5652, 7).
+/// The type of a content that is a DigestedData (RFC 5652, 7).
 pub fn id_digested_data() -> ObjectIdentifierRef<'static>
     ensures { result.octets.now ≡ oid_octets (1 ∷ 2 ∷ 840 ∷ 113549 ∷ 1 ∷ 7 ∷ 5 ∷ []) }
 {
@@ -64,7 +64,7 @@ pub fn id_digested_data() -> ObjectIdentifierRef<'static>
     value
 }
 
-/// Content that is an EncryptedData (RFC 5652, 8).
+/// The type of a content that is an EncryptedData (RFC 5652, 8).
 pub fn id_encrypted_data() -> ObjectIdentifierRef<'static>
     ensures { result.octets.now ≡ oid_octets (1 ∷ 2 ∷ 840 ∷ 113549 ∷ 1 ∷ 7 ∷ 6 ∷ []) }
 {
@@ -136,7 +136,7 @@ pub fn id_smime() -> ObjectIdentifierRef<'static>
     value
 }
 
-/// Content that is an AuthenticatedData (RFC 5652, 9.1).
+/// The type of a content that is an AuthenticatedData (RFC 5652, 9.1).
 pub fn id_ct_auth_data() -> ObjectIdentifierRef<'static>
     ensures { result.octets.now ≡ oid_octets (1 ∷ 2 ∷ 840 ∷ 113549 ∷ 1 ∷ 9 ∷ 16 ∷ 1 ∷ 2 ∷ []) }
 {
@@ -148,7 +148,7 @@ pub fn id_ct_auth_data() -> ObjectIdentifierRef<'static>
     value
 }
 
-/// Content that is a TSTInfo (RFC 3161, 2.4.2).
+/// The type of a content that is a TSTInfo (RFC 3161, 2.4.2).
 pub fn id_ct_tst_info() -> ObjectIdentifierRef<'static>
     ensures { result.octets.now ≡ oid_octets (1 ∷ 2 ∷ 840 ∷ 113549 ∷ 1 ∷ 9 ∷ 16 ∷ 1 ∷ 4 ∷ []) }
 {
@@ -160,7 +160,7 @@ pub fn id_ct_tst_info() -> ObjectIdentifierRef<'static>
     value
 }
 
-/// Content that is a ContentInfo (RFC 5652, 3).
+/// The type of a content that is a ContentInfo (RFC 5652, 3).
 pub fn id_ct_content_info() -> ObjectIdentifierRef<'static>
     ensures { result.octets.now ≡ oid_octets (1 ∷ 2 ∷ 840 ∷ 113549 ∷ 1 ∷ 9 ∷ 16 ∷ 1 ∷ 6 ∷ []) }
 {
@@ -172,7 +172,7 @@ pub fn id_ct_content_info() -> ObjectIdentifierRef<'static>
     value
 }
 
-/// Content that is a CompressedData (RFC 3274).
+/// The type of a content that is a CompressedData (RFC 3274).
 pub fn id_ct_compressed_data() -> ObjectIdentifierRef<'static>
     ensures { result.octets.now ≡ oid_octets (1 ∷ 2 ∷ 840 ∷ 113549 ∷ 1 ∷ 9 ∷ 16 ∷ 1 ∷ 9 ∷ []) }
 {
@@ -184,7 +184,7 @@ pub fn id_ct_compressed_data() -> ObjectIdentifierRef<'static>
     value
 }
 
-/// Content that is an AuthEnvelopedData (RFC 5083, 2.1).
+/// The type of a content that is an AuthEnvelopedData (RFC 5083, 2.1).
 pub fn id_ct_auth_enveloped_data() -> ObjectIdentifierRef<'static>
     ensures { result.octets.now ≡ oid_octets (1 ∷ 2 ∷ 840 ∷ 113549 ∷ 1 ∷ 9 ∷ 16 ∷ 1 ∷ 23 ∷ []) }
 {
@@ -244,8 +244,8 @@ pub fn id_alg_zlib_compress() -> ObjectIdentifierRef<'static>
     value
 }
 
-/// Encryption of a key with a key from a password (RFC 3211, 2.3). The parameters are the algorithm
-/// of the encryption.
+/// Encryption of a key with another key, which is derived from a password (RFC 3211, 2.3). The
+/// parameters are the algorithm of this encryption.
 pub fn id_alg_pwri_kek() -> ObjectIdentifierRef<'static>
     ensures { result.octets.now ≡ oid_octets (1 ∷ 2 ∷ 840 ∷ 113549 ∷ 1 ∷ 9 ∷ 16 ∷ 3 ∷ 9 ∷ []) }
 {
@@ -257,7 +257,7 @@ pub fn id_alg_pwri_kek() -> ObjectIdentifierRef<'static>
     value
 }
 
-/// SHA-256 (RFC 5754, 2.2).
+/// The hash algorithm SHA-256 (RFC 5754, 2.2).
 pub fn id_sha256() -> ObjectIdentifierRef<'static>
     ensures { result.octets.now ≡ oid_octets (2 ∷ 16 ∷ 840 ∷ 1 ∷ 101 ∷ 3 ∷ 4 ∷ 2 ∷ 1 ∷ []) }
 {
@@ -269,7 +269,8 @@ pub fn id_sha256() -> ObjectIdentifierRef<'static>
     value
 }
 
-/// The name that the module has for an OBJECT IDENTIFIER; the first one if it has several.
+/// The name of an OBJECT IDENTIFIER in the ASN.1 module, or the first of several; `None` if it
+/// has no name there.
 pub fn name_of(oid: &ObjectIdentifierRef<'_>) -> Option<&'static str> {
     match oid.octets() {
         [0x2A, 0x86, 0x48, 0x86, 0xF7, 0x0D, 0x01] => Some("pkcs"),

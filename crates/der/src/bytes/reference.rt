@@ -69,8 +69,8 @@ impl<'a> BytesRef<'a> {
     /// # Errors
     ///
     /// - `Incomplete`, as by [`Error::incomplete`], if the byte string has fewer octets than
-    ///   `length`. The position and `actual_len` are the number of octets of the byte string.
-    ///   `expected_len` is `actual_len` plus one, not `length`.
+    ///   `length`. The position of the error and its `actual_len` are both the number of octets of
+    ///   the byte string. Its `expected_len` is one more than `actual_len`, not `length`.
     pub fn prefix(&self, length: Length) -> Result<Self, Error>
         ensures exact { map_ok (λ b. b.bytes.now) result
             ≡ prefix_of (number length) self.now.bytes.now }

@@ -8,16 +8,16 @@ use crate::bytes::BytesRef;
 use crate::string::StringRef;
 use std::alloc::AllocError;
 
-/// Calls `Clone::clone`; the contract states that cloning succeeds and that the clone has the
-/// octets of `bytes`.
+/// Calls `Clone::clone`. The contract of this function states that cloning succeeds and that the
+/// clone has the octets of `bytes`.
 fn bytes_ref_clone<'a>(bytes: &BytesRef<'a>) -> Result<BytesRef<'a>, AllocError>
     ensures { map_ok reference_octets result ≡ Ok (reference_octets bytes.now) }
 {
     bytes.clone()
 }
 
-/// Calls `Clone::clone`; the contract states that cloning succeeds and that the clone has the text
-/// of `text`.
+/// Calls `Clone::clone`. The contract of this function states that cloning succeeds and that the
+/// clone has the text of `text`.
 fn string_ref_clone<'a>(text: &StringRef<'a>) -> Result<StringRef<'a>, AllocError>
     ensures { map_ok reference_text result ≡ Ok (reference_text text.now) }
 {

@@ -1,4 +1,4 @@
-//! An OCTET STRING that may be in segments.
+//! An OCTET STRING whose encoding may be constructed: its contents are then segments (X.690 8.7.3).
 ghost use Rattle.std.specs.Prelude.{true};
 ghost use Rattle.der_base.specs.declared.tag.Tag.TheVariants.{OctetString};
 ghost use Rattle.std.proofs.Common.{refl};
@@ -15,8 +15,9 @@ use der_core::{
 use std::alloc::Global;
 use std::cmp::Ordering;
 
-/// An OCTET STRING that owns its octets. If its encoding is constructed, the contents are segments,
-/// and decoding joins them. The octets are always written as a primitive encoding.
+/// An OCTET STRING that owns its octets. Decoding also accepts a constructed encoding under the
+/// Basic Encoding Rules, and joins its segments (X.690 8.7.3). The octets are always written as a
+/// primitive encoding.
 #[derive(Debug, Drop)]
 pub struct JoinedOctets {
     /// The contents octets, with all segments joined.

@@ -19,8 +19,8 @@ use std::alloc::Global;
 /// into a new vector. The segments are elements with the tag `inner_tag`, one after the other. A
 /// primitive segment contributes its contents. Under the Basic Encoding Rules, a segment may also
 /// be constructed, of definite or indefinite length. A constructed segment contributes the joined
-/// segments inside it. Each constructed segment is entered as a nested part, and at most 64 parts
-/// may be nested.
+/// segments inside it. Its contents are entered by [`Reader::enter_nested`], which limits the
+/// nesting depth of the reader to 64.
 ///
 /// `length` is the length of the element that contains the segments. Memory for `length` octets is
 /// allocated before the first segment is read. `length` does not limit what is read. If `length` is
@@ -49,8 +49,8 @@ use std::alloc::Global;
 /// - `OutOfMemory` without a position, if the allocation of a primitive segment's octets fails; the
 ///   reader is after the segment's header and has not failed.
 ///
-/// If an error occurs inside a constructed segment, the reader's position is as stated above for
-/// that error. The reader's end and depth are again those from before that segment was entered.
+/// After an error inside a constructed segment, the position of the reader is as stated for that
+/// error. The end and the depth of the reader are those from before the call.
 pub fn read_constructed_vec<R: Reader>(
     alloc: Global,
     reader: &mut R,
@@ -116,14 +116,17 @@ fn append_segments<R: Reader>(
     Ok(())
 }
 
-/// Reads the header of the next segment of a constructed string (X.690 8.7.3). Its tag must be
-/// `inner_tag`. Under DER a segment must not be constructed.
+/// Reads the header of the next segment of a constructed string (X.690 8.7.3). The tag of the
+/// segment must be `inner_tag`. Under the Distinguished Encoding Rules, the segment must be
+/// primitive.
 ///
 /// # Errors
 ///
 /// - The errors of [`decode_header`].
-/// - `TagUnexpected`, with `inner_tag` as the expected tag, if the header has another tag.
-/// - `Noncanonical`, one octet before the reader's position, if the segment is constructed under DER.
+/// - `TagUnexpected` without a position, with `inner_tag` as the expected tag, if the segment has
+///   another tag; the reader is after the header.
+/// - Under the Distinguished Encoding Rules, `Noncanonical` with the tag of the segment, at the
+///   last octet of its header, if the segment is constructed; the reader is after the header.
 pub fn segment_header<R: Reader>(reader: &mut R, inner_tag: Tag) -> Result<Header, Error>
     ensures same { Same (R.state reader.old) (R.state reader.new) }
     ensures ok { IfOk result (λ h. PassesSegmentHeader inner_tag h (R.state reader.old)

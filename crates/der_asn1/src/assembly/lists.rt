@@ -14,16 +14,18 @@ use crate::lists::set_of::SetOf;
 use der::{Error, SliceReader};
 use std::alloc::Global;
 
-/// The SEQUENCE OF these items, in this order. Their encodings are written to the start of
-/// `buffer`, from which the list is borrowed. Nothing is allocated.
+/// Returns the SEQUENCE OF with the items `items`, in this order. The encodings of the items are
+/// written to the start of `buffer`, from which the list is borrowed. Nothing is allocated.
 ///
 /// # Errors
 ///
-/// After an error the contents of the buffer are unspecified.
+/// After an error the contents of the buffer are unspecified. Positions count from the start of the
+/// buffer.
 ///
-/// - The errors of writing an item, as by [`Encode::encode`](der::Encode::encode), with positions
-///   counted from the start of the buffer: `Overlength` if the buffer is too short.
-/// - The errors of [`SequenceOf::new`], if what an item was written as is not read as an item.
+/// - The errors of [`Encode::encode`](der::Encode::encode) for an item. One of them is
+///   `Overlength`, if the buffer is too short.
+/// - The errors of [`SequenceOf::new`], if the octets written for an item are not a valid encoding
+///   of an item.
 pub fn sequence_of<'b, T: WrittenItem + DecodeItem<SliceReader<'b>, Error = Error>>(
     alloc: Global,
     items: &[T],
@@ -41,19 +43,21 @@ pub fn sequence_of<'b, T: WrittenItem + DecodeItem<SliceReader<'b>, Error = Erro
     SequenceOf::new(alloc, octets)
 }
 
-/// The SET OF these items, which must be in ascending order of their encodings (X.690 11.6). Their
-/// encodings are written to the start of `buffer`, from which the set is borrowed. Nothing is
-/// allocated.
+/// Returns the SET OF with the items `items`, which must be in ascending order of their encodings
+/// (X.690 11.6). This function does not sort the items. The encodings of the items are written to
+/// the start of `buffer`, from which the set is borrowed. Nothing is allocated.
 ///
 /// # Errors
 ///
-/// After an error the contents of the buffer are unspecified.
+/// After an error the contents of the buffer are unspecified. Positions count from the start of the
+/// buffer.
 ///
-/// - The errors of writing an item, as by [`Encode::encode`](der::Encode::encode), with positions
-///   counted from the start of the buffer: `Overlength` if the buffer is too short.
-/// - `SetOrdering` at the start of the first item whose encoding is less than that of the item
-///   before it.
-/// - The errors of [`SetOf::new`], if what an item was written as is not read as an item.
+/// - The errors of [`Encode::encode`](der::Encode::encode) for an item. One of them is
+///   `Overlength`, if the buffer is too short.
+/// - `SetOrdering` at the start of the first item whose encoding is less than the encoding of the
+///   item before it.
+/// - The errors of [`SetOf::new`], if the octets written for an item are not a valid encoding of an
+///   item.
 pub fn set_of<'b, T: WrittenItem + DecodeItem<SliceReader<'b>, Error = Error>>(
     alloc: Global,
     items: &[T],

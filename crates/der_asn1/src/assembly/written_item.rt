@@ -1,4 +1,4 @@
-//! Items that are written as they are read.
+//! Items of lists for which writing and reading agree.
 ghost use Rattle.std.specs.Prelude.{◌≡◌};
 ghost use Rattle.std.proofs.Common.{refl};
 
@@ -14,10 +14,11 @@ use crate::times::time_format::TimeFormat;
 use crate::times::time_of::TimeOf;
 use der::Encode;
 
-/// Items whose encodings, as [`Encode`] writes them, are the items of a list.
+/// Types of list items for which writing and reading agree: a list reads an item from the same
+/// octets that [`Encode`] writes for the item. Each valid item can be written.
 ///
-/// Ghost members (for proofs only): `written` proves that an item is written as it is read, and
-/// `writes_valid` that each valid item can be written.
+/// Ghost members (for proofs only): `written` proves that the octets agree. `writes_valid` proves
+/// that each valid item can be written.
 pub trait WrittenItem: BorrowedItem + Encode {
     // An item is written as it is read.
     ghost written: { (v : Self) → Self.encoding v ≡ Self.item.octets v };

@@ -54,7 +54,7 @@ impl<'a, F: ContentsGrammar> Checked<'a, F> {
     }
 
     /// Wraps octets that are known to be valid contents, such as a constant. The caller must ensure
-    /// that they are.
+    /// that the octets are valid contents.
     #[inline(always)]
     pub fn formed(octets: &'a [u8]) -> Self
         requires { F.grammar octets.now ≡ true }
@@ -107,9 +107,9 @@ impl<'a, F: ContentsGrammar> ReadValue for Checked<'a, F> {
 ///
 /// # Errors
 ///
-/// - The errors of reading the contents, as by [`Reader::read_slice`].
+/// - The errors of [`Reader::read_slice`], which reads the contents.
 /// - `Value` with the tag of the type, at the position after the contents, if the contents are not
-///   valid; the reader has failed then.
+///   valid. The reader has failed then.
 impl<'a, F: ContentsGrammar, R: Lends<Borrowed = &'a [u8]>> DecodeValue<R> for Checked<'a, F> {
     type Error = Error;
 

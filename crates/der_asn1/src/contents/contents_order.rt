@@ -1,4 +1,4 @@
-//! Orders of values by their contents.
+//! Comparison of values by their contents octets, in lexicographic order.
 ghost use Rattle.std.specs.Prelude.{◌≡◌};
 ghost use Rattle.std.proofs.Common.{refl};
 ghost use Rattle.der.specs.OctetsOrder.{octets_order};

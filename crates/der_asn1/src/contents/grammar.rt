@@ -1,4 +1,4 @@
-//! Types given by a check of their contents.
+//! ASN.1 types that are described by their tag and by a check of their contents octets.
 ghost use Rattle.std.specs.Prelude.{◌≡◌, ℕ, ◌^◌, ◌<◌, Bool, List};
 ghost use Rattle.der.specs.Prelude.{Tag as ATag};
 ghost use Rattle.der.specs.Tag.{label};

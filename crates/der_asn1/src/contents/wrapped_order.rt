@@ -1,4 +1,4 @@
-//! Orders of values inside other values.
+//! Comparison of values that are wrapped in a tag (such as [`Explicit`]) or in [`WithDefault`].
 ghost use Rattle.std.specs.Prelude.{◌≡◌};
 ghost use Rattle.std.proofs.Common.{refl};
 ghost use Rattle.der.specs.DerOrd.{element_order};
@@ -17,7 +17,7 @@ use std::cmp::Ordering;
 ///
 /// # Errors
 ///
-/// Those of the wrapped values' [`ValueOrd::value_cmp`].
+/// The errors of [`ValueOrd::value_cmp`] for the wrapped values.
 impl<T: ValueOrd, const N: u32> ValueOrd for Implicit<T, N> {
     ghost value_order = { λ v w. T.value_order v.0 w.0 };
 
@@ -35,7 +35,7 @@ impl<T: Orderly + FixedTag, const N: u32> Orderly for Implicit<T, N> {
 ///
 /// # Errors
 ///
-/// Those of the wrapped values' [`ValueOrd::value_cmp`].
+/// The errors of [`ValueOrd::value_cmp`] for the wrapped values.
 impl<T: ValueOrd, const PRIVATE: bool> ValueOrd for InClass<T, PRIVATE> {
     ghost value_order = { λ v w. T.value_order v.0 w.0 };
 
@@ -50,11 +50,11 @@ impl<T: Orderly + FixedTag, const PRIVATE: bool> Orderly for InClass<T, PRIVATE>
     ghost orderly = { λ v w _ as_long. T.orderly v.0 w.0 refl as_long };
 }
 
-/// Compares the contents of the values.
+/// Compares the contents of the two wrapped values of type `T`. The default `D` has no effect.
 ///
 /// # Errors
 ///
-/// Those of the values' [`ValueOrd::value_cmp`].
+/// The errors of [`ValueOrd::value_cmp`] for the wrapped values.
 impl<T: ValueOrd + Copy, D> ValueOrd for WithDefault<T, D> {
     ghost value_order = { λ v w. T.value_order v.value w.value };
 
@@ -64,12 +64,12 @@ impl<T: ValueOrd + Copy, D> ValueOrd for WithDefault<T, D> {
     }
 }
 
-/// Compares the elements inside the outer elements.
+/// Compares the inner elements, which are the elements of the wrapped values of type `T`.
 ///
 /// # Errors
 ///
-/// Those of the wrapped values' [`DerOrd::der_cmp`]: an inner element whose length cannot be
-/// computed has no order. So this type is not [`Orderly`].
+/// The errors of [`DerOrd::der_cmp`] for the wrapped values. The comparison fails if the length of
+/// an inner element cannot be computed, so this type is not [`Orderly`].
 impl<T: DerOrd, const N: u32> ValueOrd for Explicit<T, N> {
     ghost value_order = { λ v w. T.order v.0 w.0 };
 
@@ -79,11 +79,11 @@ impl<T: DerOrd, const N: u32> ValueOrd for Explicit<T, N> {
     }
 }
 
-/// Compares the elements inside the outer elements.
+/// Compares the two inner elements.
 ///
 /// # Errors
 ///
-/// Those of [`DerOrd::der_cmp`] of the inner elements.
+/// The errors of [`DerOrd::der_cmp`] for the inner elements.
 impl<'a, const N: u32> ValueOrd for ExplicitAny<'a, N> {
     ghost value_order = { λ v w. element_order v.0.tag w.0.tag (any_size v.0) (any_size w.0)
         (octets_order any_contents v.0 w.0) };

@@ -1,4 +1,5 @@
-//! Values inside other values as text, for engineers.
+//! Wrapped values as text, for engineers: values with a tag, OPTIONAL and DEFAULT fields, and the
+//! alternatives of a CHOICE.
 ghost use Rattle.std.specs.Fmt.{debug_option, debug_variant};
 ghost use Rattle.std.specs.Prelude.{Some, true};
 ghost use Rattle.der.specs.Text.{tag_text};
@@ -19,7 +20,7 @@ use crate::fields::optional::Optional;
 use der::FixedTag;
 use std::fmt;
 
-/// Prints the tag as its `Display` does, then the value in parentheses, such as
+/// Prints the tag as its `Display` does, then the wrapped value in parentheses, such as
 /// `CONTEXT-SPECIFIC [0] (constructed)(INTEGER(2A))`.
 impl<T: fmt::Debug, const N: u32> fmt::Debug for Explicit<T, N> {
     ghost debug_output = { λ v. debug_variant (tag_text (context_tag true N))
@@ -31,8 +32,8 @@ impl<T: fmt::Debug, const N: u32> fmt::Debug for Explicit<T, N> {
     }
 }
 
-/// Prints the tag as its `Display` does, then the element in parentheses, such as
-/// `CONTEXT-SPECIFIC [0] (constructed)(INTEGER(2A))`.
+/// Prints the tag of the outer element as its `Display` does, then the inner element in
+/// parentheses, such as `CONTEXT-SPECIFIC [0] (constructed)(INTEGER(2A))`.
 impl<'a, const N: u32> fmt::Debug for ExplicitAny<'a, N> {
     ghost debug_output = { λ v. debug_variant (tag_text (context_tag true N))
         (Some (value_text v.0.tag (any_contents v.0))) };
@@ -43,8 +44,9 @@ impl<'a, const N: u32> fmt::Debug for ExplicitAny<'a, N> {
     }
 }
 
-/// Prints the tag as its `Display` does, then the value in parentheses, with the name of its own
-/// type, such as `CONTEXT-SPECIFIC [0] (primitive)(INTEGER(2A))`.
+/// Prints the IMPLICIT tag as its `Display` does, then the wrapped value in parentheses. The
+/// wrapped value is printed with the name of its own type, such as `CONTEXT-SPECIFIC [0]
+/// (primitive)(INTEGER(2A))`.
 impl<T: fmt::Debug + FixedTag, const N: u32> fmt::Debug for Implicit<T, N> {
     ghost debug_output = { λ v. debug_variant
         (tag_text (context_tag (label T.tag_is).constructed N)) (T.debug_output v.0) };
@@ -55,8 +57,9 @@ impl<T: fmt::Debug + FixedTag, const N: u32> fmt::Debug for Implicit<T, N> {
     }
 }
 
-/// Prints the tag as its `Display` does, then the value in parentheses, with the name of its own
-/// type, such as `APPLICATION [2] (primitive)(INTEGER(2A))`.
+/// Prints the tag with the changed class as its `Display` does, then the wrapped value in
+/// parentheses. The wrapped value is printed with the name of its own type, such as `APPLICATION
+/// [2] (primitive)(INTEGER(2A))`.
 impl<T: fmt::Debug + FixedTag, const PRIVATE: bool> fmt::Debug for InClass<T, PRIVATE> {
     ghost debug_output = { λ v. debug_variant (tag_text (reclassed PRIVATE T.tag_is))
         (T.debug_output v.0) };
@@ -80,7 +83,8 @@ impl<A: fmt::Debug, B: fmt::Debug> fmt::Debug for Either<A, B> {
     }
 }
 
-/// Prints `None`, or the value as in `Some(INTEGER(2A))`.
+/// Prints `None` if the field is absent, otherwise `Some` and the value, such as
+/// `Some(INTEGER(2A))`.
 impl<T: fmt::Debug> fmt::Debug for Optional<T> {
     ghost debug_output = { λ v. debug_option T.debug_output v.0 };
 
@@ -90,7 +94,7 @@ impl<T: fmt::Debug> fmt::Debug for Optional<T> {
     }
 }
 
-/// Prints the value, which may be the default.
+/// Prints the value of the field, even if the value is the default.
 impl<T: fmt::Debug> fmt::Debug for Defaulted<T> {
     ghost debug_output = { λ v. T.debug_output v.0 };
 
@@ -99,7 +103,7 @@ impl<T: fmt::Debug> fmt::Debug for Defaulted<T> {
     }
 }
 
-/// Prints the value.
+/// Prints the wrapped value of type `T`. The default `D` is not printed.
 impl<T: fmt::Debug + Copy, D> fmt::Debug for WithDefault<T, D> {
     ghost debug_output = { λ v. T.debug_output v.value };
 

@@ -1,4 +1,4 @@
-//! Numbers, truth values and empty lists as defaults.
+//! Defaults of fields (see [`DefaultOf`]): numbers, TRUE, and empty lists.
 ghost use Rattle.std.specs.Prelude.{◌≡◌, false, [], ◌∷◌};
 ghost use Rattle.der_asn1.specs.Integer.{integer_octets, signed_octets};
 
@@ -10,23 +10,24 @@ use crate::lists::set_of::SetOf;
 use crate::numbers::boolean::BooleanRef;
 use crate::numbers::number_of::IntegerOf;
 
-/// The default value `N` of an INTEGER of 8 bits.
+/// The default `N` of a field `INTEGER DEFAULT N` of type `IntegerOf<u8>`.
 pub struct DefaultU8<const N: u8>;
 
-/// The default value `N` of an INTEGER of 32 bits.
+/// The default `N` of a field `INTEGER DEFAULT N` of type `IntegerOf<u32>`.
 pub struct DefaultU32<const N: u32>;
 
-/// The default value `N` of an INTEGER of 64 bits.
+/// The default `N` of a field `INTEGER DEFAULT N` of type `IntegerOf<u64>`.
 pub struct DefaultU64<const N: u64>;
 
-/// The default value `N` of an INTEGER of 64 bits with a sign.
+/// The default `N` of a field `INTEGER DEFAULT N` of type `IntegerOf<i64>`.
 pub struct DefaultI64<const N: i64>;
 
-/// The default value of `BOOLEAN DEFAULT TRUE`. The type [`BooleanRef`] itself has the default
-/// false.
+/// The default of a field `BOOLEAN DEFAULT TRUE`. A field `BOOLEAN DEFAULT FALSE` does not need it:
+/// the default of the type [`BooleanRef`] is false.
 pub struct DefaultTrue;
 
-/// The default value of a list without elements, as in `SEQUENCE OF T DEFAULT {}`.
+/// The default of a field `SEQUENCE OF T DEFAULT {}` or `SET OF T DEFAULT {}`: a list without
+/// elements.
 pub struct DefaultEmpty;
 
 impl<const N: u8> DefaultOf<IntegerOf<u8>> for DefaultU8<N> {

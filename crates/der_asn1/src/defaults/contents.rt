@@ -1,4 +1,4 @@
-//! Types with a default, by their contents.
+//! Types with a default value that is recognized by its contents octets.
 ghost use Rattle.std.specs.Prelude.{◌≡◌, Bool, true, List, ℕ};
 ghost use Rattle.std.proofs.Common.{ap, sym, ◌∙◌};
 
@@ -7,20 +7,20 @@ use crate::contents::grammar::ContentsGrammar;
 use crate::defaults::defaulted::DefaultValue;
 use crate::defaults::element::DefaultElement;
 
-/// Types that describe an ASN.1 type with a default value, which is the value of a DEFAULT field
-/// that is absent. The contents octets of a value decide whether the value is the default.
+/// Types that describe an ASN.1 type with a default value. A DEFAULT field that is absent has this
+/// value. A value is the default if its contents octets are the contents octets of the default.
 ///
 /// Ghost member (for proofs only): `default_contents` says which octets are the contents of the
 /// default value.
 pub trait DefaultContents: ContentsGrammar {
     ghost default_contents: { List ℕ → Bool };
 
-    /// The contents octets of the default value.
+    /// Returns the contents octets of the default value.
     fn default_octets() -> &'static [u8]
         ensures formed { Self.ContentsGrammar.grammar result.now ≡ true }
         ensures value { default_contents result.now ≡ true };
 
-    /// Whether `octets` are the contents of the default value.
+    /// Whether `octets` are the contents octets of the default value.
     fn is_default(octets: &[u8]) -> bool
         ensures { result ≡ default_contents octets.now };
 }

@@ -55,11 +55,11 @@ pub struct Defaulted<T>(pub T);
 ///
 /// # Errors
 ///
-/// - The errors of [`ReaderExt::peek_tag`], if octets are left but the next tag cannot be read; the
-///   reader is unchanged.
-/// - The errors of decoding the value, if a value may begin with the next tag.
-/// - `Noncanonical` with the tag of the value, at the position after the value, if the value is the
-///   default and the rules are DER; the reader has failed then.
+/// - The errors of [`ReaderExt::peek_tag`], if octets are left but the next tag cannot be read. The
+///   reader is unchanged then.
+/// - The errors of decoding the value, if a value of `T` may begin with the next tag.
+/// - `Noncanonical` with the tag of the value, at the position after the value, if the reader reads
+///   DER and the value is the default. The reader has failed then.
 impl<R: Lends, T: HasDefault<R>> Decode<R> for Defaulted<T> {
     type Error = <T as Decode<R>>::Error;
 

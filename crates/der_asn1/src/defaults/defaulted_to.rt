@@ -1,4 +1,4 @@
-//! DEFAULT fields whose default is given by its contents octets.
+//! DEFAULT fields whose default is given by contents octets.
 ghost use Rattle.std.specs.Prelude.{◌≡◌, ◌↔◌, ◌^◌, ◌<◌, ◌≤◌, true, length, IsTrue};
 ghost use Rattle.der.specs.Prelude.{Der, ElementNext, ElementRead, element_levels, map_ok};
 ghost use Rattle.der_asn1.specs.Default.{DefaultNext, DefaultRead, IsDefaulted, default_encoding};
@@ -15,19 +15,20 @@ use der::{
 use std::alloc::Global;
 use std::marker::PhantomData;
 
-/// Types that stand for the default value of a DEFAULT field and recognize it by its contents
-/// octets (see [`DefaultedTo`]). The values need no equality, so this is for values such as
-/// SEQUENCEs.
+/// Types that stand for the default value of a DEFAULT field of type `T` (see [`DefaultedTo`]). A
+/// value is the default if its contents octets are the contents octets of the default. So `T` need
+/// not implement `PartialEq`; it may be a SEQUENCE, for example.
 pub trait DefaultEncoding<T: WrittenValue>: DefaultOf<T> {
-    /// Whether `value` is the default: whether its contents octets are those of the default. See
-    /// [`has_contents`], which compares them.
+    /// Whether `value` is the default, which means that it has the same contents octets as the
+    /// default. An implementation can call [`has_contents`] to compare them.
     fn is_default(value: &T) -> bool
         ensures { result ≡ has_contents T.contents Self.DefaultOf.default_contents value.now };
 }
 
-/// Whether the contents octets of `value` are `octets`. They are written into `buffer`. The caller
-/// must ensure that the value can be written, that there are at most 4294967295 `octets`, and that
-/// `buffer` has space for them.
+/// Whether the contents octets of `value` are `octets`. To compare them, the function writes the
+/// contents octets of `value` into `buffer`. The caller must ensure that `value` can be written,
+/// that there are at most 4294967295 `octets`, and that `buffer` has at least as many octets as
+/// `octets`.
 pub fn has_contents<T: EncodeValue>(value: &T, octets: &[u8], buffer: &mut [u8]) -> bool
     requires writable { T.writable value.now }
     requires counted { length octets.now < 2 ^ 32 }
@@ -46,15 +47,15 @@ pub fn has_contents<T: EncodeValue>(value: &T, octets: &[u8], buffer: &mut [u8])
     }
 }
 
-/// A DEFAULT field with the default `D`, which is recognized by its contents octets. If the value
-/// is the default, DER requires that the field is absent (X.690 11.5); BER also allows that the
-/// default is encoded (8.9.3).
+/// A DEFAULT field whose default `D` is recognized by its contents octets. If the field is absent,
+/// its value is the default. If the value is the default, DER requires that the field is absent
+/// (X.690 11.5); BER also allows that the default is encoded (X.690 8.9.3).
 #[derive(Drop)]
 #[derive_where(Debug, PartialEq, Eq; T)]
 pub struct DefaultedTo<T, D>(pub T, PhantomData<D>);
 
 impl<T, D> DefaultedTo<T, D> {
-    /// The field with this value.
+    /// The field with the value `value`, which may be the default.
     #[inline(always)]
     pub fn new(value: T) -> Self
         ensures { result.0 ≡ value }
@@ -76,15 +77,15 @@ fn is_written_default<T: WrittenValue, D: DefaultEncoding<T>>(
 }
 
 /// Decodes a value of `T`, or returns the default value without moving the reader if the field is
-/// absent. The field is absent if no octets are left, or if the next tag is not that of `T`.
+/// absent. The field is absent if no octets are left, or if the next tag is not the tag of `T`.
 ///
 /// # Errors
 ///
-/// - The errors of [`ReaderExt::peek_tag`], if octets are left but the next tag cannot be read; the
-///   reader is unchanged.
-/// - The errors of decoding the value, as by [`decode_tlv`], if its tag is next.
-/// - `Noncanonical` with the tag of the value, at the position after the value, if the value is the
-///   default and the rules are DER; the reader has failed then.
+/// - The errors of [`ReaderExt::peek_tag`], if octets are left but the next tag cannot be read. The
+///   reader is unchanged then.
+/// - The errors of [`decode_tlv`] for the value, if the next tag is the tag of `T`.
+/// - `Noncanonical` with the tag of the value, at the position after the value, if the reader reads
+///   DER and the value is the default. The reader has failed then.
 impl<R: Lends, T: DecodeValue<R> + Lawful, D: DefaultEncoding<T>> Decode<R> for DefaultedTo<T, D> {
     type Error = <T as DecodeValue<R>>::Error;
 

@@ -9,7 +9,8 @@ use crate::fields::explicit::Explicit;
 use crate::fields::implicit::Implicit;
 use der::{DecodeValue, FixedTag, Lends, ReadValue};
 
-/// Types with a fixed tag that have a default value. Such a type can be a DEFAULT field.
+/// Types with a fixed tag that have a default value. Such a type can be the type of a DEFAULT field
+/// (see [`Defaulted`](crate::Defaulted)).
 ///
 /// Ghost member (for proofs only): `decided` proves that, if two values can be read from the same
 /// contents, both are the default or neither is.
@@ -24,7 +25,7 @@ impl<R: Lends, T: DecodeValue<R> + FixedTag + DefaultElement> HasDefault<R> for 
     ghost reported = { λ v w rules octets m n one two. one_element T.decided one two };
 }
 
-/// The default is the wrapped value of the default.
+/// The default value is the default of `T`, with the EXPLICIT tag.
 impl<T: DefaultValue, const N: u32> DefaultValue for Explicit<T, N> {
     ghost is_default = { λ v. T.is_default v.0 };
 
@@ -42,7 +43,7 @@ impl<T: DefaultElement + FixedTag, const N: u32> DefaultElement for Explicit<T, 
     ghost decided = { λ v w rules h octets one two. one_element T.decided one two };
 }
 
-/// The default is the wrapped value of the default.
+/// The default value is the default of `T`, with the IMPLICIT tag.
 impl<T: DefaultValue, const N: u32> DefaultValue for Implicit<T, N> {
     ghost is_default = { λ v. T.is_default v.0 };
 

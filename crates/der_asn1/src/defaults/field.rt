@@ -1,4 +1,4 @@
-//! The values of fields that have a default, without their tags.
+//! The values of DEFAULT fields, without their EXPLICIT or IMPLICIT tags.
 ghost use Rattle.std.specs.Prelude.{◌≡◌};
 
 use crate::contents::checked::Checked;
@@ -9,16 +9,19 @@ use crate::fields::explicit::Explicit;
 use crate::fields::implicit::Implicit;
 use crate::fields::in_class::InClass;
 
-/// Types of fields that have a default.
+/// Types of DEFAULT fields from which the plain value can be taken. The plain value is what remains
+/// without the wrappers [`Explicit`], [`Implicit`], [`InClass`] and [`WithDefault`]. A [`Checked`]
+/// is its own plain value.
 ///
-/// Ghost member (for proofs only): `plain` gives the value without its tag.
+/// Ghost member (for proofs only): `plain` gives the plain value.
 pub trait DefaultField {
-    /// The type of the value.
+    /// The type of the value without the wrappers [`Explicit`], [`Implicit`], [`InClass`] and
+    /// [`WithDefault`].
     type Plain;
 
     ghost plain: { Self → Self.Plain };
 
-    /// The value without its tag.
+    /// The value without the wrappers [`Explicit`], [`Implicit`], [`InClass`] and [`WithDefault`].
     fn plain(&self) -> Self::Plain
         ensures { result ≡ plain self.now };
 }
@@ -79,7 +82,8 @@ impl<T: DefaultField, const PRIVATE: bool> DefaultField for InClass<T, PRIVATE> 
 }
 
 impl<T: DefaultField> Defaulted<T> {
-    /// The value without its tag: the default if the field is absent.
+    /// The value of the field, without the EXPLICIT or IMPLICIT tag that the field may have. If the
+    /// field is absent, the value is the default.
     #[inline(always)]
     pub fn value(&self) -> T::Plain
         ensures { result ≡ T.plain self.now.0 }

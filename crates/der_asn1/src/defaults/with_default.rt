@@ -1,4 +1,4 @@
-//! Values of a type with a default of their own.
+//! Values of DEFAULT fields whose default is given for one field, and not by the type of the field.
 ghost use Rattle.std.specs.Prelude.{◌≡◌, ℕ, List, ⊤, bytes_eq};
 ghost use Rattle.std.proofs.Common.{ap};
 ghost use Rattle.der.specs.Prelude.{map_ok};
@@ -27,10 +27,11 @@ pub trait DefaultOf<T: WrittenValue> {
         ensures { T.contents result ≡ default_contents };
 }
 
-/// A value of `T` that has the default value `D`, as the value of `Defaulted<WithDefault<T, D>>`. It
-/// is encoded as the value of `T`.
+/// The value of a DEFAULT field whose default is given by `D` (see [`DefaultOf`]) and not by the
+/// type `T`. The type of the field is `Defaulted<WithDefault<T, D>>`. The value is encoded like a
+/// value of type `T`.
 pub struct WithDefault<T: Copy, D> {
-    /// The value.
+    /// The value, which may be the default.
     pub value: T,
     default: PhantomData<D>,
 }
@@ -48,7 +49,7 @@ impl<T: Copy, D> Clone for WithDefault<T, D> {
 
 impl<T: Copy, D> Copy for WithDefault<T, D> {}
 
-/// Values are equal if the values of `T` are.
+/// Two values are equal if their fields `value` are equal.
 impl<T: PartialEq + Copy, D> PartialEq for WithDefault<T, D> {
     ghost use Rattle.std.specs.Cmp.{on_per};
 
@@ -68,7 +69,7 @@ impl<T: Eq + Copy, D> Eq for WithDefault<T, D> {
 }
 
 impl<T: Copy, D> WithDefault<T, D> {
-    /// Wraps the value.
+    /// Wraps `value`, which may be the default.
     #[inline(always)]
     pub fn new(value: T) -> Self
         ensures { result.value ≡ value }
@@ -122,7 +123,7 @@ impl<T: ReadValue + Copy, D> ReadValue for WithDefault<T, D> {
     ghost takes_valid = { λ v. T.takes_valid v.value };
 }
 
-/// Decodes a value of type `T`; the default is decoded as any other value.
+/// Decodes a value of type `T`. The default value is decoded like any other value.
 ///
 /// # Errors
 ///

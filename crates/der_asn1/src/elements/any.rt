@@ -12,11 +12,11 @@ use der::{
 };
 use std::alloc::Global;
 
-/// An element of any tag: its tag, and its contents borrowed from the input. Used for the type ANY
-/// of older ASN.1 modules, and for values of an open type.
+/// An element of any tag: its tag, and its contents borrowed from the input. The type is used for
+/// ANY in older ASN.1 modules, and for values of an open type.
 ///
-/// Some universal tags have no variant of [`Tag`], that of UniversalString among them. Decoding an
-/// element with such a tag fails.
+/// Some universal tags, such as the tag of UniversalString, have no variant of [`Tag`]. Decoding an
+/// element with one of these tags fails.
 #[derive(Clone, Copy, PartialEq, Eq)]
 pub struct AnyRef<'a> {
     /// The tag of the element.
@@ -45,7 +45,7 @@ impl<'a> ReadValue for AnyRef<'a> {
     ghost takes_valid = { λ v rules h octets taken. taken.numbered };
 }
 
-/// Borrows the contents from the input. Takes the tag and the length from the header.
+/// Takes the tag and the length from the header, and borrows the contents from the input.
 ///
 /// # Errors
 ///
@@ -74,7 +74,7 @@ impl<'a> IsValue for AnyRef<'a> {
     }
 }
 
-/// Decodes the next element, whatever its tag.
+/// Decodes the next element, whatever tag the element has.
 ///
 /// # Errors
 ///

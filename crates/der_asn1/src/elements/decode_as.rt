@@ -9,23 +9,28 @@ use der::{DecodeValue, EncodingRules, FixedTag, Header, Reader, SliceReader};
 use std::alloc::Global;
 
 impl<'a> AnyRef<'a> {
-    /// Decodes this element as a value of type `T`, under the rules by which the element was read. If
-    /// `T` is [`Lawful`](der::Lawful) and the rules are the Distinguished Encoding Rules, decoding
-    /// succeeds exactly if the contents are those of a valid value, unless an allocation fails.
+    /// Decodes this element as a value of type `T`. `rules` must be the encoding rules by which the
+    /// element was read.
     ///
-    /// An `AnyRef` does not keep whether an OCTET STRING was in segments, so under the Basic Encoding
-    /// Rules use types that are constructed, such as a SEQUENCE.
+    /// Suppose that `T` is [`Lawful`](der::Lawful), that `rules` are the Distinguished Encoding
+    /// Rules, and that there are at most 4294967295 contents octets. Then decoding succeeds if and
+    /// only if the element is an encoding of a valid value of `T`, unless an allocation fails.
+    ///
+    /// An `AnyRef` does not record whether an OCTET STRING was encoded in segments. So under the
+    /// Basic Encoding Rules, use this function only for types that are always constructed, such as
+    /// a SEQUENCE.
     ///
     /// # Errors
     ///
-    /// The first of these that applies. Positions count from the start of the contents.
+    /// The function returns the first of these errors that applies. Positions count from the start
+    /// of the contents.
     ///
-    /// - `TagUnexpected` without a position, if the element has not the tag of `T`.
+    /// - `TagUnexpected` without a position, if the element does not have the tag of `T`.
     /// - `Overflow` without a position, if there are more than 4294967295 contents octets.
-    /// - The errors of the type, as by [`DecodeValue::decode_value`].
-    /// - `Failed` at the reader's position, if decoding the value succeeds but leaves the reader
-    ///   failed.
-    /// - `TrailingData` at the reader's position, if contents octets are left after the value.
+    /// - The errors of [`DecodeValue::decode_value`] for the type `T`.
+    /// - `Failed` at the position where decoding ended, if `decode_value` returns a value but the
+    ///   reader of the contents has failed.
+    /// - `TrailingData` at the position after the value, if contents octets are left.
     pub fn decode_as<T: DecodeValue<SliceReader<'a>> + FixedTag>(
         &self,
         alloc: Global,

@@ -8,9 +8,9 @@ ghost use Rattle.der_asn1.specs.AnyElement.{AnyElementNext, AnyElementRead};
 use der::{DecodeValue, Header, Reader, decode_header, read_value};
 use std::alloc::Global;
 
-/// Decodes an element with any tag that `T` accepts: its header, its contents, and after an
-/// indefinite length the end-of-contents octets. The ghost member `takes` of `T`, which is for
-/// proofs only, says which tags `T` accepts.
+/// Decodes an element with any tag that `T` accepts. The function decodes the header and the
+/// contents. After a header with an indefinite length, it also reads the end-of-contents octets.
+/// The ghost member `takes` of `T`, which is for proofs only, says which tags `T` accepts.
 ///
 /// For implementors: a type without a fixed tag, such as ANY, implements `decode` by calling this
 /// function.
@@ -18,7 +18,7 @@ use std::alloc::Global;
 /// # Errors
 ///
 /// - The errors of [`decode_header`].
-/// - The errors of reading the contents, as by [`read_value`].
+/// - The errors of [`read_value`], which reads the contents.
 #[inline(always)]
 pub fn decode_element<R: Reader, T: DecodeValue<R>>(
     alloc: Global,

@@ -15,10 +15,11 @@ use crate::times::time_format::TimeFormat;
 use crate::times::time_of::TimeOf;
 use der::{ReadValue, WrittenValue};
 
-/// Types whose values are equal exactly if their contents octets are the same.
+/// Types whose values are equal if and only if their contents octets are the same.
 ///
-/// Ghost members (for proofs only): `by_contents` proves this, and `one_contents` that all values
-/// that are read from the same octets have the same contents.
+/// Ghost members (for proofs only): `by_contents` proves that values are compared by their contents
+/// octets. `one_contents` proves that all values that are read from the same octets have the same
+/// contents octets.
 pub trait EqualContents: ReadValue + WrittenValue + PartialEq {
     // Values are equal exactly if their contents are the same.
     ghost by_contents: { (v w : Self) → Self.eq v w ≡ equal_contents Self.contents v w };
@@ -29,7 +30,7 @@ pub trait EqualContents: ReadValue + WrittenValue + PartialEq {
         → Self.contents v ≡ Self.contents w };
 }
 
-/// Values are equal if their contents octets are the same.
+/// Two values are equal if and only if their contents octets are the same.
 impl<'a, F: ContentsGrammar> PartialEq for Checked<'a, F> {
     ghost eq = { equal_contents (λ v. v.octets.now) };
 
@@ -50,7 +51,7 @@ impl<'a, F: ContentsGrammar> EqualContents for Checked<'a, F> {
     ghost one_contents = { λ v w rules h octets one two. one.1 ∙ sym two.1 };
 }
 
-/// Values are equal if their contents octets are the same.
+/// Two values are equal if and only if their contents octets are the same.
 impl<N: IntegerNumber, const ENUMERATED: bool> PartialEq for NumberOf<N, ENUMERATED> {
     ghost eq = { equal_contents (λ v. N.contents_of v.number) };
 
@@ -71,7 +72,8 @@ impl<N: IntegerNumber, const ENUMERATED: bool> EqualContents for NumberOf<N, ENU
     ghost one_contents = { λ v w rules h octets one two. one.1 ∙ sym two.1 };
 }
 
-/// Values are equal if their contents octets are the same, which are those of the same time.
+/// Two values are equal if and only if their contents octets are the same. Equal values are the
+/// same time.
 impl<F: TimeFormat> PartialEq for TimeOf<F> {
     ghost eq = { equal_contents (λ v. F.contents_of v.time) };
 
@@ -93,7 +95,8 @@ impl<F: TimeFormat> EqualContents for TimeOf<F> {
     ghost one_contents = { λ v w rules h octets one two. one.1 ∙ sym two.1 };
 }
 
-/// Lists are equal if their contents octets are the same; then they have the same items.
+/// Two lists are equal if and only if their contents octets are the same. Equal lists have the same
+/// items.
 impl<'a, T: Item> PartialEq for SequenceOf<'a, T> {
     ghost eq = { equal_contents (λ v. v.octets.now) };
 
@@ -115,7 +118,8 @@ impl<'a, T: Item> EqualContents for SequenceOf<'a, T> {
     ghost one_contents = { λ v w rules h octets one two. one.2 ∙ sym two.2 };
 }
 
-/// Sets are equal if their contents octets are the same; then they have the same items.
+/// Two sets are equal if and only if their contents octets are the same. Equal sets have the same
+/// items.
 impl<'a, T: Item> PartialEq for SetOf<'a, T> {
     ghost eq = { equal_contents (λ v. v.elements.octets.now) };
 

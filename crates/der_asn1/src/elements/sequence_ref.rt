@@ -10,7 +10,8 @@ use der::Tag;
 /// Describes the contents of a [`SequenceRef`]: any octets.
 pub struct SequenceGrammar;
 
-/// A SEQUENCE borrowed from the input, as octets that are not checked. They need not be encodings.
+/// A SEQUENCE borrowed from the input. Its contents octets are not checked: they need not be the
+/// encodings of components.
 pub type SequenceRef<'a> = Checked<'a, SequenceGrammar>;
 
 impl ContentsGrammar for SequenceGrammar {

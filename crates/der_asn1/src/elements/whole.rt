@@ -1,4 +1,4 @@
-//! Decoding of whole encodings of lawful types.
+//! Decoding of a value from octets that must be its whole DER encoding.
 ghost use Rattle.std.specs.Prelude.{◌≡◌, ◌^◌, ◌<◌, length, IfOk};
 ghost use Rattle.der.specs.Decode.{SucceedsOrLacks, WholeAnswer};
 ghost use Rattle.der.specs.Prelude.{Der, ElementRead, element_octets};
@@ -6,10 +6,11 @@ ghost use Rattle.der.specs.Prelude.{Der, ElementRead, element_octets};
 use der::{DecodeBytes, DecodeValue, Lawful, SliceReader};
 use std::alloc::Global;
 
-/// Decodes the value whose DER encoding is all of `octets`. If there are at most 4294967295 octets
-/// and no allocation fails, decoding succeeds exactly if `octets` are the encoding of a valid
-/// value. This holds because `T` is [`Lawful`]: the contents of a lawful type are read as they are
-/// written.
+/// Decodes the value whose DER encoding is all of `octets`.
+///
+/// Suppose that there are at most 4294967295 octets and that no allocation fails. Then decoding
+/// succeeds if and only if `octets` are the encoding of a valid value of `T`. This holds because
+/// `T` is [`Lawful`]: the contents of a lawful type are read as they are written.
 ///
 /// # Errors
 ///

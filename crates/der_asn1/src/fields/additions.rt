@@ -1,4 +1,4 @@
-//! Elements at an extension insertion point that a type does not know.
+//! Elements with unknown tags, at the extension insertion point of a SEQUENCE.
 ghost use Rattle.std.specs.Prelude.{◌≡◌, false, ◌^◌, ◌<◌, ⊤, [], length};
 ghost use Rattle.der_asn1.specs.Additions.{additions, AdditionsNext, AreAdditions};
 ghost use Rattle.der_asn1.specs.Checked.{contents_size, ContentsWritten};
@@ -16,10 +16,12 @@ use der::{Decode, Encode, Error, Lends, Length, Reader, Writer, octets_len, plac
 use std::alloc::{AllocError, Global};
 use std::marker::PhantomData;
 
-/// The elements at an extension insertion point of a SEQUENCE that the type does not know (X.680
-/// 25.1, 25.6): components that a later version of it may have. They are borrowed from the input, and
-/// written back as they were. `K` has the tags of the components that the type knows after the
-/// insertion point, and of those that may be absent right before it.
+/// The elements at the extension insertion point of a SEQUENCE (X.680 25.1, 25.6) whose tags are
+/// not known. A later version of the SEQUENCE may define them as components. The elements are
+/// borrowed from the input, and written back unchanged.
+///
+/// `K` gives the known tags. They are the tags of the components after the insertion point, and of
+/// the components that are directly before it and may be absent.
 #[derive_where(Debug, PartialEq, Eq)]
 pub struct Additions<'a, K: KnownTags> {
     octets: &'a [u8],
@@ -41,24 +43,24 @@ impl<'a, K: KnownTags> Clone for Additions<'a, K> {
 
 impl<'a, K: KnownTags> Copy for Additions<'a, K> {}
 
-/// Types with the specification of a field.
+/// Types of fields of a SEQUENCE that have a specification, which is for proofs only.
 ///
-/// Ghost member (for proofs only): `field` is the specification. A contract in other code names it as
-/// `⟦<AnyField as DescribedField>⟧.field`, with the type in place of `AnyField`.
+/// Ghost member (for proofs only): `field` is the specification. A contract in other code names it
+/// as `⟦<AnyField as DescribedField>⟧.field`, with the type in place of `AnyField`.
 pub trait DescribedField: Sized {
     ghost field: { FieldSpec Self };
 }
 
-/// Borrows the elements from the input, up to the first with a known tag. They must be encoded under
-/// DER, also if the reader reads BER: their headers at least, since nothing is known of their
-/// contents.
+/// Borrows the elements before the first element with a known tag, or all elements that are left if
+/// none of them has a known tag. The headers of the borrowed elements must be encoded under DER,
+/// even if the reader reads BER. The contents of these elements are not checked.
 ///
 /// # Errors
 ///
-/// - `Reader` and `Failed`, as by [`Reader::read_slice`]; the reader is unchanged.
-/// - The errors of decoding the first element that cannot be decoded, as by
-///   [`decode_element`](crate::decode_element); the reader is unchanged. If the reader reads DER,
-///   their positions count from the start of the reader's input; if it reads BER, from the first
+/// - The errors `Reader` and `Failed` of [`Reader::read_slice`]. The reader is unchanged then.
+/// - The errors of [`decode_element`](crate::decode_element) for the first element that cannot be
+///   decoded. The reader is unchanged then. If the reader reads DER, positions count from the start
+///   of the reader's input. If it reads BER, positions count from the start of the first borrowed
 ///   element.
 impl<'a, R: Lends<Borrowed = &'a [u8]>, K: KnownTags> Decode<R> for Additions<'a, K> {
     type Error = Error;
@@ -138,21 +140,22 @@ impl<'a, K: KnownTags> Additions<'a, K> {
         }
     }
 
-    /// No elements.
+    /// Returns a value without elements.
     pub fn empty() -> Self
         ensures { result.octets.now ≡ [] }
     {
         Additions::formed(&[])
     }
 
-    /// Does nothing; the contract states, for use in proofs, that `self` is a valid value.
+    /// Does nothing. For use in proofs, the contract of this function states that `self` is a valid
+    /// value.
     pub fn is_value(&self)
         ensures { HasOctetsWith (AreAdditions K.known) (λ v. v.octets.now) self.now }
     {
         let _octets = self.octets;
     }
 
-    /// The octets of the elements.
+    /// The encodings of the elements, one after the other.
     #[inline(always)]
     pub fn octets(&self) -> &'a [u8]
         ensures { result.now ≡ self.now.octets.now }
@@ -160,7 +163,7 @@ impl<'a, K: KnownTags> Additions<'a, K> {
         self.octets
     }
 
-    /// A walk over the elements, from the first.
+    /// Returns [`Items`], which decodes the elements one after the other, from the first.
     pub fn items(&self) -> Items<'a, AnyRef<'a>>
         ensures { rest_of (slice_state result.reader) ≡ self.now.octets.now }
     {

@@ -1,4 +1,4 @@
-//! Types recognized by the next tag.
+//! Types whose values a reader recognizes by the next tag.
 ghost use Rattle.std.specs.Prelude.{◌↔◌, ℕ, List, IsTrue};
 ghost use Rattle.der.specs.Prelude.{Tag as ATag, EncodingRules as Rules};
 ghost use Rattle.der_asn1.specs.Follow.{TagIn, this_tag, any_tag};
@@ -19,7 +19,8 @@ pub trait Choice {
         ensures { IsTrue result ↔ chooses tag };
 }
 
-/// Types that are decoded by their tag.
+/// Types that a reader `R` can decode, and whose values are recognized by the next tag (see
+/// [`Choice`]).
 ///
 /// Ghost member (for proofs only): `begins` proves that every value begins with one of the tags of
 /// the type.

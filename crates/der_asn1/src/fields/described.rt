@@ -1,3 +1,3 @@
-//! Types with the specification of an element.
+//! Types that have a specification of their elements, for proofs.
 
 pub use der::Described;

@@ -7,11 +7,11 @@ ghost use Rattle.der_asn1.specs.Meaning.{AlternativeSpec};
 use der::{Decode, FromFields, Reader};
 use std::alloc::Global;
 
-/// CHOICE types (X.690 8.13): enums with one variant for each alternative. For proofs, each has a
-/// specification, which is composed from the specifications of its alternatives.
+/// CHOICE types (X.690 8.13): enums with one variant for each alternative. For proofs, each type
+/// has a specification, which is composed from the specifications of its alternatives.
 ///
-/// An enum is decoded as nested [`Either`](crate::Either)s of its alternatives, from which
-/// [`FromFields::from_fields`] makes it.
+/// An enum is decoded in two steps. First, nested [`Either`](crate::Either)s of the alternatives
+/// are decoded. Then [`FromFields::from_fields`] converts them to the enum.
 ///
 /// Ghost member (for proofs only): `alternative` is the specification. A contract in other code
 /// names it as `⟦<AnyChoice as DescribedChoice>⟧.alternative`, with the type in place of
@@ -20,15 +20,14 @@ pub trait DescribedChoice: Sized {
     ghost alternative: { AlternativeSpec Self };
 }
 
-/// Decodes a value of the type `F`, and makes a `T` of it. If `T` is an enum, `F` consists of
-/// nested [`Either`](crate::Either)s of its alternatives.
+/// Decodes a value of the type `F`, and converts it to a `T` by [`FromFields::from_fields`]. If `T`
+/// is an enum, `F` consists of nested [`Either`](crate::Either)s of its alternatives.
 ///
-/// This function has the contract of [`Decode::decode`], so an implementation of that function can
-/// call it.
+/// For implementors: an implementation of [`Decode::decode`] for `T` can call this function.
 ///
 /// # Errors
 ///
-/// Those of decoding an `F`, as by [`Decode::decode`].
+/// The errors of [`Decode::decode`] for the type `F`.
 #[inline(always)]
 pub fn decode_choice<R: Reader, F: Decode<R>, T: FromFields<F>>(
     alloc: Global,

@@ -10,25 +10,25 @@ use crate::fields::choice::{Choice, DecodeChoice};
 use der::{Decode, Encode, Error, ErrorKind, Lends, Length, Reader, ReaderExt, Tag, Writer};
 use std::alloc::Global;
 
-/// A CHOICE of two types, decided by the next tag (X.690 8.13). For more alternatives, nest
-/// choices.
+/// A CHOICE of two types, decided by the next tag (X.690 8.13). For more than two alternatives, use
+/// an `Either` as `A` or `B`.
 #[derive(Clone, Copy, Drop, PartialEq, Eq)]
 pub enum Either<A, B> {
-    /// A value of the first type, whose tags are tried first.
+    /// A value of type `A`. Decoding tries the tags of `A` first.
     First(A),
-    /// A value of the second type.
+    /// A value of type `B`.
     Second(B),
 }
 
-/// Decodes a value of the first type if a value of this type may begin with the next tag. If not,
-/// decodes a value of the second type.
+/// Decodes a value of the first type, `A`, if a value of `A` may begin with the next tag. Otherwise
+/// decodes a value of the second type, `B`.
 ///
 /// # Errors
 ///
-/// - The errors of [`ReaderExt::peek_tag`], if the next tag cannot be read; the reader is
-///   unchanged.
+/// - The errors of [`ReaderExt::peek_tag`], if the next tag cannot be read. The reader is unchanged
+///   then.
 /// - `TagUnexpected` without an expected tag, at the reader's position, if no value of either type
-///   begins with the next tag; the reader has failed then.
+///   begins with the next tag. The reader has failed then.
 /// - The errors of decoding the value.
 impl<
     R: Lends,
@@ -68,7 +68,7 @@ impl<
     }
 }
 
-/// Writes the value, whichever of the two types it has.
+/// Writes the value of type `A` or `B`.
 ///
 /// # Errors
 ///

@@ -26,7 +26,7 @@ pub trait Nestable: ReadValue {
 }
 
 /// A value that is encoded inside another element (X.690 8.14.2). The outer element has the
-/// context-specific tag number `N`; its contents are the element of the value.
+/// context-specific tag number `N`. The contents of the outer element are the element of the value.
 #[derive(Clone, Copy, Drop, PartialEq, Eq)]
 pub struct Explicit<T, const N: u32>(pub T);
 
@@ -61,12 +61,12 @@ impl<T: ReadValue + FixedTag, const N: u32> ReadValue for Explicit<T, N> {
     ghost takes_valid = { explicit_holds (λ v. v.0) T.takes_valid };
 }
 
-/// Decodes the inner element, which is all of the contents of the outer element.
+/// Decodes the inner element, which must be all of the contents of the outer element.
 ///
 /// # Errors
 ///
-/// The errors of decoding the inner element (the element of the value of type `T`), as by
-/// [`decode_tlv`](der::decode_tlv).
+/// The errors of [`decode_tlv`](der::decode_tlv) for the inner element, which is the element of the
+/// value of type `T`.
 impl<R: Lends, T: DecodeValue<R> + FixedTag, const N: u32> DecodeValue<R> for Explicit<T, N> {
     type Error = <T as DecodeValue<R>>::Error;
 
@@ -103,7 +103,7 @@ impl<T: WrittenValue + FixedTag, const N: u32> WrittenValue for Explicit<T, N> {
 ///
 /// # Errors
 ///
-/// The errors of encoding the inner element (the element of the value of type `T`).
+/// The errors of encoding the inner element, which is the element of the value of type `T`.
 impl<T: EncodeValue + FixedTag, const N: u32> EncodeValue for Explicit<T, N> {
     ghost value_size = { λ v. element_size T.tag_is (T.value_size v.0) };
 

@@ -20,7 +20,8 @@ use der::{
 use std::alloc::Global;
 
 /// An element of any tag that is encoded inside another element (X.690 8.14.2). The outer element
-/// has the context-specific tag number `N`; its contents are the element.
+/// has the context-specific tag number `N`. The contents of the outer element are the inner
+/// element.
 #[derive(Clone, Copy, Drop, PartialEq, Eq)]
 pub struct ExplicitAny<'a, const N: u32>(pub AnyRef<'a>);
 
@@ -63,11 +64,11 @@ impl<'a, const N: u32> ReadValue for ExplicitAny<'a, N> {
     ghost takes_valid = { explicit_any_holds (λ v. v.0) };
 }
 
-/// Decodes the inner element, which is all of the contents of the outer element.
+/// Decodes the inner element, which must be all of the contents of the outer element.
 ///
 /// # Errors
 ///
-/// The errors of decoding an element of any tag, as by [`decode_element`](crate::decode_element).
+/// The errors of [`decode_element`](crate::decode_element) for the inner element.
 impl<'a, R: Lends<Borrowed = &'a [u8]>, const N: u32> DecodeValue<R> for ExplicitAny<'a, N> {
     type Error = Error;
 

@@ -52,7 +52,7 @@ impl<T: ReadValue + FixedTag, const N: u32> ReadValue for Implicit<T, N> {
         octets taken };
 }
 
-/// Decodes the contents as those of a value of type `T`.
+/// Decodes the contents as the contents of a value of type `T`.
 ///
 /// # Errors
 ///

@@ -16,9 +16,9 @@ use der::{
 };
 use std::alloc::Global;
 
-/// A value whose tag has the class private if `PRIVATE`, or else application, in place of its own
-/// class (X.690 8.1.2.2). The number stays, and the tag is constructed if and only if the value's own
-/// tag is constructed. See [`Application`] and [`Private`].
+/// A value whose tag has another class in place of its own: private if `PRIVATE` is true, otherwise
+/// application (X.690 8.1.2.2). The tag keeps its number, and is constructed if and only if the
+/// value's own tag is constructed. See [`Application`] and [`Private`].
 #[derive(Clone, Copy, Drop, PartialEq, Eq)]
 pub struct InClass<T, const PRIVATE: bool>(pub T);
 
@@ -69,7 +69,7 @@ impl<T: ReadValue + FixedTag, const PRIVATE: bool> ReadValue for InClass<T, PRIV
         octets taken };
 }
 
-/// Decodes the contents as those of a value of type `T`.
+/// Decodes the contents as the contents of a value of type `T`.
 ///
 /// # Errors
 ///
@@ -150,7 +150,7 @@ impl<T: Described, const PRIVATE: bool> Described for InClass<T, PRIVATE> {
     ghost element = { in_class PRIVATE T.element (λ v. v.0) };
 }
 
-/// The default is the wrapped value of the default.
+/// The default value is the default of `T`, with the new class in the tag.
 impl<T: DefaultValue, const PRIVATE: bool> DefaultValue for InClass<T, PRIVATE> {
     ghost is_default = { λ v. T.is_default v.0 };
 

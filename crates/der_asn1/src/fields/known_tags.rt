@@ -5,14 +5,15 @@ ghost use Rattle.der_asn1.specs.TagSets.{is_among};
 
 use der::{Class, Tag};
 
-/// The tags that a type with an extension mark knows: an element with one of them is not of a later
-/// version of the type. A tag is its class and its number here, whether constructed or not.
+/// The tags that a type with an extension mark knows. An element with another tag may belong to a
+/// later version of the type. Tags are compared by class and number alone: it makes no difference
+/// whether a tag is constructed.
 ///
-/// Ghost member (for proofs only): `known` has these classes and numbers.
+/// Ghost member (for proofs only): `known` gives the classes and the numbers of the known tags.
 pub trait KnownTags {
     ghost known: { List (ℕ × ℕ) };
 
-    /// Whether the class and number of a tag are those of a known tag. An implementation calls
+    /// Whether `tag` has the class and the number of a known tag. An implementation calls
     /// [`is_among`].
     fn is_known(tag: Tag) -> bool
         ensures { result ≡ is_among known tag };
@@ -31,8 +32,9 @@ fn class_of(tag: Tag) -> u8
     }
 }
 
-/// Whether the class and number of `tag` are one of these pairs. The classes are 0 for UNIVERSAL, 1 for
-/// APPLICATION, 2 for context-specific and 3 for PRIVATE (X.690 8.1.2.2).
+/// Whether one of the pairs in `tags` has the class and the number of `tag`. The first member of a
+/// pair is the class: 0 for UNIVERSAL, 1 for APPLICATION, 2 for context-specific, 3 for PRIVATE
+/// (X.690 8.1.2.2). The second member is the number.
 #[inline]
 pub fn is_among(tags: &[(u8, u32)], tag: Tag) -> bool
     ensures { result ≡ is_among tags.now tag }

@@ -8,8 +8,8 @@ use crate::fields::choice::DecodeChoice;
 use der::{Decode, Encode, Error, Lends, Length, Reader, ReaderExt, Writer};
 use std::alloc::Global;
 
-/// An OPTIONAL field (X.690 8.9.3): a value, or `None` if the field is absent. Decoding takes the
-/// field as absent if no octets are left, or if no value of `T` may begin with the next tag.
+/// An OPTIONAL field (X.690 8.9.3): a value, or `None` if the field is absent. When decoding, the
+/// field is absent if no octets are left, or if no value of `T` may begin with the next tag.
 #[derive(Clone, Copy, Drop, PartialEq, Eq)]
 pub struct Optional<T>(pub Option<T>);
 
@@ -17,9 +17,9 @@ pub struct Optional<T>(pub Option<T>);
 ///
 /// # Errors
 ///
-/// - The errors of [`ReaderExt::peek_tag`], if octets are left but the next tag cannot be read; the
-///   reader is unchanged.
-/// - The errors of decoding the value, if a value may begin with the next tag.
+/// - The errors of [`ReaderExt::peek_tag`], if octets are left but the next tag cannot be read. The
+///   reader is unchanged then.
+/// - The errors of decoding the value, if a value of `T` may begin with the next tag.
 impl<R: Lends, T: DecodeChoice<R>> Decode<R> for Optional<T> {
     type Error = <T as Decode<R>>::Error;
 

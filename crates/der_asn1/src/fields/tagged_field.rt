@@ -1,4 +1,4 @@
-//! The values of optional fields, without their tags.
+//! The values of OPTIONAL fields, without their EXPLICIT or IMPLICIT tags.
 ghost use Rattle.std.specs.Prelude.{◌≡◌};
 ghost use Rattle.std.specs.Option.{option_map};
 
@@ -7,16 +7,17 @@ use crate::fields::implicit::Implicit;
 use crate::fields::in_class::InClass;
 use crate::fields::optional::Optional;
 
-/// Types that put a tag around a value, or in place of its own.
+/// Types of values with an EXPLICIT or IMPLICIT tag: [`Explicit`], [`Implicit`], and [`InClass`] of
+/// one of these two.
 ///
-/// Ghost member (for proofs only): `untagged` gives that value.
+/// Ghost member (for proofs only): `untagged` gives the value without the EXPLICIT or IMPLICIT tag.
 pub trait TaggedField {
-    /// The type of that value.
+    /// The type of the value without the EXPLICIT or IMPLICIT tag.
     type Untagged;
 
     ghost untagged: { Self → Self.Untagged };
 
-    /// The value without the tag.
+    /// The value without the EXPLICIT or IMPLICIT tag.
     fn untagged(&self) -> Self::Untagged
         ensures { result ≡ untagged self.now };
 }
@@ -55,8 +56,9 @@ impl<T: TaggedField, const PRIVATE: bool> TaggedField for InClass<T, PRIVATE> {
 }
 
 impl<T: TaggedField> Optional<T> {
-    /// The value without its tag, or `None` if the field is absent. The field `0` of a field without
-    /// a tag is the same.
+    /// The value without its EXPLICIT or IMPLICIT tag, or `None` if the field is absent. This
+    /// function exists only for fields with an EXPLICIT or IMPLICIT tag. The value of any other
+    /// OPTIONAL field is the member `0` of [`Optional`].
     #[inline(always)]
     pub fn value(&self) -> Option<T::Untagged>
         ensures { result ≡ option_map T.untagged self.now.0 }

@@ -22,9 +22,9 @@ use der::{
 use std::alloc::{AllocError, Global};
 use std::marker::PhantomData;
 
-/// An element with a tag that a type with an extension mark does not know: an alternative of a CHOICE
-/// or a component of a SEQUENCE that a later version of the type may have (X.680 25.1, 29.1). It is
-/// kept, and written back as it was. `K` has the known tags.
+/// An element whose tag a type with an extension mark does not know. A later version of the type
+/// may define the element, as an alternative of a CHOICE or as a component of a SEQUENCE (X.680
+/// 25.1, 29.1). The element is kept, and written back unchanged. `K` gives the known tags.
 #[derive_where(Debug, PartialEq, Eq)]
 pub struct UnknownElement<'a, K: KnownTags> {
     element: AnyRef<'a>,
@@ -48,7 +48,7 @@ impl<'a, K: KnownTags> Copy for UnknownElement<'a, K> {}
 impl<'a, K: KnownTags> UnknownElement<'a, K> {
     ghost use Rattle.std.specs.Prelude.{◌↔◌, IsSome, IfSome};
 
-    /// This element, unless its tag is known.
+    /// Wraps `element`; `None` if its tag is one of the known tags.
     pub fn new(element: AnyRef<'a>) -> Option<Self>
         ensures some { IsSome result ↔ (is_among K.known element.entry.tag ≡ false) }
         ensures same { IfSome result (λ v. v.element ≡ element.entry) }
@@ -62,14 +62,15 @@ impl<'a, K: KnownTags> UnknownElement<'a, K> {
         })
     }
 
-    /// Does nothing; the contract states, for use in proofs, that `self` is a valid value.
+    /// Does nothing. For use in proofs, the contract of this function states that `self` is a valid
+    /// value.
     pub fn is_value(&self)
         ensures { IsAny self.now.element }
     {
         self.element.is_value();
     }
 
-    /// The element.
+    /// The element, whose tag is none of the known tags.
     #[inline(always)]
     pub fn element(&self) -> AnyRef<'a>
         ensures value { result ≡ self.now.element }
@@ -79,13 +80,13 @@ impl<'a, K: KnownTags> UnknownElement<'a, K> {
     }
 }
 
-/// Decodes the next element, if its tag is not known.
+/// Decodes the next element, which must not have one of the known tags.
 ///
 /// # Errors
 ///
-/// - The errors of decoding an element of any tag, as by [`decode_element`](crate::decode_element).
-/// - `TagUnexpected` without an expected tag, at the position after the element, if its tag is known;
-///   the reader has failed then.
+/// - The errors of [`decode_element`](crate::decode_element).
+/// - `TagUnexpected` without an expected tag, at the position after the element, if its tag is
+///   known. The reader has failed then.
 impl<'a, R: Lends<Borrowed = &'a [u8]>, K: KnownTags> Decode<R> for UnknownElement<'a, K> {
     type Error = Error;
 
@@ -147,7 +148,11 @@ impl<'a, K: KnownTags> WrittenValue for UnknownElement<'a, K> {
     ghost writable = { λ v. IsAny v.element };
 }
 
-/// Writes the contents octets unchanged, with the errors of writing an [`AnyRef`].
+/// Writes the contents octets unchanged.
+///
+/// # Errors
+///
+/// The errors of writing an [`AnyRef`].
 impl<'a, K: KnownTags> EncodeValue for UnknownElement<'a, K> {
     ghost value_size = { λ v. any_size v.element };
 

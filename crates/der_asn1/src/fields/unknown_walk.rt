@@ -1,4 +1,5 @@
-//! Walks over values that begin with tags that a type with an extension mark does not know.
+//! Reading of the elements before the first one with a known tag, for a type with an extension
+//! mark.
 ghost use Rattle.std.specs.Prelude.{◌≡◌, ◌^◌, ◌<◌, ◌-◌, ℕ, true, List, OnOk, IfOk, length};
 ghost use Rattle.der.specs.Decode.{SucceedsOrLacks};
 ghost use Rattle.der.specs.Prelude.{Der, map_ok, read_slice_outcome, rest_of};

@@ -69,9 +69,11 @@ impl<'a> Arcs<'a> {
     }
 }
 
-/// Each item is one arc: its number, or `None` if the subidentifier that encodes it needs more than
-/// 128 bits. This subidentifier is the number itself; that of a second arc after the first arc 2 is
-/// 80 more. The iteration continues after a `None` item.
+/// `next` returns one arc after the other: `Some(Some(arc))`, or `Some(None)` if the subidentifier
+/// of the arc (X.690 8.19.2) needs more than 128 bits. The iteration continues after `Some(None)`.
+///
+/// The first two arcs have one subidentifier in common: 40 times the first arc, plus the second
+/// arc. The subidentifier of each other arc is the arc itself.
 impl<'a> Iterator for Arcs<'a> {
     ghost use Rattle.std.specs.Iterator.{YieldsFirst, item_count};
     ghost use Rattle.der_asn1.specs.Arcs.{arc_items};

@@ -4,8 +4,8 @@ use crate::contents::checked::Checked;
 use crate::identifiers::object_identifier::ObjectIdentifierGrammar;
 use std::fmt;
 
-/// Prints the arcs in decimal, separated by dots, as `1.2.840.113549`. An arc that has no number (see
-/// [`Arcs`](crate::Arcs)) is printed as `?`.
+/// Prints the arcs in decimal, separated by dots, such as `1.2.840.113549`. An arc whose
+/// subidentifier needs more than 128 bits is printed as `?` (see [`Arcs`](crate::Arcs)).
 impl<'a> fmt::Display for Checked<'a, ObjectIdentifierGrammar> {
     fn fmt<W: fmt::Write>(&self, f: &mut fmt::Formatter<W>) -> fmt::Result {
         let mut is_first = true;

@@ -8,8 +8,8 @@ use crate::contents::checked::Checked;
 use crate::contents::grammar::ContentsGrammar;
 use der::Tag;
 
-/// Describes the contents of an OBJECT IDENTIFIER: one or more subidentifiers, none of which begins
-/// with octet `0x80` (X.690 8.19.2, 8.19.3).
+/// Describes the contents of an OBJECT IDENTIFIER: one or more subidentifiers. No subidentifier
+/// begins with octet `0x80` (X.690 8.19.2, 8.19.3).
 pub struct ObjectIdentifierGrammar;
 
 /// An OBJECT IDENTIFIER borrowed from the input.
@@ -29,6 +29,13 @@ impl ContentsGrammar for ObjectIdentifierGrammar {
 
     #[inline(always)]
     fn matches_grammar(octets: &[u8]) -> bool {
+        // the types of extensions and of attributes of names have three octets below 0x80, which are
+        // tested without a loop
+        if let [first, second, third] = octets {
+            if *first < 0x80 && *second < 0x80 && *third < 0x80 {
+                return true;
+            }
+        }
         let mut starts = true;
         for octet in octets {
             if starts && *octet == 0x80 {

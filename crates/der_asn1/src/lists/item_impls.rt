@@ -1,4 +1,4 @@
-//! The types of this crate as items of lists.
+//! Implementations of [`Item`] and the other traits of list items, for the types of this crate.
 ghost use Rattle.std.specs.Prelude.{false, true};
 ghost use Rattle.std.proofs.Common.{arith, refl};
 ghost use Rattle.der.specs.Prelude.{ElementNext, TakesWhole, element_levels, element_octets};

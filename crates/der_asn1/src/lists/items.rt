@@ -1,4 +1,4 @@
-//! Walks over the items of a list.
+//! Decoding of the items of a list, one after the other.
 ghost use Rattle.std.specs.Prelude.{◌≡◌, ◌^◌, ◌<◌, false, true, length, IfOk, IfErr, OnErr};
 ghost use Rattle.der.specs.Prelude.{rest_of, slice_state};
 ghost use Rattle.der_asn1.specs.Items.{GivesItem};
@@ -10,8 +10,9 @@ use der::{Decode, Reader, ReaderExt, SliceReader};
 use std::alloc::{AllocError, Global};
 use std::marker::PhantomData;
 
-/// A walk over the items of a SEQUENCE OF or a SET OF. The type [`Iter`](crate::Iter) is an
-/// iterator, for items that do not allocate.
+/// The items of a SEQUENCE OF or a SET OF that are still to be decoded. [`Items::next`] decodes the
+/// next item, for which it may allocate. For items that do not allocate, there is the iterator
+/// [`Iter`](crate::Iter).
 #[derive(Drop)]
 pub struct Items<'a, T: Item> {
     reader: SliceReader<'a>,
@@ -58,8 +59,8 @@ impl<'a, T: DecodeItem<SliceReader<'a>>> Items<'a, T> {
     ///
     /// # Errors
     ///
-    /// An error that reports a failed allocation, if decoding a `T` allocates. The walk has not
-    /// moved then, and the next call tries the same item again.
+    /// An error that reports a failed allocation, if decoding a `T` allocates. The next call then
+    /// tries to decode the same item again. There are no other errors.
     pub fn next(
         &mut self,
         alloc: Global,

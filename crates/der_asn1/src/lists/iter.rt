@@ -9,7 +9,7 @@ use crate::lists::items::Items;
 use der::SliceReader;
 use std::alloc::{AllocError, Global};
 
-/// Items that are decoded without allocating.
+/// Types of list items that are decoded without allocating.
 ///
 /// Ghost member (for proofs only): `borrowed` proves that decoding an item does not allocate.
 pub trait BorrowedItem: Item {
@@ -17,8 +17,8 @@ pub trait BorrowedItem: Item {
     ghost borrowed: { Self.item.allocates ≡ false };
 }
 
-/// An iterator over the items of a SEQUENCE OF or a SET OF. It returns `None` only after the last
-/// item.
+/// An iterator over the items of a SEQUENCE OF or a SET OF. `next` returns `None` only after the
+/// last item.
 #[derive(Drop)]
 pub struct Iter<'a, T: Item> {
     items: Items<'a, T>,

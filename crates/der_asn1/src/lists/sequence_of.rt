@@ -27,7 +27,8 @@ use std::alloc::{AllocError, Global};
 use std::marker::PhantomData;
 
 /// A SEQUENCE OF borrowed from the input. Its contents have been checked: they are encodings of
-/// values of `T`, one after the other. `T` is a lawful type, an element of any tag, or a CHOICE.
+/// values of `T`, one after the other. `T` is a [`Lawful`](der::Lawful) type, an element of any
+/// tag, or a CHOICE.
 pub struct SequenceOf<'a, T: Item> {
     octets: &'a [u8],
     of: PhantomData<T>,
@@ -75,14 +76,14 @@ impl<'a, T: Item> ReadValue for SequenceOf<'a, T> {
 }
 
 /// Borrows the contents from the input, and checks every item in them once. The items must be
-/// encoded under DER, also if the reader reads BER.
+/// encoded under DER, even if the reader reads BER.
 ///
 /// # Errors
 ///
-/// - The errors of reading the contents, as by [`Reader::read_slice`].
-/// - The errors of decoding the first item that cannot be decoded, as by [`SequenceOf::new`]; the
-///   reader is after the contents and has not failed. If the reader reads DER, their positions
-///   count from the start of the reader's input; if it reads BER, from the start of the contents.
+/// - The errors of [`Reader::read_slice`], which reads the contents.
+/// - The errors of [`SequenceOf::new`] for the first item that cannot be decoded. The reader is
+///   after the contents then, and has not failed. If the reader reads DER, positions count from the
+///   start of the reader's input. If it reads BER, positions count from the start of the contents.
 impl<
     'a,
     R: Lends<Borrowed = &'a [u8]>,
@@ -174,11 +175,12 @@ impl<'a, T: DecodeItem<SliceReader<'a>>> SequenceOf<'a, T> {
     ///
     /// # Errors
     ///
+    /// Positions count from the start of `octets`.
+    ///
     /// - `Overflow` without a position, if there are more than 4294967295 octets.
-    /// - The errors of decoding the first element that cannot be decoded, as by
-    ///   [`Decode::decode`].
-    /// - `Failed` at the position after an element, if decoding a `T` returns a value but leaves
-    ///   the reader failed.
+    /// - The errors of [`Decode::decode`] for the first element that cannot be decoded.
+    /// - `Failed` at the position after an element, if decoding a `T` returns a value but the
+    ///   reader has failed.
     pub fn new(
         alloc: Global,
         octets: &'a [u8],
@@ -230,15 +232,16 @@ impl<'a, T: Item> SequenceOf<'a, T> {
         self.octets
     }
 
-    /// A walk over the items of the SEQUENCE OF, from the first.
+    /// Returns [`Items`], which decodes the items of the SEQUENCE OF one after the other, from the
+    /// first.
     pub fn items(&self) -> Items<'a, T>
         ensures { rest_of (slice_state result.reader) ≡ self.now.octets.now }
     {
         Items::new(self.octets)
     }
 
-    /// An iterator over the items of the SEQUENCE OF, from the first, for items that do not
-    /// allocate. Decoding such an item does not use `alloc`.
+    /// An iterator over the items of the SEQUENCE OF, from the first. It is for types of items that
+    /// do not allocate; decoding these items does not use `alloc`.
     pub fn iter(&self, alloc: Global) -> Iter<'a, T>
         ensures { rest_of (slice_state result.items.reader) ≡ self.now.octets.now }
     {

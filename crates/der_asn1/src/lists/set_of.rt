@@ -82,10 +82,11 @@ impl<'a, T: Item> ReadValue for SetOf<'a, T> {
 ///
 /// # Errors
 ///
-/// - The errors of reading the contents, as by [`Reader::read_slice`].
-/// - The errors of [`SetOf::new`] for the first item that cannot be decoded or is out of order; the
-///   reader is after the contents and has not failed. If the reader reads DER, their positions
-///   count from the start of the reader's input; if it reads BER, from the start of the contents.
+/// - The errors of [`Reader::read_slice`], which reads the contents.
+/// - The errors of [`SetOf::new`] for the first item that cannot be decoded or is out of order. The
+///   reader is after the contents then, and has not failed. If the reader reads DER, positions
+///   count from the start of the reader's input. If it reads BER, positions count from the start of
+///   the contents.
 impl<
     'a,
     R: Lends<Borrowed = &'a [u8]>,
@@ -173,18 +174,19 @@ impl<'a, T: Item> Nestable for SetOf<'a, T> {
 
 impl<'a, T: DecodeItem<SliceReader<'a>>> SetOf<'a, T> {
     /// Wraps `octets` as the contents of a SET OF. Checks that `octets` are DER encodings of values
-    /// of `T`, one after the other, and that no encoding is less than the encoding before it,
-    /// compared octet by octet.
+    /// of `T`, one after the other. Also checks that no encoding is less than the encoding before
+    /// it, compared octet by octet.
     ///
     /// # Errors
     ///
+    /// Positions count from the start of `octets`.
+    ///
     /// - `Overflow` without a position, if there are more than 4294967295 octets.
-    /// - The errors of decoding the first element that cannot be decoded, as by
-    ///   [`Decode::decode`].
-    /// - `Failed` at the position after an element, if decoding a `T` returns a value but leaves
-    ///   the reader failed.
-    /// - `SetOrdering` at the start of the first element whose encoding is less than that of the
-    ///   element before it.
+    /// - The errors of [`Decode::decode`] for the first element that cannot be decoded.
+    /// - `Failed` at the position after an element, if decoding a `T` returns a value but the
+    ///   reader has failed.
+    /// - `SetOrdering` at the start of the first element whose encoding is less than the encoding
+    ///   of the element before it.
     pub fn new(
         alloc: Global,
         octets: &'a [u8],
@@ -226,15 +228,16 @@ impl<'a, T: Item> SetOf<'a, T> {
         self.elements.octets()
     }
 
-    /// A walk over the items of the SET OF, from the first.
+    /// Returns [`Items`], which decodes the items of the SET OF one after the other, from the
+    /// first.
     pub fn items(&self) -> Items<'a, T>
         ensures { rest_of (slice_state result.reader) ≡ self.now.elements.octets.now }
     {
         self.elements.items()
     }
 
-    /// An iterator over the items of the SET OF, from the first, for items that do not allocate.
-    /// Decoding such an item does not use `alloc`.
+    /// An iterator over the items of the SET OF, from the first. It is for types of items that do
+    /// not allocate; decoding these items does not use `alloc`.
     pub fn iter(&self, alloc: Global) -> Iter<'a, T>
         ensures { rest_of (slice_state result.items.reader) ≡ self.now.elements.octets.now }
     {

@@ -9,7 +9,8 @@ use crate::contents::grammar::ContentsGrammar;
 use crate::defaults::contents::DefaultContents;
 use der::Tag;
 
-/// Describes the contents of a BOOLEAN: `0x00` for false, `0xFF` for true (X.690 8.2, 11.1).
+/// Describes the contents of a BOOLEAN: one octet, which is `0x00` for false and `0xFF` for true
+/// (X.690 8.2, 11.1). Other octets are not valid, not even under BER.
 pub struct BooleanGrammar;
 
 /// A BOOLEAN borrowed from the input.
@@ -39,7 +40,7 @@ impl ContentsGrammar for BooleanGrammar {
 }
 
 impl<'a> Checked<'a, BooleanGrammar> {
-    /// Whether the BOOLEAN is true: its contents octet is `0xFF`.
+    /// Whether the BOOLEAN is true, which means that its contents octet is `0xFF`.
     pub fn is_true(&self) -> bool
         ensures { (result ≡ true) ↔ (self.now.octets.now ≡ 255 ∷ []) }
     {

@@ -11,7 +11,7 @@ pub trait Enumeration: Copy {
 
     ghost number_of: { Self → ℕ };
 
-    /// The item with this number; `None` if no item has it.
+    /// The item with the number `number`, or `None` if no item has this number.
     fn from_number(number: u32) -> Option<Self>
         ensures item { result ≡ item_of number }
         ensures number { IfSome result (λ v. number_of v ≡ number) };

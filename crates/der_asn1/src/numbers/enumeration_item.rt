@@ -1,4 +1,4 @@
-//! Items of an enumeration, and ENUMERATEDs and INTEGERs of them.
+//! INTEGERs and ENUMERATEDs whose values are the items of an enumeration.
 ghost use Rattle.std.specs.Prelude.{◌≡◌, ◌↔◌, IsSome, IfSome, true, false};
 ghost use Rattle.der_asn1.specs.Enumeration.{item_form};
 ghost use Rattle.der_asn1.specs.Integer.{integer_octets};
@@ -8,16 +8,17 @@ use crate::numbers::integer_number::IntegerNumber;
 use crate::numbers::integer_octets::IntegerOctets;
 use crate::numbers::number_of::{EnumeratedOf, IntegerOf, NumberOf};
 
-/// An item of an enumeration, as the number that an INTEGER or an ENUMERATED encodes.
+/// An item of the enumeration `E`, used as the type of the number in an INTEGER or an ENUMERATED:
+/// see [`NamedInteger`] and [`Enumerated`].
 #[derive(Clone, Copy, Debug, PartialEq, Eq)]
 pub struct EnumerationItem<E: Enumeration>(pub E);
 
-/// An ENUMERATED as an item of the enumeration `E` (X.680 20). Reading refuses a number that no item
-/// has.
+/// An ENUMERATED whose value is an item of the enumeration `E` (X.680 20). Decoding fails if no
+/// item has the encoded number.
 pub type Enumerated<E> = EnumeratedOf<EnumerationItem<E>>;
 
-/// An INTEGER as an item of the enumeration `E`, as an INTEGER with named numbers and no others.
-/// Reading refuses a number that no item has.
+/// An INTEGER with named numbers whose value is an item of the enumeration `E`. Decoding fails if
+/// no item has the encoded number.
 pub type NamedInteger<E> = IntegerOf<EnumerationItem<E>>;
 
 impl<E: Enumeration> IntegerNumber for EnumerationItem<E> {
@@ -37,7 +38,7 @@ impl<E: Enumeration> IntegerNumber for EnumerationItem<E> {
 }
 
 impl<E: Enumeration, const ENUMERATED: bool> NumberOf<EnumerationItem<E>, ENUMERATED> {
-    /// The INTEGER or ENUMERATED of this item.
+    /// The INTEGER or ENUMERATED that encodes `item`.
     pub fn new(item: E) -> Self
         ensures { result.number.0 ≡ item }
     {

@@ -1,4 +1,4 @@
-//! Numbers with bounds, and INTEGERs of them.
+//! Numbers within bounds, and the INTEGERs that encode them.
 ghost use Rattle.std.specs.Prelude.{◌≡◌, ◌↔◌, true, false, IsSome, IfSome};
 ghost use Rattle.der_asn1.specs.Integer.{integer_octets};
 ghost use Rattle.der_asn1.specs.Ranges.{IsWithin, range_form};
@@ -14,12 +14,12 @@ pub struct InRange<const MIN: u64, const MAX: u64> {
     ghost within: { IsWithin MIN MAX number },
 }
 
-/// An INTEGER with bounds, as `INTEGER (MIN..MAX)` (X.680 51.4). Reading refuses a number that is
-/// out of the bounds.
+/// An INTEGER with bounds, as `INTEGER (MIN..MAX)` (X.680 51.4). Decoding fails if the number is
+/// less than `MIN` or greater than `MAX`.
 pub type IntegerIn<const MIN: u64, const MAX: u64> = IntegerOf<InRange<MIN, MAX>>;
 
 impl<const MIN: u64, const MAX: u64> InRange<MIN, MAX> {
-    /// The value of this number; `None` if it is below `MIN` or above `MAX`.
+    /// Wraps `number`; `None` if it is less than `MIN` or greater than `MAX`.
     pub fn new(number: u64) -> Option<Self>
         ensures some { IsSome result ↔ IsWithin MIN MAX number }
         ensures same { IfSome result (λ v. v.number ≡ number) }
@@ -31,8 +31,8 @@ impl<const MIN: u64, const MAX: u64> InRange<MIN, MAX> {
         }
     }
 
-    /// The value of a number that is known to be within the bounds, such as a constant. The caller
-    /// must ensure that it is.
+    /// Wraps a number that is known to be within the bounds, such as a constant. The caller must
+    /// ensure that the number is within the bounds.
     pub fn known(number: u64) -> Self
         requires { IsWithin MIN MAX number }
         ensures { result.number ≡ number }
@@ -40,7 +40,7 @@ impl<const MIN: u64, const MAX: u64> InRange<MIN, MAX> {
         InRange { number }
     }
 
-    /// The number.
+    /// Returns the wrapped number.
     pub fn get(&self) -> u64
         ensures value { result ≡ self.now.number }
         ensures within { IsWithin MIN MAX result }
@@ -64,7 +64,8 @@ impl<const MIN: u64, const MAX: u64> IntegerNumber for InRange<MIN, MAX> {
 }
 
 impl<const MIN: u64, const MAX: u64> IntegerOf<InRange<MIN, MAX>> {
-    /// The INTEGER of this number; `None` if the number is below `MIN` or above `MAX`.
+    /// The INTEGER that encodes `number`; `None` if `number` is less than `MIN` or greater than
+    /// `MAX`.
     pub fn new(number: u64) -> Option<Self>
         ensures some { IsSome result ↔ IsWithin MIN MAX number }
         ensures same { IfSome result (λ v. v.number.number ≡ number) }
@@ -73,8 +74,8 @@ impl<const MIN: u64, const MAX: u64> IntegerOf<InRange<MIN, MAX>> {
         Some(IntegerOf { number })
     }
 
-    /// The INTEGER of a number that is known to be within the bounds, such as a constant. The
-    /// caller must ensure that it is.
+    /// The INTEGER that encodes a number that is known to be within the bounds, such as a constant.
+    /// The caller must ensure that the number is within the bounds.
     pub fn known(number: u64) -> Self
         requires { IsWithin MIN MAX number }
         ensures { result.number.number ≡ number }

@@ -10,7 +10,8 @@ use crate::contents::grammar::ContentsGrammar;
 use crate::numbers::integer::IntegerGrammar;
 use crate::numbers::integer_octets::{IntegerOctets, turned_octet};
 
-/// Types of numbers that are encoded as an INTEGER (X.690 8.3): `u8`, `u32`, `u64` and `i64`.
+/// Types of numbers that are encoded as an INTEGER (X.690 8.3): `u8`, `u32`, `u64`, `i64`, numbers
+/// within bounds, and items of an enumeration.
 ///
 /// Ghost members (for proofs only): `grammar` says which octets are the INTEGER contents of a
 /// number of this type; `contents_of` gives the contents octets of each number.

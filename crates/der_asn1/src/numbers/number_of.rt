@@ -19,19 +19,21 @@ use der::{
 };
 use std::alloc::Global;
 
-/// An INTEGER, or an ENUMERATED if `ENUMERATED`, in the range of a number type: `u8`, `u32`, `u64` or
-/// `i64`, or the items of an enumeration (see [`Enumerated`](crate::Enumerated)). See [`IntegerOf`] and
-/// [`EnumeratedOf`].
+/// An INTEGER, or an ENUMERATED if `ENUMERATED` is true, whose value is a number of type `N`. The
+/// type `N` is `u8`, `u32`, `u64`, `i64`, a number within bounds (see [`InRange`](crate::InRange)),
+/// or an item of an enumeration (see [`Enumerated`](crate::Enumerated)). [`IntegerOf`] and
+/// [`EnumeratedOf`] are shorter names.
 #[derive(Clone, Copy)]
 pub struct NumberOf<N: IntegerNumber, const ENUMERATED: bool> {
-    /// The number that the value encodes.
+    /// The number that the INTEGER or ENUMERATED encodes.
     pub number: N,
 }
 
-/// An INTEGER in the range of a number type.
+/// An INTEGER whose value is a number of type `N`. Decoding fails if the value does not fit in `N`.
 pub type IntegerOf<N> = NumberOf<N, false>;
 
-/// An ENUMERATED in the range of a number type.
+/// An ENUMERATED whose value is a number of type `N`. Decoding fails if the value does not fit in
+/// `N`.
 pub type EnumeratedOf<N> = NumberOf<N, true>;
 
 // The tag INTEGER or ENUMERATED.
@@ -85,10 +87,10 @@ impl<N: IntegerNumber, const ENUMERATED: bool> ReadValue for NumberOf<N, ENUMERA
 ///
 /// # Errors
 ///
-/// - The errors of reading the contents, as by [`Reader::read_slice`].
-/// - `Value` with the tag of the type, at the position after the contents, if no number of type `N`
-///   has these contents: they are empty or not the shortest, or their number is not one of `N`. The
-///   reader has failed then.
+/// - The errors of [`Reader::read_slice`], which reads the contents.
+/// - `Value` with the tag of the type, at the position after the contents, if the contents are
+///   empty, are not the shortest, or encode a number that is not one of `N`. The reader has failed
+///   then.
 impl<'a, N: IntegerNumber, const ENUMERATED: bool, R: Lends<Borrowed = &'a [u8]>> DecodeValue<R>
     for NumberOf<N, ENUMERATED> {
     type Error = Error;

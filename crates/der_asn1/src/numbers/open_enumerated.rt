@@ -1,14 +1,15 @@
-//! ENUMERATEDs that may have items of later versions of their module.
+//! ENUMERATEDs with an extension mark, whose value may be an item of a later version of the module.
 ghost use Rattle.std.specs.Prelude.{◌≡◌, pos};
 ghost use Rattle.der_asn1.specs.Enumeration.{item_with_number};
 
 use crate::numbers::enumeration::Enumeration;
 use crate::numbers::number_of::EnumeratedOf;
 
-/// An ENUMERATED with an extension mark is read as a number, so that a number which no item has, as
-/// that of an item of a later version of the module (X.680 20.1), is kept and written again.
+/// Conversions between an ENUMERATED with an extension mark (X.680 20.1) and its items. Such an
+/// ENUMERATED is read as a number. A number that only a later version of the module defines is
+/// kept, and can be written again.
 impl EnumeratedOf<i64> {
-    /// The ENUMERATED of this item.
+    /// The ENUMERATED that encodes `item`.
     pub fn of_item<E: Enumeration>(item: E) -> Self
         ensures { result.number ≡ pos (E.number_of item) }
     {
@@ -17,8 +18,8 @@ impl EnumeratedOf<i64> {
         }
     }
 
-    /// The item of the enumeration `E` that the ENUMERATED encodes; `None` if no item has its
-    /// number.
+    /// The item of the enumeration `E` that the ENUMERATED encodes, or `None` if no item of `E` has
+    /// the encoded number.
     pub fn known_item<E: Enumeration>(&self) -> Option<E>
         ensures { result ≡ item_with_number E.item_of self.now.number }
     {

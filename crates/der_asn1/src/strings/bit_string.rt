@@ -8,10 +8,9 @@ use crate::contents::checked::Checked;
 use crate::contents::grammar::ContentsGrammar;
 use der::Tag;
 
-/// Describes the contents of a BIT STRING: one octet that gives the number of unused bits, from 0
-/// to 7, then the octets that hold the bits. The unused bits are the last bits of the last octet;
-/// they must be zero (X.690 8.6.2, 11.2.1). If no octets hold bits, the number of unused bits must
-/// be 0.
+/// Describes the contents of a BIT STRING. The first octet is the number of unused bits, from 0 to
+/// 7. The other octets hold the bits. The unused bits are the last bits of the last octet, and must
+/// be zero (X.690 8.6.2, 11.2.1). If no octets hold bits, the number of unused bits must be 0.
 pub struct BitStringGrammar;
 
 /// A BIT STRING borrowed from the input. The first contents octet is the number of unused bits.

@@ -20,8 +20,8 @@ use der::{
 use std::alloc::Global;
 
 /// A `BIT STRING (CONTAINING T)` (X.682 11): the bits are the whole encoding of a value of `T`, so
-/// no bits are unused. Its contents take one level of nesting more than those of `T`, so `T` must
-/// be [`Nestable`]. Under BER too the BIT STRING must be primitive.
+/// no bits are unused. The BIT STRING has one more level of nesting than its contained value, so
+/// `T` must be [`Nestable`]. The BIT STRING must be primitive, also under BER.
 #[derive(Clone, Copy, Debug, Drop, PartialEq, Eq)]
 pub struct BitStringOf<T>(pub T);
 
@@ -50,16 +50,17 @@ impl<T: ReadValue + FixedTag> ReadValue for BitStringOf<T> {
     ghost takes_valid = { bits_of_hold (λ v. v.0) T.takes_valid };
 }
 
-/// Reads the number of unused bits, and then the inner element, which is all other octets.
+/// Reads the number of unused bits, and then the inner element. The inner element must be all
+/// octets after the first one.
 ///
 /// # Errors
 ///
-/// - The errors of reading the first octet, as by
-///   [`ReaderExt::read_byte`](der::ReaderExt::read_byte).
-/// - `Value` with the tag BIT STRING, at the position after the first octet, if this is not zero;
-///   the reader has failed then.
-/// - The errors of decoding the inner element (the element of the value of type `T`), as by
-///   [`decode_tlv`](der::decode_tlv).
+/// - The errors of [`ReaderExt::read_byte`](der::ReaderExt::read_byte), which reads the first
+///   octet.
+/// - `Value` with the tag BIT STRING, at the position after the first octet, if the first octet is
+///   not zero. The reader has failed then.
+/// - The errors of [`decode_tlv`](der::decode_tlv) for the inner element, which is the element of
+///   the value of type `T`.
 impl<R: Lends, T: DecodeValue<R, Error = Error> + FixedTag> DecodeValue<R> for BitStringOf<T> {
     type Error = Error;
 
@@ -90,13 +91,13 @@ impl<T: WrittenValue + FixedTag> WrittenValue for BitStringOf<T> {
     ghost writable = { λ v. T.writable v.0 };
 }
 
-/// Writes a zero, and then the inner element.
+/// Writes a zero octet, and then the inner element.
 ///
 /// # Errors
 ///
-/// The errors of encoding the inner element (the element of the value of type `T`). `value_len`
-/// also fails with `Overflow` without a position, if there are more than 4294967295 contents
-/// octets.
+/// - The errors of encoding the inner element, which is the element of the value of type `T`.
+/// - `value_len` returns `Overflow` without a position, if there are more than 4294967295 contents
+///   octets.
 impl<T: EncodeValue + FixedTag> EncodeValue for BitStringOf<T> {
     ghost value_size = { λ v. fields_size (AnOk (definite_length 1))
         (element_size T.tag_is (T.value_size v.0)) };

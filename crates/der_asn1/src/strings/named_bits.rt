@@ -12,9 +12,9 @@ use crate::contents::grammar::ContentsGrammar;
 use crate::strings::bit_string::BitStringGrammar;
 use der::Tag;
 
-/// Describes the contents of a BIT STRING with named bits: those of a BIT STRING whose last bit is
-/// one, or that has no bits. DER removes trailing zero bits, because a bit that is absent is zero
-/// (X.680 22.7, X.690 11.2.2).
+/// Describes the contents of a BIT STRING with named bits: a BIT STRING whose last bit is one, or
+/// which has no bits. DER removes trailing zero bits, because a bit that is absent is zero (X.680
+/// 22.7, X.690 11.2.2).
 pub struct NamedBitsGrammar;
 
 /// A BIT STRING with named bits, borrowed from the input. The first contents octet is the number of
@@ -51,8 +51,9 @@ impl<'a> Checked<'a, NamedBitsGrammar> {
         at < octets.len() && (octets[at] >> (7 - number % 8)) % 2 == 1
     }
 
-    /// The number of bits, without trailing zero bits: 0, or one more than the number of the last
-    /// bit that is one. `None` if there are more than 4294967295 contents octets.
+    /// The number of bits, without trailing zero bits. This is 0 if there are no bits; otherwise it
+    /// is one more than the number of the last bit that is one. Returns `None` if there are more
+    /// than 4294967295 contents octets.
     pub fn bit_count(&self) -> Option<u64>
         ensures { SomeIff result (length self.now.octets.now < 2 ^ 32)
             (bit_count self.now.octets.now) }

@@ -17,8 +17,8 @@ pub enum NoUnusedBits {
 /// # Errors
 ///
 /// - The errors of [`ReaderExt::read_byte`].
-/// - `Value` with the tag BIT STRING, at the position after the octet, if this is not zero; the
-///   reader has failed then.
+/// - `Value` with the tag BIT STRING, at the position after the octet, if the octet is not zero.
+///   The reader has failed then.
 impl<R: Lends> Decode<R> for NoUnusedBits {
     type Error = Error;
 
@@ -43,7 +43,7 @@ impl<R: Lends> Decode<R> for NoUnusedBits {
     }
 }
 
-/// Writes a zero.
+/// Writes a zero octet.
 ///
 /// # Errors
 ///

@@ -18,8 +18,8 @@ use der::{
 use std::alloc::Global;
 
 /// An `OCTET STRING (CONTAINING T)` (X.682 11): the contents octets are the whole encoding of a
-/// value of `T`. Its contents take one level of nesting more than those of `T`, so `T` must be
-/// [`Nestable`]. Under BER too the OCTET STRING must be primitive.
+/// value of `T`. The OCTET STRING has one more level of nesting than its contained value, so `T`
+/// must be [`Nestable`]. The OCTET STRING must be primitive, also under BER.
 #[derive(Clone, Copy, Debug, Drop, PartialEq, Eq)]
 pub struct OctetStringOf<T>(pub T);
 
@@ -48,12 +48,12 @@ impl<T: ReadValue + FixedTag> ReadValue for OctetStringOf<T> {
     ghost takes_valid = { explicit_holds (λ v. v.0) T.takes_valid };
 }
 
-/// Decodes the inner element, which is all of the contents.
+/// Decodes the inner element, which must be all of the contents.
 ///
 /// # Errors
 ///
-/// The errors of decoding the inner element (the element of the value of type `T`), as by
-/// [`decode_tlv`](der::decode_tlv).
+/// The errors of [`decode_tlv`](der::decode_tlv) for the inner element, which is the element of the
+/// value of type `T`.
 impl<R: Lends, T: DecodeValue<R> + FixedTag> DecodeValue<R> for OctetStringOf<T> {
     type Error = <T as DecodeValue<R>>::Error;
 
@@ -90,7 +90,7 @@ impl<T: WrittenValue + FixedTag> WrittenValue for OctetStringOf<T> {
 ///
 /// # Errors
 ///
-/// The errors of encoding the inner element (the element of the value of type `T`).
+/// The errors of encoding the inner element, which is the element of the value of type `T`.
 impl<T: EncodeValue + FixedTag> EncodeValue for OctetStringOf<T> {
     ghost value_size = { λ v. element_size T.tag_is (T.value_size v.0) };
 

@@ -12,8 +12,8 @@ use crate::strings::printable_string::PrintableStringGrammar;
 use crate::strings::utf8_string::Utf8StringGrammar;
 use crate::strings::visible_string::VisibleStringGrammar;
 
-/// Grammars of string types whose contents octets are characters in UTF-8: that of UTF8String, and
-/// those of the types whose characters are all of ASCII.
+/// Grammars of string types whose contents octets are characters in UTF-8: UTF8String, and the
+/// string types that have ASCII characters only.
 ///
 /// Ghost member (for proofs only): `is_text` proves that valid contents are characters in UTF-8.
 pub trait TextGrammar: ContentsGrammar {

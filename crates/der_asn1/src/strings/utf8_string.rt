@@ -37,7 +37,7 @@ impl ContentsGrammar for Utf8StringGrammar {
 }
 
 impl<'a> Checked<'a, Utf8StringGrammar> {
-    /// The UTF8String with these characters.
+    /// The UTF8String whose characters are the characters of `text`.
     pub fn from_text(text: &'a str) -> Self
         ensures { result.octets.now ≡ text.now }
     {

@@ -20,8 +20,8 @@ pub struct DateTime {
 }
 
 impl DateTime {
-    /// Whether the date exists, the year is below 10000, and the time of day exists. Second 60, a
-    /// leap second, does not exist here.
+    /// Whether the year is at most 9999, the date exists, and the time of day exists. Second 60, a
+    /// leap second, is not valid.
     pub fn is_valid(&self) -> bool
         ensures { result ≡ is_date_time self.now }
     {

@@ -10,12 +10,13 @@ use crate::times::date_time::DateTime;
 use crate::times::fraction::{after_seconds, ends_seconds, nanoseconds, seconds_from};
 use der::Tag;
 
-/// Describes the contents of a GeneralizedTime that may have a fraction of a second (X.690 11.7): the
-/// format YYYYMMDDHHMMSSZ, or YYYYMMDDHHMMSS.fZ with one or more digits, the last of which is not 0.
+/// Describes the contents of a GeneralizedTime that may have a fraction of a second (X.690 11.7).
+/// The format is YYYYMMDDHHMMSSZ, or YYYYMMDDHHMMSS.fZ, where `f` stands for one or more digits of
+/// which the last is not 0.
 pub struct FractionalTimeGrammar;
 
-/// A GeneralizedTime that may have a fraction of a second, borrowed from the input. The time of a
-/// timestamp is one (RFC 3161, 2.4.2).
+/// A GeneralizedTime that may have a fraction of a second, borrowed from the input. The time in a
+/// timestamp is an example (RFC 3161, 2.4.2).
 pub type FractionalTimeRef<'a> = Checked<'a, FractionalTimeGrammar>;
 
 impl ContentsGrammar for FractionalTimeGrammar {

@@ -1,4 +1,4 @@
-//! Contents of times.
+//! Formats of the contents octets of UTCTime and GeneralizedTime.
 ghost use Rattle.std.specs.Prelude.{◌≡◌, ◌↔◌, ◌^◌, ◌<◌, ℕ, Bool, true, List, drop, IsSome, IfSome};
 ghost use Rattle.der.specs.Prelude.{Tag as ATag};
 ghost use Rattle.der.specs.Tag.{label};

@@ -1,4 +1,4 @@
-//! Times in one of the formats.
+//! Times that are encoded as a UTCTime or a GeneralizedTime.
 ghost use Rattle.std.specs.Prelude.{◌≡◌, ◌<◌, ◌↔◌, ⊤, true, false, IsSome, IfSome};
 ghost use Rattle.std.proofs.Common.{arith, subst, sym};
 ghost use Rattle.der_asn1.specs.Checked.{HasCheckedContents, AcceptsCheckedContents, CheckedContentsRead, contents_size};
@@ -16,7 +16,7 @@ use der::{
 use std::alloc::{AllocError, Global};
 use std::marker::PhantomData;
 
-/// A time that can be written in the format `F`.
+/// A time that is encoded in the format `F`, as a UTCTime or a GeneralizedTime.
 pub struct TimeOf<F: TimeFormat> {
     time: DateTime,
     grammar: PhantomData<F>,
@@ -92,9 +92,9 @@ impl<F: TimeFormat> ReadValue for TimeOf<F> {
 ///
 /// # Errors
 ///
-/// - The errors of reading the contents, as by [`Reader::read_slice`].
+/// - The errors of [`Reader::read_slice`], which reads the contents.
 /// - `Value` with the tag of the type, at the position after the contents, if the contents are not
-///   those of a time in the format `F`; the reader has failed then.
+///   a time in the format `F`. The reader has failed then.
 impl<'a, F: TimeFormat, R: Lends<Borrowed = &'a [u8]>> DecodeValue<R> for TimeOf<F> {
     type Error = Error;
 

@@ -18,7 +18,7 @@ const LAST: i64 = 253402300799;
 
 impl DateTime {
     /// The seconds from 1970-01-01T00:00:00Z to this time, without leap seconds, as POSIX counts
-    /// them. A time before 1970 has a negative number.
+    /// them. The result is negative for a time before 1970.
     pub fn unix_seconds(&self) -> i64
         requires { is_date_time self.now ≡ true }
         ensures { result ≡ unix_seconds self.now }
@@ -30,8 +30,8 @@ impl DateTime {
         (days as i64 - EPOCH) * SECONDS_OF_DAY + seconds as i64
     }
 
-    /// The time that is `seconds` after 1970-01-01T00:00:00Z, or before it if `seconds` is negative;
-    /// `None` if its year is not from 0 to 9999.
+    /// The time that is `seconds` after 1970-01-01T00:00:00Z, or before it if `seconds` is
+    /// negative. Returns `None` if the year of the time is not from 0 to 9999.
     pub fn from_unix_seconds(seconds: i64) -> Option<Self>
         ensures some { IfSome result (λ t. (is_date_time t ≡ true) × (unix_seconds t ≡ seconds)) }
         ensures none { IfNone result ((seconds <ℤ negsuc 62167219199)

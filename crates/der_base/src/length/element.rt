@@ -23,8 +23,8 @@ impl Length {
     }
 
     /// The number of octets that encode the length in the definite form (X.690 8.1.3, 10.1), 1 to
-    /// 5. A length up to 127 needs one octet. A greater length needs one octet, and one more for
-    /// each of its base-256 digits. An indefinite `self` gives the same result as the definite
+    /// 5. A length up to 127 takes one octet. A greater length takes one octet, and one more for
+    /// each of its digits in base 256. An indefinite `self` gives the same result as the definite
     /// length of as many octets.
     pub const fn octet_count(self) -> u32
         ensures octets { result ≡ length (length_octets (number self)) }

@@ -1,4 +1,4 @@
-//! Making and finishing a reader in C.
+//! Making and finishing a reader, for C.
 ghost use Rattle.std.specs.Prelude.{◌≡◌, ◌^◌, ◌<◌, ◌≤◌, ◌↔◌, IsTrue, Ok, Err, Result as AResult};
 ghost use Rattle.std.specs.Prelude.{length};
 ghost use Rattle.der_base.specs.Error.{error_of_kind};
@@ -13,11 +13,11 @@ use crate::reader::DerReader;
 use der_base::ErrorKind;
 use der_core::Reader;
 
-/// Makes `reader` a reader of `octets` from their start, under the Basic Encoding Rules if `ber` is
-/// true, otherwise under the Distinguished Encoding Rules.
+/// Makes `reader` a reader of `octets`, from their start. If `ber` is true, the reader reads under
+/// the Basic Encoding Rules, otherwise under the Distinguished Encoding Rules.
 ///
-/// Fails with `Overflow` without a position if there are more than 4294967295 octets; `reader` is
-/// unchanged then.
+/// Fails with `Overflow` without a position if there are more than 4294967295 octets. `reader` is
+/// unchanged after this error.
 #[inline(always)]
 pub fn der_reader_init<'a>(octets: &'a [u8], ber: bool, reader: &mut DerReader<'a>) -> DerError
     ensures made { length octets.now < 2 ^ 32
@@ -40,7 +40,7 @@ pub fn der_reader_init<'a>(octets: &'a [u8], ber: bool, reader: &mut DerReader<'
     DerError::NONE
 }
 
-/// Returns true if `reader` is at the end of the octets that it reads, whether or not it has
+/// Returns true if `reader` is at the end of its octets. It does not matter whether `reader` has
 /// failed.
 #[inline(always)]
 pub fn der_is_finished(reader: &DerReader<'_>) -> bool
@@ -57,10 +57,12 @@ pub fn der_position(reader: &DerReader<'_>) -> usize
     reader.position
 }
 
-/// Succeeds if the reader is at its end and has not failed.
+/// Succeeds if `reader` is at its end and has not failed. `reader` is unchanged.
 ///
-/// Fails with `Failed` if the reader has failed, and with `TrailingData` if octets are left. The
-/// position of the error is that of the reader.
+/// Each error is at the position of `reader`. Fails with:
+///
+/// - `Failed`, if `reader` has failed;
+/// - `TrailingData`, if octets are left.
 #[inline(always)]
 pub fn der_finish(reader: &DerReader<'_>) -> DerError
     ensures { result ≡ answer_code (finish_answer (reader_state reader.now)) }

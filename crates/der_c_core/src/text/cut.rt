@@ -1,4 +1,4 @@
-//! Texts in a buffer, truncated where the buffer ends.
+//! The buffer for a text. A text that is too long is truncated.
 ghost use Rattle.std.specs.Prelude.{◌≤◌, length};
 
 /// A buffer into which a text is written. The first `count` octets of the buffer `octets` are the

@@ -1,12 +1,16 @@
-//! The parts around a reader that walks a tree.
+//! The elements around a reader while it reads a tree.
 ghost use Rattle.std.specs.Prelude.{◌≤◌};
 
 // how many levels of nested parts are entered
 pub(crate) const LEVELS: usize = 32;
 
-/// The nested parts that enclose the position of the reader, the outermost first. For the part at
-/// index `i`, `ends[i]` is the end to restore when the part is left, and `following[i]` is the
-/// position after the part, at which the reader then continues.
+/// The constructed elements whose contents the reader has entered, the outermost first. For the
+/// element at index `i`:
+///
+/// - `ends[i]` is the position at which the reader ended before it entered the element;
+/// - `following[i]` is the position after the element, at which the reader will continue.
+///
+/// Positions are in octets from the start of the input.
 #[derive(Drop)]
 pub(crate) struct Around {
     pub(crate) ends: [u32; 32],

@@ -1,4 +1,4 @@
-//! A reader that enters and leaves parts.
+//! Reading the elements of a tree: entering and leaving the contents of constructed elements.
 ghost use Rattle.std.specs.Prelude.{◌≡◌, ◌+◌, ◌<◌, ◌≤◌, List, [], ◌∷◌, length};
 ghost use Rattle.der_core.specs.ReaderState.{ReaderState, Same};
 ghost use Rattle.der_c_core.specs.CReader.{reader_state};
@@ -12,8 +12,9 @@ use crate::short::short_element;
 use crate::tree::around::{Around, LEVELS};
 use der_core::Reader;
 
-/// Leaves, from the innermost outwards, each nested part whose end the reader has reached, and
-/// removes it from `around`. Changes nothing if the reader is before the end of the innermost part.
+/// Leaves each entered element whose end `reader` has reached, from the innermost outwards, and
+/// removes it from `around`. Changes nothing if `reader` is before the end of the innermost entered
+/// element.
 #[inline(always)]
 pub(crate) fn climb(reader: &mut DerReader<'_>, around: &mut Around)
     requires parts { AreAround around.old (reader_state reader.old) }
@@ -42,8 +43,7 @@ fn leave(reader: &mut DerReader<'_>, around: &mut Around)
     reader.end = around.ends[level];
 }
 
-/// Reads the next element. Nothing changes if there is an error: `reader` is not used any more then.
-/// What is not inlined works on copies, so that the compiler may keep `reader` in registers.
+/// Reads the next element into `element`. A call that fails changes neither `reader` nor `element`.
 #[inline(always)]
 pub(crate) fn read_next<'a>(reader: &mut DerReader<'a>, element: &mut DerElement<'a>) -> DerError
     ensures same { Same (reader_state reader.old) (reader_state reader.new) }
@@ -76,9 +76,9 @@ fn read_on_copies<'a>(reader: &mut DerReader<'a>, element: &mut DerElement<'a>) 
     DerError::NONE
 }
 
-/// Enters the contents of `element`, which must be the element that `reader` has just read: moves
-/// `reader` to the start of these contents, and adds `element` to `around`. Changes nothing if
-/// `element` is primitive, or if 32 other elements enclose it.
+/// Enters the contents of `element`, which must be the element that `reader` has just read. Moves
+/// `reader` to the start of the contents, and adds `element` to `around`. Changes nothing if
+/// `element` is primitive, or if `around` already has 32 elements.
 #[inline(always)]
 pub(crate) fn look_into(reader: &mut DerReader<'_>, around: &mut Around, element: &DerElement<'_>)
     requires parts { AreAround around.old (reader_state reader.old) }

@@ -1,4 +1,4 @@
-//! Writing, in C.
+//! Making a writer, and writing with it, for C.
 ghost use Rattle.std.specs.Prelude.{◌≡◌, length};
 ghost use Rattle.der_core.specs.Writer.{fresh_state, Writes};
 ghost use Rattle.der_core.specs.Encode.{header_outcome};
@@ -13,8 +13,8 @@ use crate::writer::{DerWriter, refusal};
 use der_base::{Error, ErrorKind, Length, Tag};
 use der_core::{Encode, Header, Writer};
 
-/// Makes `writer` a writer into `octets`, from their start. `writer` writes at most 4294967295
-/// octets, even if there are more `octets`.
+/// Makes `writer` a writer into the buffer `octets`, from the start of the buffer. `writer` writes
+/// at most 4294967295 octets, even if the buffer has more.
 #[inline(always)]
 pub fn der_writer_init<'a>(octets: &'a mut [u8], writer: &mut DerWriter<'a>)
     ensures fresh { writer_state writer.new ≡ fresh_state octets.old octets.entry.ghost_name }
@@ -28,7 +28,7 @@ pub fn der_writer_init<'a>(octets: &'a mut [u8], writer: &mut DerWriter<'a>)
     };
 }
 
-/// How many octets `writer` has written.
+/// The number of octets that `writer` has written.
 #[inline(always)]
 pub fn der_written(writer: &DerWriter<'_>) -> usize
     ensures { result ≡ length (writer_state writer.now).octets }
@@ -38,8 +38,11 @@ pub fn der_written(writer: &DerWriter<'_>) -> usize
 
 /// Writes `octets` unchanged.
 ///
-/// A call that fails writes nothing, and `writer` has failed after it. Fails with `Failed`,
-/// `Overflow` and `Overlength`, as `der_core::Writer::write` does.
+/// A call that fails writes nothing, and `writer` has failed after it. Fails with:
+///
+/// - `Failed` at the position of `writer`, if `writer` had already failed;
+/// - `Overflow` at the position of `writer`, if `octets` would end after position 4294967295;
+/// - `Overlength` at the position at which `octets` would end, if the buffer has too little space.
 #[inline(always)]
 pub fn der_write(writer: &mut DerWriter<'_>, octets: &[u8]) -> DerError
     ensures writes { WritesOctets octets.now (writer_state writer.old) result (writer_state writer.new) }
@@ -48,13 +51,14 @@ pub fn der_write(writer: &mut DerWriter<'_>, octets: &[u8]) -> DerError
     code(writer.write(octets))
 }
 
-/// Writes the header of an element with the tag `tag` and `length` octets of contents.
+/// Writes the header of an element. The element has the tag word `tag` and `length` octets of
+/// contents. The tag word is the first octet of the identifier, plus 256 times the tag number if
+/// the number is 31 or more.
 ///
-/// After a call that fails, `writer` has failed. Such a call may have written the first octets of
-/// the header; they remain. Fails with:
+/// After a call that fails, `writer` has failed. A call that fails may have written the first
+/// octets of the header, which remain. Fails with:
 ///
-/// - `TagNumberInvalid` without a position, if `tag` is not a valid tag word (the first octet of
-///   the identifier, plus 256 times the tag number if that is 31 or more) and `writer` has not
+/// - `TagNumberInvalid` without a position, if `tag` is not a valid tag word and `writer` had not
 ///   failed;
 /// - the errors of [`der_write`].
 #[inline(always)]
@@ -95,14 +99,14 @@ pub(crate) fn encode_header(writer: &mut DerWriter<'_>, tag: Tag, length: u32) -
     answer
 }
 
-/// Writes an element: a header with the tag `tag`, a word as [`der_write_header`] takes it, and
-/// then `contents`.
+/// Writes an element: a header with the tag word `tag` (see [`der_write_header`]), and then
+/// `contents`.
 ///
-/// After a call that fails, `writer` has failed. Such a call may have written the header or its
-/// first octets; they remain. Fails with:
+/// After a call that fails, `writer` has failed. A call that fails may have written the header or
+/// its first octets, which remain. Fails with:
 ///
-/// - `Overflow` without a position, if there are more than 4294967295 octets of contents and `writer`
-///   has not failed;
+/// - `Overflow` without a position, if there are more than 4294967295 octets of contents and
+///   `writer` had not failed;
 /// - the errors of [`der_write_header`] and [`der_write`].
 #[inline(always)]
 pub fn der_write_element(writer: &mut DerWriter<'_>, tag: u64, contents: &[u8]) -> DerError
@@ -135,14 +139,14 @@ fn element_slowly(writer: &mut DerWriter<'_>, tag: u64, contents: &[u8]) -> DerE
     }
 }
 
-/// Sets `count` to the number of octets of a whole element, header and contents, with the tag `tag`
-/// and `length` octets of contents.
+/// Sets `count` to the number of octets of an element, header and contents. The element has the tag
+/// word `tag` and `length` octets of contents. The tag word is the first octet of the identifier,
+/// plus 256 times the tag number if the number is 31 or more.
 ///
 /// A call that fails leaves `count` unchanged. Fails with:
 ///
-/// - `TagNumberInvalid` without a position, if `tag` is not a valid tag word (the first octet of
-///   the identifier, plus 256 times the tag number if that is 31 or more);
-/// - `Overflow` without a position, if the element has more than 4294967295 octets.
+/// - `TagNumberInvalid` without a position, if `tag` is not a valid tag word;
+/// - `Overflow` without a position, if the element would have more than 4294967295 octets.
 #[inline(always)]
 pub fn der_element_length(tag: u64, length: u32, count: &mut u32) -> DerError
     ensures { Measures tag length result count.old count.new }

@@ -1,4 +1,4 @@
-//! Elements that are written with a begin and an end, in C.
+//! Writing elements whose length is not known before their contents are written, for C.
 ghost use Rattle.std.specs.Prelude.{◌≡◌, ◌+◌, ◌^◌, ◌<◌, ◌≤◌, length};
 ghost use Rattle.der_core.specs.Writer.{failed_state};
 ghost use Rattle.der_c_core.specs.CWriter.{writer_state, KeepsOpen};
@@ -14,13 +14,12 @@ use crate::writer::{DerWriter, refusal};
 use der_base::{ErrorKind, Length};
 use der_core::Encode;
 
-/// Begins an element with the tag `tag`: writes its header, with one octet reserved for the length,
-/// and sets `mark` to where its contents begin. All octets that are written after this call and
-/// before [`der_end`] are its contents.
+/// Begins an element with the tag word `tag` (see `DerElement::tag`). Writes its header, with one
+/// octet reserved for the length, and sets `mark` to the position at which its contents begin. All
+/// octets that are written between this call and [`der_end`] are its contents.
 ///
-/// A call that fails leaves `mark` unchanged, and `writer` has failed after it. Fails with
-/// `TagNumberInvalid`, `Failed`, `Overflow` and `Overlength`, as
-/// [`der_write_header`](crate::der_write_header) does.
+/// A call that fails leaves `mark` unchanged, and `writer` has failed after it. Fails with the
+/// errors of [`der_write_header`](crate::der_write_header).
 #[inline(always)]
 pub fn der_begin(writer: &mut DerWriter<'_>, tag: u64, mark: &mut DerMark) -> DerError
     ensures { BeginsElement tag writer.old result mark.old mark.new writer.new }
@@ -72,9 +71,10 @@ fn open_element(writer: &mut DerWriter<'_>, mark: &mut DerMark)
 /// A call that fails moves and writes nothing, and `writer` has failed after it. Fails with:
 ///
 /// - `Failed` at the position of `writer`, if `writer` had already failed;
-/// - kind 23 at the position of `writer`, if the element is not the innermost open element;
-/// - `Overlength` or `Overflow`, as by [`der_write`](crate::der_write), if the length needs more
-///   octets and there is no space for them.
+/// - kind 23 (`DER_UNBALANCED`) at the position of `writer`, if the element is not the innermost
+///   open element;
+/// - the errors `Overlength` and `Overflow` of [`der_write`](crate::der_write), if the length needs
+///   more octets and there is no space for them.
 #[inline(always)]
 pub fn der_end(writer: &mut DerWriter<'_>, mark: &DerMark) -> DerError
     ensures { EndsElement mark.now writer.old result writer.new }
@@ -116,10 +116,10 @@ fn unbalanced(writer: &mut DerWriter<'_>) -> DerError
 
 /// Succeeds if `writer` has not failed and no element is open.
 ///
-/// The position of each error is that of `writer`, the number of octets written. Fails with:
+/// The position of each error is the number of octets written. Fails with:
 ///
 /// - `Failed`, if `writer` has failed;
-/// - kind 23, if an element was begun and not ended.
+/// - kind 23 (`DER_UNBALANCED`), if an element was begun and not ended.
 #[inline(always)]
 pub fn der_writer_finish(writer: &DerWriter<'_>) -> DerError
     ensures { FinishesWriting writer.now result }
@@ -133,7 +133,8 @@ pub fn der_writer_finish(writer: &DerWriter<'_>) -> DerError
     DerError::NONE
 }
 
-/// Makes `writer` fail: every later call on it fails with `Failed`. The octets written remain.
+/// Makes `writer` fail: every later call with `writer` fails with `Failed`. The octets that were
+/// written remain.
 #[inline(always)]
 pub fn der_writer_fail(writer: &mut DerWriter<'_>)
     ensures fails { writer_state writer.new ≡ failed_state (writer_state writer.old) }

@@ -1,4 +1,4 @@
-//! Elements whose contents are in several places, in C.
+//! Writing elements whose contents are in several spans of octets, for C.
 ghost use Rattle.std.specs.Prelude.{◌≡◌, ◌^◌, ◌≤◌, None, IfSome, length};
 ghost use Rattle.der_core.specs.Writer.{Writes, write_outcome};
 ghost use Rattle.der_c_core.specs.CWriter.{writer_state, KeepsOpen};
@@ -13,12 +13,13 @@ use crate::writer::{DerWriter, refusal};
 use der_base::{Error, ErrorKind};
 use der_core::Writer;
 
-/// Writes an element: a header with the tag `tag`, a word as [`der_write_header`](crate::der_write_header)
-/// takes it, and then the octets of `parts`, one after another.
+/// Writes an element: a header with the tag word `tag` (see
+/// [`der_write_header`](crate::der_write_header)), and then the octets of all `parts`, one after
+/// the other, as its contents.
 ///
-/// After a call that fails, `writer` has failed. Such a call may have written the header or its
-/// first octets; they remain. Fails like [`der_write_element`](crate::der_write_element) with the
-/// octets of `parts` as the contents.
+/// After a call that fails, `writer` has failed. A call that fails may have written the header or
+/// its first octets, which remain. Fails with the errors of
+/// [`der_write_element`](crate::der_write_element).
 pub fn der_write_parts(writer: &mut DerWriter<'_>, tag: u64, parts: &[DerSpan<'_>]) -> DerError
     ensures writes { WritesElement tag (joined_spans parts.now) (writer_state writer.old) result
         (writer_state writer.new) }

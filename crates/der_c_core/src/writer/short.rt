@@ -1,4 +1,4 @@
-//! Headers of two octets, which are written with one call.
+//! Fast writing of headers that have two octets.
 ghost use Rattle.std.specs.Prelude.{◌≡◌, true, false};
 ghost use Rattle.der_c_core.specs.CWriter.{writer_state, KeepsOpen};
 ghost use Rattle.der_c_core.specs.WriterCalls.{WritesShort};
@@ -7,9 +7,9 @@ use crate::short::is_identifier;
 use crate::writer::DerWriter;
 use der_core::Writer;
 
-/// Writes the header of an element with the tag `tag` and `length` octets of contents, if this
-/// header has two octets and `writer` has space for them. Returns true if the header was written;
-/// otherwise writes nothing and returns false.
+/// Writes the header of an element, if the header has two octets and `writer` has space for them.
+/// Returns true if the header was written. Otherwise writes nothing and returns false. The element
+/// has the tag word `tag` and `length` octets of contents.
 #[inline(always)]
 pub(crate) fn write_short(writer: &mut DerWriter<'_>, tag: u64, length: usize) -> bool
     ensures written { result ≡ true → WritesShort tag length (writer_state writer.old)

@@ -1,4 +1,5 @@
-//! Writing by one function that calls another one with all fields of a value.
+//! Writing of types whose contents are fields. Such a type implements one function, which passes
+//! all fields of a value to an operation; the lengths and the octets follow from it.
 ghost use Rattle.std.specs.Prelude.{◌≡◌, ℕ, true, List, Result as AResult};
 ghost use Rattle.der_base.specs.declared.error.Error.{Error as AnError};
 ghost use Rattle.der_base.specs.declared.length.Length.{Length as ALength};
@@ -10,20 +11,22 @@ use crate::encode::{Encode, EncodeValue, WrittenValue};
 use crate::writer::Writer;
 use der_base::{Error, Length};
 
-/// What is done with all fields of a value, whatever type they have together. `S` is a state that it
-/// changes.
+/// An operation on all fields of a value, such as writing them. The fields are passed together, as
+/// one value of a type that implements [`Encode`]. `S` is the type of a state that the operation
+/// may change.
 ///
-/// Ghost member (for proofs only): `gives` says which result and which state and buffer a call
-/// leaves, of fields with this encoding, which can be written or not, with this result of
-/// [`Encode::encoded_len`] and this outcome of [`Encode::encode`].
+/// Ghost member (for proofs only): `gives` relates the state and the buffer before a call to the
+/// result, the state and the buffer after it. Of the fields it gets their encoding, whether they
+/// can be written, the result of [`Encode::encoded_len`], and the outcome of [`Encode::encode`].
 pub trait FieldsCall<S> {
-    /// What a call returns.
+    /// The type of the result of [`FieldsCall::call`].
     type Output: Drop;
 
     ghost gives: { Self → List ℕ → Type 0 → AResult ALength AnError → WriterAnswer → S → S
         → List ℕ → List ℕ → Self.Output → Type 0 };
 
-    /// Does it with these fields.
+    /// Performs the operation on `fields`. The operation may change `state` and the octets of
+    /// `buf`.
     fn call<F: Encode>(&self, fields: &F, state: &mut S, buf: &mut [u8]) -> Self::Output
         ensures { gives self.now (F.encoding fields.now) (F.encodable fields.now)
             (F.size fields.now) (F.encode_answers fields.now) state.old state.new buf.old buf.new
@@ -42,7 +45,9 @@ pub trait HasFields: WrittenValue {
 
     ghost fields_answers: { Self → WriterAnswer };
 
-    /// Calls `call` with all fields of the value, as [`field_refs!`](crate::field_refs) lists them.
+    /// Calls [`FieldsCall::call`] of `call` with all fields of this value, with `state` and with
+    /// `buf`, and returns its result. [`field_refs!`](crate::field_refs) makes one value of all
+    /// fields.
     fn call_fields<S, C: FieldsCall<S>>(&self, call: &C, state: &mut S, buf: &mut [u8]) -> C::Output
         ensures { C.gives call.now (Self.contents self.now) (Self.writable self.now)
             (fields_size self.now) (fields_answers self.now) state.old state.new buf.old buf.new

@@ -12,8 +12,8 @@ use crate::tag::fixed::Tagged;
 use crate::writer::{SliceWriter, Writer};
 use der_base::{Error, Length};
 
-/// Types whose values stand for contents octets when they are written. The trait has no functions:
-/// it only specifies these octets.
+/// Types whose values are written as contents octets. The trait has no functions: it only specifies
+/// these octets.
 ///
 /// Ghost members (for proofs only):
 ///

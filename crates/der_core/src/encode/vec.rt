@@ -1,5 +1,5 @@
-//! Encoding into memory of any allocator; [`Encode::to_der`] and [`Encode::encode_to_vec`] use the
-//! global one.
+//! Encoding into a vector whose memory comes from any allocator. [`Encode::to_der`] and
+//! [`Encode::encode_to_vec`] do the same with the global allocator.
 ghost use Rattle.std.specs.Prelude.{◌≡◌, ◌^◌, ◌<◌, ◌++◌, true, length, Err, OnOk, OnErr, IfOk, IfErr};
 ghost use Rattle.der_base.specs.Length.{definite_length};
 ghost use Rattle.der_core.specs.Before.{Certain, HasCount};

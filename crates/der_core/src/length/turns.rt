@@ -1,4 +1,5 @@
-//! Counting the turns of scans.
+//! A counter of the identifiers and end-of-contents that scans read, for proofs about the cost of a
+//! scan.
 use std::marker::Model;
 use std::sync::ledger::{Blank, Book, Ledger, Share};
 

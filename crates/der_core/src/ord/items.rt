@@ -1,4 +1,5 @@
-//! Comparisons of referenced items, pair by pair.
+//! Comparisons of two sequences of values, pair by pair, where the iterators return references to
+//! the values.
 ghost use Rattle.std.specs.Iterator.{IsFinite};
 ghost use Rattle.der_core.specs.Items.{ComparesItems, OfItems, ComparesJoined, SortsJoined, lists_order};
 ghost use Rattle.std.specs.Prelude.{◌≡◌};

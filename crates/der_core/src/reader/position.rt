@@ -1,4 +1,5 @@
-//! Positions in an input, and nested parts.
+//! Positions in an input. A nested part is a range of octets to which reading is limited for a
+//! time, such as the contents of an element.
 ghost use Rattle.std.specs.Prelude.{◌≡◌, ◌+◌, ◌^◌, ◌<◌};
 ghost use Rattle.der_base.specs.Error.{missing_refusal};
 
@@ -8,8 +9,8 @@ use std::alloc::AllocError;
 // the greatest depth of nested parts
 pub(super) const MAX_DEPTH: u8 = 64;
 
-/// A position in an input, the end up to which the input may be read, and the number of nested
-/// parts that enclose the position.
+/// A position in an input, the end up to which the input may be read, and a depth. The depth is the
+/// number of nested parts, such as contents of elements, that enclose the position.
 #[derive(Debug, Drop)]
 pub struct Position {
     pub(super) end: u32,
@@ -79,7 +80,7 @@ impl Position {
         self.input_len().saturating_sub(self.current())
     }
 
-    /// The number of nested parts that enclose the position.
+    /// The number of nested parts (see [`Position::split_nested`]) that enclose the position.
     pub fn depth(&self) -> u8
         ensures { result ≡ (position_place self.now).depth }
     {
@@ -125,8 +126,9 @@ impl Position {
         missing_octets(self.position, count, self.end)
     }
 
-    /// Enters a nested part that consists of the next `len` octets. Returns the end and the depth
-    /// from before the call, for [`Position::resume_nested`].
+    /// Enters a nested part, such as the contents of an element, that consists of the next `len`
+    /// octets. Afterwards the end is the end of the part, and the depth is one greater. Returns the
+    /// end and the depth from before the call, for [`Position::resume_nested`].
     ///
     /// # Errors
     ///
@@ -217,8 +219,8 @@ pub(crate) fn missing_octets(position: usize, count: u32, end: u32) -> Error
     kind.at(Length::new(position as u32))
 }
 
-/// The end and the depth that a reader had before it entered a nested part. They are restored when
-/// the part is left.
+/// The end and the depth that a reader had before it entered a nested part (see
+/// [`Reader::enter_nested`](crate::Reader::enter_nested)). They are restored when the part is left.
 #[derive(Debug, Drop)]
 pub struct Resumption {
     end: u32,

@@ -1,4 +1,4 @@
-//! Reading the contents of an element by a closure.
+//! Reading the contents of an element by a function that the caller passes.
 ghost use Rattle.std.specs.Prelude.{◌≡◌};
 ghost use Rattle.der_base.specs.Arithmetic.{sans_eoc};
 ghost use Rattle.der_base.specs.Length.{number, is_indefinite};

@@ -12,13 +12,16 @@ use std::alloc::Global;
 // The two forms of the string: in one piece, and in segments.
 type Forms<'a, const N: u32> = Either<Implicit<Segmented<'a>, N>, ConstructedSegmented<'a, N>>;
 
-/// Decodes the string in the form whose tag is next.
+/// Decodes the string. The next tag decides whether the encoding is read as primitive or as
+/// constructed.
 ///
 /// # Errors
 ///
-/// - The errors of [`Either`]: the next tag cannot be read, or is none of the two tags.
-/// - The errors of decoding a [`Segmented`] with this tag. Under the Distinguished Encoding Rules, the
-///   constructed tag is an error: `Noncanonical` with this tag, at the last octet of the header.
+/// - The errors of [`Either`], if the next tag cannot be read, or is neither the primitive nor the
+///   constructed tag with the number `N`.
+/// - The errors of decoding a [`Segmented`]. Under the Distinguished Encoding Rules, the
+///   constructed tag is an error: `Noncanonical` with the constructed tag, at the last octet of the
+///   header.
 impl<'a, const N: u32, R: Lends<Borrowed = &'a [u8]>> Decode<R> for ImplicitSegmented<'a, N> {
     type Error = Error;
 

@@ -10,13 +10,13 @@ use crate::segmented::Segmented;
 use der::{Encode, Error, Length, Writer};
 use der_asn1::Implicit;
 
-/// Writes the string in one piece: the primitive tag, the length, and the joined octets, with one
-/// write for each primitive segment.
+/// Writes the string in one piece: the primitive tag, the length, and the joined octets. The writer
+/// is called once for each primitive segment.
 ///
 /// # Errors
 ///
-/// `Overflow` without a position, if the element has more than 4294967295 octets, and the errors of
-/// the writer.
+/// - `Overflow` without a position, if the element has more than 4294967295 octets.
+/// - The errors of the writer.
 impl<'a, const N: u32> Encode for ImplicitSegmented<'a, N> {
     ghost encoding = { λ v. element_octets (context_tag false N) (segmented_octets v.0) };
 

@@ -21,7 +21,8 @@ impl<'a> Item for Segmented<'a> {
     ghost item = { sequence_item segmented_element };
 }
 
-/// Items of lists must be DER, also under BER, so that no item of a list is in segments.
+/// The items of a list must be DER encodings, even if the reader reads BER. So no item of a list is
+/// in segments.
 impl<'a, R: Lends<Borrowed = &'a [u8]>> DecodeItem<R> for Segmented<'a> {
     ghost is_item = { element_is_item segmented_lawful false };
 

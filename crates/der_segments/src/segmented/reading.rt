@@ -35,19 +35,20 @@ impl<'a> ReadValue for Segmented<'a> {
     ghost takes_valid = { λ v rules h octets taken. taken.0 };
 }
 
-/// Borrows the contents from the input. If the header is constructed and the reader's rules are the
-/// Basic Encoding Rules, all octets up to the reader's end must be segments: elements with the tag
-/// OCTET STRING, which may themselves consist of segments. Under the Distinguished Encoding Rules,
-/// a constructed header is an error.
+/// Borrows the contents from the input. Suppose that the header is constructed. Under the Basic
+/// Encoding Rules, all octets up to the reader's end must then be segments. A segment is an element
+/// with the tag OCTET STRING, which may itself consist of segments. Under the Distinguished
+/// Encoding Rules, a constructed header is an error.
 ///
 /// # Errors
 ///
 /// - After a primitive header, the errors of [`Reader::read_slice`].
-/// - After a constructed header, under the Distinguished Encoding Rules, `Noncanonical` with the
-///   header's tag, at the last octet of the header; the reader is unchanged.
-/// - After a constructed header, under the Basic Encoding Rules, `Failed` at the reader's position,
-///   if the reader had already failed; otherwise the errors of a segment, as by
-///   [`read_constructed_vec`](der::read_constructed_vec), but never `OutOfMemory`.
+/// - After a constructed header under the Distinguished Encoding Rules, `Noncanonical` with the
+///   header's tag, at the last octet of the header. The reader is unchanged then.
+/// - After a constructed header under the Basic Encoding Rules, `Failed` at the reader's position,
+///   if the reader had already failed. Otherwise the errors that
+///   [`read_constructed_vec`](der::read_constructed_vec) returns for a segment that is not valid.
+///   It never fails with `OutOfMemory`, because nothing is allocated.
 impl<'a, R: Lends<Borrowed = &'a [u8]>> DecodeValue<R> for Segmented<'a> {
     type Error = Error;
 

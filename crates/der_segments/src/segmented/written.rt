@@ -13,13 +13,13 @@ impl<'a> WrittenValue for Segmented<'a> {
     ghost writable = { λ v. IsCounted (segmented_octets v) };
 }
 
-/// Writes the joined octets as the contents of a primitive encoding, with one write for each
-/// primitive segment.
+/// Writes the joined octets as the contents of a primitive encoding. The writer is called once for
+/// each primitive segment.
 ///
 /// # Errors
 ///
 /// `value_len` never fails. `encode_value` returns the errors of [`Writer::write`] for the first
-/// segment that cannot be written; the segments before it remain.
+/// segment that cannot be written. The segments before that segment have been written then.
 impl<'a> EncodeValue for Segmented<'a> {
     ghost value_size = { octets_size segmented_octets };
 

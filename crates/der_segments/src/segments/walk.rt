@@ -1,5 +1,6 @@
-//! A walk over the segments of an OCTET STRING, without counting levels: the octets are known to be
-//! segments, so the header of a constructed one is passed, and so are end-of-contents octets.
+//! Iteration over the primitive segments of an OCTET STRING whose segments were checked before. The
+//! headers of constructed segments and the end-of-contents octets are skipped. Levels of nesting
+//! are not counted.
 ghost use Rattle.std.specs.Prelude.{◌≡◌, ◌<◌, ℕ, List, [], false, true, OnOk, IsOkAnd, MatchOption};
 ghost use Rattle.der.specs.Prelude.{rest_of, Same, slice_state};
 ghost use Rattle.der_segments.specs.Pieces.{InPieces};

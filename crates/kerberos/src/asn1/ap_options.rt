@@ -4,5 +4,6 @@
 
 use crate::asn1::kerberos_flags::KerberosFlags;
 
-/// What a client asks for: bit 1 for a session key, and bit 2 for an answer.
+/// The options of an AP-REQ (RFC 4120, 5.5.1). Bit 1 says that the ticket is encrypted with a
+/// session key; bit 2 asks the server to prove its identity.
 pub type ApOptions<'a> = KerberosFlags<'a>;

@@ -20,22 +20,23 @@ use der_asn1::{
 };
 use std::alloc::Global;
 
-/// ApReqContents
+/// A type inside another type, to which the ASN.1 module gives no name. Its name here is made of the
+/// names of the types and components around it.
 #[derive(Clone, Copy, Debug, Drop, PartialEq, Eq)]
 pub struct ApReqContents<'a> {
-    /// 5.
+    /// The version of the protocol, which is 5.
     pub pvno: Explicit<IntegerIn<5, 5>, 0>,
-    /// 14.
+    /// The type of the message, which is 14.
     pub msg_type: Explicit<IntegerIn<14, 14>, 1>,
-    /// What the client asks for.
+    /// The options of the message.
     pub ap_options: Explicit<ApOptions<'a>, 2>,
-    /// The ticket.
+    /// The ticket for the server.
     pub ticket: Explicit<Ticket<'a>, 3>,
-    /// That the client has the key: an encrypted Authenticator.
+    /// The proof that the client has the session key: an encrypted Authenticator.
     pub authenticator: Explicit<EncryptedData<'a>, 4>,
 }
 
-/// The fields of a [`ApReqContents`], in the order in which they are encoded.
+/// The fields of [`ApReqContents`] as one type, in the order in which they are encoded.
 pub type ApReqContentsFields<'a> = (
     Explicit<IntegerIn<5, 5>, 0>,
     Explicit<IntegerIn<14, 14>, 1>,
@@ -71,7 +72,7 @@ impl<'a> Sequence for ApReqContents<'a> {
     ghost fits = { (refl, refl) };
 }
 
-/// Decodes the fields one after the other, with the errors of every [`Sequence`].
+/// Decodes the fields, first to last. The errors are those that [`Sequence`] lists.
 impl<'a, R: Lends<Borrowed = &'a [u8]>> DecodeValue<R> for ApReqContents<'a> {
     type Error = Error;
 
@@ -97,7 +98,7 @@ impl<'a> IsValue for ApReqContents<'a> {
     }
 }
 
-/// Writes the fields one after the other, with the errors of every [`Sequence`].
+/// Writes the fields, first to last. The errors are those that [`Sequence`] lists.
 impl<'a> HasFields for ApReqContents<'a> {
     ghost fields_size = { λ v. ⟦<ApReqContentsFields<'a> as Encode>⟧.size
         (⟦<ApReqContents<'a> as FromFields<ApReqContentsFields<'a>>>⟧.fields v) };

@@ -20,18 +20,18 @@ use der_asn1::{
 };
 use std::alloc::Global;
 
-/// The encryption of a value (RFC 4120, 5.2.9).
+/// An encrypted value, with its algorithm and the version of its key (RFC 4120, 5.2.9).
 #[derive(Clone, Copy, Debug, Drop, PartialEq, Eq)]
 pub struct EncryptedData<'a> {
-    /// The number of the algorithm.
+    /// The number of the encryption algorithm.
     pub etype: Explicit<Int32<'a>, 0>,
-    /// The version of the key.
+    /// The version number of the key, if present.
     pub kvno: Optional<Explicit<UInt32, 1>>,
-    /// What the algorithm makes.
+    /// The encrypted octets.
     pub cipher: Explicit<OctetStringRef<'a>, 2>,
 }
 
-/// The fields of a [`EncryptedData`], in the order in which they are encoded.
+/// The fields of [`EncryptedData`] as one type, in the order in which they are encoded.
 pub type EncryptedDataFields<'a> = (
     Explicit<Int32<'a>, 0>,
     Optional<Explicit<UInt32, 1>>,
@@ -61,7 +61,7 @@ impl<'a> Sequence for EncryptedData<'a> {
     ghost fits = { (refl, refl) };
 }
 
-/// Decodes the fields one after the other, with the errors of every [`Sequence`].
+/// Decodes the fields, first to last. The errors are those that [`Sequence`] lists.
 impl<'a, R: Lends<Borrowed = &'a [u8]>> DecodeValue<R> for EncryptedData<'a> {
     type Error = Error;
 
@@ -87,7 +87,7 @@ impl<'a> IsValue for EncryptedData<'a> {
     }
 }
 
-/// Writes the fields one after the other, with the errors of every [`Sequence`].
+/// Writes the fields, first to last. The errors are those that [`Sequence`] lists.
 impl<'a> HasFields for EncryptedData<'a> {
     ghost fields_size = { λ v. ⟦<EncryptedDataFields<'a> as Encode>⟧.size
         (⟦<EncryptedData<'a> as FromFields<EncryptedDataFields<'a>>>⟧.fields v) };

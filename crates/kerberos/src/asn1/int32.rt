@@ -4,5 +4,5 @@
 
 use der_asn1::IntRef;
 
-/// A number of 32 bits with a sign (RFC 4120, 5.2.4).
+/// A signed number of 32 bits (RFC 4120, 5.2.4). Decoding does not check the range.
 pub type Int32<'a> = IntRef<'a>;

@@ -4,5 +4,5 @@
 
 use der_asn1::BitStringRef;
 
-/// Options (RFC 4120, 5.2.8).
+/// Options, one for each bit (RFC 4120, 5.2.8).
 pub type KerberosFlags<'a> = BitStringRef<'a>;

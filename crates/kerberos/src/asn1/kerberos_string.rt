@@ -4,5 +4,5 @@
 
 use der_universal::GeneralStringRef;
 
-/// A text (RFC 4120, 5.2.1).
+/// A text in a message of Kerberos (RFC 4120, 5.2.1).
 pub type KerberosString<'a> = GeneralStringRef<'a>;

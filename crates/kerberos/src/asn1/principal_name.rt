@@ -21,13 +21,13 @@ use std::alloc::Global;
 /// The name of a client or of a server (RFC 4120, 5.2.2).
 #[derive(Clone, Copy, Debug, Drop, PartialEq, Eq)]
 pub struct PrincipalName<'a> {
-    /// The kind of name.
+    /// The kind of the name, as a number (RFC 4120, 6.2).
     pub name_type: Explicit<Int32<'a>, 0>,
-    /// Its parts.
+    /// The components of the name, first to last.
     pub name_string: Explicit<SequenceOf<'a, KerberosString<'a>>, 1>,
 }
 
-/// The fields of a [`PrincipalName`], in the order in which they are encoded.
+/// The fields of [`PrincipalName`] as one type, in the order in which they are encoded.
 pub type PrincipalNameFields<'a> = (
     Explicit<Int32<'a>, 0>,
     Explicit<SequenceOf<'a, KerberosString<'a>>, 1>,
@@ -54,7 +54,7 @@ impl<'a> Sequence for PrincipalName<'a> {
     ghost fits = { (refl, refl) };
 }
 
-/// Decodes the fields one after the other, with the errors of every [`Sequence`].
+/// Decodes the fields, first to last. The errors are those that [`Sequence`] lists.
 impl<'a, R: Lends<Borrowed = &'a [u8]>> DecodeValue<R> for PrincipalName<'a> {
     type Error = Error;
 
@@ -77,7 +77,7 @@ impl<'a> IsValue for PrincipalName<'a> {
     }
 }
 
-/// Writes the fields one after the other, with the errors of every [`Sequence`].
+/// Writes the fields, first to last. The errors are those that [`Sequence`] lists.
 impl<'a> HasFields for PrincipalName<'a> {
     ghost fields_size = { λ v. ⟦<PrincipalNameFields<'a> as Encode>⟧.size
         (⟦<PrincipalName<'a> as FromFields<PrincipalNameFields<'a>>>⟧.fields v) };

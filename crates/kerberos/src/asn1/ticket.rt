@@ -5,5 +5,5 @@
 use crate::asn1::ticket_contents::TicketContents;
 use der_asn1::{Application, Explicit};
 
-/// What a client shows to a server (RFC 4120, 5.3).
+/// A ticket: a client shows it to a server as proof of its identity (RFC 4120, 5.3).
 pub type Ticket<'a> = Application<Explicit<TicketContents<'a>, 1>>;

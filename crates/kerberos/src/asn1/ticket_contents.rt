@@ -20,20 +20,21 @@ use der_asn1::{
 };
 use std::alloc::Global;
 
-/// TicketContents
+/// A type inside another type, to which the ASN.1 module gives no name. Its name here is made of the
+/// names of the types and components around it.
 #[derive(Clone, Copy, Debug, Drop, PartialEq, Eq)]
 pub struct TicketContents<'a> {
-    /// 5.
+    /// The version of the ticket's format, which is 5.
     pub tkt_vno: Explicit<IntegerIn<5, 5>, 0>,
     /// The realm of the server.
     pub realm: Explicit<Realm<'a>, 1>,
     /// The name of the server.
     pub sname: Explicit<PrincipalName<'a>, 2>,
-    /// What the server can read: an encrypted EncTicketPart.
+    /// The part that only the server can read: an encrypted EncTicketPart.
     pub enc_part: Explicit<EncryptedData<'a>, 3>,
 }
 
-/// The fields of a [`TicketContents`], in the order in which they are encoded.
+/// The fields of [`TicketContents`] as one type, in the order in which they are encoded.
 pub type TicketContentsFields<'a> = (
     Explicit<IntegerIn<5, 5>, 0>,
     Explicit<Realm<'a>, 1>,
@@ -66,7 +67,7 @@ impl<'a> Sequence for TicketContents<'a> {
     ghost fits = { (refl, refl) };
 }
 
-/// Decodes the fields one after the other, with the errors of every [`Sequence`].
+/// Decodes the fields, first to last. The errors are those that [`Sequence`] lists.
 impl<'a, R: Lends<Borrowed = &'a [u8]>> DecodeValue<R> for TicketContents<'a> {
     type Error = Error;
 
@@ -91,7 +92,7 @@ impl<'a> IsValue for TicketContents<'a> {
     }
 }
 
-/// Writes the fields one after the other, with the errors of every [`Sequence`].
+/// Writes the fields, first to last. The errors are those that [`Sequence`] lists.
 impl<'a> HasFields for TicketContents<'a> {
     ghost fields_size = { λ v. ⟦<TicketContentsFields<'a> as Encode>⟧.size
         (⟦<TicketContents<'a> as FromFields<TicketContentsFields<'a>>>⟧.fields v) };

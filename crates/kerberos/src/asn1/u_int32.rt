@@ -4,5 +4,5 @@
 
 use der_asn1::IntegerIn;
 
-/// A number of 32 bits without a sign.
+/// An unsigned number of 32 bits (RFC 4120, 5.2.4).
 pub type UInt32 = IntegerIn<0, 4294967295>;

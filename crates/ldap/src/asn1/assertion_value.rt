@@ -4,5 +4,5 @@
 
 use der_asn1::OctetStringRef;
 
-/// A value that is compared.
+/// A value that the values of an attribute are compared with (RFC 4511, 4.1.6).
 pub type AssertionValue<'a> = OctetStringRef<'a>;

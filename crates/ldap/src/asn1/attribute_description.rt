@@ -4,5 +4,5 @@
 
 use crate::asn1::ldap_string::LdapString;
 
-/// The description of an attribute (RFC 4512, 2.5).
+/// The type of an attribute, with options (RFC 4512, 2.5).
 pub type AttributeDescription<'a> = LdapString<'a>;

@@ -16,16 +16,16 @@ use der::{
 use der_asn1::{BorrowedItem, DecodeItem, Described, Item, Nestable, WrittenItem};
 use std::alloc::Global;
 
-/// A value for an attribute that is compared (RFC 4511, 4.1.6).
+/// An attribute, and a value that its values are compared with (RFC 4511, 4.1.6).
 #[derive(Clone, Copy, Debug, Drop, PartialEq, Eq)]
 pub struct AttributeValueAssertion<'a> {
-    /// The attribute.
+    /// The type of the attribute.
     pub attribute_desc: AttributeDescription<'a>,
-    /// The value.
+    /// The value to compare with.
     pub assertion_value: AssertionValue<'a>,
 }
 
-/// The fields of a [`AttributeValueAssertion`], in the order in which they are encoded.
+/// The fields of [`AttributeValueAssertion`] as one type, in the order in which they are encoded.
 pub type AttributeValueAssertionFields<'a> = (AttributeDescription<'a>, AssertionValue<'a>);
 
 impl<'a> FromFields<AttributeValueAssertionFields<'a>> for AttributeValueAssertion<'a> {
@@ -49,7 +49,7 @@ impl<'a> Sequence for AttributeValueAssertion<'a> {
     ghost fits = { (refl, refl) };
 }
 
-/// Decodes the fields one after the other, with the errors of every [`Sequence`].
+/// Decodes the fields, first to last. The errors are those that [`Sequence`] lists.
 impl<'a, R: Lends<Borrowed = &'a [u8]>> DecodeValue<R> for AttributeValueAssertion<'a> {
     type Error = Error;
 
@@ -72,7 +72,7 @@ impl<'a> IsValue for AttributeValueAssertion<'a> {
     }
 }
 
-/// Writes the fields one after the other, with the errors of every [`Sequence`].
+/// Writes the fields, first to last. The errors are those that [`Sequence`] lists.
 impl<'a> HasFields for AttributeValueAssertion<'a> {
     ghost fields_size = { λ v. ⟦<AttributeValueAssertionFields<'a> as Encode>⟧.size
         (⟦<AttributeValueAssertion<'a> as FromFields<AttributeValueAssertionFields<'a>>>⟧.fields v) };

@@ -25,34 +25,34 @@ use der_asn1::{
 };
 use std::alloc::Global;
 
-/// Which entries are searched for (RFC 4511, 4.5.1.7). Filters inside of others are kept as elements: `decode_as` decodes
-/// them.
+/// A condition that selects entries (RFC 4511, 4.5.1.7). Filters inside a filter are kept as
+/// elements, which `decode_as` decodes.
 #[derive(Clone, Copy, Debug, Drop, PartialEq, Eq)]
 pub enum Filter<'a> {
-    /// All of these.
-    /// `Filter` leads back to itself here: its element is kept, which `decode_as` of `AnyRef` decodes.
+    /// All of these filters hold.
+    /// `Filter` contains itself here: the element is kept as it was read. `decode_as` of `AnyRef` decodes it.
     And(Implicit<SetOf<'a, AnyRef<'a>>, 0>),
-    /// At least one of these.
-    /// `Filter` leads back to itself here: its element is kept, which `decode_as` of `AnyRef` decodes.
+    /// At least one of these filters holds.
+    /// `Filter` contains itself here: the element is kept as it was read. `decode_as` of `AnyRef` decodes it.
     Or(Implicit<SetOf<'a, AnyRef<'a>>, 1>),
-    /// Not this one.
-    /// `Filter` leads back to itself here: its element is kept, which `decode_as` of `AnyRef` decodes.
+    /// This filter does not hold.
+    /// `Filter` contains itself here: the element is kept as it was read. `decode_as` of `AnyRef` decodes it.
     Not(ExplicitAny<'a, 2>),
-    /// An attribute with this value.
+    /// The attribute has this value.
     EqualityMatch(Implicit<AttributeValueAssertion<'a>, 3>),
-    /// An attribute with such parts.
+    /// The attribute has a value with these parts.
     Substrings(Implicit<SubstringFilter<'a>, 4>),
-    /// An attribute with a value that is not below this one.
+    /// The attribute has a value that is greater than or equal to this one.
     GreaterOrEqual(Implicit<AttributeValueAssertion<'a>, 5>),
-    /// An attribute with a value that is not above this one.
+    /// The attribute has a value that is less than or equal to this one.
     LessOrEqual(Implicit<AttributeValueAssertion<'a>, 6>),
-    /// An attribute that is there.
+    /// The entry has this attribute.
     Present(Implicit<AttributeDescription<'a>, 7>),
-    /// An attribute with a value that is like this one.
+    /// The attribute has a value that approximately equals this one.
     ApproxMatch(Implicit<AttributeValueAssertion<'a>, 8>),
-    /// An attribute that a matching rule finds.
+    /// A matching rule finds this value in the entry.
     ExtensibleMatch(Implicit<MatchingRuleAssertion<'a>, 9>),
-    /// An alternative of a later version, as it was.
+    /// An alternative that the ASN.1 module does not have, as it was read.
     Unknown(UnknownElement<'a, FilterKnown>),
 }
 
@@ -172,7 +172,7 @@ impl<'a> DescribedChoice for Filter<'a> {
         ⟦<Filter<'a> as FromFields<FilterAlternatives<'a>>>⟧.fields };
 }
 
-/// Decodes the alternative whose tag is next, with the errors of [`Either`].
+/// Decodes the alternative with the next tag. The errors are those of decoding an [`Either`].
 impl<'a, R: Lends<Borrowed = &'a [u8]>> Decode<R> for Filter<'a> {
     type Error = Error;
 
@@ -208,7 +208,7 @@ impl<'a, R: Lends<Borrowed = &'a [u8]>> DecodeChoice<R> for Filter<'a> {
     ghost begins = { ⟦<Filter<'a> as DescribedChoice>⟧.alternative.begins };
 }
 
-/// Writes the alternative that the value has.
+/// Writes the alternative that the value has. The errors are those of writing it.
 impl<'a> Encode for Filter<'a> {
     ghost encoding = { λ v. ⟦<FilterAlternatives<'a> as Encode>⟧.encoding
         (⟦<Filter<'a> as FromFields<FilterAlternatives<'a>>>⟧.fields v) };

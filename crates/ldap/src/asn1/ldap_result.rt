@@ -24,17 +24,17 @@ use std::alloc::Global;
 /// The result of an operation (RFC 4511, 4.1.9).
 #[derive(Clone, Copy, Debug, Drop, PartialEq, Eq)]
 pub struct LdapResult<'a> {
-    /// What the server answers.
+    /// Whether the operation succeeded, or why it failed.
     pub result_code: EnumeratedOf<i64>,
-    /// The last entry that was found.
+    /// The last entry that was found when the requested name was looked up.
     pub matched_dn: Ldapdn<'a>,
-    /// A text for people.
+    /// A message for people. It may be empty.
     pub diagnostic_message: LdapString<'a>,
-    /// Other servers.
+    /// Other servers at which the operation may be tried again, if present.
     pub referral: Optional<Implicit<Referral<'a>, 3>>,
 }
 
-/// The fields of a [`LdapResult`], in the order in which they are encoded.
+/// The fields of [`LdapResult`] as one type, in the order in which they are encoded.
 pub type LdapResultFields<'a> = (
     EnumeratedOf<i64>,
     Ldapdn<'a>,
@@ -67,7 +67,7 @@ impl<'a> Sequence for LdapResult<'a> {
     ghost fits = { (refl, refl) };
 }
 
-/// Decodes the fields one after the other, with the errors of every [`Sequence`].
+/// Decodes the fields, first to last. The errors are those that [`Sequence`] lists.
 impl<'a, R: Lends<Borrowed = &'a [u8]>> DecodeValue<R> for LdapResult<'a> {
     type Error = Error;
 
@@ -94,7 +94,7 @@ impl<'a> IsValue for LdapResult<'a> {
     }
 }
 
-/// Writes the fields one after the other, with the errors of every [`Sequence`].
+/// Writes the fields, first to last. The errors are those that [`Sequence`] lists.
 impl<'a> HasFields for LdapResult<'a> {
     ghost fields_size = { λ v. ⟦<LdapResultFields<'a> as Encode>⟧.size
         (⟦<LdapResult<'a> as FromFields<LdapResultFields<'a>>>⟧.fields v) };

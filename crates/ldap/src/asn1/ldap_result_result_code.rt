@@ -7,7 +7,8 @@ ghost use Rattle.ldap.specs.declared.asn1.ldap_result_result_code.LdapResultResu
 use crate::asn1::referral::Referral;
 use der_asn1::Enumeration;
 
-/// LdapResultResultCode
+/// A type inside another type, to which the ASN.1 module gives no name. Its name here is made of the
+/// names of the types and components around it.
 #[derive(Clone, Copy, Debug, PartialEq, Eq)]
 pub enum LdapResultResultCode {
     Success = 0,

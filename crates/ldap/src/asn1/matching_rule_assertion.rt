@@ -21,20 +21,20 @@ use der_asn1::{
 };
 use std::alloc::Global;
 
-/// What a matching rule compares (RFC 4511, 4.5.1.7.7).
+/// What a matching rule compares in an entry (RFC 4511, 4.5.1.7.7).
 #[derive(Clone, Copy, Debug, Drop, PartialEq, Eq)]
 pub struct MatchingRuleAssertion<'a> {
-    /// The rule.
+    /// The matching rule, if present.
     pub matching_rule: Optional<Implicit<MatchingRuleId<'a>, 1>>,
-    /// The attribute.
+    /// The type of the attribute whose values are compared, if present.
     pub type_: Optional<Implicit<AttributeDescription<'a>, 2>>,
-    /// The value.
+    /// The value to compare with.
     pub match_value: Implicit<AssertionValue<'a>, 3>,
-    /// Whether names of entries are searched too.
+    /// Whether the attributes of the entry's name are compared too. The default is false.
     pub dn_attributes: Defaulted<Implicit<BooleanRef<'a>, 4>>,
 }
 
-/// The fields of a [`MatchingRuleAssertion`], in the order in which they are encoded.
+/// The fields of [`MatchingRuleAssertion`] as one type, in the order in which they are encoded.
 pub type MatchingRuleAssertionFields<'a> = (
     Optional<Implicit<MatchingRuleId<'a>, 1>>,
     Optional<Implicit<AttributeDescription<'a>, 2>>,
@@ -68,7 +68,7 @@ impl<'a> Sequence for MatchingRuleAssertion<'a> {
     ghost fits = { (refl, refl) };
 }
 
-/// Decodes the fields one after the other, with the errors of every [`Sequence`].
+/// Decodes the fields, first to last. The errors are those that [`Sequence`] lists.
 impl<'a, R: Lends<Borrowed = &'a [u8]>> DecodeValue<R> for MatchingRuleAssertion<'a> {
     type Error = Error;
 
@@ -97,7 +97,7 @@ impl<'a> IsValue for MatchingRuleAssertion<'a> {
     }
 }
 
-/// Writes the fields one after the other, with the errors of every [`Sequence`].
+/// Writes the fields, first to last. The errors are those that [`Sequence`] lists.
 impl<'a> HasFields for MatchingRuleAssertion<'a> {
     ghost fields_size = { λ v. ⟦<MatchingRuleAssertionFields<'a> as Encode>⟧.size
         (⟦<MatchingRuleAssertion<'a> as FromFields<MatchingRuleAssertionFields<'a>>>⟧.fields v) };

@@ -4,5 +4,5 @@
 
 use crate::asn1::ldap_string::LdapString;
 
-/// The number or the name of a matching rule.
+/// A matching rule, by the digits of its OBJECT IDENTIFIER or by a name (RFC 4511, 4.1.8).
 pub type MatchingRuleId<'a> = LdapString<'a>;

@@ -5,5 +5,5 @@
 use crate::asn1::uri::Uri;
 use der_asn1::SequenceOf;
 
-/// Places where an operation may be tried again (RFC 4511, 4.1.10).
+/// URIs of servers at which an operation may be tried again (RFC 4511, 4.1.10).
 pub type Referral<'a> = SequenceOf<'a, Uri<'a>>;

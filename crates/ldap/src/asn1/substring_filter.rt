@@ -16,16 +16,17 @@ use der::{
 use der_asn1::{BorrowedItem, DecodeItem, Described, Item, Nestable, SequenceOf, WrittenItem};
 use std::alloc::Global;
 
-/// Parts of the value of an attribute (RFC 4511, 4.5.1.7.2).
+/// An attribute, and parts that its value must have (RFC 4511, 4.5.1.7.2).
 #[derive(Clone, Copy, Debug, Drop, PartialEq, Eq)]
 pub struct SubstringFilter<'a> {
-    /// The attribute.
+    /// The type of the attribute.
     pub type_: AttributeDescription<'a>,
-    /// The parts: the first one may be `initial`, and the last one `final`.
+    /// The parts, in the order in which the value has them. Only the first may be `initial`, and
+    /// only the last may be `final`; decoding does not check this.
     pub substrings: SequenceOf<'a, SubstringFilterSubstringsItem<'a>>,
 }
 
-/// The fields of a [`SubstringFilter`], in the order in which they are encoded.
+/// The fields of [`SubstringFilter`] as one type, in the order in which they are encoded.
 pub type SubstringFilterFields<'a> = (
     AttributeDescription<'a>,
     SequenceOf<'a, SubstringFilterSubstringsItem<'a>>,
@@ -49,7 +50,7 @@ impl<'a> Sequence for SubstringFilter<'a> {
     ghost fits = { (refl, refl) };
 }
 
-/// Decodes the fields one after the other, with the errors of every [`Sequence`].
+/// Decodes the fields, first to last. The errors are those that [`Sequence`] lists.
 impl<'a, R: Lends<Borrowed = &'a [u8]>> DecodeValue<R> for SubstringFilter<'a> {
     type Error = Error;
 
@@ -72,7 +73,7 @@ impl<'a> IsValue for SubstringFilter<'a> {
     }
 }
 
-/// Writes the fields one after the other, with the errors of every [`Sequence`].
+/// Writes the fields, first to last. The errors are those that [`Sequence`] lists.
 impl<'a> HasFields for SubstringFilter<'a> {
     ghost fields_size = { λ v. ⟦<SubstringFilterFields<'a> as Encode>⟧.size
         (⟦<SubstringFilter<'a> as FromFields<SubstringFilterFields<'a>>>⟧.fields v) };

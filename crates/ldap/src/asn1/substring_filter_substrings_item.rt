@@ -19,14 +19,15 @@ use der_asn1::{
 };
 use std::alloc::Global;
 
-/// SubstringFilterSubstringsItem
+/// A type inside another type, to which the ASN.1 module gives no name. Its name here is made of the
+/// names of the types and components around it.
 #[derive(Clone, Copy, Debug, Drop, PartialEq, Eq)]
 pub enum SubstringFilterSubstringsItem<'a> {
-    /// The value begins so.
+    /// The value begins with this part.
     Initial(Implicit<AssertionValue<'a>, 0>),
-    /// The value has this part.
+    /// The value contains this part.
     Any(Implicit<AssertionValue<'a>, 1>),
-    /// The value ends so.
+    /// The value ends with this part.
     Final(Implicit<AssertionValue<'a>, 2>),
 }
 
@@ -69,7 +70,7 @@ impl<'a> DescribedChoice for SubstringFilterSubstringsItem<'a> {
         ⟦<SubstringFilterSubstringsItem<'a> as FromFields<SubstringFilterSubstringsItemAlternatives<'a>>>⟧.fields };
 }
 
-/// Decodes the alternative whose tag is next, with the errors of [`Either`].
+/// Decodes the alternative with the next tag. The errors are those of decoding an [`Either`].
 impl<'a, R: Lends<Borrowed = &'a [u8]>> Decode<R> for SubstringFilterSubstringsItem<'a> {
     type Error = Error;
 
@@ -107,7 +108,7 @@ impl<'a, R: Lends<Borrowed = &'a [u8]>> DecodeChoice<R> for SubstringFilterSubst
     ghost begins = { ⟦<SubstringFilterSubstringsItem<'a> as DescribedChoice>⟧.alternative.begins };
 }
 
-/// Writes the alternative that the value has.
+/// Writes the alternative that the value has. The errors are those of writing it.
 impl<'a> Encode for SubstringFilterSubstringsItem<'a> {
     ghost encoding = { λ v. ⟦<SubstringFilterSubstringsItemAlternatives<'a> as Encode>⟧.encoding
         (⟦<SubstringFilterSubstringsItem<'a> as FromFields<SubstringFilterSubstringsItemAlternatives<'a>>>⟧.fields v) };

@@ -4,5 +4,5 @@
 
 use crate::asn1::ldap_string::LdapString;
 
-/// A URI.
+/// A URI in UTF-8 (RFC 4511, 4.1.10).
 pub type Uri<'a> = LdapString<'a>;

@@ -4,5 +4,6 @@
 
 use der_asn1::GeneralizedTime;
 
-/// The time until which a responder knows of revocations (RFC 6960, 4.4.4).
+/// The time since when a responder keeps the status of certificates, also of those that have
+/// expired (RFC 6960, 4.4.4).
 pub type ArchiveCutoff = GeneralizedTime;

@@ -34,7 +34,7 @@ pub struct BasicOcspResponse<'a> {
     pub certs: Optional<Explicit<Certificates<'a>, 0>>,
 }
 
-/// The fields of a [`BasicOcspResponse`], in the order in which they are encoded.
+/// The fields of [`BasicOcspResponse`] as one type, in the order in which they are encoded.
 pub type BasicOcspResponseFields<'a> = (
     ResponseData<'a>,
     AlgorithmIdentifierRef<'a>,
@@ -67,7 +67,7 @@ impl<'a> Sequence for BasicOcspResponse<'a> {
     ghost fits = { (refl, refl) };
 }
 
-/// Decodes the fields one after the other, with the errors of every [`Sequence`].
+/// Decodes the fields, first to last. The errors are those that [`Sequence`] lists.
 impl<'a, R: Lends<Borrowed = &'a [u8]>> DecodeValue<R> for BasicOcspResponse<'a> {
     type Error = Error;
 
@@ -94,7 +94,7 @@ impl<'a> IsValue for BasicOcspResponse<'a> {
     }
 }
 
-/// Writes the fields one after the other, with the errors of every [`Sequence`].
+/// Writes the fields, first to last. The errors are those that [`Sequence`] lists.
 impl<'a> HasFields for BasicOcspResponse<'a> {
     ghost fields_size = { λ v. ⟦<BasicOcspResponseFields<'a> as Encode>⟧.size
         (⟦<BasicOcspResponse<'a> as FromFields<BasicOcspResponseFields<'a>>>⟧.fields v) };

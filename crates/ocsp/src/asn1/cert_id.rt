@@ -20,7 +20,7 @@ use x509::CertificateSerialNumber;
 /// What identifies a certificate (RFC 6960, 4.1.1), borrowed from the input.
 #[derive(Clone, Copy, Debug, Drop, PartialEq, Eq)]
 pub struct CertId<'a> {
-    /// The algorithm of the two hashes.
+    /// The algorithm of the hashes `issuer_name_hash` and `issuer_key_hash`.
     pub hash_algorithm: AlgorithmIdentifierRef<'a>,
     /// The hash of the issuer's name.
     pub issuer_name_hash: OctetStringRef<'a>,
@@ -30,7 +30,7 @@ pub struct CertId<'a> {
     pub serial_number: CertificateSerialNumber<'a>,
 }
 
-/// The fields of a [`CertId`], in the order in which they are encoded.
+/// The fields of [`CertId`] as one type, in the order in which they are encoded.
 pub type CertIdFields<'a> = (
     AlgorithmIdentifierRef<'a>,
     OctetStringRef<'a>,
@@ -68,7 +68,7 @@ impl<'a> Sequence for CertId<'a> {
     ghost fits = { (refl, refl) };
 }
 
-/// Decodes the fields one after the other, with the errors of every [`Sequence`].
+/// Decodes the fields, first to last. The errors are those that [`Sequence`] lists.
 impl<'a, R: Lends<Borrowed = &'a [u8]>> DecodeValue<R> for CertId<'a> {
     type Error = Error;
 
@@ -93,7 +93,7 @@ impl<'a> IsValue for CertId<'a> {
     }
 }
 
-/// Writes the fields one after the other, with the errors of every [`Sequence`].
+/// Writes the fields, first to last. The errors are those that [`Sequence`] lists.
 impl<'a> HasFields for CertId<'a> {
     ghost fields_size = { λ v. ⟦<CertIdFields<'a> as Encode>⟧.size
         (⟦<CertId<'a> as FromFields<CertIdFields<'a>>>⟧.fields v) };

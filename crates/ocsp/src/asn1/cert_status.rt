@@ -23,11 +23,11 @@ use std::alloc::Global;
 /// Whether a certificate is revoked (RFC 6960, 4.2.1), borrowed from the input.
 #[derive(Clone, Copy, Debug, Drop, PartialEq, Eq)]
 pub enum CertStatus<'a> {
-    /// good
+    /// The certificate is not revoked.
     Good(Implicit<Null<'a>, 0>),
-    /// revoked
+    /// The certificate is revoked.
     Revoked(Implicit<RevokedInfo, 1>),
-    /// unknown
+    /// The responder does not know the certificate.
     Unknown(Implicit<UnknownInfo<'a>, 2>),
 }
 
@@ -64,7 +64,7 @@ impl<'a> DescribedChoice for CertStatus<'a> {
         ⟦<CertStatus<'a> as FromFields<CertStatusAlternatives<'a>>>⟧.fields };
 }
 
-/// Decodes the alternative whose tag is next, with the errors of [`Either`].
+/// Decodes the alternative with the next tag. The errors are those of decoding an [`Either`].
 impl<'a, R: Lends<Borrowed = &'a [u8]>> Decode<R> for CertStatus<'a> {
     type Error = Error;
 
@@ -100,7 +100,7 @@ impl<'a, R: Lends<Borrowed = &'a [u8]>> DecodeChoice<R> for CertStatus<'a> {
     ghost begins = { ⟦<CertStatus<'a> as DescribedChoice>⟧.alternative.begins };
 }
 
-/// Writes the alternative that the value has.
+/// Writes the alternative that the value has. The errors are those of writing it.
 impl<'a> Encode for CertStatus<'a> {
     ghost encoding = { λ v. ⟦<CertStatusAlternatives<'a> as Encode>⟧.encoding
         (⟦<CertStatus<'a> as FromFields<CertStatusAlternatives<'a>>>⟧.fields v) };

@@ -18,7 +18,7 @@ use x509::Certificate;
 /// Certificates that help to verify a signature, first to last.
 #[derive(Clone, Copy, Debug, Drop, PartialEq, Eq)]
 pub struct Certificates<'a> {
-    /// The list: a SEQUENCE OF its items.
+    /// The items, as a SEQUENCE OF.
     pub items: SequenceOf<'a, Certificate<'a>>,
 }
 
@@ -39,7 +39,7 @@ impl<'a> Sequence for Certificates<'a> {
     ghost fits = { (refl, refl) };
 }
 
-/// Decodes the list, with the errors of [`SequenceOf`].
+/// Decodes the list. The errors are those of decoding a [`SequenceOf`].
 impl<'a, R: Lends<Borrowed = &'a [u8]>> DecodeValue<R> for Certificates<'a> {
     type Error = Error;
 
@@ -61,7 +61,7 @@ impl<'a> IsValue for Certificates<'a> {
     }
 }
 
-/// Writes the list, with the errors of [`SequenceOf`].
+/// Writes the list. The errors are those of writing a [`SequenceOf`].
 impl<'a> EncodeValue for Certificates<'a> {
     ghost value_size = { λ v. ⟦<Items<'a> as EncodeValue>⟧.value_size v.items };
 

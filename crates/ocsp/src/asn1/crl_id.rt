@@ -18,18 +18,18 @@ use der_asn1::{
 };
 use std::alloc::Global;
 
-/// The CRL in which a certificate is found (RFC 6960, 4.4.2), borrowed from the input.
+/// The revocation list on which a certificate is found (RFC 6960, 4.4.2), borrowed from the input.
 #[derive(Clone, Copy, Debug, Drop, PartialEq, Eq)]
 pub struct CrlId<'a> {
-    /// Where the CRL can be found, if present.
+    /// The URL of the list, if present.
     pub crl_url: Optional<Explicit<Ia5StringRef<'a>, 0>>,
-    /// The number of the CRL, if present.
+    /// The number of the list, if present.
     pub crl_num: Optional<Explicit<IntRef<'a>, 1>>,
-    /// When the CRL was issued, if present.
+    /// When the list was issued, if present.
     pub crl_time: Optional<Explicit<GeneralizedTime, 2>>,
 }
 
-/// The fields of a [`CrlId`], in the order in which they are encoded.
+/// The fields of [`CrlId`] as one type, in the order in which they are encoded.
 pub type CrlIdFields<'a> = (
     Optional<Explicit<Ia5StringRef<'a>, 0>>,
     Optional<Explicit<IntRef<'a>, 1>>,
@@ -59,7 +59,7 @@ impl<'a> Sequence for CrlId<'a> {
     ghost fits = { (refl, refl) };
 }
 
-/// Decodes the fields one after the other, with the errors of every [`Sequence`].
+/// Decodes the fields, first to last. The errors are those that [`Sequence`] lists.
 impl<'a, R: Lends<Borrowed = &'a [u8]>> DecodeValue<R> for CrlId<'a> {
     type Error = Error;
 
@@ -89,7 +89,7 @@ impl<'a> IsValue for CrlId<'a> {
     }
 }
 
-/// Writes the fields one after the other, with the errors of every [`Sequence`].
+/// Writes the fields, first to last. The errors are those that [`Sequence`] lists.
 impl<'a> HasFields for CrlId<'a> {
     ghost fields_size = { λ v. ⟦<CrlIdFields<'a> as Encode>⟧.size
         (⟦<CrlId<'a> as FromFields<CrlIdFields<'a>>>⟧.fields v) };

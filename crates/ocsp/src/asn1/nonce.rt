@@ -4,5 +4,5 @@
 
 use der_asn1::OctetStringRef;
 
-/// Octets that connect a response with its request (RFC 6960, 4.4.1).
+/// Octets of a request that its response repeats (RFC 6960, 4.4.1).
 pub type Nonce<'a> = OctetStringRef<'a>;

@@ -27,7 +27,7 @@ pub struct OcspRequest<'a> {
     pub optional_signature: Optional<Explicit<Signature<'a>, 0>>,
 }
 
-/// The fields of a [`OcspRequest`], in the order in which they are encoded.
+/// The fields of [`OcspRequest`] as one type, in the order in which they are encoded.
 pub type OcspRequestFields<'a> = (TbsRequest<'a>, Optional<Explicit<Signature<'a>, 0>>);
 
 impl<'a> FromFields<OcspRequestFields<'a>> for OcspRequest<'a> {
@@ -51,7 +51,7 @@ impl<'a> Sequence for OcspRequest<'a> {
     ghost fits = { (refl, refl) };
 }
 
-/// Decodes the fields one after the other, with the errors of every [`Sequence`].
+/// Decodes the fields, first to last. The errors are those that [`Sequence`] lists.
 impl<'a, R: Lends<Borrowed = &'a [u8]>> DecodeValue<R> for OcspRequest<'a> {
     type Error = Error;
 
@@ -76,7 +76,7 @@ impl<'a> IsValue for OcspRequest<'a> {
     }
 }
 
-/// Writes the fields one after the other, with the errors of every [`Sequence`].
+/// Writes the fields, first to last. The errors are those that [`Sequence`] lists.
 impl<'a> HasFields for OcspRequest<'a> {
     ghost fields_size = { λ v. ⟦<OcspRequestFields<'a> as Encode>⟧.size
         (⟦<OcspRequest<'a> as FromFields<OcspRequestFields<'a>>>⟧.fields v) };

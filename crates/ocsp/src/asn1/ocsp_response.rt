@@ -29,7 +29,7 @@ pub struct OcspResponse<'a> {
     pub response_bytes: Optional<Explicit<ResponseBytes<'a>, 0>>,
 }
 
-/// The fields of a [`OcspResponse`], in the order in which they are encoded.
+/// The fields of [`OcspResponse`] as one type, in the order in which they are encoded.
 pub type OcspResponseFields<'a> = (
     Enumerated<OcspResponseStatus>,
     Optional<Explicit<ResponseBytes<'a>, 0>>,
@@ -56,7 +56,7 @@ impl<'a> Sequence for OcspResponse<'a> {
     ghost fits = { (refl, refl) };
 }
 
-/// Decodes the fields one after the other, with the errors of every [`Sequence`].
+/// Decodes the fields, first to last. The errors are those that [`Sequence`] lists.
 impl<'a, R: Lends<Borrowed = &'a [u8]>> DecodeValue<R> for OcspResponse<'a> {
     type Error = Error;
 
@@ -81,7 +81,7 @@ impl<'a> IsValue for OcspResponse<'a> {
     }
 }
 
-/// Writes the fields one after the other, with the errors of every [`Sequence`].
+/// Writes the fields, first to last. The errors are those that [`Sequence`] lists.
 impl<'a> HasFields for OcspResponse<'a> {
     ghost fields_size = { λ v. ⟦<OcspResponseFields<'a> as Encode>⟧.size
         (⟦<OcspResponse<'a> as FromFields<OcspResponseFields<'a>>>⟧.fields v) };

@@ -15,17 +15,17 @@ use der_asn1::{BorrowedItem, DecodeItem, Described, Item, Nestable, Optional, Wr
 use spki::AlgorithmIdentifierRef;
 use std::alloc::Global;
 
-/// An algorithm of signatures that a client prefers (RFC 6960, 4.4.7.1), borrowed from the input.
+/// A signature algorithm that a client prefers (RFC 6960, 4.4.7.1), borrowed from the input.
 #[derive(Clone, Copy, Debug, Drop, PartialEq, Eq)]
 pub struct PreferredSignatureAlgorithm<'a> {
-    /// The algorithm of the signature.
+    /// The signature algorithm.
     pub sig_identifier: AlgorithmIdentifierRef<'a>,
     /// The algorithm of the public key in the responder's certificate, if present. In 4.4.7.1 the
     /// RFC names the field pubKeyAlgIdentifier.
     pub cert_identifier: Optional<AlgorithmIdentifierRef<'a>>,
 }
 
-/// The fields of a [`PreferredSignatureAlgorithm`], in the order in which they are encoded.
+/// The fields of [`PreferredSignatureAlgorithm`] as one type, in the order in which they are encoded.
 pub type PreferredSignatureAlgorithmFields<'a> = (
     AlgorithmIdentifierRef<'a>,
     Optional<AlgorithmIdentifierRef<'a>>,
@@ -52,7 +52,7 @@ impl<'a> Sequence for PreferredSignatureAlgorithm<'a> {
     ghost fits = { (refl, refl) };
 }
 
-/// Decodes the fields one after the other, with the errors of every [`Sequence`].
+/// Decodes the fields, first to last. The errors are those that [`Sequence`] lists.
 impl<'a, R: Lends<Borrowed = &'a [u8]>> DecodeValue<R> for PreferredSignatureAlgorithm<'a> {
     type Error = Error;
 
@@ -77,7 +77,7 @@ impl<'a> IsValue for PreferredSignatureAlgorithm<'a> {
     }
 }
 
-/// Writes the fields one after the other, with the errors of every [`Sequence`].
+/// Writes the fields, first to last. The errors are those that [`Sequence`] lists.
 impl<'a> HasFields for PreferredSignatureAlgorithm<'a> {
     ghost fields_size = { λ v. ⟦<PreferredSignatureAlgorithmFields<'a> as Encode>⟧.size
         (⟦<PreferredSignatureAlgorithm<'a> as FromFields<PreferredSignatureAlgorithmFields<'a>>>⟧.fields v) };

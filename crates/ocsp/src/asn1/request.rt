@@ -21,13 +21,13 @@ use x509::Extensions;
 /// A certificate whose status is requested (RFC 6960, 4.1.1), borrowed from the input.
 #[derive(Clone, Copy, Debug, Drop, PartialEq, Eq)]
 pub struct Request<'a> {
-    /// The certificate.
+    /// What identifies the certificate.
     pub req_cert: CertId<'a>,
-    /// The extensions, if present.
+    /// The extensions of the request for this certificate, if present.
     pub single_request_extensions: Optional<Explicit<Extensions<'a>, 0>>,
 }
 
-/// The fields of a [`Request`], in the order in which they are encoded.
+/// The fields of [`Request`] as one type, in the order in which they are encoded.
 pub type RequestFields<'a> = (CertId<'a>, Optional<Explicit<Extensions<'a>, 0>>);
 
 impl<'a> FromFields<RequestFields<'a>> for Request<'a> {
@@ -50,7 +50,7 @@ impl<'a> Sequence for Request<'a> {
     ghost fits = { (refl, refl) };
 }
 
-/// Decodes the fields one after the other, with the errors of every [`Sequence`].
+/// Decodes the fields, first to last. The errors are those that [`Sequence`] lists.
 impl<'a, R: Lends<Borrowed = &'a [u8]>> DecodeValue<R> for Request<'a> {
     type Error = Error;
 
@@ -75,7 +75,7 @@ impl<'a> IsValue for Request<'a> {
     }
 }
 
-/// Writes the fields one after the other, with the errors of every [`Sequence`].
+/// Writes the fields, first to last. The errors are those that [`Sequence`] lists.
 impl<'a> HasFields for Request<'a> {
     ghost fields_size = { λ v. ⟦<RequestFields<'a> as Encode>⟧.size
         (⟦<Request<'a> as FromFields<RequestFields<'a>>>⟧.fields v) };

@@ -18,16 +18,16 @@ use der_asn1::{
 use std::alloc::Global;
 use x509::Name;
 
-/// The one who signed a response (RFC 6960, 4.2.1), borrowed from the input.
+/// Who signed a response (RFC 6960, 4.2.1), borrowed from the input.
 #[derive(Clone, Copy, Debug, Drop, PartialEq, Eq)]
 pub enum ResponderId<'a> {
-    /// byName
+    /// The name of the responder.
     ByName(Explicit<Name<'a>, 1>),
-    /// byKey
+    /// The hash of the responder's public key.
     ByKey(Explicit<KeyHash<'a>, 2>),
 }
 
-/// The alternatives, as nested choices of two.
+/// The alternatives as one type: an [`Either`] of two, which may be [`Either`]s in turn.
 pub type ResponderIdAlternatives<'a> = Either<Explicit<Name<'a>, 1>, Explicit<KeyHash<'a>, 2>>;
 
 impl<'a> FromFields<ResponderIdAlternatives<'a>> for ResponderId<'a> {
@@ -51,7 +51,7 @@ impl<'a> DescribedChoice for ResponderId<'a> {
         ⟦<ResponderId<'a> as FromFields<ResponderIdAlternatives<'a>>>⟧.fields };
 }
 
-/// Decodes the alternative whose tag is next, with the errors of [`Either`].
+/// Decodes the alternative with the next tag. The errors are those of decoding an [`Either`].
 impl<'a, R: Lends<Borrowed = &'a [u8]>> Decode<R> for ResponderId<'a> {
     type Error = Error;
 
@@ -87,7 +87,7 @@ impl<'a, R: Lends<Borrowed = &'a [u8]>> DecodeChoice<R> for ResponderId<'a> {
     ghost begins = { ⟦<ResponderId<'a> as DescribedChoice>⟧.alternative.begins };
 }
 
-/// Writes the alternative that the value has.
+/// Writes the alternative that the value has. The errors are those of writing it.
 impl<'a> Encode for ResponderId<'a> {
     ghost encoding = { λ v. ⟦<ResponderIdAlternatives<'a> as Encode>⟧.encoding
         (⟦<ResponderId<'a> as FromFields<ResponderIdAlternatives<'a>>>⟧.fields v) };

@@ -17,7 +17,7 @@ use der_asn1::{
 };
 use std::alloc::Global;
 
-/// The octets of a response (RFC 6960, 4.2.1), borrowed from the input.
+/// A response as octets, with its type (RFC 6960, 4.2.1), borrowed from the input.
 #[derive(Clone, Copy, Debug, Drop, PartialEq, Eq)]
 pub struct ResponseBytes<'a> {
     /// The type of the response.
@@ -27,7 +27,7 @@ pub struct ResponseBytes<'a> {
     pub response: OctetStringRef<'a>,
 }
 
-/// The fields of a [`ResponseBytes`], in the order in which they are encoded.
+/// The fields of [`ResponseBytes`] as one type, in the order in which they are encoded.
 pub type ResponseBytesFields<'a> = (ObjectIdentifierRef<'a>, OctetStringRef<'a>);
 
 impl<'a> FromFields<ResponseBytesFields<'a>> for ResponseBytes<'a> {
@@ -51,7 +51,7 @@ impl<'a> Sequence for ResponseBytes<'a> {
     ghost fits = { (refl, refl) };
 }
 
-/// Decodes the fields one after the other, with the errors of every [`Sequence`].
+/// Decodes the fields, first to last. The errors are those that [`Sequence`] lists.
 impl<'a, R: Lends<Borrowed = &'a [u8]>> DecodeValue<R> for ResponseBytes<'a> {
     type Error = Error;
 
@@ -74,7 +74,7 @@ impl<'a> IsValue for ResponseBytes<'a> {
     }
 }
 
-/// Writes the fields one after the other, with the errors of every [`Sequence`].
+/// Writes the fields, first to last. The errors are those that [`Sequence`] lists.
 impl<'a> HasFields for ResponseBytes<'a> {
     ghost fields_size = { λ v. ⟦<ResponseBytesFields<'a> as Encode>⟧.size
         (⟦<ResponseBytes<'a> as FromFields<ResponseBytesFields<'a>>>⟧.fields v) };

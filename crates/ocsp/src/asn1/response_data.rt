@@ -28,17 +28,17 @@ pub struct ResponseData<'a> {
     /// The version. The default is version 1, whose number is 0. Decoding accepts every number from
     /// 0 to 2^64 - 1.
     pub version: Defaulted<Explicit<WithDefault<IntegerOf<u64>, DefaultU64<0>>, 0>>,
-    /// The one who signed the response.
+    /// Who signed the response.
     pub responder_id: ResponderId<'a>,
     /// When the response was signed.
     pub produced_at: GeneralizedTime,
-    /// The status of each certificate.
+    /// The status of each requested certificate.
     pub responses: SequenceOf<'a, SingleResponse<'a>>,
-    /// The extensions, if present.
+    /// The extensions of the whole response, if present.
     pub response_extensions: Optional<Explicit<Extensions<'a>, 1>>,
 }
 
-/// The fields of a [`ResponseData`], in the order in which they are encoded.
+/// The fields of [`ResponseData`] as one type, in the order in which they are encoded.
 pub type ResponseDataFields<'a> = (
     Defaulted<Explicit<WithDefault<IntegerOf<u64>, DefaultU64<0>>, 0>>,
     ResponderId<'a>,
@@ -82,7 +82,7 @@ impl<'a> Sequence for ResponseData<'a> {
     ghost fits = { (refl, refl) };
 }
 
-/// Decodes the fields one after the other, with the errors of every [`Sequence`].
+/// Decodes the fields, first to last. The errors are those that [`Sequence`] lists.
 impl<'a, R: Lends<Borrowed = &'a [u8]>> DecodeValue<R> for ResponseData<'a> {
     type Error = Error;
 
@@ -113,7 +113,7 @@ impl<'a> IsValue for ResponseData<'a> {
     }
 }
 
-/// Writes the fields one after the other, with the errors of every [`Sequence`].
+/// Writes the fields, first to last. The errors are those that [`Sequence`] lists.
 impl<'a> HasFields for ResponseData<'a> {
     ghost fields_size = { λ v. ⟦<ResponseDataFields<'a> as Encode>⟧.size
         (⟦<ResponseData<'a> as FromFields<ResponseDataFields<'a>>>⟧.fields v) };

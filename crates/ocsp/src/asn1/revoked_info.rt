@@ -18,16 +18,16 @@ use der_asn1::{
 use std::alloc::Global;
 use x509::CrlReason;
 
-/// When and why a certificate was revoked (RFC 6960, 4.2.1), borrowed from the input.
+/// When and why a certificate was revoked (RFC 6960, 4.2.1).
 #[derive(Clone, Copy, Debug, Drop, PartialEq, Eq)]
 pub struct RevokedInfo {
-    /// When it was revoked.
+    /// When the certificate was revoked.
     pub revocation_time: GeneralizedTime,
-    /// Why it was revoked, if present.
+    /// Why the certificate was revoked, if present.
     pub revocation_reason: Optional<Explicit<Enumerated<CrlReason>, 0>>,
 }
 
-/// The fields of a [`RevokedInfo`], in the order in which they are encoded.
+/// The fields of [`RevokedInfo`] as one type, in the order in which they are encoded.
 pub type RevokedInfoFields = (
     GeneralizedTime,
     Optional<Explicit<Enumerated<CrlReason>, 0>>,
@@ -54,7 +54,7 @@ impl Sequence for RevokedInfo {
     ghost fits = { (refl, refl) };
 }
 
-/// Decodes the fields one after the other, with the errors of every [`Sequence`].
+/// Decodes the fields, first to last. The errors are those that [`Sequence`] lists.
 impl<'a, R: Lends<Borrowed = &'a [u8]>> DecodeValue<R> for RevokedInfo {
     type Error = Error;
 
@@ -79,7 +79,7 @@ impl IsValue for RevokedInfo {
     }
 }
 
-/// Writes the fields one after the other, with the errors of every [`Sequence`].
+/// Writes the fields, first to last. The errors are those that [`Sequence`] lists.
 impl HasFields for RevokedInfo {
     ghost fields_size = { λ v. ⟦<RevokedInfoFields as Encode>⟧.size
         (⟦<RevokedInfo as FromFields<RevokedInfoFields>>⟧.fields v) };

@@ -15,17 +15,17 @@ use der_asn1::{BorrowedItem, DecodeItem, Described, Item, Nestable, Optional, Wr
 use std::alloc::Global;
 use x509::{AuthorityInfoAccessSyntax, Name};
 
-/// Where a responder sends a request that another one has to answer (RFC 6960, 4.4.6), borrowed from
-/// the input.
+/// To which other responder a responder may pass on a request (RFC 6960, 4.4.6), borrowed from the
+/// input.
 #[derive(Clone, Copy, Debug, Drop, PartialEq, Eq)]
 pub struct ServiceLocator<'a> {
     /// The issuer of the certificate.
     pub issuer: Name<'a>,
-    /// Where the responder for the certificate is, if present.
+    /// Where the responder of this issuer is found, if present.
     pub locator: Optional<AuthorityInfoAccessSyntax<'a>>,
 }
 
-/// The fields of a [`ServiceLocator`], in the order in which they are encoded.
+/// The fields of [`ServiceLocator`] as one type, in the order in which they are encoded.
 pub type ServiceLocatorFields<'a> = (Name<'a>, Optional<AuthorityInfoAccessSyntax<'a>>);
 
 impl<'a> FromFields<ServiceLocatorFields<'a>> for ServiceLocator<'a> {
@@ -45,7 +45,7 @@ impl<'a> Sequence for ServiceLocator<'a> {
     ghost fits = { (refl, refl) };
 }
 
-/// Decodes the fields one after the other, with the errors of every [`Sequence`].
+/// Decodes the fields, first to last. The errors are those that [`Sequence`] lists.
 impl<'a, R: Lends<Borrowed = &'a [u8]>> DecodeValue<R> for ServiceLocator<'a> {
     type Error = Error;
 
@@ -70,7 +70,7 @@ impl<'a> IsValue for ServiceLocator<'a> {
     }
 }
 
-/// Writes the fields one after the other, with the errors of every [`Sequence`].
+/// Writes the fields, first to last. The errors are those that [`Sequence`] lists.
 impl<'a> HasFields for ServiceLocator<'a> {
     ghost fields_size = { λ v. ⟦<ServiceLocatorFields<'a> as Encode>⟧.size
         (⟦<ServiceLocator<'a> as FromFields<ServiceLocatorFields<'a>>>⟧.fields v) };

@@ -31,7 +31,7 @@ pub struct Signature<'a> {
     pub certs: Optional<Explicit<Certificates<'a>, 0>>,
 }
 
-/// The fields of a [`Signature`], in the order in which they are encoded.
+/// The fields of [`Signature`] as one type, in the order in which they are encoded.
 pub type SignatureFields<'a> = (
     AlgorithmIdentifierRef<'a>,
     BitStringRef<'a>,
@@ -61,7 +61,7 @@ impl<'a> Sequence for Signature<'a> {
     ghost fits = { (refl, refl) };
 }
 
-/// Decodes the fields one after the other, with the errors of every [`Sequence`].
+/// Decodes the fields, first to last. The errors are those that [`Sequence`] lists.
 impl<'a, R: Lends<Borrowed = &'a [u8]>> DecodeValue<R> for Signature<'a> {
     type Error = Error;
 
@@ -87,7 +87,7 @@ impl<'a> IsValue for Signature<'a> {
     }
 }
 
-/// Writes the fields one after the other, with the errors of every [`Sequence`].
+/// Writes the fields, first to last. The errors are those that [`Sequence`] lists.
 impl<'a> HasFields for Signature<'a> {
     ghost fields_size = { λ v. ⟦<SignatureFields<'a> as Encode>⟧.size
         (⟦<Signature<'a> as FromFields<SignatureFields<'a>>>⟧.fields v) };

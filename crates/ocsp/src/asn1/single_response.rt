@@ -21,22 +21,22 @@ use der_asn1::{
 use std::alloc::Global;
 use x509::Extensions;
 
-/// The status of a certificate (RFC 6960, 4.2.1), borrowed from the input.
+/// The status of one certificate (RFC 6960, 4.2.1), borrowed from the input.
 #[derive(Clone, Copy, Debug, Drop, PartialEq, Eq)]
 pub struct SingleResponse<'a> {
-    /// The certificate.
+    /// What identifies the certificate.
     pub cert_id: CertId<'a>,
-    /// Its status.
+    /// The status of the certificate.
     pub cert_status: CertStatus<'a>,
     /// The last time at which the status was known to be right.
     pub this_update: GeneralizedTime,
     /// The time by which a newer status will be known, if present.
     pub next_update: Optional<Explicit<GeneralizedTime, 0>>,
-    /// The extensions, if present.
+    /// The extensions of the status of this certificate, if present.
     pub single_extensions: Optional<Explicit<Extensions<'a>, 1>>,
 }
 
-/// The fields of a [`SingleResponse`], in the order in which they are encoded.
+/// The fields of [`SingleResponse`] as one type, in the order in which they are encoded.
 pub type SingleResponseFields<'a> = (
     CertId<'a>,
     CertStatus<'a>,
@@ -78,7 +78,7 @@ impl<'a> Sequence for SingleResponse<'a> {
     ghost fits = { (refl, refl) };
 }
 
-/// Decodes the fields one after the other, with the errors of every [`Sequence`].
+/// Decodes the fields, first to last. The errors are those that [`Sequence`] lists.
 impl<'a, R: Lends<Borrowed = &'a [u8]>> DecodeValue<R> for SingleResponse<'a> {
     type Error = Error;
 
@@ -112,7 +112,7 @@ impl<'a> IsValue for SingleResponse<'a> {
     }
 }
 
-/// Writes the fields one after the other, with the errors of every [`Sequence`].
+/// Writes the fields, first to last. The errors are those that [`Sequence`] lists.
 impl<'a> HasFields for SingleResponse<'a> {
     ghost fields_size = { λ v. ⟦<SingleResponseFields<'a> as Encode>⟧.size
         (⟦<SingleResponse<'a> as FromFields<SingleResponseFields<'a>>>⟧.fields v) };

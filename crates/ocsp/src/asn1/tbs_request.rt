@@ -31,11 +31,11 @@ pub struct TbsRequest<'a> {
     pub requestor_name: Optional<Implicit<GeneralNameTagged<'a>, 1>>,
     /// The certificates whose status is requested. That there is at least one is not checked.
     pub request_list: SequenceOf<'a, Request<'a>>,
-    /// The extensions, if present.
+    /// The extensions of the whole request, if present.
     pub request_extensions: Optional<Explicit<Extensions<'a>, 2>>,
 }
 
-/// The fields of a [`TbsRequest`], in the order in which they are encoded.
+/// The fields of [`TbsRequest`] as one type, in the order in which they are encoded.
 pub type TbsRequestFields<'a> = (
     Defaulted<Explicit<WithDefault<IntegerOf<u64>, DefaultU64<0>>, 0>>,
     Optional<Implicit<GeneralNameTagged<'a>, 1>>,
@@ -70,7 +70,7 @@ impl<'a> Sequence for TbsRequest<'a> {
     ghost fits = { (refl, refl) };
 }
 
-/// Decodes the fields one after the other, with the errors of every [`Sequence`].
+/// Decodes the fields, first to last. The errors are those that [`Sequence`] lists.
 impl<'a, R: Lends<Borrowed = &'a [u8]>> DecodeValue<R> for TbsRequest<'a> {
     type Error = Error;
 
@@ -99,7 +99,7 @@ impl<'a> IsValue for TbsRequest<'a> {
     }
 }
 
-/// Writes the fields one after the other, with the errors of every [`Sequence`].
+/// Writes the fields, first to last. The errors are those that [`Sequence`] lists.
 impl<'a> HasFields for TbsRequest<'a> {
     ghost fields_size = { λ v. ⟦<TbsRequestFields<'a> as Encode>⟧.size
         (⟦<TbsRequest<'a> as FromFields<TbsRequestFields<'a>>>⟧.fields v) };

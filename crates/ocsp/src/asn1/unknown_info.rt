@@ -4,5 +4,5 @@
 
 use der_asn1::Null;
 
-/// What is said of a certificate that the responder does not know (RFC 6960, 4.2.1): nothing.
+/// The contents of the status `unknown` (RFC 6960, 4.2.1): a NULL, which says nothing more.
 pub type UnknownInfo<'a> = Null<'a>;

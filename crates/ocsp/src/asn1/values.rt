@@ -6,7 +6,7 @@ ghost use Rattle.der_asn1.specs.Arcs.{oid_octets};
 
 use der_asn1::ObjectIdentifierRef;
 
-/// A purpose of keys: the signature of responses (RFC 6960, 4.2.2.2).
+/// The purpose of a key that signs responses (RFC 6960, 4.2.2.2).
 pub fn id_kp_ocsp_signing() -> ObjectIdentifierRef<'static>
     ensures { result.octets.now ≡ oid_octets (1 ∷ 3 ∷ 6 ∷ 1 ∷ 5 ∷ 5 ∷ 7 ∷ 3 ∷ 9 ∷ []) }
 {
@@ -17,7 +17,7 @@ pub fn id_kp_ocsp_signing() -> ObjectIdentifierRef<'static>
     value
 }
 
-/// The types of responses and extensions (RFC 6960, B.1).
+/// The arc of the types of responses and of the extensions (RFC 6960, B.1).
 pub fn id_pkix_ocsp() -> ObjectIdentifierRef<'static>
     ensures { result.octets.now ≡ oid_octets (1 ∷ 3 ∷ 6 ∷ 1 ∷ 5 ∷ 5 ∷ 7 ∷ 48 ∷ 1 ∷ []) }
 {
@@ -28,7 +28,7 @@ pub fn id_pkix_ocsp() -> ObjectIdentifierRef<'static>
     value
 }
 
-/// A response whose octets are a BasicOCSPResponse (RFC 6960, 4.2.1).
+/// The type of a response that is a BasicOCSPResponse (RFC 6960, 4.2.1).
 pub fn id_pkix_ocsp_basic() -> ObjectIdentifierRef<'static>
     ensures { result.octets.now ≡ oid_octets (1 ∷ 3 ∷ 6 ∷ 1 ∷ 5 ∷ 5 ∷ 7 ∷ 48 ∷ 1 ∷ 1 ∷ []) }
 {
@@ -40,7 +40,7 @@ pub fn id_pkix_ocsp_basic() -> ObjectIdentifierRef<'static>
     value
 }
 
-/// An extension whose value is a Nonce (RFC 6960, 4.4.1).
+/// The extension nonce, whose value is a Nonce (RFC 6960, 4.4.1).
 pub fn id_pkix_ocsp_nonce() -> ObjectIdentifierRef<'static>
     ensures { result.octets.now ≡ oid_octets (1 ∷ 3 ∷ 6 ∷ 1 ∷ 5 ∷ 5 ∷ 7 ∷ 48 ∷ 1 ∷ 2 ∷ []) }
 {
@@ -52,7 +52,7 @@ pub fn id_pkix_ocsp_nonce() -> ObjectIdentifierRef<'static>
     value
 }
 
-/// An extension whose value is a CrlID (RFC 6960, 4.4.2).
+/// The extension with the revocation list of a certificate. Its value is a CrlID (RFC 6960, 4.4.2).
 pub fn id_pkix_ocsp_crl() -> ObjectIdentifierRef<'static>
     ensures { result.octets.now ≡ oid_octets (1 ∷ 3 ∷ 6 ∷ 1 ∷ 5 ∷ 5 ∷ 7 ∷ 48 ∷ 1 ∷ 3 ∷ []) }
 {
@@ -64,7 +64,8 @@ pub fn id_pkix_ocsp_crl() -> ObjectIdentifierRef<'static>
     value
 }
 
-/// An extension whose value is AcceptableResponses (RFC 6960, 4.4.3).
+/// The extension with the types of responses that a client accepts. Its value is
+/// AcceptableResponses (RFC 6960, 4.4.3).
 pub fn id_pkix_ocsp_response() -> ObjectIdentifierRef<'static>
     ensures { result.octets.now ≡ oid_octets (1 ∷ 3 ∷ 6 ∷ 1 ∷ 5 ∷ 5 ∷ 7 ∷ 48 ∷ 1 ∷ 4 ∷ []) }
 {
@@ -76,7 +77,8 @@ pub fn id_pkix_ocsp_response() -> ObjectIdentifierRef<'static>
     value
 }
 
-/// An extension of certificates whose value is NULL (RFC 6960, 4.2.2.2.1).
+/// The extension of a responder's certificate which says that its status need not be requested. Its
+/// value is NULL (RFC 6960, 4.2.2.2.1).
 pub fn id_pkix_ocsp_nocheck() -> ObjectIdentifierRef<'static>
     ensures { result.octets.now ≡ oid_octets (1 ∷ 3 ∷ 6 ∷ 1 ∷ 5 ∷ 5 ∷ 7 ∷ 48 ∷ 1 ∷ 5 ∷ []) }
 {
@@ -88,7 +90,8 @@ pub fn id_pkix_ocsp_nocheck() -> ObjectIdentifierRef<'static>
     value
 }
 
-/// An extension whose value is an ArchiveCutoff (RFC 6960, 4.4.4).
+/// The extension with the time since when a responder keeps statuses. Its value is an ArchiveCutoff
+/// (RFC 6960, 4.4.4).
 pub fn id_pkix_ocsp_archive_cutoff() -> ObjectIdentifierRef<'static>
     ensures { result.octets.now ≡ oid_octets (1 ∷ 3 ∷ 6 ∷ 1 ∷ 5 ∷ 5 ∷ 7 ∷ 48 ∷ 1 ∷ 6 ∷ []) }
 {
@@ -100,7 +103,8 @@ pub fn id_pkix_ocsp_archive_cutoff() -> ObjectIdentifierRef<'static>
     value
 }
 
-/// An extension whose value is a ServiceLocator (RFC 6960, 4.4.6).
+/// The extension with the issuer of a certificate and its responder. Its value is a ServiceLocator
+/// (RFC 6960, 4.4.6).
 pub fn id_pkix_ocsp_service_locator() -> ObjectIdentifierRef<'static>
     ensures { result.octets.now ≡ oid_octets (1 ∷ 3 ∷ 6 ∷ 1 ∷ 5 ∷ 5 ∷ 7 ∷ 48 ∷ 1 ∷ 7 ∷ []) }
 {
@@ -112,7 +116,8 @@ pub fn id_pkix_ocsp_service_locator() -> ObjectIdentifierRef<'static>
     value
 }
 
-/// An extension whose value is PreferredSignatureAlgorithms (RFC 6960, 4.4.7).
+/// The extension with the signature algorithms that a client prefers. Its value is
+/// PreferredSignatureAlgorithms (RFC 6960, 4.4.7).
 pub fn id_pkix_ocsp_pref_sig_algs() -> ObjectIdentifierRef<'static>
     ensures { result.octets.now ≡ oid_octets (1 ∷ 3 ∷ 6 ∷ 1 ∷ 5 ∷ 5 ∷ 7 ∷ 48 ∷ 1 ∷ 8 ∷ []) }
 {
@@ -124,7 +129,8 @@ pub fn id_pkix_ocsp_pref_sig_algs() -> ObjectIdentifierRef<'static>
     value
 }
 
-/// An extension whose value is NULL (RFC 6960, 4.4.8).
+/// The extension which says that a responder also reports a certificate as revoked if it was never
+/// issued. Its value is NULL (RFC 6960, 4.4.8).
 pub fn id_pkix_ocsp_extended_revoke() -> ObjectIdentifierRef<'static>
     ensures { result.octets.now ≡ oid_octets (1 ∷ 3 ∷ 6 ∷ 1 ∷ 5 ∷ 5 ∷ 7 ∷ 48 ∷ 1 ∷ 9 ∷ []) }
 {
@@ -136,7 +142,8 @@ pub fn id_pkix_ocsp_extended_revoke() -> ObjectIdentifierRef<'static>
     value
 }
 
-/// The name that the module has for an OBJECT IDENTIFIER; the first one if it has several.
+/// The name of an OBJECT IDENTIFIER in the ASN.1 module, or the first of several; `None` if it
+/// has no name there.
 pub fn name_of(oid: &ObjectIdentifierRef<'_>) -> Option<&'static str> {
     match oid.octets() {
         [0x2B, 0x06, 0x01, 0x05, 0x05, 0x07, 0x03, 0x09] => Some("id-kp-OCSPSigning"),

@@ -18,22 +18,22 @@ use der_asn1::{
 };
 use std::alloc::Global;
 
-/// Where somebody lives.
+/// The address of a person.
 #[derive(Clone, Copy, Debug, Drop, PartialEq, Eq)]
 pub struct Address<'a> {
-    /// name
+    /// The name of the person.
     pub name: Utf8StringRef<'a>,
-    /// street
+    /// The street and the number of the house.
     pub street: PrintableStringRef<'a>,
-    /// code
+    /// The postal code, if known.
     pub code: Optional<Application<Implicit<NumericStringRef<'a>, 1>>>,
-    /// type
+    /// What the address is for, such as `home`, if known.
     pub type_: Optional<Ia5StringRef<'a>>,
-    /// note
+    /// A note for the driver, if there is one.
     pub note: Optional<BmpStringRef<'a>>,
 }
 
-/// The fields of a [`Address`], in the order in which they are encoded.
+/// The fields of [`Address`] as one type, in the order in which they are encoded.
 pub type AddressFields<'a> = (
     Utf8StringRef<'a>,
     PrintableStringRef<'a>,
@@ -69,7 +69,7 @@ impl<'a> Sequence for Address<'a> {
     ghost fits = { (refl, refl) };
 }
 
-/// Decodes the fields one after the other, with the errors of every [`Sequence`].
+/// Decodes the fields, first to last. The errors are those that [`Sequence`] lists.
 impl<'a, R: Lends<Borrowed = &'a [u8]>> DecodeValue<R> for Address<'a> {
     type Error = Error;
 
@@ -101,7 +101,7 @@ impl<'a> IsValue for Address<'a> {
     }
 }
 
-/// Writes the fields one after the other, with the errors of every [`Sequence`].
+/// Writes the fields, first to last. The errors are those that [`Sequence`] lists.
 impl<'a> HasFields for Address<'a> {
     ghost fields_size = { λ v. ⟦<AddressFields<'a> as Encode>⟧.size
         (⟦<Address<'a> as FromFields<AddressFields<'a>>>⟧.fields v) };

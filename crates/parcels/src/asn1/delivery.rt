@@ -15,10 +15,10 @@ use der::{
 use der_asn1::{BorrowedItem, DecodeItem, Described, Item, Nestable, SetOf, WrittenItem};
 use std::alloc::Global;
 
-/// The parcels that one car brings.
+/// The parcels that one car brings, in ascending order of their encodings.
 #[derive(Clone, Copy, Debug, Drop, PartialEq, Eq)]
 pub struct Delivery<'a> {
-    /// The list: a SET OF its items.
+    /// The items, as a SET OF.
     pub items: SetOf<'a, Parcel<'a>>,
 }
 
@@ -71,7 +71,7 @@ impl<'a> Lawful for Delivery<'a> {
     ghost lawful = { ⟦<Delivery<'a> as Described>⟧.element.lawful refl };
 }
 
-/// Decodes the list, with the errors of [`SetOf`].
+/// Decodes the list. The errors are those of decoding a [`SetOf`].
 impl<'a, R: Lends<Borrowed = &'a [u8]>> DecodeValue<R> for Delivery<'a> {
     type Error = Error;
 
@@ -93,7 +93,7 @@ impl<'a> IsValue for Delivery<'a> {
     }
 }
 
-/// Writes the list, with the errors of [`SetOf`].
+/// Writes the list. The errors are those of writing a [`SetOf`].
 impl<'a> EncodeValue for Delivery<'a> {
     ghost value_size = { λ v. ⟦<Items<'a> as EncodeValue>⟧.value_size v.items };
 

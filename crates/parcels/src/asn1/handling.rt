@@ -4,7 +4,7 @@
 
 use der_asn1::NamedBitsRef;
 
-/// Handling
+/// How a parcel is to be handled.
 pub type Handling<'a> = NamedBitsRef<'a>;
 
 /// The named bits of a [`Handling`], with their numbers.

@@ -21,22 +21,22 @@ use der_asn1::{
 };
 use std::alloc::Global;
 
-/// The way of a parcel.
+/// The journey of a parcel.
 #[derive(Clone, Copy, Debug, Drop, PartialEq, Eq)]
 pub struct Journey<'a> {
-    /// The one who sends it.
+    /// The address of the sender.
     pub sender: Implicit<Address<'a>, 1>,
-    /// The one who gets it, if known.
+    /// The address of the receiver, if known.
     pub receiver: Optional<Implicit<Address<'a>, 2>>,
-    /// Where it was, first to last.
+    /// The places where the parcel was, first to last.
     pub stops: SequenceOf<'a, Stop<'a>>,
-    /// What is known of it, in ascending order.
+    /// What is known of the parcel, in ascending order of the encodings, if present.
     pub properties: Optional<Implicit<SetOf<'a, Property<'a>>, 3>>,
-    /// How often its delivery was tried.
+    /// How often delivery was tried. The default is 0.
     pub attempts: Defaulted<Implicit<WithDefault<IntegerOf<u64>, DefaultU64<0>>, 5>>,
 }
 
-/// The fields of a [`Journey`], in the order in which they are encoded.
+/// The fields of [`Journey`] as one type, in the order in which they are encoded.
 pub type JourneyFields<'a> = (
     Implicit<Address<'a>, 1>,
     Optional<Implicit<Address<'a>, 2>>,
@@ -74,7 +74,7 @@ impl<'a> Sequence for Journey<'a> {
     ghost fits = { (refl, refl) };
 }
 
-/// Decodes the fields one after the other, with the errors of every [`Sequence`].
+/// Decodes the fields, first to last. The errors are those that [`Sequence`] lists.
 impl<'a, R: Lends<Borrowed = &'a [u8]>> DecodeValue<R> for Journey<'a> {
     type Error = Error;
 
@@ -104,7 +104,7 @@ impl<'a> IsValue for Journey<'a> {
     }
 }
 
-/// Writes the fields one after the other, with the errors of every [`Sequence`].
+/// Writes the fields, first to last. The errors are those that [`Sequence`] lists.
 impl<'a> HasFields for Journey<'a> {
     ghost fields_size = { λ v. ⟦<JourneyFields<'a> as Encode>⟧.size
         (⟦<Journey<'a> as FromFields<JourneyFields<'a>>>⟧.fields v) };

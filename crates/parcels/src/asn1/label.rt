@@ -20,20 +20,20 @@ use der_asn1::{
 };
 use std::alloc::Global;
 
-/// What stands on a parcel: its octets, or a picture, or the encoding of an address.
+/// The label on a parcel: a picture, octets, and the encoding of an address.
 #[derive(Clone, Copy, Debug, Drop, PartialEq, Eq)]
 pub struct Label<'a> {
-    /// picture
+    /// The picture on the label, one bit for each point.
     pub picture: BitStringRef<'a>,
-    /// octets
+    /// The eight octets of the code on the label. Their number is not checked.
     pub octets: OctetStringRef<'a>,
-    /// address
+    /// The encoding of the address on the label.
     pub address: OctetStringOf<Address<'a>>,
-    /// seal
+    /// The seal of the label, if it has one.
     pub seal: Optional<Implicit<Seal<'a>, 0>>,
 }
 
-/// The fields of a [`Label`], in the order in which they are encoded.
+/// The fields of [`Label`] as one type, in the order in which they are encoded.
 pub type LabelFields<'a> = (
     BitStringRef<'a>,
     OctetStringRef<'a>,
@@ -66,7 +66,7 @@ impl<'a> Sequence for Label<'a> {
     ghost fits = { (refl, refl) };
 }
 
-/// Decodes the fields one after the other, with the errors of every [`Sequence`].
+/// Decodes the fields, first to last. The errors are those that [`Sequence`] lists.
 impl<'a, R: Lends<Borrowed = &'a [u8]>> DecodeValue<R> for Label<'a> {
     type Error = Error;
 
@@ -93,7 +93,7 @@ impl<'a> IsValue for Label<'a> {
     }
 }
 
-/// Writes the fields one after the other, with the errors of every [`Sequence`].
+/// Writes the fields, first to last. The errors are those that [`Sequence`] lists.
 impl<'a> HasFields for Label<'a> {
     ghost fields_size = { λ v. ⟦<LabelFields<'a> as Encode>⟧.size
         (⟦<Label<'a> as FromFields<LabelFields<'a>>>⟧.fields v) };

@@ -6,7 +6,7 @@ ghost use Rattle.parcels.specs.declared.asn1.packing.Packing.TheVariants as vari
 
 use der_asn1::Enumeration;
 
-/// Packing
+/// What a parcel is packed in.
 #[derive(Clone, Copy, Debug, PartialEq, Eq)]
 pub enum Packing {
     Letter = 0,

@@ -29,28 +29,28 @@ use der_asn1::{
 };
 use std::alloc::Global;
 
-/// A parcel on its way, with fields of each kind of presence.
+/// A parcel on its way. It has required, OPTIONAL and DEFAULT fields.
 #[derive(Clone, Copy, Debug, Drop, PartialEq, Eq)]
 pub struct Parcel<'a> {
-    /// The version of the format; version 1 is the default.
+    /// The version of the format. The default is version 1.
     pub version: Defaulted<Explicit<WithDefault<NamedInteger<Version>, ParcelVersionDefault>, 0>>,
-    /// The number of the parcel, of any length.
+    /// The number of the parcel, of any size.
     pub number: IntRef<'a>,
-    /// The weight in grams.
+    /// The weight of the parcel, in grams.
     pub weight: IntegerIn<1, 30000>,
-    /// What it is packed in.
+    /// What the parcel is packed in. The default is a box.
     pub packing: Defaulted<WithDefault<Enumerated<Packing>, ParcelPackingDefault>>,
-    /// How it is to be handled.
+    /// How the parcel is to be handled, if present.
     pub handling: Optional<Handling<'a>>,
-    /// Whether it was opened on its way.
+    /// Whether the parcel was opened on its way. The default is false.
     pub opened: Defaulted<BooleanRef<'a>>,
-    /// From where to where it goes.
+    /// Where the parcel comes from, where it was, and where it goes.
     pub journey: Journey<'a>,
-    /// What stands on it.
+    /// The label on the parcel, if present.
     pub label: Optional<Implicit<Label<'a>, 4>>,
 }
 
-/// The fields of a [`Parcel`], in the order in which they are encoded.
+/// The fields of [`Parcel`] as one type, in the order in which they are encoded.
 pub type ParcelFields<'a> = (
     ParcelPart1Fields<'a>,
     ParcelPart2Fields,
@@ -122,7 +122,7 @@ impl<'a> Sequence for Parcel<'a> {
     ghost fits = { (refl, refl) };
 }
 
-/// Decodes the fields one after the other, with the errors of every [`Sequence`].
+/// Decodes the fields, first to last. The errors are those that [`Sequence`] lists.
 impl<'a, R: Lends<Borrowed = &'a [u8]>> DecodeValue<R> for Parcel<'a> {
     type Error = Error;
 
@@ -165,7 +165,7 @@ impl<'a> IsValue for Parcel<'a> {
     }
 }
 
-/// Writes the fields one after the other, with the errors of every [`Sequence`].
+/// Writes the fields, first to last. The errors are those that [`Sequence`] lists.
 impl<'a> HasFields for Parcel<'a> {
     ghost fields_size = { λ v. ⟦<ParcelFields<'a> as Encode>⟧.size (
       ⟦<ParcelPart1<'a> as FromFields<ParcelPart1Fields<'a>>>⟧.fields

@@ -19,18 +19,18 @@ use der_asn1::{
 };
 use std::alloc::Global;
 
-/// A property. Its object identifier says of which kind it is.
+/// A property of a parcel. The OBJECT IDENTIFIER says of which kind it is.
 #[derive(Clone, Copy, Debug, Drop, PartialEq, Eq)]
 pub struct Property<'a> {
-    /// kind
+    /// The kind of the property.
     pub kind: ObjectIdentifierRef<'a>,
-    /// value
+    /// The value of the property, of a type that its kind determines.
     pub value: Private<ExplicitAny<'a, 1>>,
-    /// The elements of later versions, as they were.
+    /// The fields that the ASN.1 module does not have, as they were read.
     pub additions: Additions<'a, PropertyKnown>,
 }
 
-/// The fields of a [`Property`], in the order in which they are encoded.
+/// The fields of [`Property`] as one type, in the order in which they are encoded.
 pub type PropertyFields<'a> = (
     ObjectIdentifierRef<'a>,
     Private<ExplicitAny<'a, 1>>,
@@ -60,7 +60,7 @@ impl<'a> Sequence for Property<'a> {
     ghost fits = { (refl, refl) };
 }
 
-/// Decodes the fields one after the other, with the errors of every [`Sequence`].
+/// Decodes the fields, first to last. The errors are those that [`Sequence`] lists.
 impl<'a, R: Lends<Borrowed = &'a [u8]>> DecodeValue<R> for Property<'a> {
     type Error = Error;
 
@@ -84,7 +84,7 @@ impl<'a> IsValue for Property<'a> {
     }
 }
 
-/// Writes the fields one after the other, with the errors of every [`Sequence`].
+/// Writes the fields, first to last. The errors are those that [`Sequence`] lists.
 impl<'a> HasFields for Property<'a> {
     ghost fields_size = { λ v. ⟦<PropertyFields<'a> as Encode>⟧.size
         (⟦<Property<'a> as FromFields<PropertyFields<'a>>>⟧.fields v) };

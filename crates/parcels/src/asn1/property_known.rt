@@ -6,7 +6,7 @@ ghost use Rattle.std.specs.Prelude.{[]};
 use der::Tag;
 use der_asn1::{KnownTags, is_among};
 
-/// The tags that a [`Property`] knows at its extension mark.
+/// The tags of the components of [`Property`]. An element with another tag is kept as it was read.
 #[derive(Clone, Copy, Debug, PartialEq, Eq)]
 pub struct PropertyKnown;
 

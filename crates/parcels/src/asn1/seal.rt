@@ -19,18 +19,18 @@ use der_asn1::{
 use spki::AlgorithmIdentifierRef;
 use std::alloc::Global;
 
-/// How a label is sealed.
+/// The seal of a label.
 #[derive(Clone, Copy, Debug, Drop, PartialEq, Eq)]
 pub struct Seal<'a> {
-    /// algorithm
+    /// The algorithm with which the seal was made.
     pub algorithm: AlgorithmIdentifierRef<'a>,
-    /// text
+    /// The text on the seal.
     pub text: Implicit<TextTagged<'a>, 0>,
-    /// extra
+    /// Further information of any type, if present.
     pub extra: Optional<AnyRef<'a>>,
 }
 
-/// The fields of a [`Seal`], in the order in which they are encoded.
+/// The fields of [`Seal`] as one type, in the order in which they are encoded.
 pub type SealFields<'a> = (
     AlgorithmIdentifierRef<'a>,
     Implicit<TextTagged<'a>, 0>,
@@ -59,7 +59,7 @@ impl<'a> Sequence for Seal<'a> {
     ghost fits = { (refl, refl) };
 }
 
-/// Decodes the fields one after the other, with the errors of every [`Sequence`].
+/// Decodes the fields, first to last. The errors are those that [`Sequence`] lists.
 impl<'a, R: Lends<Borrowed = &'a [u8]>> DecodeValue<R> for Seal<'a> {
     type Error = Error;
 
@@ -85,7 +85,7 @@ impl<'a> IsValue for Seal<'a> {
     }
 }
 
-/// Writes the fields one after the other, with the errors of every [`Sequence`].
+/// Writes the fields, first to last. The errors are those that [`Sequence`] lists.
 impl<'a> HasFields for Seal<'a> {
     ghost fields_size = { λ v. ⟦<SealFields<'a> as Encode>⟧.size
         (⟦<Seal<'a> as FromFields<SealFields<'a>>>⟧.fields v) };

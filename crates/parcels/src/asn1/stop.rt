@@ -16,16 +16,16 @@ use der::{
 use der_asn1::{BorrowedItem, DecodeItem, Described, DescribedChoice, Item, Nestable, WrittenItem};
 use std::alloc::Global;
 
-/// A place on the way, and when the parcel was there.
+/// A place on the way of a parcel, and when the parcel was there.
 #[derive(Clone, Copy, Debug, Drop, PartialEq, Eq)]
 pub struct Stop<'a> {
-    /// place
+    /// The name of the place.
     pub place: Text<'a>,
-    /// time
+    /// When the parcel was at the place.
     pub time: Time<'a>,
 }
 
-/// The fields of a [`Stop`], in the order in which they are encoded.
+/// The fields of [`Stop`] as one type, in the order in which they are encoded.
 pub type StopFields<'a> = (Text<'a>, Time<'a>);
 
 impl<'a> FromFields<StopFields<'a>> for Stop<'a> {
@@ -45,7 +45,7 @@ impl<'a> Sequence for Stop<'a> {
     ghost fits = { (refl, refl) };
 }
 
-/// Decodes the fields one after the other, with the errors of every [`Sequence`].
+/// Decodes the fields, first to last. The errors are those that [`Sequence`] lists.
 impl<'a, R: Lends<Borrowed = &'a [u8]>> DecodeValue<R> for Stop<'a> {
     type Error = Error;
 
@@ -77,7 +77,7 @@ impl<'a> IsValue for Stop<'a> {
     }
 }
 
-/// Writes the fields one after the other, with the errors of every [`Sequence`].
+/// Writes the fields, first to last. The errors are those that [`Sequence`] lists.
 impl<'a> HasFields for Stop<'a> {
     ghost fields_size = { λ v. ⟦<StopFields<'a> as Encode>⟧.size
         (⟦<Stop<'a> as FromFields<StopFields<'a>>>⟧.fields v) };

@@ -19,16 +19,17 @@ use der_asn1::{
 };
 use std::alloc::Global;
 
-/// A text. The library has no UniversalString, which is left out.
+/// A text of one of several string types. UniversalString is left out: the library does not have
+/// it.
 #[derive(Clone, Copy, Debug, Drop, PartialEq, Eq)]
 pub enum Text<'a> {
-    /// printable
+    /// A text in a PrintableString.
     Printable(PrintableStringRef<'a>),
-    /// utf8
+    /// A text in a UTF8String.
     Utf8(Utf8StringRef<'a>),
-    /// teletex
+    /// A text in a TeletexString.
     Teletex(TeletexStringRef<'a>),
-    /// visible
+    /// A text in a VisibleString.
     Visible(VisibleStringRef<'a>),
 }
 
@@ -75,7 +76,7 @@ impl<'a> DescribedChoice for Text<'a> {
         ⟦<Text<'a> as FromFields<TextAlternatives<'a>>>⟧.fields };
 }
 
-/// Decodes the alternative whose tag is next, with the errors of [`Either`].
+/// Decodes the alternative with the next tag. The errors are those of decoding an [`Either`].
 impl<'a, R: Lends<Borrowed = &'a [u8]>> Decode<R> for Text<'a> {
     type Error = Error;
 
@@ -111,7 +112,7 @@ impl<'a, R: Lends<Borrowed = &'a [u8]>> DecodeChoice<R> for Text<'a> {
     ghost begins = { ⟦<Text<'a> as DescribedChoice>⟧.alternative.begins };
 }
 
-/// Writes the alternative that the value has.
+/// Writes the alternative that the value has. The errors are those of writing it.
 impl<'a> Encode for Text<'a> {
     ghost encoding = { λ v. ⟦<TextAlternatives<'a> as Encode>⟧.encoding
         (⟦<Text<'a> as FromFields<TextAlternatives<'a>>>⟧.fields v) };

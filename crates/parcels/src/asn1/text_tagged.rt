@@ -15,14 +15,14 @@ use der::{
 use der_asn1::{BorrowedItem, DecodeItem, Described, DescribedChoice, Item, Nestable, WrittenItem};
 use std::alloc::Global;
 
-/// What an explicit tag has in it: a [`Text`].
+/// The contents of an element with an explicit tag: a [`Text`].
 #[derive(Clone, Copy, Debug, Drop, PartialEq, Eq)]
 pub struct TextTagged<'a> {
-    /// The value after the tag.
+    /// The value inside the explicit tag.
     pub value: Text<'a>,
 }
 
-/// The fields of a [`TextTagged`], in the order in which they are encoded.
+/// The fields of [`TextTagged`] as one type, in the order in which they are encoded.
 pub type TextTaggedFields<'a> = Text<'a>;
 
 impl<'a> FromFields<TextTaggedFields<'a>> for TextTagged<'a> {
@@ -41,7 +41,7 @@ impl<'a> Sequence for TextTagged<'a> {
     ghost fits = { (refl, refl) };
 }
 
-/// Decodes the fields one after the other, with the errors of every [`Sequence`].
+/// Decodes the fields, first to last. The errors are those that [`Sequence`] lists.
 impl<'a, R: Lends<Borrowed = &'a [u8]>> DecodeValue<R> for TextTagged<'a> {
     type Error = Error;
 
@@ -68,7 +68,7 @@ impl<'a> IsValue for TextTagged<'a> {
     }
 }
 
-/// Writes the fields one after the other, with the errors of every [`Sequence`].
+/// Writes the fields, first to last. The errors are those that [`Sequence`] lists.
 impl<'a> HasFields for TextTagged<'a> {
     ghost fields_size = { λ v. ⟦<TextTaggedFields<'a> as Encode>⟧.size
         (⟦<TextTagged<'a> as FromFields<TextTaggedFields<'a>>>⟧.fields v) };

@@ -18,14 +18,14 @@ use der_asn1::{
 };
 use std::alloc::Global;
 
-/// Time
+/// A time, or that it is not known.
 #[derive(Clone, Copy, Debug, Drop, PartialEq, Eq)]
 pub enum Time<'a> {
-    /// utc
+    /// The time as a UTCTime.
     Utc(UtcTime),
-    /// general
+    /// The time as a GeneralizedTime.
     General(GeneralizedTime),
-    /// unknown
+    /// The time is not known.
     Unknown(Null<'a>),
 }
 
@@ -62,7 +62,7 @@ impl<'a> DescribedChoice for Time<'a> {
         ⟦<Time<'a> as FromFields<TimeAlternatives<'a>>>⟧.fields };
 }
 
-/// Decodes the alternative whose tag is next, with the errors of [`Either`].
+/// Decodes the alternative with the next tag. The errors are those of decoding an [`Either`].
 impl<'a, R: Lends<Borrowed = &'a [u8]>> Decode<R> for Time<'a> {
     type Error = Error;
 
@@ -98,7 +98,7 @@ impl<'a, R: Lends<Borrowed = &'a [u8]>> DecodeChoice<R> for Time<'a> {
     ghost begins = { ⟦<Time<'a> as DescribedChoice>⟧.alternative.begins };
 }
 
-/// Writes the alternative that the value has.
+/// Writes the alternative that the value has. The errors are those of writing it.
 impl<'a> Encode for Time<'a> {
     ghost encoding = { λ v. ⟦<TimeAlternatives<'a> as Encode>⟧.encoding
         (⟦<Time<'a> as FromFields<TimeAlternatives<'a>>>⟧.fields v) };

@@ -6,13 +6,13 @@ ghost use Rattle.der_asn1.specs.Arcs.{oid_octets};
 
 use der_asn1::ObjectIdentifierRef;
 
-/// max-weight
+/// The greatest weight of a parcel, in grams.
 pub const MAX_WEIGHT: u64 = 30000;
 
-/// is-opened
+/// Whether a parcel was opened, if nothing is known of it.
 pub const IS_OPENED: bool = false;
 
-/// id-parcels
+/// The arc of the OBJECT IDENTIFIERs of this module.
 pub fn id_parcels() -> ObjectIdentifierRef<'static>
     ensures { result.octets.now ≡ oid_octets (1 ∷ 2 ∷ 999 ∷ 1 ∷ []) }
 {
@@ -22,7 +22,7 @@ pub fn id_parcels() -> ObjectIdentifierRef<'static>
     value
 }
 
-/// The kinds of properties.
+/// The kind of a property that says that the parcel is insured.
 pub fn id_insured() -> ObjectIdentifierRef<'static>
     ensures { result.octets.now ≡ oid_octets (1 ∷ 2 ∷ 999 ∷ 1 ∷ 1 ∷ []) }
 {
@@ -32,7 +32,7 @@ pub fn id_insured() -> ObjectIdentifierRef<'static>
     value
 }
 
-/// id-fragile
+/// The kind of a property that says that the parcel is fragile.
 pub fn id_fragile() -> ObjectIdentifierRef<'static>
     ensures { result.octets.now ≡ oid_octets (1 ∷ 2 ∷ 999 ∷ 1 ∷ 2 ∷ []) }
 {
@@ -42,7 +42,8 @@ pub fn id_fragile() -> ObjectIdentifierRef<'static>
     value
 }
 
-/// The name that the module has for an OBJECT IDENTIFIER; the first one if it has several.
+/// The name of an OBJECT IDENTIFIER in the ASN.1 module, or the first of several; `None` if it
+/// has no name there.
 pub fn name_of(oid: &ObjectIdentifierRef<'_>) -> Option<&'static str> {
     match oid.octets() {
         [0x2A, 0x87, 0x67, 0x01] => Some("id-parcels"),

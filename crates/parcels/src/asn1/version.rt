@@ -6,7 +6,7 @@ ghost use Rattle.parcels.specs.declared.asn1.version.Version.TheVariants as vari
 
 use der_asn1::Enumeration;
 
-/// Version
+/// The version of the format of a parcel.
 #[derive(Clone, Copy, Debug, PartialEq, Eq)]
 pub enum Version {
     V1 = 0,

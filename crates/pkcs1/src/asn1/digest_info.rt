@@ -15,8 +15,8 @@ use der_asn1::{BorrowedItem, DecodeItem, Described, Item, Nestable, OctetStringR
 use spki::AlgorithmIdentifierRef;
 use std::alloc::Global;
 
-/// A digest with its algorithm (RFC 8017, A.2.4), which a signature of PKCS #1 v1.5 covers, borrowed
-/// from the input.
+/// A digest with its algorithm (RFC 8017, A.2.4), which a signature of PKCS #1 v1.5 covers,
+/// borrowed from the input.
 #[derive(Clone, Copy, Debug, Drop, PartialEq, Eq)]
 pub struct DigestInfo<'a> {
     /// The hash algorithm.
@@ -25,7 +25,7 @@ pub struct DigestInfo<'a> {
     pub digest: OctetStringRef<'a>,
 }
 
-/// The fields of a [`DigestInfo`], in the order in which they are encoded.
+/// The fields of [`DigestInfo`] as one type, in the order in which they are encoded.
 pub type DigestInfoFields<'a> = (AlgorithmIdentifierRef<'a>, OctetStringRef<'a>);
 
 impl<'a> FromFields<DigestInfoFields<'a>> for DigestInfo<'a> {
@@ -49,7 +49,7 @@ impl<'a> Sequence for DigestInfo<'a> {
     ghost fits = { (refl, refl) };
 }
 
-/// Decodes the fields one after the other, with the errors of every [`Sequence`].
+/// Decodes the fields, first to last. The errors are those that [`Sequence`] lists.
 impl<'a, R: Lends<Borrowed = &'a [u8]>> DecodeValue<R> for DigestInfo<'a> {
     type Error = Error;
 
@@ -72,7 +72,7 @@ impl<'a> IsValue for DigestInfo<'a> {
     }
 }
 
-/// Writes the fields one after the other, with the errors of every [`Sequence`].
+/// Writes the fields, first to last. The errors are those that [`Sequence`] lists.
 impl<'a> HasFields for DigestInfo<'a> {
     ghost fields_size = { λ v. ⟦<DigestInfoFields<'a> as Encode>⟧.size
         (⟦<DigestInfo<'a> as FromFields<DigestInfoFields<'a>>>⟧.fields v) };

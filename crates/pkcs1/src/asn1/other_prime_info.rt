@@ -22,12 +22,12 @@ pub struct OtherPrimeInfo<'a> {
     pub prime: IntRef<'a>,
     /// The exponent: d mod (prime - 1).
     pub exponent: IntRef<'a>,
-    /// The coefficient: the inverse of the product of the primes in front of this one, mod the
+    /// The coefficient: the inverse of the product of all primes before this one, modulo this
     /// prime.
     pub coefficient: IntRef<'a>,
 }
 
-/// The fields of a [`OtherPrimeInfo`], in the order in which they are encoded.
+/// The fields of [`OtherPrimeInfo`] as one type, in the order in which they are encoded.
 pub type OtherPrimeInfoFields<'a> = (IntRef<'a>, IntRef<'a>, IntRef<'a>);
 
 impl<'a> FromFields<OtherPrimeInfoFields<'a>> for OtherPrimeInfo<'a> {
@@ -53,7 +53,7 @@ impl<'a> Sequence for OtherPrimeInfo<'a> {
     ghost fits = { (refl, refl) };
 }
 
-/// Decodes the fields one after the other, with the errors of every [`Sequence`].
+/// Decodes the fields, first to last. The errors are those that [`Sequence`] lists.
 impl<'a, R: Lends<Borrowed = &'a [u8]>> DecodeValue<R> for OtherPrimeInfo<'a> {
     type Error = Error;
 
@@ -77,7 +77,7 @@ impl<'a> IsValue for OtherPrimeInfo<'a> {
     }
 }
 
-/// Writes the fields one after the other, with the errors of every [`Sequence`].
+/// Writes the fields, first to last. The errors are those that [`Sequence`] lists.
 impl<'a> HasFields for OtherPrimeInfo<'a> {
     ghost fields_size = { λ v. ⟦<OtherPrimeInfoFields<'a> as Encode>⟧.size
         (⟦<OtherPrimeInfo<'a> as FromFields<OtherPrimeInfoFields<'a>>>⟧.fields v) };

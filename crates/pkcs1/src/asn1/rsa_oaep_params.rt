@@ -21,7 +21,8 @@ use der_asn1::{
 use spki::AlgorithmIdentifierRef;
 use std::alloc::Global;
 
-/// The parameters of encryption with OAEP (RFC 8017, A.2.1; RFC 4055, 4.1), borrowed from the input.
+/// The parameters of encryption with OAEP (RFC 8017, A.2.1; RFC 4055, 4.1), borrowed from the
+/// input.
 #[derive(Debug, Drop, PartialEq, Eq)]
 pub struct RsaOaepParams<'a> {
     /// The hash algorithm. The default is SHA-1.
@@ -32,7 +33,7 @@ pub struct RsaOaepParams<'a> {
     pub p_source: DefaultedTo<Explicit<AlgorithmIdentifierRef<'a>, 2>, EmptyLabelDefault>,
 }
 
-/// The fields of a [`RsaOaepParams`], in the order in which they are encoded.
+/// The fields of [`RsaOaepParams`] as one type, in the order in which they are encoded.
 pub type RsaOaepParamsFields<'a> = (
     DefaultedTo<Explicit<AlgorithmIdentifierRef<'a>, 0>, Sha1Default>,
     DefaultedTo<Explicit<AlgorithmIdentifierRef<'a>, 1>, Mgf1Sha1Default>,
@@ -65,7 +66,7 @@ impl<'a> Sequence for RsaOaepParams<'a> {
     ghost fits = { (refl, refl) };
 }
 
-/// Decodes the fields one after the other, with the errors of every [`Sequence`].
+/// Decodes the fields, first to last. The errors are those that [`Sequence`] lists.
 impl<'a, R: Lends<Borrowed = &'a [u8]>> DecodeValue<R> for RsaOaepParams<'a> {
     type Error = Error;
 
@@ -89,7 +90,7 @@ impl<'a> IsValue for RsaOaepParams<'a> {
     }
 }
 
-/// Writes the fields one after the other, with the errors of every [`Sequence`].
+/// Writes the fields, first to last. The errors are those that [`Sequence`] lists.
 impl<'a> HasFields for RsaOaepParams<'a> {
     ghost fields_size = { λ v. ⟦<RsaOaepParamsFields<'a> as Encode>⟧.size
         (⟦<RsaOaepParams<'a> as FromFields<RsaOaepParamsFields<'a>>>⟧.fields v) };

@@ -44,7 +44,7 @@ pub struct RsaPrivateKey<'a> {
     pub other_prime_infos: Optional<OtherPrimeInfos<'a>>,
 }
 
-/// The fields of a [`RsaPrivateKey`], in the order in which they are encoded.
+/// The fields of [`RsaPrivateKey`] as one type, in the order in which they are encoded.
 pub type RsaPrivateKeyFields<'a> = (
     IntRef<'a>,
     IntRef<'a>,
@@ -116,7 +116,7 @@ impl<'a> Sequence for RsaPrivateKey<'a> {
     ghost fits = { (refl, refl) };
 }
 
-/// Decodes the fields one after the other, with the errors of every [`Sequence`].
+/// Decodes the fields, first to last. The errors are those that [`Sequence`] lists.
 impl<'a, R: Lends<Borrowed = &'a [u8]>> DecodeValue<R> for RsaPrivateKey<'a> {
     type Error = Error;
 
@@ -149,7 +149,7 @@ impl<'a> IsValue for RsaPrivateKey<'a> {
     }
 }
 
-/// Writes the fields one after the other, with the errors of every [`Sequence`].
+/// Writes the fields, first to last. The errors are those that [`Sequence`] lists.
 impl<'a> HasFields for RsaPrivateKey<'a> {
     ghost fields_size = { λ v. ⟦<RsaPrivateKeyFields<'a> as Encode>⟧.size
         (⟦<RsaPrivateKey<'a> as FromFields<RsaPrivateKeyFields<'a>>>⟧.fields v) };

@@ -31,12 +31,12 @@ pub struct RsaPssParams<'a> {
     /// The number of octets of the salt. The default is 20. Decoding accepts every number from 0 to
     /// 2^64 - 1.
     pub salt_len: Defaulted<Explicit<WithDefault<IntegerOf<u64>, DefaultU64<20>>, 2>>,
-    /// The trailer. The default is 1, for the octet 0xBC. Decoding accepts every number from 0 to
-    /// 2^64 - 1.
+    /// The trailer, as a number. The default is 1, which stands for the octet 0xBC. Decoding
+    /// accepts every number from 0 to 2^64 - 1.
     pub trailer_field: Defaulted<Explicit<WithDefault<IntegerOf<u64>, DefaultU64<1>>, 3>>,
 }
 
-/// The fields of a [`RsaPssParams`], in the order in which they are encoded.
+/// The fields of [`RsaPssParams`] as one type, in the order in which they are encoded.
 pub type RsaPssParamsFields<'a> = (
     DefaultedTo<Explicit<AlgorithmIdentifierRef<'a>, 0>, Sha1Default>,
     DefaultedTo<Explicit<AlgorithmIdentifierRef<'a>, 1>, Mgf1Sha1Default>,
@@ -76,7 +76,7 @@ impl<'a> Sequence for RsaPssParams<'a> {
     ghost fits = { (refl, refl) };
 }
 
-/// Decodes the fields one after the other, with the errors of every [`Sequence`].
+/// Decodes the fields, first to last. The errors are those that [`Sequence`] lists.
 impl<'a, R: Lends<Borrowed = &'a [u8]>> DecodeValue<R> for RsaPssParams<'a> {
     type Error = Error;
 
@@ -101,7 +101,7 @@ impl<'a> IsValue for RsaPssParams<'a> {
     }
 }
 
-/// Writes the fields one after the other, with the errors of every [`Sequence`].
+/// Writes the fields, first to last. The errors are those that [`Sequence`] lists.
 impl<'a> HasFields for RsaPssParams<'a> {
     ghost fields_size = { λ v. ⟦<RsaPssParamsFields<'a> as Encode>⟧.size
         (⟦<RsaPssParams<'a> as FromFields<RsaPssParamsFields<'a>>>⟧.fields v) };

@@ -23,7 +23,7 @@ pub struct RsaPublicKey<'a> {
     pub public_exponent: IntRef<'a>,
 }
 
-/// The fields of a [`RsaPublicKey`], in the order in which they are encoded.
+/// The fields of [`RsaPublicKey`] as one type, in the order in which they are encoded.
 pub type RsaPublicKeyFields<'a> = (IntRef<'a>, IntRef<'a>);
 
 impl<'a> FromFields<RsaPublicKeyFields<'a>> for RsaPublicKey<'a> {
@@ -46,7 +46,7 @@ impl<'a> Sequence for RsaPublicKey<'a> {
     ghost fits = { (refl, refl) };
 }
 
-/// Decodes the fields one after the other, with the errors of every [`Sequence`].
+/// Decodes the fields, first to last. The errors are those that [`Sequence`] lists.
 impl<'a, R: Lends<Borrowed = &'a [u8]>> DecodeValue<R> for RsaPublicKey<'a> {
     type Error = Error;
 
@@ -69,7 +69,7 @@ impl<'a> IsValue for RsaPublicKey<'a> {
     }
 }
 
-/// Writes the fields one after the other, with the errors of every [`Sequence`].
+/// Writes the fields, first to last. The errors are those that [`Sequence`] lists.
 impl<'a> HasFields for RsaPublicKey<'a> {
     ghost fields_size = { λ v. ⟦<RsaPublicKeyFields<'a> as Encode>⟧.size
         (⟦<RsaPublicKey<'a> as FromFields<RsaPublicKeyFields<'a>>>⟧.fields v) };

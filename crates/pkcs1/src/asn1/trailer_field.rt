@@ -4,5 +4,5 @@
 
 use der_asn1::IntRef;
 
-/// The trailer of a signature with PSS (RFC 8017, A.2.3).
+/// The trailer of a signature with PSS, as a number (RFC 8017, A.2.3).
 pub type TrailerField<'a> = IntRef<'a>;

@@ -12,7 +12,7 @@ pub const TWO_PRIME: u64 = 0;
 /// The version of a private key with more than two primes (RFC 8017, A.1.2).
 pub const MULTI: u64 = 1;
 
-/// pkcs-1
+/// The arc of PKCS #1 (RFC 8017, C).
 pub fn pkcs_1() -> ObjectIdentifierRef<'static>
     ensures { result.octets.now ≡ oid_octets (1 ∷ 2 ∷ 840 ∷ 113549 ∷ 1 ∷ 1 ∷ []) }
 {
@@ -35,7 +35,7 @@ pub fn rsa_encryption() -> ObjectIdentifierRef<'static>
     value
 }
 
-/// Encryption with OAEP (RFC 8017, A.2.1). The parameters are RSAES-OAEP-params.
+/// Encryption with RSA by OAEP (RFC 8017, A.2.1). The parameters are RSAES-OAEP-params.
 pub fn id_rsaes_oaep() -> ObjectIdentifierRef<'static>
     ensures { result.octets.now ≡ oid_octets (1 ∷ 2 ∷ 840 ∷ 113549 ∷ 1 ∷ 1 ∷ 7 ∷ []) }
 {
@@ -47,7 +47,7 @@ pub fn id_rsaes_oaep() -> ObjectIdentifierRef<'static>
     value
 }
 
-/// The mask generation function of RFC 8017, B.2.1. The parameters are the hash algorithm.
+/// The mask generation function MGF1 (RFC 8017, B.2.1). The parameters are the hash algorithm.
 pub fn id_mgf1() -> ObjectIdentifierRef<'static>
     ensures { result.octets.now ≡ oid_octets (1 ∷ 2 ∷ 840 ∷ 113549 ∷ 1 ∷ 1 ∷ 8 ∷ []) }
 {
@@ -59,7 +59,8 @@ pub fn id_mgf1() -> ObjectIdentifierRef<'static>
     value
 }
 
-/// A label whose octets are the parameters (RFC 8017, A.2.1).
+/// The source of a label that is given by its octets (RFC 8017, A.2.1): the parameters are an OCTET
+/// STRING with these octets.
 pub fn id_p_specified() -> ObjectIdentifierRef<'static>
     ensures { result.octets.now ≡ oid_octets (1 ∷ 2 ∷ 840 ∷ 113549 ∷ 1 ∷ 1 ∷ 9 ∷ []) }
 {
@@ -71,7 +72,7 @@ pub fn id_p_specified() -> ObjectIdentifierRef<'static>
     value
 }
 
-/// Signatures with PSS (RFC 8017, A.2.3). The parameters are RSASSA-PSS-params.
+/// Signatures with RSA by PSS (RFC 8017, A.2.3). The parameters are RSASSA-PSS-params.
 pub fn id_rsassa_pss() -> ObjectIdentifierRef<'static>
     ensures { result.octets.now ≡ oid_octets (1 ∷ 2 ∷ 840 ∷ 113549 ∷ 1 ∷ 1 ∷ 10 ∷ []) }
 {
@@ -191,7 +192,7 @@ pub fn sha512_256_with_rsa_encryption() -> ObjectIdentifierRef<'static>
     value
 }
 
-/// MD2 (RFC 8017, A.2.4).
+/// The hash algorithm MD2 (RFC 8017, A.2.4).
 pub fn id_md2() -> ObjectIdentifierRef<'static>
     ensures { result.octets.now ≡ oid_octets (1 ∷ 2 ∷ 840 ∷ 113549 ∷ 2 ∷ 2 ∷ []) }
 {
@@ -202,7 +203,7 @@ pub fn id_md2() -> ObjectIdentifierRef<'static>
     value
 }
 
-/// MD5 (RFC 8017, A.2.4).
+/// The hash algorithm MD5 (RFC 8017, A.2.4).
 pub fn id_md5() -> ObjectIdentifierRef<'static>
     ensures { result.octets.now ≡ oid_octets (1 ∷ 2 ∷ 840 ∷ 113549 ∷ 2 ∷ 5 ∷ []) }
 {
@@ -213,7 +214,7 @@ pub fn id_md5() -> ObjectIdentifierRef<'static>
     value
 }
 
-/// SHA-1 (RFC 8017, A.2.4).
+/// The hash algorithm SHA-1 (RFC 8017, A.2.4).
 pub fn id_sha1() -> ObjectIdentifierRef<'static>
     ensures { result.octets.now ≡ oid_octets (1 ∷ 3 ∷ 14 ∷ 3 ∷ 2 ∷ 26 ∷ []) }
 {
@@ -223,7 +224,7 @@ pub fn id_sha1() -> ObjectIdentifierRef<'static>
     value
 }
 
-/// nist-hashes
+/// The arc of the hash algorithms of NIST (RFC 8017, C).
 pub fn nist_hashes() -> ObjectIdentifierRef<'static>
     ensures { result.octets.now ≡ oid_octets (2 ∷ 16 ∷ 840 ∷ 1 ∷ 101 ∷ 3 ∷ 4 ∷ 2 ∷ []) }
 {
@@ -234,7 +235,7 @@ pub fn nist_hashes() -> ObjectIdentifierRef<'static>
     value
 }
 
-/// SHA-224 (RFC 8017, A.2.4).
+/// The hash algorithm SHA-224 (RFC 8017, A.2.4).
 pub fn id_sha224() -> ObjectIdentifierRef<'static>
     ensures { result.octets.now ≡ oid_octets (2 ∷ 16 ∷ 840 ∷ 1 ∷ 101 ∷ 3 ∷ 4 ∷ 2 ∷ 4 ∷ []) }
 {
@@ -246,7 +247,7 @@ pub fn id_sha224() -> ObjectIdentifierRef<'static>
     value
 }
 
-/// SHA-256 (RFC 8017, A.2.4).
+/// The hash algorithm SHA-256 (RFC 8017, A.2.4).
 pub fn id_sha256() -> ObjectIdentifierRef<'static>
     ensures { result.octets.now ≡ oid_octets (2 ∷ 16 ∷ 840 ∷ 1 ∷ 101 ∷ 3 ∷ 4 ∷ 2 ∷ 1 ∷ []) }
 {
@@ -258,7 +259,7 @@ pub fn id_sha256() -> ObjectIdentifierRef<'static>
     value
 }
 
-/// SHA-384 (RFC 8017, A.2.4).
+/// The hash algorithm SHA-384 (RFC 8017, A.2.4).
 pub fn id_sha384() -> ObjectIdentifierRef<'static>
     ensures { result.octets.now ≡ oid_octets (2 ∷ 16 ∷ 840 ∷ 1 ∷ 101 ∷ 3 ∷ 4 ∷ 2 ∷ 2 ∷ []) }
 {
@@ -270,7 +271,7 @@ pub fn id_sha384() -> ObjectIdentifierRef<'static>
     value
 }
 
-/// SHA-512 (RFC 8017, A.2.4).
+/// The hash algorithm SHA-512 (RFC 8017, A.2.4).
 pub fn id_sha512() -> ObjectIdentifierRef<'static>
     ensures { result.octets.now ≡ oid_octets (2 ∷ 16 ∷ 840 ∷ 1 ∷ 101 ∷ 3 ∷ 4 ∷ 2 ∷ 3 ∷ []) }
 {
@@ -282,7 +283,7 @@ pub fn id_sha512() -> ObjectIdentifierRef<'static>
     value
 }
 
-/// SHA-512/224 (RFC 8017, A.2.4).
+/// The hash algorithm SHA-512/224 (RFC 8017, A.2.4).
 pub fn id_sha512_224() -> ObjectIdentifierRef<'static>
     ensures { result.octets.now ≡ oid_octets (2 ∷ 16 ∷ 840 ∷ 1 ∷ 101 ∷ 3 ∷ 4 ∷ 2 ∷ 5 ∷ []) }
 {
@@ -294,7 +295,7 @@ pub fn id_sha512_224() -> ObjectIdentifierRef<'static>
     value
 }
 
-/// SHA-512/256 (RFC 8017, A.2.4).
+/// The hash algorithm SHA-512/256 (RFC 8017, A.2.4).
 pub fn id_sha512_256() -> ObjectIdentifierRef<'static>
     ensures { result.octets.now ≡ oid_octets (2 ∷ 16 ∷ 840 ∷ 1 ∷ 101 ∷ 3 ∷ 4 ∷ 2 ∷ 6 ∷ []) }
 {
@@ -306,7 +307,8 @@ pub fn id_sha512_256() -> ObjectIdentifierRef<'static>
     value
 }
 
-/// The name that the module has for an OBJECT IDENTIFIER; the first one if it has several.
+/// The name of an OBJECT IDENTIFIER in the ASN.1 module, or the first of several; `None` if it
+/// has no name there.
 pub fn name_of(oid: &ObjectIdentifierRef<'_>) -> Option<&'static str> {
     match oid.octets() {
         [0x2A, 0x86, 0x48, 0x86, 0xF7, 0x0D, 0x01, 0x01] => Some("pkcs-1"),

@@ -17,16 +17,16 @@ use der_asn1::{
 };
 use std::alloc::Global;
 
-/// A certificate (RFC 7292, 4.2.3), borrowed from the input.
+/// A certificate of any type (RFC 7292, 4.2.3), borrowed from the input.
 #[derive(Clone, Copy, Debug, Drop, PartialEq, Eq)]
 pub struct CertBag<'a> {
     /// The type of the certificate.
     pub oid: ObjectIdentifierRef<'a>,
-    /// The certificate: an element of any tag. It is not checked.
+    /// The certificate: an element of any tag. The element is not checked.
     pub value: ExplicitAny<'a, 0>,
 }
 
-/// The fields of a [`CertBag`], in the order in which they are encoded.
+/// The fields of [`CertBag`] as one type, in the order in which they are encoded.
 pub type CertBagFields<'a> = (ObjectIdentifierRef<'a>, ExplicitAny<'a, 0>);
 
 impl<'a> FromFields<CertBagFields<'a>> for CertBag<'a> {
@@ -47,7 +47,7 @@ impl<'a> Sequence for CertBag<'a> {
     ghost fits = { (refl, refl) };
 }
 
-/// Decodes the fields one after the other, with the errors of every [`Sequence`].
+/// Decodes the fields, first to last. The errors are those that [`Sequence`] lists.
 impl<'a, R: Lends<Borrowed = &'a [u8]>> DecodeValue<R> for CertBag<'a> {
     type Error = Error;
 
@@ -70,7 +70,7 @@ impl<'a> IsValue for CertBag<'a> {
     }
 }
 
-/// Writes the fields one after the other, with the errors of every [`Sequence`].
+/// Writes the fields, first to last. The errors are those that [`Sequence`] lists.
 impl<'a> HasFields for CertBag<'a> {
     ghost fields_size = { λ v. ⟦<CertBagFields<'a> as Encode>⟧.size
         (⟦<CertBag<'a> as FromFields<CertBagFields<'a>>>⟧.fields v) };

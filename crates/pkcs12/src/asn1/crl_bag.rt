@@ -4,6 +4,6 @@
 
 use crate::asn1::cert_bag::CertBag;
 
-/// A revocation list (RFC 7292, 4.2.4) of the type that its `oid` names. It has the form of a
-/// certificate, and its type.
+/// A revocation list of any type (RFC 7292, 4.2.4). It has the same fields as a CertBag, so it is
+/// the same type in Rust: `oid` is the type of the list.
 pub type CrlBag<'a> = CertBag<'a>;

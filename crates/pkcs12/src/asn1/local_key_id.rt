@@ -4,5 +4,6 @@
 
 use der_asn1::OctetStringRef;
 
-/// What a key and its certificate have in common (RFC 2985, 5.5.2): the value of an attribute.
+/// An identifier that a private key and its certificate share (RFC 2985, 5.5.2): the value of an
+/// attribute.
 pub type LocalKeyId<'a> = OctetStringRef<'a>;

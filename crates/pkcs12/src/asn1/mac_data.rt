@@ -22,15 +22,17 @@ use std::alloc::Global;
 /// A message authentication code with a key from a password (RFC 7292, 4), borrowed from the input.
 #[derive(Clone, Copy, Debug, Drop, PartialEq, Eq)]
 pub struct MacData<'a> {
-    /// The code, with the digest algorithm of HMAC, or with PBMAC1 and its parameters (RFC 9579).
+    /// The code and its algorithm: the digest algorithm of HMAC, or PBMAC1 with its parameters (RFC
+    /// 9579).
     pub mac: DigestInfo<'a>,
-    /// The salt. With PBMAC1 it is not used.
+    /// The salt of the key. PBMAC1 does not use it.
     pub mac_salt: OctetStringRef<'a>,
-    /// The number of iterations. The default is 1. Decoding accepts every number from 0 to 2^64 - 1.
+    /// The number of iterations. The default is 1. Decoding accepts every number from 0 to 2^64 -
+    /// 1.
     pub iterations: Defaulted<WithDefault<IntegerOf<u64>, DefaultU64<1>>>,
 }
 
-/// The fields of a [`MacData`], in the order in which they are encoded.
+/// The fields of [`MacData`] as one type, in the order in which they are encoded.
 pub type MacDataFields<'a> = (
     DigestInfo<'a>,
     OctetStringRef<'a>,
@@ -61,7 +63,7 @@ impl<'a> Sequence for MacData<'a> {
     ghost fits = { (refl, refl) };
 }
 
-/// Decodes the fields one after the other, with the errors of every [`Sequence`].
+/// Decodes the fields, first to last. The errors are those that [`Sequence`] lists.
 impl<'a, R: Lends<Borrowed = &'a [u8]>> DecodeValue<R> for MacData<'a> {
     type Error = Error;
 
@@ -85,7 +87,7 @@ impl<'a> IsValue for MacData<'a> {
     }
 }
 
-/// Writes the fields one after the other, with the errors of every [`Sequence`].
+/// Writes the fields, first to last. The errors are those that [`Sequence`] lists.
 impl<'a> HasFields for MacData<'a> {
     ghost fields_size = { λ v. ⟦<MacDataFields<'a> as Encode>⟧.size
         (⟦<MacData<'a> as FromFields<MacDataFields<'a>>>⟧.fields v) };

@@ -25,15 +25,16 @@ use std::alloc::Global;
 pub struct Pfx<'a> {
     /// The version, which is 3. Decoding does not check this.
     pub version: IntRef<'a>,
-    /// The contents: a SignedData or, with a password, data. Data are the OCTET STRING with the DER
-    /// encoding of an AuthenticatedSafe.
+    /// The contents of the file: a SignedData if a key protects the file against changes, or octets
+    /// of type id-data if a password does. In both, the octets are the DER encoding of an
+    /// AuthenticatedSafe.
     pub auth_safe: ContentInfo<'a>,
-    /// The message authentication code of the contents, if present. Only one with a password has it,
-    /// but decoding does not check this.
+    /// The message authentication code of the contents, if present. Only a file that a password
+    /// protects against changes has it, but decoding does not check this.
     pub mac_data: Optional<MacData<'a>>,
 }
 
-/// The fields of a [`Pfx`], in the order in which they are encoded.
+/// The fields of [`Pfx`] as one type, in the order in which they are encoded.
 pub type PfxFields<'a> = (IntRef<'a>, ContentInfo<'a>, Optional<MacData<'a>>);
 
 impl<'a> FromFields<PfxFields<'a>> for Pfx<'a> {
@@ -58,7 +59,7 @@ impl<'a> Sequence for Pfx<'a> {
     ghost fits = { (refl, refl) };
 }
 
-/// Decodes the fields one after the other, with the errors of every [`Sequence`].
+/// Decodes the fields, first to last. The errors are those that [`Sequence`] lists.
 impl<'a, R: Lends<Borrowed = &'a [u8]>> DecodeValue<R> for Pfx<'a> {
     type Error = Error;
 
@@ -84,7 +85,7 @@ impl<'a> IsValue for Pfx<'a> {
     }
 }
 
-/// Writes the fields one after the other, with the errors of every [`Sequence`].
+/// Writes the fields, first to last. The errors are those that [`Sequence`] lists.
 impl<'a> HasFields for Pfx<'a> {
     ghost fields_size = { λ v. ⟦<PfxFields<'a> as Encode>⟧.size
         (⟦<Pfx<'a> as FromFields<PfxFields<'a>>>⟧.fields v) };

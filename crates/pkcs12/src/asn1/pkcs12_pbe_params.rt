@@ -4,6 +4,6 @@
 
 use pkcs8::PbeParameter;
 
-/// The parameters of encryption with a password (RFC 7292, C). They have the form of those of PBES1,
-/// and their type.
+/// The parameters of encryption with a password (RFC 7292, C). They have the same fields as those
+/// of PBES1, so they are the same type in Rust.
 pub type Pkcs12PbeParams<'a> = PbeParameter<'a>;

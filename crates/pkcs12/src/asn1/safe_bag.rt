@@ -24,13 +24,13 @@ use x509::Attributes;
 pub struct SafeBag<'a> {
     /// The type of the bag.
     pub bag_id: ObjectIdentifierRef<'a>,
-    /// The contents: an element of any tag. It is not checked.
+    /// The contents of the bag: an element of any tag. The contents are not checked.
     pub bag_value: ExplicitAny<'a, 0>,
     /// The attributes, if present, such as a friendlyName.
     pub bag_attributes: Optional<Attributes<'a>>,
 }
 
-/// The fields of a [`SafeBag`], in the order in which they are encoded.
+/// The fields of [`SafeBag`] as one type, in the order in which they are encoded.
 pub type SafeBagFields<'a> = (
     ObjectIdentifierRef<'a>,
     ExplicitAny<'a, 0>,
@@ -60,7 +60,7 @@ impl<'a> Sequence for SafeBag<'a> {
     ghost fits = { (refl, refl) };
 }
 
-/// Decodes the fields one after the other, with the errors of every [`Sequence`].
+/// Decodes the fields, first to last. The errors are those that [`Sequence`] lists.
 impl<'a, R: Lends<Borrowed = &'a [u8]>> DecodeValue<R> for SafeBag<'a> {
     type Error = Error;
 
@@ -86,7 +86,7 @@ impl<'a> IsValue for SafeBag<'a> {
     }
 }
 
-/// Writes the fields one after the other, with the errors of every [`Sequence`].
+/// Writes the fields, first to last. The errors are those that [`Sequence`] lists.
 impl<'a> HasFields for SafeBag<'a> {
     ghost fields_size = { λ v. ⟦<SafeBagFields<'a> as Encode>⟧.size
         (⟦<SafeBag<'a> as FromFields<SafeBagFields<'a>>>⟧.fields v) };

@@ -4,6 +4,6 @@
 
 use crate::asn1::cert_bag::CertBag;
 
-/// A secret (RFC 7292, 4.2.5) of the type that its `oid` names. It has the form of a certificate,
-/// and its type.
+/// A secret of any type (RFC 7292, 4.2.5). It has the same fields as a CertBag, so it is the same
+/// type in Rust: `oid` is the type of the secret.
 pub type SecretBag<'a> = CertBag<'a>;

@@ -6,7 +6,7 @@ ghost use Rattle.der_asn1.specs.Arcs.{oid_octets};
 
 use der_asn1::ObjectIdentifierRef;
 
-/// pkcs-12
+/// The arc of PKCS #12 (RFC 7292, D).
 pub fn pkcs_12() -> ObjectIdentifierRef<'static>
     ensures { result.octets.now ≡ oid_octets (1 ∷ 2 ∷ 840 ∷ 113549 ∷ 1 ∷ 12 ∷ []) }
 {
@@ -17,8 +17,8 @@ pub fn pkcs_12() -> ObjectIdentifierRef<'static>
     value
 }
 
-/// Encryption with RC4 of 128 bits and SHA-1 (RFC 7292, C). The parameters are Pkcs-12PbeParams, as
-/// those of the five below.
+/// Encryption with a password, by RC4 of 128 bits and SHA-1 (RFC 7292, C). The parameters are
+/// Pkcs-12PbeParams.
 pub fn pbe_with_sha_and128_bit_rc4() -> ObjectIdentifierRef<'static>
     ensures { result.octets.now ≡ oid_octets (1 ∷ 2 ∷ 840 ∷ 113549 ∷ 1 ∷ 12 ∷ 1 ∷ 1 ∷ []) }
 {
@@ -30,7 +30,8 @@ pub fn pbe_with_sha_and128_bit_rc4() -> ObjectIdentifierRef<'static>
     value
 }
 
-/// Encryption with RC4 of 40 bits and SHA-1 (RFC 7292, C).
+/// Encryption with a password, by RC4 of 40 bits and SHA-1 (RFC 7292, C). The parameters are
+/// Pkcs-12PbeParams.
 pub fn pbe_with_sha_and40_bit_rc4() -> ObjectIdentifierRef<'static>
     ensures { result.octets.now ≡ oid_octets (1 ∷ 2 ∷ 840 ∷ 113549 ∷ 1 ∷ 12 ∷ 1 ∷ 2 ∷ []) }
 {
@@ -42,7 +43,8 @@ pub fn pbe_with_sha_and40_bit_rc4() -> ObjectIdentifierRef<'static>
     value
 }
 
-/// Encryption with triple DES of three keys and SHA-1 (RFC 7292, C).
+/// Encryption with a password, by triple DES of three keys and SHA-1 (RFC 7292, C). The parameters
+/// are Pkcs-12PbeParams.
 pub fn pbe_with_sha_and3_key_triple_des_cbc() -> ObjectIdentifierRef<'static>
     ensures { result.octets.now ≡ oid_octets (1 ∷ 2 ∷ 840 ∷ 113549 ∷ 1 ∷ 12 ∷ 1 ∷ 3 ∷ []) }
 {
@@ -54,7 +56,8 @@ pub fn pbe_with_sha_and3_key_triple_des_cbc() -> ObjectIdentifierRef<'static>
     value
 }
 
-/// Encryption with triple DES of two keys and SHA-1 (RFC 7292, C).
+/// Encryption with a password, by triple DES of two keys and SHA-1 (RFC 7292, C). The parameters
+/// are Pkcs-12PbeParams.
 pub fn pbe_with_sha_and2_key_triple_des_cbc() -> ObjectIdentifierRef<'static>
     ensures { result.octets.now ≡ oid_octets (1 ∷ 2 ∷ 840 ∷ 113549 ∷ 1 ∷ 12 ∷ 1 ∷ 4 ∷ []) }
 {
@@ -66,7 +69,8 @@ pub fn pbe_with_sha_and2_key_triple_des_cbc() -> ObjectIdentifierRef<'static>
     value
 }
 
-/// Encryption with RC2 of 128 bits and SHA-1 (RFC 7292, C).
+/// Encryption with a password, by RC2 of 128 bits and SHA-1 (RFC 7292, C). The parameters are
+/// Pkcs-12PbeParams.
 pub fn pbe_with_sha_and128_bit_rc2_cbc() -> ObjectIdentifierRef<'static>
     ensures { result.octets.now ≡ oid_octets (1 ∷ 2 ∷ 840 ∷ 113549 ∷ 1 ∷ 12 ∷ 1 ∷ 5 ∷ []) }
 {
@@ -78,7 +82,8 @@ pub fn pbe_with_sha_and128_bit_rc2_cbc() -> ObjectIdentifierRef<'static>
     value
 }
 
-/// Encryption with RC2 of 40 bits and SHA-1 (RFC 7292, C).
+/// Encryption with a password, by RC2 of 40 bits and SHA-1 (RFC 7292, C). The parameters are
+/// Pkcs-12PbeParams.
 pub fn pbewith_sha_and40_bit_rc2_cbc() -> ObjectIdentifierRef<'static>
     ensures { result.octets.now ≡ oid_octets (1 ∷ 2 ∷ 840 ∷ 113549 ∷ 1 ∷ 12 ∷ 1 ∷ 6 ∷ []) }
 {
@@ -90,7 +95,7 @@ pub fn pbewith_sha_and40_bit_rc2_cbc() -> ObjectIdentifierRef<'static>
     value
 }
 
-/// A bag that is a KeyBag (RFC 7292, 4.2).
+/// The type of a bag that contains a KeyBag (RFC 7292, 4.2).
 pub fn key_bag() -> ObjectIdentifierRef<'static>
     ensures { result.octets.now ≡ oid_octets (1 ∷ 2 ∷ 840 ∷ 113549 ∷ 1 ∷ 12 ∷ 10 ∷ 1 ∷ 1 ∷ []) }
 {
@@ -102,7 +107,7 @@ pub fn key_bag() -> ObjectIdentifierRef<'static>
     value
 }
 
-/// A bag that is a PKCS8ShroudedKeyBag (RFC 7292, 4.2).
+/// The type of a bag that contains a PKCS8ShroudedKeyBag (RFC 7292, 4.2).
 pub fn pkcs8_shrouded_key_bag() -> ObjectIdentifierRef<'static>
     ensures { result.octets.now ≡ oid_octets (1 ∷ 2 ∷ 840 ∷ 113549 ∷ 1 ∷ 12 ∷ 10 ∷ 1 ∷ 2 ∷ []) }
 {
@@ -114,7 +119,7 @@ pub fn pkcs8_shrouded_key_bag() -> ObjectIdentifierRef<'static>
     value
 }
 
-/// A bag that is a CertBag (RFC 7292, 4.2).
+/// The type of a bag that contains a CertBag (RFC 7292, 4.2).
 pub fn cert_bag() -> ObjectIdentifierRef<'static>
     ensures { result.octets.now ≡ oid_octets (1 ∷ 2 ∷ 840 ∷ 113549 ∷ 1 ∷ 12 ∷ 10 ∷ 1 ∷ 3 ∷ []) }
 {
@@ -126,7 +131,7 @@ pub fn cert_bag() -> ObjectIdentifierRef<'static>
     value
 }
 
-/// A bag that is a CRLBag (RFC 7292, 4.2).
+/// The type of a bag that contains a CRLBag (RFC 7292, 4.2).
 pub fn crl_bag() -> ObjectIdentifierRef<'static>
     ensures { result.octets.now ≡ oid_octets (1 ∷ 2 ∷ 840 ∷ 113549 ∷ 1 ∷ 12 ∷ 10 ∷ 1 ∷ 4 ∷ []) }
 {
@@ -138,7 +143,7 @@ pub fn crl_bag() -> ObjectIdentifierRef<'static>
     value
 }
 
-/// A bag that is a SecretBag (RFC 7292, 4.2).
+/// The type of a bag that contains a SecretBag (RFC 7292, 4.2).
 pub fn secret_bag() -> ObjectIdentifierRef<'static>
     ensures { result.octets.now ≡ oid_octets (1 ∷ 2 ∷ 840 ∷ 113549 ∷ 1 ∷ 12 ∷ 10 ∷ 1 ∷ 5 ∷ []) }
 {
@@ -150,7 +155,7 @@ pub fn secret_bag() -> ObjectIdentifierRef<'static>
     value
 }
 
-/// A bag that is a SafeContents (RFC 7292, 4.2).
+/// The type of a bag that contains a SafeContents (RFC 7292, 4.2).
 pub fn safe_contents_bag() -> ObjectIdentifierRef<'static>
     ensures { result.octets.now ≡ oid_octets (1 ∷ 2 ∷ 840 ∷ 113549 ∷ 1 ∷ 12 ∷ 10 ∷ 1 ∷ 6 ∷ []) }
 {
@@ -162,7 +167,7 @@ pub fn safe_contents_bag() -> ObjectIdentifierRef<'static>
     value
 }
 
-/// The attribute with a name for users, whose value is a FriendlyName (RFC 2985, 5.5.1).
+/// The attribute friendlyName: a name for users. Its value is a FriendlyName (RFC 2985, 5.5.1).
 pub fn friendly_name() -> ObjectIdentifierRef<'static>
     ensures { result.octets.now ≡ oid_octets (1 ∷ 2 ∷ 840 ∷ 113549 ∷ 1 ∷ 9 ∷ 20 ∷ []) }
 {
@@ -174,8 +179,8 @@ pub fn friendly_name() -> ObjectIdentifierRef<'static>
     value
 }
 
-/// The attribute that a key and its certificate have in common, whose value is a LocalKeyId
-/// (RFC 2985, 5.5.2).
+/// The attribute localKeyId, which is the same for a key and its certificate. Its value is a
+/// LocalKeyId (RFC 2985, 5.5.2).
 pub fn local_key_id() -> ObjectIdentifierRef<'static>
     ensures { result.octets.now ≡ oid_octets (1 ∷ 2 ∷ 840 ∷ 113549 ∷ 1 ∷ 9 ∷ 21 ∷ []) }
 {
@@ -187,7 +192,8 @@ pub fn local_key_id() -> ObjectIdentifierRef<'static>
     value
 }
 
-/// A certificate whose value is an OCTET STRING with its DER encoding (RFC 7292, 4.2.3).
+/// The type of an X.509 certificate. The value is an OCTET STRING that contains its DER encoding
+/// (RFC 7292, 4.2.3).
 pub fn x509_certificate() -> ObjectIdentifierRef<'static>
     ensures { result.octets.now ≡ oid_octets (1 ∷ 2 ∷ 840 ∷ 113549 ∷ 1 ∷ 9 ∷ 22 ∷ 1 ∷ []) }
 {
@@ -199,7 +205,8 @@ pub fn x509_certificate() -> ObjectIdentifierRef<'static>
     value
 }
 
-/// A certificate whose value is an IA5String with its Base64 text (RFC 7292, 4.2.3).
+/// The type of an SDSI certificate. The value is an IA5String with its Base64 text (RFC 7292,
+/// 4.2.3).
 pub fn sdsi_certificate() -> ObjectIdentifierRef<'static>
     ensures { result.octets.now ≡ oid_octets (1 ∷ 2 ∷ 840 ∷ 113549 ∷ 1 ∷ 9 ∷ 22 ∷ 2 ∷ []) }
 {
@@ -211,7 +218,8 @@ pub fn sdsi_certificate() -> ObjectIdentifierRef<'static>
     value
 }
 
-/// A revocation list whose value is an OCTET STRING with its DER encoding (RFC 7292, 4.2.4).
+/// The type of an X.509 revocation list. The value is an OCTET STRING that contains its DER
+/// encoding (RFC 7292, 4.2.4).
 pub fn x509_crl() -> ObjectIdentifierRef<'static>
     ensures { result.octets.now ≡ oid_octets (1 ∷ 2 ∷ 840 ∷ 113549 ∷ 1 ∷ 9 ∷ 23 ∷ 1 ∷ []) }
 {
@@ -223,7 +231,8 @@ pub fn x509_crl() -> ObjectIdentifierRef<'static>
     value
 }
 
-/// The name that the module has for an OBJECT IDENTIFIER; the first one if it has several.
+/// The name of an OBJECT IDENTIFIER in the ASN.1 module, or the first of several; `None` if it
+/// has no name there.
 pub fn name_of(oid: &ObjectIdentifierRef<'_>) -> Option<&'static str> {
     match oid.octets() {
         [0x2A, 0x86, 0x48, 0x86, 0xF7, 0x0D, 0x01, 0x0C] => Some("pkcs-12"),

@@ -21,11 +21,11 @@ use std::alloc::Global;
 pub struct EncryptedPrivateKeyInfo<'a> {
     /// The algorithm of the encryption.
     pub encryption_algorithm: AlgorithmIdentifierRef<'a>,
-    /// The octets of the encryption of a PrivateKeyInfo.
+    /// The encrypted PrivateKeyInfo, as octets.
     pub encrypted_data: OctetStringRef<'a>,
 }
 
-/// The fields of a [`EncryptedPrivateKeyInfo`], in the order in which they are encoded.
+/// The fields of [`EncryptedPrivateKeyInfo`] as one type, in the order in which they are encoded.
 pub type EncryptedPrivateKeyInfoFields<'a> = (AlgorithmIdentifierRef<'a>, OctetStringRef<'a>);
 
 impl<'a> FromFields<EncryptedPrivateKeyInfoFields<'a>> for EncryptedPrivateKeyInfo<'a> {
@@ -49,7 +49,7 @@ impl<'a> Sequence for EncryptedPrivateKeyInfo<'a> {
     ghost fits = { (refl, refl) };
 }
 
-/// Decodes the fields one after the other, with the errors of every [`Sequence`].
+/// Decodes the fields, first to last. The errors are those that [`Sequence`] lists.
 impl<'a, R: Lends<Borrowed = &'a [u8]>> DecodeValue<R> for EncryptedPrivateKeyInfo<'a> {
     type Error = Error;
 
@@ -72,7 +72,7 @@ impl<'a> IsValue for EncryptedPrivateKeyInfo<'a> {
     }
 }
 
-/// Writes the fields one after the other, with the errors of every [`Sequence`].
+/// Writes the fields, first to last. The errors are those that [`Sequence`] lists.
 impl<'a> HasFields for EncryptedPrivateKeyInfo<'a> {
     ghost fields_size = { λ v. ⟦<EncryptedPrivateKeyInfoFields<'a> as Encode>⟧.size
         (⟦<EncryptedPrivateKeyInfo<'a> as FromFields<EncryptedPrivateKeyInfoFields<'a>>>⟧.fields v) };

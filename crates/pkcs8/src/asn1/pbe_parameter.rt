@@ -25,7 +25,7 @@ pub struct PbeParameter<'a> {
     pub iteration_count: IntRef<'a>,
 }
 
-/// The fields of a [`PbeParameter`], in the order in which they are encoded.
+/// The fields of [`PbeParameter`] as one type, in the order in which they are encoded.
 pub type PbeParameterFields<'a> = (OctetStringRef<'a>, IntRef<'a>);
 
 impl<'a> FromFields<PbeParameterFields<'a>> for PbeParameter<'a> {
@@ -49,7 +49,7 @@ impl<'a> Sequence for PbeParameter<'a> {
     ghost fits = { (refl, refl) };
 }
 
-/// Decodes the fields one after the other, with the errors of every [`Sequence`].
+/// Decodes the fields, first to last. The errors are those that [`Sequence`] lists.
 impl<'a, R: Lends<Borrowed = &'a [u8]>> DecodeValue<R> for PbeParameter<'a> {
     type Error = Error;
 
@@ -72,7 +72,7 @@ impl<'a> IsValue for PbeParameter<'a> {
     }
 }
 
-/// Writes the fields one after the other, with the errors of every [`Sequence`].
+/// Writes the fields, first to last. The errors are those that [`Sequence`] lists.
 impl<'a> HasFields for PbeParameter<'a> {
     ghost fields_size = { λ v. ⟦<PbeParameterFields<'a> as Encode>⟧.size
         (⟦<PbeParameter<'a> as FromFields<PbeParameterFields<'a>>>⟧.fields v) };

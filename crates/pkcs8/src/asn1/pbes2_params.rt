@@ -24,7 +24,7 @@ pub struct Pbes2Params<'a> {
     pub encryption_scheme: AlgorithmIdentifierRef<'a>,
 }
 
-/// The fields of a [`Pbes2Params`], in the order in which they are encoded.
+/// The fields of [`Pbes2Params`] as one type, in the order in which they are encoded.
 pub type Pbes2ParamsFields<'a> = (AlgorithmIdentifierRef<'a>, AlgorithmIdentifierRef<'a>);
 
 impl<'a> FromFields<Pbes2ParamsFields<'a>> for Pbes2Params<'a> {
@@ -48,7 +48,7 @@ impl<'a> Sequence for Pbes2Params<'a> {
     ghost fits = { (refl, refl) };
 }
 
-/// Decodes the fields one after the other, with the errors of every [`Sequence`].
+/// Decodes the fields, first to last. The errors are those that [`Sequence`] lists.
 impl<'a, R: Lends<Borrowed = &'a [u8]>> DecodeValue<R> for Pbes2Params<'a> {
     type Error = Error;
 
@@ -71,7 +71,7 @@ impl<'a> IsValue for Pbes2Params<'a> {
     }
 }
 
-/// Writes the fields one after the other, with the errors of every [`Sequence`].
+/// Writes the fields, first to last. The errors are those that [`Sequence`] lists.
 impl<'a> HasFields for Pbes2Params<'a> {
     ghost fields_size = { λ v. ⟦<Pbes2ParamsFields<'a> as Encode>⟧.size
         (⟦<Pbes2Params<'a> as FromFields<Pbes2ParamsFields<'a>>>⟧.fields v) };

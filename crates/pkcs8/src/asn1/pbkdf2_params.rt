@@ -26,9 +26,9 @@ use std::alloc::Global;
 /// numbers are positive, which decoding does not check.
 #[derive(Debug, Drop, PartialEq, Eq)]
 pub struct Pbkdf2Params<'a> {
-    /// The salt.
+    /// The salt of the key derivation.
     pub salt: Pbkdf2Salt<'a>,
-    /// The number of iterations.
+    /// The number of iterations of the key derivation.
     pub iteration_count: IntRef<'a>,
     /// The number of octets of the derived key, if present.
     pub key_length: Optional<IntRef<'a>>,
@@ -36,7 +36,7 @@ pub struct Pbkdf2Params<'a> {
     pub prf: DefaultedTo<AlgorithmIdentifierRef<'a>, HmacWithSha1Default>,
 }
 
-/// The fields of a [`Pbkdf2Params`], in the order in which they are encoded.
+/// The fields of [`Pbkdf2Params`] as one type, in the order in which they are encoded.
 pub type Pbkdf2ParamsFields<'a> = (
     Pbkdf2Salt<'a>,
     IntRef<'a>,
@@ -70,7 +70,7 @@ impl<'a> Sequence for Pbkdf2Params<'a> {
     ghost fits = { (refl, refl) };
 }
 
-/// Decodes the fields one after the other, with the errors of every [`Sequence`].
+/// Decodes the fields, first to last. The errors are those that [`Sequence`] lists.
 impl<'a, R: Lends<Borrowed = &'a [u8]>> DecodeValue<R> for Pbkdf2Params<'a> {
     type Error = Error;
 
@@ -100,7 +100,7 @@ impl<'a> IsValue for Pbkdf2Params<'a> {
     }
 }
 
-/// Writes the fields one after the other, with the errors of every [`Sequence`].
+/// Writes the fields, first to last. The errors are those that [`Sequence`] lists.
 impl<'a> HasFields for Pbkdf2Params<'a> {
     ghost fields_size = { λ v. ⟦<Pbkdf2ParamsFields<'a> as Encode>⟧.size
         (⟦<Pbkdf2Params<'a> as FromFields<Pbkdf2ParamsFields<'a>>>⟧.fields v) };

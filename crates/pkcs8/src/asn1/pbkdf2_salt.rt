@@ -17,16 +17,16 @@ use der_asn1::{
 use spki::AlgorithmIdentifierRef;
 use std::alloc::Global;
 
-/// A salt (RFC 8018, A.2), borrowed from the input.
+/// The salt of PBKDF2 (RFC 8018, A.2), borrowed from the input.
 #[derive(Clone, Copy, Debug, Drop, PartialEq, Eq)]
 pub enum Pbkdf2Salt<'a> {
-    /// specified
+    /// The octets of the salt.
     Specified(OctetStringRef<'a>),
-    /// otherSource
+    /// An algorithm that determines the salt.
     OtherSource(AlgorithmIdentifierRef<'a>),
 }
 
-/// The alternatives, as nested choices of two.
+/// The alternatives as one type: an [`Either`] of two, which may be [`Either`]s in turn.
 pub type Pbkdf2SaltAlternatives<'a> = Either<OctetStringRef<'a>, AlgorithmIdentifierRef<'a>>;
 
 impl<'a> FromFields<Pbkdf2SaltAlternatives<'a>> for Pbkdf2Salt<'a> {
@@ -50,7 +50,7 @@ impl<'a> DescribedChoice for Pbkdf2Salt<'a> {
         ⟦<Pbkdf2Salt<'a> as FromFields<Pbkdf2SaltAlternatives<'a>>>⟧.fields };
 }
 
-/// Decodes the alternative whose tag is next, with the errors of [`Either`].
+/// Decodes the alternative with the next tag. The errors are those of decoding an [`Either`].
 impl<'a, R: Lends<Borrowed = &'a [u8]>> Decode<R> for Pbkdf2Salt<'a> {
     type Error = Error;
 
@@ -86,7 +86,7 @@ impl<'a, R: Lends<Borrowed = &'a [u8]>> DecodeChoice<R> for Pbkdf2Salt<'a> {
     ghost begins = { ⟦<Pbkdf2Salt<'a> as DescribedChoice>⟧.alternative.begins };
 }
 
-/// Writes the alternative that the value has.
+/// Writes the alternative that the value has. The errors are those of writing it.
 impl<'a> Encode for Pbkdf2Salt<'a> {
     ghost encoding = { λ v. ⟦<Pbkdf2SaltAlternatives<'a> as Encode>⟧.encoding
         (⟦<Pbkdf2Salt<'a> as FromFields<Pbkdf2SaltAlternatives<'a>>>⟧.fields v) };

@@ -27,7 +27,7 @@ pub struct PrivateKeyAttribute<'a> {
     pub attr_values: SetOf<'a, AnyRef<'a>>,
 }
 
-/// The fields of a [`PrivateKeyAttribute`], in the order in which they are encoded.
+/// The fields of [`PrivateKeyAttribute`] as one type, in the order in which they are encoded.
 pub type PrivateKeyAttributeFields<'a> = (ObjectIdentifierRef<'a>, SetOf<'a, AnyRef<'a>>);
 
 impl<'a> FromFields<PrivateKeyAttributeFields<'a>> for PrivateKeyAttribute<'a> {
@@ -48,7 +48,7 @@ impl<'a> Sequence for PrivateKeyAttribute<'a> {
     ghost fits = { (refl, refl) };
 }
 
-/// Decodes the fields one after the other, with the errors of every [`Sequence`].
+/// Decodes the fields, first to last. The errors are those that [`Sequence`] lists.
 impl<'a, R: Lends<Borrowed = &'a [u8]>> DecodeValue<R> for PrivateKeyAttribute<'a> {
     type Error = Error;
 
@@ -71,7 +71,7 @@ impl<'a> IsValue for PrivateKeyAttribute<'a> {
     }
 }
 
-/// Writes the fields one after the other, with the errors of every [`Sequence`].
+/// Writes the fields, first to last. The errors are those that [`Sequence`] lists.
 impl<'a> HasFields for PrivateKeyAttribute<'a> {
     ghost fields_size = { λ v. ⟦<PrivateKeyAttributeFields<'a> as Encode>⟧.size
         (⟦<PrivateKeyAttribute<'a> as FromFields<PrivateKeyAttributeFields<'a>>>⟧.fields v) };

@@ -39,7 +39,7 @@ pub struct PrivateKeyInfo<'a> {
     pub public_key: Optional<Implicit<BitStringRef<'a>, 1>>,
 }
 
-/// The fields of a [`PrivateKeyInfo`], in the order in which they are encoded.
+/// The fields of [`PrivateKeyInfo`] as one type, in the order in which they are encoded.
 pub type PrivateKeyInfoFields<'a> = (
     NamedInteger<Version>,
     AlgorithmIdentifierRef<'a>,
@@ -81,7 +81,7 @@ impl<'a> Sequence for PrivateKeyInfo<'a> {
     ghost fits = { (refl, refl) };
 }
 
-/// Decodes the fields one after the other, with the errors of every [`Sequence`].
+/// Decodes the fields, first to last. The errors are those that [`Sequence`] lists.
 impl<'a, R: Lends<Borrowed = &'a [u8]>> DecodeValue<R> for PrivateKeyInfo<'a> {
     type Error = Error;
 
@@ -111,7 +111,7 @@ impl<'a> IsValue for PrivateKeyInfo<'a> {
     }
 }
 
-/// Writes the fields one after the other, with the errors of every [`Sequence`].
+/// Writes the fields, first to last. The errors are those that [`Sequence`] lists.
 impl<'a> HasFields for PrivateKeyInfo<'a> {
     ghost fields_size = { λ v. ⟦<PrivateKeyInfoFields<'a> as Encode>⟧.size
         (⟦<PrivateKeyInfo<'a> as FromFields<PrivateKeyInfoFields<'a>>>⟧.fields v) };

@@ -22,9 +22,9 @@ use std::alloc::Global;
 /// numbers are positive, which decoding does not check.
 #[derive(Clone, Copy, Debug, Drop, PartialEq, Eq)]
 pub struct ScryptParams<'a> {
-    /// The salt.
+    /// The salt of the key derivation.
     pub salt: OctetStringRef<'a>,
-    /// The costs N in memory and time.
+    /// The cost parameter N, which determines the memory and the time that scrypt needs.
     pub cost_parameter: IntRef<'a>,
     /// The block size r.
     pub block_size: IntRef<'a>,
@@ -34,7 +34,7 @@ pub struct ScryptParams<'a> {
     pub key_length: Optional<IntRef<'a>>,
 }
 
-/// The fields of a [`ScryptParams`], in the order in which they are encoded.
+/// The fields of [`ScryptParams`] as one type, in the order in which they are encoded.
 pub type ScryptParamsFields<'a> = (
     OctetStringRef<'a>,
     IntRef<'a>,
@@ -76,7 +76,7 @@ impl<'a> Sequence for ScryptParams<'a> {
     ghost fits = { (refl, refl) };
 }
 
-/// Decodes the fields one after the other, with the errors of every [`Sequence`].
+/// Decodes the fields, first to last. The errors are those that [`Sequence`] lists.
 impl<'a, R: Lends<Borrowed = &'a [u8]>> DecodeValue<R> for ScryptParams<'a> {
     type Error = Error;
 
@@ -104,7 +104,7 @@ impl<'a> IsValue for ScryptParams<'a> {
     }
 }
 
-/// Writes the fields one after the other, with the errors of every [`Sequence`].
+/// Writes the fields, first to last. The errors are those that [`Sequence`] lists.
 impl<'a> HasFields for ScryptParams<'a> {
     ghost fields_size = { λ v. ⟦<ScryptParamsFields<'a> as Encode>⟧.size
         (⟦<ScryptParams<'a> as FromFields<ScryptParamsFields<'a>>>⟧.fields v) };

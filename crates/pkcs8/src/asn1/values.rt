@@ -6,7 +6,7 @@ ghost use Rattle.der_asn1.specs.Arcs.{oid_octets};
 
 use der_asn1::ObjectIdentifierRef;
 
-/// rsadsi
+/// The arc of RSA Data Security (RFC 8018, C).
 pub fn rsadsi() -> ObjectIdentifierRef<'static>
     ensures { result.octets.now ≡ oid_octets (1 ∷ 2 ∷ 840 ∷ 113549 ∷ []) }
 {
@@ -16,7 +16,7 @@ pub fn rsadsi() -> ObjectIdentifierRef<'static>
     value
 }
 
-/// pkcs-5
+/// The arc of PKCS #5 (RFC 8018, C).
 pub fn pkcs_5() -> ObjectIdentifierRef<'static>
     ensures { result.octets.now ≡ oid_octets (1 ∷ 2 ∷ 840 ∷ 113549 ∷ 1 ∷ 5 ∷ []) }
 {
@@ -27,7 +27,7 @@ pub fn pkcs_5() -> ObjectIdentifierRef<'static>
     value
 }
 
-/// A key derived from a password (RFC 8018, A.2). The parameters are PBKDF2-params.
+/// The key derivation function PBKDF2 (RFC 8018, A.2). The parameters are PBKDF2-params.
 pub fn id_pbkdf2() -> ObjectIdentifierRef<'static>
     ensures { result.octets.now ≡ oid_octets (1 ∷ 2 ∷ 840 ∷ 113549 ∷ 1 ∷ 5 ∷ 12 ∷ []) }
 {
@@ -39,7 +39,7 @@ pub fn id_pbkdf2() -> ObjectIdentifierRef<'static>
     value
 }
 
-/// Encryption with a derived key (RFC 8018, A.4). The parameters are PBES2-params.
+/// Encryption with a password by PBES2 (RFC 8018, A.4). The parameters are PBES2-params.
 pub fn id_pbes2() -> ObjectIdentifierRef<'static>
     ensures { result.octets.now ≡ oid_octets (1 ∷ 2 ∷ 840 ∷ 113549 ∷ 1 ∷ 5 ∷ 13 ∷ []) }
 {
@@ -51,7 +51,7 @@ pub fn id_pbes2() -> ObjectIdentifierRef<'static>
     value
 }
 
-/// A message authentication code with a derived key (RFC 8018, A.5).
+/// The message authentication code PBMAC1, with a key from a password (RFC 8018, A.5).
 pub fn id_pbmac1() -> ObjectIdentifierRef<'static>
     ensures { result.octets.now ≡ oid_octets (1 ∷ 2 ∷ 840 ∷ 113549 ∷ 1 ∷ 5 ∷ 14 ∷ []) }
 {
@@ -63,7 +63,7 @@ pub fn id_pbmac1() -> ObjectIdentifierRef<'static>
     value
 }
 
-/// A key derived from a password by scrypt (RFC 7914, 7). The parameters are Scrypt-params.
+/// The key derivation function scrypt (RFC 7914, 7). The parameters are Scrypt-params.
 pub fn id_scrypt() -> ObjectIdentifierRef<'static>
     ensures { result.octets.now ≡ oid_octets (1 ∷ 3 ∷ 6 ∷ 1 ∷ 4 ∷ 1 ∷ 11591 ∷ 4 ∷ 11 ∷ []) }
 {
@@ -75,8 +75,8 @@ pub fn id_scrypt() -> ObjectIdentifierRef<'static>
     value
 }
 
-/// Encryption with DES and MD2 (RFC 8018, A.3). The parameters are a PBEParameter, as those of the
-/// five below.
+/// Encryption with a password by PBES1, with DES and MD2 (RFC 8018, A.3). The parameters are a
+/// PBEParameter.
 pub fn pbe_with_md2_and_des_cbc() -> ObjectIdentifierRef<'static>
     ensures { result.octets.now ≡ oid_octets (1 ∷ 2 ∷ 840 ∷ 113549 ∷ 1 ∷ 5 ∷ 1 ∷ []) }
 {
@@ -88,7 +88,8 @@ pub fn pbe_with_md2_and_des_cbc() -> ObjectIdentifierRef<'static>
     value
 }
 
-/// Encryption with RC2 and MD2 (RFC 8018, A.3).
+/// Encryption with a password by PBES1, with RC2 and MD2 (RFC 8018, A.3). The parameters are a
+/// PBEParameter.
 pub fn pbe_with_md2_and_rc2_cbc() -> ObjectIdentifierRef<'static>
     ensures { result.octets.now ≡ oid_octets (1 ∷ 2 ∷ 840 ∷ 113549 ∷ 1 ∷ 5 ∷ 4 ∷ []) }
 {
@@ -100,7 +101,8 @@ pub fn pbe_with_md2_and_rc2_cbc() -> ObjectIdentifierRef<'static>
     value
 }
 
-/// Encryption with DES and MD5 (RFC 8018, A.3).
+/// Encryption with a password by PBES1, with DES and MD5 (RFC 8018, A.3). The parameters are a
+/// PBEParameter.
 pub fn pbe_with_md5_and_des_cbc() -> ObjectIdentifierRef<'static>
     ensures { result.octets.now ≡ oid_octets (1 ∷ 2 ∷ 840 ∷ 113549 ∷ 1 ∷ 5 ∷ 3 ∷ []) }
 {
@@ -112,7 +114,8 @@ pub fn pbe_with_md5_and_des_cbc() -> ObjectIdentifierRef<'static>
     value
 }
 
-/// Encryption with RC2 and MD5 (RFC 8018, A.3).
+/// Encryption with a password by PBES1, with RC2 and MD5 (RFC 8018, A.3). The parameters are a
+/// PBEParameter.
 pub fn pbe_with_md5_and_rc2_cbc() -> ObjectIdentifierRef<'static>
     ensures { result.octets.now ≡ oid_octets (1 ∷ 2 ∷ 840 ∷ 113549 ∷ 1 ∷ 5 ∷ 6 ∷ []) }
 {
@@ -124,7 +127,8 @@ pub fn pbe_with_md5_and_rc2_cbc() -> ObjectIdentifierRef<'static>
     value
 }
 
-/// Encryption with DES and SHA-1 (RFC 8018, A.3).
+/// Encryption with a password by PBES1, with DES and SHA-1 (RFC 8018, A.3). The parameters are a
+/// PBEParameter.
 pub fn pbe_with_sha1_and_des_cbc() -> ObjectIdentifierRef<'static>
     ensures { result.octets.now ≡ oid_octets (1 ∷ 2 ∷ 840 ∷ 113549 ∷ 1 ∷ 5 ∷ 10 ∷ []) }
 {
@@ -136,7 +140,8 @@ pub fn pbe_with_sha1_and_des_cbc() -> ObjectIdentifierRef<'static>
     value
 }
 
-/// Encryption with RC2 and SHA-1 (RFC 8018, A.3).
+/// Encryption with a password by PBES1, with RC2 and SHA-1 (RFC 8018, A.3). The parameters are a
+/// PBEParameter.
 pub fn pbe_with_sha1_and_rc2_cbc() -> ObjectIdentifierRef<'static>
     ensures { result.octets.now ≡ oid_octets (1 ∷ 2 ∷ 840 ∷ 113549 ∷ 1 ∷ 5 ∷ 11 ∷ []) }
 {
@@ -148,7 +153,7 @@ pub fn pbe_with_sha1_and_rc2_cbc() -> ObjectIdentifierRef<'static>
     value
 }
 
-/// digestAlgorithm
+/// The arc of the digest algorithms of RSA Data Security (RFC 8018, C).
 pub fn digest_algorithm() -> ObjectIdentifierRef<'static>
     ensures { result.octets.now ≡ oid_octets (1 ∷ 2 ∷ 840 ∷ 113549 ∷ 2 ∷ []) }
 {
@@ -158,7 +163,7 @@ pub fn digest_algorithm() -> ObjectIdentifierRef<'static>
     value
 }
 
-/// HMAC with SHA-1 (RFC 8018, B.1.1). The parameters are NULL, as those of the six below.
+/// HMAC with SHA-1 (RFC 8018, B.1.1). The parameters are NULL.
 pub fn id_hmac_with_sha1() -> ObjectIdentifierRef<'static>
     ensures { result.octets.now ≡ oid_octets (1 ∷ 2 ∷ 840 ∷ 113549 ∷ 2 ∷ 7 ∷ []) }
 {
@@ -169,7 +174,7 @@ pub fn id_hmac_with_sha1() -> ObjectIdentifierRef<'static>
     value
 }
 
-/// HMAC with SHA-224 (RFC 8018, B.1.2).
+/// HMAC with SHA-224 (RFC 8018, B.1.2). The parameters are NULL.
 pub fn id_hmac_with_sha224() -> ObjectIdentifierRef<'static>
     ensures { result.octets.now ≡ oid_octets (1 ∷ 2 ∷ 840 ∷ 113549 ∷ 2 ∷ 8 ∷ []) }
 {
@@ -180,7 +185,7 @@ pub fn id_hmac_with_sha224() -> ObjectIdentifierRef<'static>
     value
 }
 
-/// HMAC with SHA-256 (RFC 8018, B.1.2).
+/// HMAC with SHA-256 (RFC 8018, B.1.2). The parameters are NULL.
 pub fn id_hmac_with_sha256() -> ObjectIdentifierRef<'static>
     ensures { result.octets.now ≡ oid_octets (1 ∷ 2 ∷ 840 ∷ 113549 ∷ 2 ∷ 9 ∷ []) }
 {
@@ -191,7 +196,7 @@ pub fn id_hmac_with_sha256() -> ObjectIdentifierRef<'static>
     value
 }
 
-/// HMAC with SHA-384 (RFC 8018, B.1.2).
+/// HMAC with SHA-384 (RFC 8018, B.1.2). The parameters are NULL.
 pub fn id_hmac_with_sha384() -> ObjectIdentifierRef<'static>
     ensures { result.octets.now ≡ oid_octets (1 ∷ 2 ∷ 840 ∷ 113549 ∷ 2 ∷ 10 ∷ []) }
 {
@@ -202,7 +207,7 @@ pub fn id_hmac_with_sha384() -> ObjectIdentifierRef<'static>
     value
 }
 
-/// HMAC with SHA-512 (RFC 8018, B.1.2).
+/// HMAC with SHA-512 (RFC 8018, B.1.2). The parameters are NULL.
 pub fn id_hmac_with_sha512() -> ObjectIdentifierRef<'static>
     ensures { result.octets.now ≡ oid_octets (1 ∷ 2 ∷ 840 ∷ 113549 ∷ 2 ∷ 11 ∷ []) }
 {
@@ -213,7 +218,7 @@ pub fn id_hmac_with_sha512() -> ObjectIdentifierRef<'static>
     value
 }
 
-/// HMAC with SHA-512/224 (RFC 8018, B.1.2).
+/// HMAC with SHA-512/224 (RFC 8018, B.1.2). The parameters are NULL.
 pub fn id_hmac_with_sha512_224() -> ObjectIdentifierRef<'static>
     ensures { result.octets.now ≡ oid_octets (1 ∷ 2 ∷ 840 ∷ 113549 ∷ 2 ∷ 12 ∷ []) }
 {
@@ -224,7 +229,7 @@ pub fn id_hmac_with_sha512_224() -> ObjectIdentifierRef<'static>
     value
 }
 
-/// HMAC with SHA-512/256 (RFC 8018, B.1.2).
+/// HMAC with SHA-512/256 (RFC 8018, B.1.2). The parameters are NULL.
 pub fn id_hmac_with_sha512_256() -> ObjectIdentifierRef<'static>
     ensures { result.octets.now ≡ oid_octets (1 ∷ 2 ∷ 840 ∷ 113549 ∷ 2 ∷ 13 ∷ []) }
 {
@@ -235,7 +240,8 @@ pub fn id_hmac_with_sha512_256() -> ObjectIdentifierRef<'static>
     value
 }
 
-/// DES (RFC 8018, B.2.1). The parameters are an OCTET STRING, the initialization vector.
+/// DES in CBC mode (RFC 8018, B.2.1). The parameters are an OCTET STRING, the initialization
+/// vector.
 pub fn des_cbc() -> ObjectIdentifierRef<'static>
     ensures { result.octets.now ≡ oid_octets (1 ∷ 3 ∷ 14 ∷ 3 ∷ 2 ∷ 7 ∷ []) }
 {
@@ -245,7 +251,7 @@ pub fn des_cbc() -> ObjectIdentifierRef<'static>
     value
 }
 
-/// encryptionAlgorithm
+/// The arc of the encryption algorithms of RSA Data Security (RFC 8018, C).
 pub fn encryption_algorithm() -> ObjectIdentifierRef<'static>
     ensures { result.octets.now ≡ oid_octets (1 ∷ 2 ∷ 840 ∷ 113549 ∷ 3 ∷ []) }
 {
@@ -255,7 +261,8 @@ pub fn encryption_algorithm() -> ObjectIdentifierRef<'static>
     value
 }
 
-/// Triple DES (RFC 8018, B.2.2). The parameters are an OCTET STRING, the initialization vector.
+/// Triple DES in CBC mode (RFC 8018, B.2.2). The parameters are an OCTET STRING, the initialization
+/// vector.
 pub fn des_ede3_cbc() -> ObjectIdentifierRef<'static>
     ensures { result.octets.now ≡ oid_octets (1 ∷ 2 ∷ 840 ∷ 113549 ∷ 3 ∷ 7 ∷ []) }
 {
@@ -266,7 +273,7 @@ pub fn des_ede3_cbc() -> ObjectIdentifierRef<'static>
     value
 }
 
-/// RC2 (RFC 8018, B.2.3).
+/// RC2 in CBC mode (RFC 8018, B.2.3).
 pub fn rc2_cbc() -> ObjectIdentifierRef<'static>
     ensures { result.octets.now ≡ oid_octets (1 ∷ 2 ∷ 840 ∷ 113549 ∷ 3 ∷ 2 ∷ []) }
 {
@@ -277,7 +284,7 @@ pub fn rc2_cbc() -> ObjectIdentifierRef<'static>
     value
 }
 
-/// RC5 (RFC 8018, B.2.4).
+/// RC5 in CBC mode (RFC 8018, B.2.4).
 pub fn rc5_cbc_pad() -> ObjectIdentifierRef<'static>
     ensures { result.octets.now ≡ oid_octets (1 ∷ 2 ∷ 840 ∷ 113549 ∷ 3 ∷ 9 ∷ []) }
 {
@@ -288,7 +295,7 @@ pub fn rc5_cbc_pad() -> ObjectIdentifierRef<'static>
     value
 }
 
-/// aes
+/// The arc of the AES algorithms (RFC 8018, C).
 pub fn aes() -> ObjectIdentifierRef<'static>
     ensures { result.octets.now ≡ oid_octets (2 ∷ 16 ∷ 840 ∷ 1 ∷ 101 ∷ 3 ∷ 4 ∷ 1 ∷ []) }
 {
@@ -299,8 +306,8 @@ pub fn aes() -> ObjectIdentifierRef<'static>
     value
 }
 
-/// AES with 128 bits (RFC 8018, B.2.5). The parameters are an OCTET STRING, the initialization
-/// vector, as those of the two below.
+/// AES in CBC mode with a key of 128 bits (RFC 8018, B.2.5). The parameters are an OCTET STRING,
+/// the initialization vector.
 pub fn aes128_cbc_pad() -> ObjectIdentifierRef<'static>
     ensures { result.octets.now ≡ oid_octets (2 ∷ 16 ∷ 840 ∷ 1 ∷ 101 ∷ 3 ∷ 4 ∷ 1 ∷ 2 ∷ []) }
 {
@@ -312,7 +319,8 @@ pub fn aes128_cbc_pad() -> ObjectIdentifierRef<'static>
     value
 }
 
-/// AES with 192 bits (RFC 8018, B.2.5).
+/// AES in CBC mode with a key of 192 bits (RFC 8018, B.2.5). The parameters are an OCTET STRING,
+/// the initialization vector.
 pub fn aes192_cbc_pad() -> ObjectIdentifierRef<'static>
     ensures { result.octets.now ≡ oid_octets (2 ∷ 16 ∷ 840 ∷ 1 ∷ 101 ∷ 3 ∷ 4 ∷ 1 ∷ 22 ∷ []) }
 {
@@ -324,7 +332,8 @@ pub fn aes192_cbc_pad() -> ObjectIdentifierRef<'static>
     value
 }
 
-/// AES with 256 bits (RFC 8018, B.2.5).
+/// AES in CBC mode with a key of 256 bits (RFC 8018, B.2.5). The parameters are an OCTET STRING,
+/// the initialization vector.
 pub fn aes256_cbc_pad() -> ObjectIdentifierRef<'static>
     ensures { result.octets.now ≡ oid_octets (2 ∷ 16 ∷ 840 ∷ 1 ∷ 101 ∷ 3 ∷ 4 ∷ 1 ∷ 42 ∷ []) }
 {
@@ -336,7 +345,8 @@ pub fn aes256_cbc_pad() -> ObjectIdentifierRef<'static>
     value
 }
 
-/// The name that the module has for an OBJECT IDENTIFIER; the first one if it has several.
+/// The name of an OBJECT IDENTIFIER in the ASN.1 module, or the first of several; `None` if it
+/// has no name there.
 pub fn name_of(oid: &ObjectIdentifierRef<'_>) -> Option<&'static str> {
     match oid.octets() {
         [0x2A, 0x86, 0x48, 0x86, 0xF7, 0x0D] => Some("rsadsi"),

@@ -18,19 +18,19 @@ use der_asn1::{
 };
 use std::alloc::Global;
 
-/// A field of 2^m elements (SEC 1, C.1), borrowed from the input.
+/// The parameters of a field with 2^m elements (SEC 1, C.1), borrowed from the input.
 #[derive(Clone, Copy, Debug, Drop, PartialEq, Eq)]
 pub struct CharacteristicTwo<'a> {
-    /// The power m.
+    /// The exponent m of the number of elements, 2^m.
     pub m: IntRef<'a>,
-    /// The kind of basis.
+    /// The kind of the basis, such as tpBasis.
     pub basis: ObjectIdentifierRef<'a>,
-    /// What determines a basis of this kind: NULL, a Trinomial or a Pentanomial. Decoding does not
-    /// check this.
+    /// The parameters of the basis: NULL, a Trinomial or a Pentanomial, as the kind of the basis
+    /// says. Decoding does not check this.
     pub parameters: AnyRef<'a>,
 }
 
-/// The fields of a [`CharacteristicTwo`], in the order in which they are encoded.
+/// The fields of [`CharacteristicTwo`] as one type, in the order in which they are encoded.
 pub type CharacteristicTwoFields<'a> = (IntRef<'a>, ObjectIdentifierRef<'a>, AnyRef<'a>);
 
 impl<'a> FromFields<CharacteristicTwoFields<'a>> for CharacteristicTwo<'a> {
@@ -55,7 +55,7 @@ impl<'a> Sequence for CharacteristicTwo<'a> {
     ghost fits = { (refl, refl) };
 }
 
-/// Decodes the fields one after the other, with the errors of every [`Sequence`].
+/// Decodes the fields, first to last. The errors are those that [`Sequence`] lists.
 impl<'a, R: Lends<Borrowed = &'a [u8]>> DecodeValue<R> for CharacteristicTwo<'a> {
     type Error = Error;
 
@@ -79,7 +79,7 @@ impl<'a> IsValue for CharacteristicTwo<'a> {
     }
 }
 
-/// Writes the fields one after the other, with the errors of every [`Sequence`].
+/// Writes the fields, first to last. The errors are those that [`Sequence`] lists.
 impl<'a> HasFields for CharacteristicTwo<'a> {
     ghost fields_size = { λ v. ⟦<CharacteristicTwoFields<'a> as Encode>⟧.size
         (⟦<CharacteristicTwo<'a> as FromFields<CharacteristicTwoFields<'a>>>⟧.fields v) };

@@ -18,7 +18,7 @@ use der_asn1::{
 };
 use std::alloc::Global;
 
-/// The coefficients of a curve (SEC 1, C.2; RFC 3279, 2.3.5), borrowed from the input.
+/// The coefficients of an elliptic curve (SEC 1, C.2; RFC 3279, 2.3.5), borrowed from the input.
 #[derive(Clone, Copy, Debug, Drop, PartialEq, Eq)]
 pub struct Curve<'a> {
     /// The coefficient a.
@@ -29,7 +29,7 @@ pub struct Curve<'a> {
     pub seed: Optional<BitStringRef<'a>>,
 }
 
-/// The fields of a [`Curve`], in the order in which they are encoded.
+/// The fields of [`Curve`] as one type, in the order in which they are encoded.
 pub type CurveFields<'a> = (
     FieldElement<'a>,
     FieldElement<'a>,
@@ -55,7 +55,7 @@ impl<'a> Sequence for Curve<'a> {
     ghost fits = { (refl, refl) };
 }
 
-/// Decodes the fields one after the other, with the errors of every [`Sequence`].
+/// Decodes the fields, first to last. The errors are those that [`Sequence`] lists.
 impl<'a, R: Lends<Borrowed = &'a [u8]>> DecodeValue<R> for Curve<'a> {
     type Error = Error;
 
@@ -81,7 +81,7 @@ impl<'a> IsValue for Curve<'a> {
     }
 }
 
-/// Writes the fields one after the other, with the errors of every [`Sequence`].
+/// Writes the fields, first to last. The errors are those that [`Sequence`] lists.
 impl<'a> HasFields for Curve<'a> {
     ghost fields_size = { λ v. ⟦<CurveFields<'a> as Encode>⟧.size
         (⟦<Curve<'a> as FromFields<CurveFields<'a>>>⟧.fields v) };

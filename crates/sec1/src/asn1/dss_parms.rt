@@ -18,15 +18,15 @@ use std::alloc::Global;
 /// The parameters of DSA keys (RFC 3279, 2.3.2), borrowed from the input.
 #[derive(Clone, Copy, Debug, Drop, PartialEq, Eq)]
 pub struct DssParms<'a> {
-    /// The modulus p.
+    /// The prime p, the modulus.
     pub p: IntRef<'a>,
-    /// The order q.
+    /// The prime q, the order of g.
     pub q: IntRef<'a>,
     /// The generator g.
     pub g: IntRef<'a>,
 }
 
-/// The fields of a [`DssParms`], in the order in which they are encoded.
+/// The fields of [`DssParms`] as one type, in the order in which they are encoded.
 pub type DssParmsFields<'a> = (IntRef<'a>, IntRef<'a>, IntRef<'a>);
 
 impl<'a> FromFields<DssParmsFields<'a>> for DssParms<'a> {
@@ -48,7 +48,7 @@ impl<'a> Sequence for DssParms<'a> {
     ghost fits = { (refl, refl) };
 }
 
-/// Decodes the fields one after the other, with the errors of every [`Sequence`].
+/// Decodes the fields, first to last. The errors are those that [`Sequence`] lists.
 impl<'a, R: Lends<Borrowed = &'a [u8]>> DecodeValue<R> for DssParms<'a> {
     type Error = Error;
 
@@ -72,7 +72,7 @@ impl<'a> IsValue for DssParms<'a> {
     }
 }
 
-/// Writes the fields one after the other, with the errors of every [`Sequence`].
+/// Writes the fields, first to last. The errors are those that [`Sequence`] lists.
 impl<'a> HasFields for DssParms<'a> {
     ghost fields_size = { λ v. ⟦<DssParmsFields<'a> as Encode>⟧.size
         (⟦<DssParms<'a> as FromFields<DssParmsFields<'a>>>⟧.fields v) };

@@ -23,11 +23,11 @@ use std::alloc::Global;
 /// decoding accepts all three.
 #[derive(Clone, Copy, Debug, Drop, PartialEq, Eq)]
 pub enum EcParameters<'a> {
-    /// namedCurve
+    /// The OBJECT IDENTIFIER of the curve.
     NamedCurve(ObjectIdentifierRef<'a>),
-    /// implicitCurve
+    /// NULL: the curve is known from elsewhere.
     ImplicitCurve(Null<'a>),
-    /// specifiedCurve
+    /// The numbers that specify the curve.
     SpecifiedCurve(SpecifiedEcDomain<'a>),
 }
 
@@ -66,7 +66,7 @@ impl<'a> DescribedChoice for EcParameters<'a> {
         ⟦<EcParameters<'a> as FromFields<EcParametersAlternatives<'a>>>⟧.fields };
 }
 
-/// Decodes the alternative whose tag is next, with the errors of [`Either`].
+/// Decodes the alternative with the next tag. The errors are those of decoding an [`Either`].
 impl<'a, R: Lends<Borrowed = &'a [u8]>> Decode<R> for EcParameters<'a> {
     type Error = Error;
 
@@ -102,7 +102,7 @@ impl<'a, R: Lends<Borrowed = &'a [u8]>> DecodeChoice<R> for EcParameters<'a> {
     ghost begins = { ⟦<EcParameters<'a> as DescribedChoice>⟧.alternative.begins };
 }
 
-/// Writes the alternative that the value has.
+/// Writes the alternative that the value has. The errors are those of writing it.
 impl<'a> Encode for EcParameters<'a> {
     ghost encoding = { λ v. ⟦<EcParametersAlternatives<'a> as Encode>⟧.encoding
         (⟦<EcParameters<'a> as FromFields<EcParametersAlternatives<'a>>>⟧.fields v) };

@@ -15,14 +15,14 @@ use der::{
 use der_asn1::{BorrowedItem, DecodeItem, Described, DescribedChoice, Item, Nestable, WrittenItem};
 use std::alloc::Global;
 
-/// What an explicit tag has in it: a [`EcParameters`].
+/// The contents of an element with an explicit tag: a [`EcParameters`].
 #[derive(Clone, Copy, Debug, Drop, PartialEq, Eq)]
 pub struct EcParametersTagged<'a> {
-    /// The value after the tag.
+    /// The value inside the explicit tag.
     pub value: EcParameters<'a>,
 }
 
-/// The fields of a [`EcParametersTagged`], in the order in which they are encoded.
+/// The fields of [`EcParametersTagged`] as one type, in the order in which they are encoded.
 pub type EcParametersTaggedFields<'a> = EcParameters<'a>;
 
 impl<'a> FromFields<EcParametersTaggedFields<'a>> for EcParametersTagged<'a> {
@@ -41,7 +41,7 @@ impl<'a> Sequence for EcParametersTagged<'a> {
     ghost fits = { (refl, refl) };
 }
 
-/// Decodes the fields one after the other, with the errors of every [`Sequence`].
+/// Decodes the fields, first to last. The errors are those that [`Sequence`] lists.
 impl<'a, R: Lends<Borrowed = &'a [u8]>> DecodeValue<R> for EcParametersTagged<'a> {
     type Error = Error;
 
@@ -67,7 +67,7 @@ impl<'a> IsValue for EcParametersTagged<'a> {
     }
 }
 
-/// Writes the fields one after the other, with the errors of every [`Sequence`].
+/// Writes the fields, first to last. The errors are those that [`Sequence`] lists.
 impl<'a> HasFields for EcParametersTagged<'a> {
     ghost fields_size = { λ v. ⟦<EcParametersTaggedFields<'a> as Encode>⟧.size
         (⟦<EcParametersTagged<'a> as FromFields<EcParametersTaggedFields<'a>>>⟧.fields v) };

@@ -4,5 +4,5 @@
 
 use der_asn1::OctetStringRef;
 
-/// The octets of a point of a curve (SEC 1, C.2; 2.3.3).
+/// A point of an elliptic curve, as octets (SEC 1, C.2; 2.3.3).
 pub type EcPoint<'a> = OctetStringRef<'a>;

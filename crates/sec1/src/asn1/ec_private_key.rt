@@ -32,7 +32,7 @@ pub struct EcPrivateKey<'a> {
     pub public_key: Optional<Explicit<BitStringRef<'a>, 1>>,
 }
 
-/// The fields of a [`EcPrivateKey`], in the order in which they are encoded.
+/// The fields of [`EcPrivateKey`] as one type, in the order in which they are encoded.
 pub type EcPrivateKeyFields<'a> = (
     IntRef<'a>,
     OctetStringRef<'a>,
@@ -65,7 +65,7 @@ impl<'a> Sequence for EcPrivateKey<'a> {
     ghost fits = { (refl, refl) };
 }
 
-/// Decodes the fields one after the other, with the errors of every [`Sequence`].
+/// Decodes the fields, first to last. The errors are those that [`Sequence`] lists.
 impl<'a, R: Lends<Borrowed = &'a [u8]>> DecodeValue<R> for EcPrivateKey<'a> {
     type Error = Error;
 
@@ -94,7 +94,7 @@ impl<'a> IsValue for EcPrivateKey<'a> {
     }
 }
 
-/// Writes the fields one after the other, with the errors of every [`Sequence`].
+/// Writes the fields, first to last. The errors are those that [`Sequence`] lists.
 impl<'a> HasFields for EcPrivateKey<'a> {
     ghost fields_size = { λ v. ⟦<EcPrivateKeyFields<'a> as Encode>⟧.size
         (⟦<EcPrivateKey<'a> as FromFields<EcPrivateKeyFields<'a>>>⟧.fields v) };

@@ -17,13 +17,13 @@ use std::alloc::Global;
 /// A signature of ECDSA (RFC 3279, 2.2.3), borrowed from the input.
 #[derive(Clone, Copy, Debug, Drop, PartialEq, Eq)]
 pub struct EcdsaSigValue<'a> {
-    /// The number r.
+    /// The first number of the signature, r.
     pub r: IntRef<'a>,
-    /// The number s.
+    /// The second number of the signature, s.
     pub s: IntRef<'a>,
 }
 
-/// The fields of a [`EcdsaSigValue`], in the order in which they are encoded.
+/// The fields of [`EcdsaSigValue`] as one type, in the order in which they are encoded.
 pub type EcdsaSigValueFields<'a> = (IntRef<'a>, IntRef<'a>);
 
 impl<'a> FromFields<EcdsaSigValueFields<'a>> for EcdsaSigValue<'a> {
@@ -43,7 +43,7 @@ impl<'a> Sequence for EcdsaSigValue<'a> {
     ghost fits = { (refl, refl) };
 }
 
-/// Decodes the fields one after the other, with the errors of every [`Sequence`].
+/// Decodes the fields, first to last. The errors are those that [`Sequence`] lists.
 impl<'a, R: Lends<Borrowed = &'a [u8]>> DecodeValue<R> for EcdsaSigValue<'a> {
     type Error = Error;
 
@@ -66,7 +66,7 @@ impl<'a> IsValue for EcdsaSigValue<'a> {
     }
 }
 
-/// Writes the fields one after the other, with the errors of every [`Sequence`].
+/// Writes the fields, first to last. The errors are those that [`Sequence`] lists.
 impl<'a> HasFields for EcdsaSigValue<'a> {
     ghost fields_size = { λ v. ⟦<EcdsaSigValueFields<'a> as Encode>⟧.size
         (⟦<EcdsaSigValue<'a> as FromFields<EcdsaSigValueFields<'a>>>⟧.fields v) };

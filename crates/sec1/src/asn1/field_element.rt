@@ -4,5 +4,5 @@
 
 use der_asn1::OctetStringRef;
 
-/// The octets of an element of a field (SEC 1, C.1; 2.3.5).
+/// An element of a finite field, as octets (SEC 1, C.1; 2.3.5).
 pub type FieldElement<'a> = OctetStringRef<'a>;

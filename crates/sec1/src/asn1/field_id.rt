@@ -16,17 +16,17 @@ use der_asn1::{
 };
 use std::alloc::Global;
 
-/// A field (SEC 1, C.1; RFC 3279, 2.3.5), borrowed from the input.
+/// A finite field (SEC 1, C.1; RFC 3279, 2.3.5), borrowed from the input.
 #[derive(Clone, Copy, Debug, Drop, PartialEq, Eq)]
 pub struct FieldId<'a> {
-    /// The type of the field.
+    /// The type of the field, such as prime-field.
     pub field_type: ObjectIdentifierRef<'a>,
-    /// What determines the field of this type: a Prime-p or a Characteristic-two. Decoding does not
-    /// check this.
+    /// The parameters of the field: a Prime-p or a Characteristic-two, as the type of the field
+    /// says. Decoding does not check this.
     pub parameters: AnyRef<'a>,
 }
 
-/// The fields of a [`FieldId`], in the order in which they are encoded.
+/// The fields of [`FieldId`] as one type, in the order in which they are encoded.
 pub type FieldIdFields<'a> = (ObjectIdentifierRef<'a>, AnyRef<'a>);
 
 impl<'a> FromFields<FieldIdFields<'a>> for FieldId<'a> {
@@ -49,7 +49,7 @@ impl<'a> Sequence for FieldId<'a> {
     ghost fits = { (refl, refl) };
 }
 
-/// Decodes the fields one after the other, with the errors of every [`Sequence`].
+/// Decodes the fields, first to last. The errors are those that [`Sequence`] lists.
 impl<'a, R: Lends<Borrowed = &'a [u8]>> DecodeValue<R> for FieldId<'a> {
     type Error = Error;
 
@@ -72,7 +72,7 @@ impl<'a> IsValue for FieldId<'a> {
     }
 }
 
-/// Writes the fields one after the other, with the errors of every [`Sequence`].
+/// Writes the fields, first to last. The errors are those that [`Sequence`] lists.
 impl<'a> HasFields for FieldId<'a> {
     ghost fields_size = { λ v. ⟦<FieldIdFields<'a> as Encode>⟧.size
         (⟦<FieldId<'a> as FromFields<FieldIdFields<'a>>>⟧.fields v) };

@@ -15,18 +15,19 @@ use der::{
 use der_asn1::{BorrowedItem, DecodeItem, Described, IntRef, Item, Nestable, WrittenItem};
 use std::alloc::Global;
 
-/// The exponents of x^m + x^k3 + x^k2 + x^k1 + 1 (SEC 1, C.1), borrowed from the input.
+/// The exponents of the pentanomial x^m + x^k3 + x^k2 + x^k1 + 1 (SEC 1, C.1), borrowed from the
+/// input.
 #[derive(Clone, Copy, Debug, Drop, PartialEq, Eq)]
 pub struct Pentanomial<'a> {
-    /// k1
+    /// The exponent k1, the least of the three.
     pub k1: IntRef<'a>,
-    /// k2
+    /// The exponent k2.
     pub k2: IntRef<'a>,
-    /// k3
+    /// The exponent k3, the greatest of the three.
     pub k3: IntRef<'a>,
 }
 
-/// The fields of a [`Pentanomial`], in the order in which they are encoded.
+/// The fields of [`Pentanomial`] as one type, in the order in which they are encoded.
 pub type PentanomialFields<'a> = (IntRef<'a>, IntRef<'a>, IntRef<'a>);
 
 impl<'a> FromFields<PentanomialFields<'a>> for Pentanomial<'a> {
@@ -48,7 +49,7 @@ impl<'a> Sequence for Pentanomial<'a> {
     ghost fits = { (refl, refl) };
 }
 
-/// Decodes the fields one after the other, with the errors of every [`Sequence`].
+/// Decodes the fields, first to last. The errors are those that [`Sequence`] lists.
 impl<'a, R: Lends<Borrowed = &'a [u8]>> DecodeValue<R> for Pentanomial<'a> {
     type Error = Error;
 
@@ -72,7 +73,7 @@ impl<'a> IsValue for Pentanomial<'a> {
     }
 }
 
-/// Writes the fields one after the other, with the errors of every [`Sequence`].
+/// Writes the fields, first to last. The errors are those that [`Sequence`] lists.
 impl<'a> HasFields for Pentanomial<'a> {
     ghost fields_size = { λ v. ⟦<PentanomialFields<'a> as Encode>⟧.size
         (⟦<Pentanomial<'a> as FromFields<PentanomialFields<'a>>>⟧.fields v) };

@@ -4,5 +4,5 @@
 
 use der_asn1::IntRef;
 
-/// The number of elements of a field (SEC 1, C.1).
+/// The number of elements of a prime field (SEC 1, C.1).
 pub type PrimeP<'a> = IntRef<'a>;

@@ -21,13 +21,13 @@ use der_asn1::{
 use spki::AlgorithmIdentifierRef;
 use std::alloc::Global;
 
-/// A curve that its numbers specify (SEC 1, C.2; RFC 3279, 2.3.5, where it is ECParameters),
-/// borrowed from the input.
+/// An elliptic curve, specified by its numbers (SEC 1, C.2; RFC 3279, 2.3.5, where it is
+/// ECParameters), borrowed from the input.
 #[derive(Clone, Copy, Debug, Drop, PartialEq, Eq)]
 pub struct SpecifiedEcDomain<'a> {
     /// The version, which should be 1, 2 or 3. Decoding does not check this.
     pub version: IntRef<'a>,
-    /// The field over which the curve is.
+    /// The field over which the curve is defined.
     pub field_id: FieldId<'a>,
     /// The coefficients of the curve.
     pub curve: Curve<'a>,
@@ -41,7 +41,7 @@ pub struct SpecifiedEcDomain<'a> {
     pub hash: Optional<AlgorithmIdentifierRef<'a>>,
 }
 
-/// The fields of a [`SpecifiedEcDomain`], in the order in which they are encoded.
+/// The fields of [`SpecifiedEcDomain`] as one type, in the order in which they are encoded.
 pub type SpecifiedEcDomainFields<'a> = (
     IntRef<'a>,
     FieldId<'a>,
@@ -83,7 +83,7 @@ impl<'a> Sequence for SpecifiedEcDomain<'a> {
     ghost fits = { (refl, refl) };
 }
 
-/// Decodes the fields one after the other, with the errors of every [`Sequence`].
+/// Decodes the fields, first to last. The errors are those that [`Sequence`] lists.
 impl<'a, R: Lends<Borrowed = &'a [u8]>> DecodeValue<R> for SpecifiedEcDomain<'a> {
     type Error = Error;
 
@@ -115,7 +115,7 @@ impl<'a> IsValue for SpecifiedEcDomain<'a> {
     }
 }
 
-/// Writes the fields one after the other, with the errors of every [`Sequence`].
+/// Writes the fields, first to last. The errors are those that [`Sequence`] lists.
 impl<'a> HasFields for SpecifiedEcDomain<'a> {
     ghost fields_size = { λ v. ⟦<SpecifiedEcDomainFields<'a> as Encode>⟧.size
         (⟦<SpecifiedEcDomain<'a> as FromFields<SpecifiedEcDomainFields<'a>>>⟧.fields v) };

@@ -4,5 +4,5 @@
 
 use der_asn1::IntRef;
 
-/// The exponent k of x^m + x^k + 1 (SEC 1, C.1).
+/// The exponent k of the trinomial x^m + x^k + 1 (SEC 1, C.1).
 pub type Trinomial<'a> = IntRef<'a>;

@@ -6,10 +6,10 @@ ghost use Rattle.der_asn1.specs.Arcs.{oid_octets};
 
 use der_asn1::ObjectIdentifierRef;
 
-/// The version of a private key (RFC 5915, 3).
+/// The version of the format of a private key (RFC 5915, 3).
 pub const EC_PRIVKEY_VER1: u64 = 1;
 
-/// ansi-X9-62
+/// The arc of ANSI X9.62 (RFC 3279, 2.3.5).
 pub fn ansi_x9_62() -> ObjectIdentifierRef<'static>
     ensures { result.octets.now ≡ oid_octets (1 ∷ 2 ∷ 840 ∷ 10045 ∷ []) }
 {
@@ -29,7 +29,7 @@ pub fn id_ec_public_key() -> ObjectIdentifierRef<'static>
     value
 }
 
-/// certicom
+/// The arc of Certicom (RFC 5480, 2.1.1.1).
 pub fn certicom() -> ObjectIdentifierRef<'static>
     ensures { result.octets.now ≡ oid_octets (1 ∷ 3 ∷ 132 ∷ []) }
 {
@@ -39,7 +39,7 @@ pub fn certicom() -> ObjectIdentifierRef<'static>
     value
 }
 
-/// Keys for ECDH alone (RFC 5480, 2.1.2).
+/// Public keys that are for ECDH only (RFC 5480, 2.1.2).
 pub fn id_ec_dh() -> ObjectIdentifierRef<'static>
     ensures { result.octets.now ≡ oid_octets (1 ∷ 3 ∷ 132 ∷ 1 ∷ 12 ∷ []) }
 {
@@ -49,7 +49,7 @@ pub fn id_ec_dh() -> ObjectIdentifierRef<'static>
     value
 }
 
-/// Keys for ECMQV alone (RFC 5480, 2.1.2).
+/// Public keys that are for ECMQV only (RFC 5480, 2.1.2).
 pub fn id_ec_mqv() -> ObjectIdentifierRef<'static>
     ensures { result.octets.now ≡ oid_octets (1 ∷ 3 ∷ 132 ∷ 1 ∷ 13 ∷ []) }
 {
@@ -275,7 +275,8 @@ pub fn ecdsa_with_sha512() -> ObjectIdentifierRef<'static>
     value
 }
 
-/// A field of a prime number of elements (RFC 3279, 2.3.5). The parameter is a Prime-p.
+/// The type of a field with a prime number of elements (RFC 3279, 2.3.5). The parameter is a
+/// Prime-p.
 pub fn prime_field() -> ObjectIdentifierRef<'static>
     ensures { result.octets.now ≡ oid_octets (1 ∷ 2 ∷ 840 ∷ 10045 ∷ 1 ∷ 1 ∷ []) }
 {
@@ -285,7 +286,7 @@ pub fn prime_field() -> ObjectIdentifierRef<'static>
     value
 }
 
-/// A field of 2^m elements (RFC 3279, 2.3.5). The parameter is a Characteristic-two.
+/// The type of a field with 2^m elements (RFC 3279, 2.3.5). The parameter is a Characteristic-two.
 pub fn characteristic_two_field() -> ObjectIdentifierRef<'static>
     ensures { result.octets.now ≡ oid_octets (1 ∷ 2 ∷ 840 ∷ 10045 ∷ 1 ∷ 2 ∷ []) }
 {
@@ -295,7 +296,7 @@ pub fn characteristic_two_field() -> ObjectIdentifierRef<'static>
     value
 }
 
-/// A normal basis (RFC 3279, 2.3.5). The parameters are NULL.
+/// The kind of a normal basis (RFC 3279, 2.3.5). The parameters are NULL.
 pub fn gn_basis() -> ObjectIdentifierRef<'static>
     ensures { result.octets.now ≡ oid_octets (1 ∷ 2 ∷ 840 ∷ 10045 ∷ 1 ∷ 2 ∷ 3 ∷ 1 ∷ []) }
 {
@@ -307,7 +308,7 @@ pub fn gn_basis() -> ObjectIdentifierRef<'static>
     value
 }
 
-/// A basis given by a trinomial (RFC 3279, 2.3.5). The parameter is a Trinomial.
+/// The kind of a basis that a trinomial gives (RFC 3279, 2.3.5). The parameter is a Trinomial.
 pub fn tp_basis() -> ObjectIdentifierRef<'static>
     ensures { result.octets.now ≡ oid_octets (1 ∷ 2 ∷ 840 ∷ 10045 ∷ 1 ∷ 2 ∷ 3 ∷ 2 ∷ []) }
 {
@@ -319,7 +320,7 @@ pub fn tp_basis() -> ObjectIdentifierRef<'static>
     value
 }
 
-/// A basis given by a pentanomial (RFC 3279, 2.3.5). The parameter is a Pentanomial.
+/// The kind of a basis that a pentanomial gives (RFC 3279, 2.3.5). The parameter is a Pentanomial.
 pub fn pp_basis() -> ObjectIdentifierRef<'static>
     ensures { result.octets.now ≡ oid_octets (1 ∷ 2 ∷ 840 ∷ 10045 ∷ 1 ∷ 2 ∷ 3 ∷ 3 ∷ []) }
 {
@@ -351,7 +352,7 @@ pub fn id_dsa_with_sha1() -> ObjectIdentifierRef<'static>
     value
 }
 
-/// nist-signatures
+/// The arc of the signature algorithms of NIST (RFC 5758, 3.1).
 pub fn nist_signatures() -> ObjectIdentifierRef<'static>
     ensures { result.octets.now ≡ oid_octets (2 ∷ 16 ∷ 840 ∷ 1 ∷ 101 ∷ 3 ∷ 4 ∷ 3 ∷ []) }
 {
@@ -386,7 +387,8 @@ pub fn id_dsa_with_sha256() -> ObjectIdentifierRef<'static>
     value
 }
 
-/// The name that the module has for an OBJECT IDENTIFIER; the first one if it has several.
+/// The name of an OBJECT IDENTIFIER in the ASN.1 module, or the first of several; `None` if it
+/// has no name there.
 pub fn name_of(oid: &ObjectIdentifierRef<'_>) -> Option<&'static str> {
     match oid.octets() {
         [0x2A, 0x86, 0x48, 0xCE, 0x3D] => Some("ansi-X9-62"),

@@ -25,20 +25,20 @@ use der_asn1::{
 };
 use std::alloc::Global;
 
-/// A value of a type with a tag of the class application.
+/// A value of a type with a tag of class APPLICATION (RFC 3416, 3).
 #[derive(Clone, Copy, Debug, Drop, PartialEq, Eq)]
 pub enum ApplicationSyntax<'a> {
-    /// An address.
+    /// An IP address of version 4.
     IpAddressValue(IpAddress<'a>),
-    /// A number that grows, modulo 2^32.
+    /// A counter of 32 bits. After its greatest value it continues at 0.
     CounterValue(Counter32),
     /// A time in hundredths of a second.
     TimeticksValue(TimeTicks),
-    /// The encoding of a value of any type.
+    /// The encoding of a value of any type, as octets.
     ArbitraryValue(Opaque<'a>),
-    /// A number that grows, modulo 2^64.
+    /// A counter of 64 bits. After its greatest value it continues at 0.
     BigCounterValue(Counter64),
-    /// A number of 32 bits without a sign.
+    /// An unsigned number of 32 bits.
     UnsignedIntegerValue(Unsigned32),
 }
 
@@ -110,7 +110,7 @@ impl<'a> DescribedChoice for ApplicationSyntax<'a> {
         ⟦<ApplicationSyntax<'a> as FromFields<ApplicationSyntaxAlternatives<'a>>>⟧.fields };
 }
 
-/// Decodes the alternative whose tag is next, with the errors of [`Either`].
+/// Decodes the alternative with the next tag. The errors are those of decoding an [`Either`].
 impl<'a, R: Lends<Borrowed = &'a [u8]>> Decode<R> for ApplicationSyntax<'a> {
     type Error = Error;
 
@@ -148,7 +148,7 @@ impl<'a, R: Lends<Borrowed = &'a [u8]>> DecodeChoice<R> for ApplicationSyntax<'a
     ghost begins = { ⟦<ApplicationSyntax<'a> as DescribedChoice>⟧.alternative.begins };
 }
 
-/// Writes the alternative that the value has.
+/// Writes the alternative that the value has. The errors are those of writing it.
 impl<'a> Encode for ApplicationSyntax<'a> {
     ghost encoding = { λ v. ⟦<ApplicationSyntaxAlternatives<'a> as Encode>⟧.encoding
         (⟦<ApplicationSyntax<'a> as FromFields<ApplicationSyntaxAlternatives<'a>>>⟧.fields v) };

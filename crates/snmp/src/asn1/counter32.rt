@@ -4,5 +4,5 @@
 
 use der_asn1::{Application, Implicit, IntegerIn};
 
-/// A number that grows, modulo 2^32.
+/// A counter of 32 bits. After its greatest value it continues at 0.
 pub type Counter32 = Application<Implicit<IntegerIn<0, 4294967295>, 1>>;

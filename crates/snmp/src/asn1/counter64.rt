@@ -4,5 +4,5 @@
 
 use der_asn1::{Application, Implicit, IntegerIn};
 
-/// A number that grows, modulo 2^64.
+/// A counter of 64 bits. After its greatest value it continues at 0.
 pub type Counter64 = Application<Implicit<IntegerIn<0, 18446744073709551615>, 6>>;

@@ -4,5 +4,5 @@
 
 use der_asn1::{Application, Implicit, OctetStringRef};
 
-/// An address of four octets.
+/// An IP address of version 4: four octets. Their number is not checked.
 pub type IpAddress<'a> = Application<Implicit<OctetStringRef<'a>, 0>>;

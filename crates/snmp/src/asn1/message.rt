@@ -18,18 +18,18 @@ use der_asn1::{
 };
 use std::alloc::Global;
 
-/// A message (RFC 1157, 4).
+/// A message of SNMPv1 or SNMPv2c (RFC 1157, 4).
 #[derive(Clone, Copy, Debug, Drop, PartialEq, Eq)]
 pub struct Message<'a> {
-    /// 0 for SNMPv1, and 1 for SNMPv2c (RFC 1901).
+    /// The version: 0 for SNMPv1, and 1 for SNMPv2c (RFC 1901). Decoding does not check this.
     pub version: IntRef<'a>,
-    /// The name of a group of managers and agents.
+    /// The name of the community: a group of managers and agents.
     pub community: OctetStringRef<'a>,
-    /// Mostly one of `PDUs`.
+    /// The contents of the message, mostly one of `PDUs`. Decoding does not check this.
     pub data: AnyRef<'a>,
 }
 
-/// The fields of a [`Message`], in the order in which they are encoded.
+/// The fields of [`Message`] as one type, in the order in which they are encoded.
 pub type MessageFields<'a> = (IntRef<'a>, OctetStringRef<'a>, AnyRef<'a>);
 
 impl<'a> FromFields<MessageFields<'a>> for Message<'a> {
@@ -54,7 +54,7 @@ impl<'a> Sequence for Message<'a> {
     ghost fits = { (refl, refl) };
 }
 
-/// Decodes the fields one after the other, with the errors of every [`Sequence`].
+/// Decodes the fields, first to last. The errors are those that [`Sequence`] lists.
 impl<'a, R: Lends<Borrowed = &'a [u8]>> DecodeValue<R> for Message<'a> {
     type Error = Error;
 
@@ -78,7 +78,7 @@ impl<'a> IsValue for Message<'a> {
     }
 }
 
-/// Writes the fields one after the other, with the errors of every [`Sequence`].
+/// Writes the fields, first to last. The errors are those that [`Sequence`] lists.
 impl<'a> HasFields for Message<'a> {
     ghost fields_size = { λ v. ⟦<MessageFields<'a> as Encode>⟧.size
         (⟦<Message<'a> as FromFields<MessageFields<'a>>>⟧.fields v) };

@@ -4,5 +4,5 @@
 
 use der_asn1::ObjectIdentifierRef;
 
-/// The name of a variable.
+/// The name of a variable, an OBJECT IDENTIFIER.
 pub type ObjectName<'a> = ObjectIdentifierRef<'a>;

@@ -18,16 +18,16 @@ use der_asn1::{
 };
 use std::alloc::Global;
 
-/// The value of a variable.
+/// The value of a variable (RFC 3416, 3).
 #[derive(Clone, Copy, Debug, Drop, PartialEq, Eq)]
 pub enum ObjectSyntax<'a> {
-    /// A value of a type without a tag of its own.
+    /// A value of a universal type.
     Simple(SimpleSyntax<'a>),
-    /// A value of a type with a tag of the class application.
+    /// A value of a type with a tag of class APPLICATION.
     ApplicationWide(ApplicationSyntax<'a>),
 }
 
-/// The alternatives, as nested choices of two.
+/// The alternatives as one type: an [`Either`] of two, which may be [`Either`]s in turn.
 pub type ObjectSyntaxAlternatives<'a> = Either<SimpleSyntax<'a>, ApplicationSyntax<'a>>;
 
 impl<'a> FromFields<ObjectSyntaxAlternatives<'a>> for ObjectSyntax<'a> {
@@ -50,7 +50,7 @@ impl<'a> DescribedChoice for ObjectSyntax<'a> {
         ⟦<ObjectSyntax<'a> as FromFields<ObjectSyntaxAlternatives<'a>>>⟧.fields };
 }
 
-/// Decodes the alternative whose tag is next, with the errors of [`Either`].
+/// Decodes the alternative with the next tag. The errors are those of decoding an [`Either`].
 impl<'a, R: Lends<Borrowed = &'a [u8]>> Decode<R> for ObjectSyntax<'a> {
     type Error = Error;
 
@@ -86,7 +86,7 @@ impl<'a, R: Lends<Borrowed = &'a [u8]>> DecodeChoice<R> for ObjectSyntax<'a> {
     ghost begins = { ⟦<ObjectSyntax<'a> as DescribedChoice>⟧.alternative.begins };
 }
 
-/// Writes the alternative that the value has.
+/// Writes the alternative that the value has. The errors are those of writing it.
 impl<'a> Encode for ObjectSyntax<'a> {
     ghost encoding = { λ v. ⟦<ObjectSyntaxAlternatives<'a> as Encode>⟧.encoding
         (⟦<ObjectSyntax<'a> as FromFields<ObjectSyntaxAlternatives<'a>>>⟧.fields v) };

@@ -4,5 +4,5 @@
 
 use der_asn1::{Application, Implicit, OctetStringRef};
 
-/// The encoding of a value of any type.
+/// The encoding of a value of any type, as octets.
 pub type Opaque<'a> = Application<Implicit<OctetStringRef<'a>, 4>>;

@@ -18,20 +18,20 @@ use der_asn1::{
 };
 use std::alloc::Global;
 
-/// What a request asks for, or a response answers.
+/// The contents of a request or a response (RFC 3416, 3).
 #[derive(Clone, Copy, Debug, Drop, PartialEq, Eq)]
 pub struct Pdu<'a> {
-    /// The number of the request.
+    /// The number of the request, which the response repeats.
     pub request_id: IntRef<'a>,
-    /// What is wrong, if anything is.
+    /// The error that a response reports; 0 if there is none.
     pub error_status: IntRef<'a>,
-    /// The number of the variable that is wrong, from 1 on.
+    /// Which of the variables caused the error, counted from 1; 0 if none did.
     pub error_index: IntegerIn<0, 2147483647>,
-    /// The variables.
+    /// The variables with their values.
     pub variable_bindings: VarBindList<'a>,
 }
 
-/// The fields of a [`Pdu`], in the order in which they are encoded.
+/// The fields of [`Pdu`] as one type, in the order in which they are encoded.
 pub type PduFields<'a> = (
     IntRef<'a>,
     IntRef<'a>,
@@ -64,7 +64,7 @@ impl<'a> Sequence for Pdu<'a> {
     ghost fits = { (refl, refl) };
 }
 
-/// Decodes the fields one after the other, with the errors of every [`Sequence`].
+/// Decodes the fields, first to last. The errors are those that [`Sequence`] lists.
 impl<'a, R: Lends<Borrowed = &'a [u8]>> DecodeValue<R> for Pdu<'a> {
     type Error = Error;
 
@@ -89,7 +89,7 @@ impl<'a> IsValue for Pdu<'a> {
     }
 }
 
-/// Writes the fields one after the other, with the errors of every [`Sequence`].
+/// Writes the fields, first to last. The errors are those that [`Sequence`] lists.
 impl<'a> HasFields for Pdu<'a> {
     ghost fields_size = { λ v. ⟦<PduFields<'a> as Encode>⟧.size
         (⟦<Pdu<'a> as FromFields<PduFields<'a>>>⟧.fields v) };

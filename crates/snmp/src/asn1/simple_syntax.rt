@@ -18,14 +18,14 @@ use der_asn1::{
 };
 use std::alloc::Global;
 
-/// A value of a type without a tag of its own.
+/// A value of a universal type (RFC 3416, 3).
 #[derive(Clone, Copy, Debug, Drop, PartialEq, Eq)]
 pub enum SimpleSyntax<'a> {
-    /// A number of 32 bits.
+    /// A signed number of 32 bits. Decoding does not check the range.
     IntegerValue(IntRef<'a>),
-    /// Octets.
+    /// Octets. Their number is not checked.
     StringValue(OctetStringRef<'a>),
-    /// The name of an object.
+    /// An OBJECT IDENTIFIER.
     ObjectIdValue(ObjectIdentifierRef<'a>),
 }
 
@@ -64,7 +64,7 @@ impl<'a> DescribedChoice for SimpleSyntax<'a> {
         ⟦<SimpleSyntax<'a> as FromFields<SimpleSyntaxAlternatives<'a>>>⟧.fields };
 }
 
-/// Decodes the alternative whose tag is next, with the errors of [`Either`].
+/// Decodes the alternative with the next tag. The errors are those of decoding an [`Either`].
 impl<'a, R: Lends<Borrowed = &'a [u8]>> Decode<R> for SimpleSyntax<'a> {
     type Error = Error;
 
@@ -100,7 +100,7 @@ impl<'a, R: Lends<Borrowed = &'a [u8]>> DecodeChoice<R> for SimpleSyntax<'a> {
     ghost begins = { ⟦<SimpleSyntax<'a> as DescribedChoice>⟧.alternative.begins };
 }
 
-/// Writes the alternative that the value has.
+/// Writes the alternative that the value has. The errors are those of writing it.
 impl<'a> Encode for SimpleSyntax<'a> {
     ghost encoding = { λ v. ⟦<SimpleSyntaxAlternatives<'a> as Encode>⟧.encoding
         (⟦<SimpleSyntax<'a> as FromFields<SimpleSyntaxAlternatives<'a>>>⟧.fields v) };

@@ -4,5 +4,5 @@
 
 use der_asn1::{Application, Implicit, IntegerIn};
 
-/// A number of 32 bits without a sign.
+/// An unsigned number of 32 bits.
 pub type Unsigned32 = Application<Implicit<IntegerIn<0, 4294967295>, 2>>;

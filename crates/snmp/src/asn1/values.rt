@@ -2,5 +2,5 @@
 //!
 //! The values of the module.
 
-/// 2^31 - 1.
+/// The greatest number of variables in a PDU: 2^31 - 1.
 pub const MAX_BINDINGS: u64 = 2147483647;

@@ -19,16 +19,17 @@ use der::{
 use der_asn1::{BorrowedItem, DecodeItem, Described, DescribedChoice, Item, Nestable, WrittenItem};
 use std::alloc::Global;
 
-/// A variable. The RFC has no name for the CHOICE, which X.680 demands.
+/// A variable with its value (RFC 3416, 3). The RFC has no name for the component `data`, but X.680
+/// requires one.
 #[derive(Clone, Copy, Debug, Drop, PartialEq, Eq)]
 pub struct VarBind<'a> {
-    /// Its name.
+    /// The name of the variable.
     pub name: ObjectName<'a>,
-    /// Its value, or why it has none.
+    /// The value of the variable, or why there is none.
     pub data: VarBindData<'a>,
 }
 
-/// The fields of a [`VarBind`], in the order in which they are encoded.
+/// The fields of [`VarBind`] as one type, in the order in which they are encoded.
 pub type VarBindFields<'a> = (ObjectName<'a>, VarBindData<'a>);
 
 impl<'a> FromFields<VarBindFields<'a>> for VarBind<'a> {
@@ -49,7 +50,7 @@ impl<'a> Sequence for VarBind<'a> {
     ghost fits = { (refl, refl) };
 }
 
-/// Decodes the fields one after the other, with the errors of every [`Sequence`].
+/// Decodes the fields, first to last. The errors are those that [`Sequence`] lists.
 impl<'a, R: Lends<Borrowed = &'a [u8]>> DecodeValue<R> for VarBind<'a> {
     type Error = Error;
 
@@ -92,7 +93,7 @@ impl<'a> IsValue for VarBind<'a> {
     }
 }
 
-/// Writes the fields one after the other, with the errors of every [`Sequence`].
+/// Writes the fields, first to last. The errors are those that [`Sequence`] lists.
 impl<'a> HasFields for VarBind<'a> {
     ghost fields_size = { λ v. ⟦<VarBindFields<'a> as Encode>⟧.size
         (⟦<VarBind<'a> as FromFields<VarBindFields<'a>>>⟧.fields v) };

@@ -20,18 +20,19 @@ use der_asn1::{
 };
 use std::alloc::Global;
 
-/// VarBindData
+/// A type inside another type, to which the ASN.1 module gives no name. Its name here is made of the
+/// names of the types and components around it.
 #[derive(Clone, Copy, Debug, Drop, PartialEq, Eq)]
 pub enum VarBindData<'a> {
-    /// The value.
+    /// The value of the variable.
     Value(ObjectSyntax<'a>),
-    /// None, in a request.
+    /// No value, as in a request for the value.
     UnSpecified(Null<'a>),
-    /// There is no such object.
+    /// There is no object with this name.
     NoSuchObject(Implicit<Null<'a>, 0>),
-    /// The object has no such instance.
+    /// The object has no instance with this name.
     NoSuchInstance(Implicit<Null<'a>, 1>),
-    /// No object follows.
+    /// No variable comes after the requested name.
     EndOfMibView(Implicit<Null<'a>, 2>),
 }
 
@@ -89,7 +90,7 @@ impl<'a> DescribedChoice for VarBindData<'a> {
         ⟦<VarBindData<'a> as FromFields<VarBindDataAlternatives<'a>>>⟧.fields };
 }
 
-/// Decodes the alternative whose tag is next, with the errors of [`Either`].
+/// Decodes the alternative with the next tag. The errors are those of decoding an [`Either`].
 impl<'a, R: Lends<Borrowed = &'a [u8]>> Decode<R> for VarBindData<'a> {
     type Error = Error;
 
@@ -125,7 +126,7 @@ impl<'a, R: Lends<Borrowed = &'a [u8]>> DecodeChoice<R> for VarBindData<'a> {
     ghost begins = { ⟦<VarBindData<'a> as DescribedChoice>⟧.alternative.begins };
 }
 
-/// Writes the alternative that the value has.
+/// Writes the alternative that the value has. The errors are those of writing it.
 impl<'a> Encode for VarBindData<'a> {
     ghost encoding = { λ v. ⟦<VarBindDataAlternatives<'a> as Encode>⟧.encoding
         (⟦<VarBindData<'a> as FromFields<VarBindDataAlternatives<'a>>>⟧.fields v) };

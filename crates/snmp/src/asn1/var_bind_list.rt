@@ -5,5 +5,5 @@
 use crate::asn1::var_bind::VarBind;
 use der_asn1::SequenceOf;
 
-/// Variables.
+/// A list of variables with their values.
 pub type VarBindList<'a> = SequenceOf<'a, VarBind<'a>>;

@@ -26,7 +26,7 @@ pub struct AlgorithmIdentifierRef<'a> {
     pub parameters: Optional<AnyRef<'a>>,
 }
 
-/// The fields of a [`AlgorithmIdentifierRef`], in the order in which they are encoded.
+/// The fields of [`AlgorithmIdentifierRef`] as one type, in the order in which they are encoded.
 pub type AlgorithmIdentifierRefFields<'a> = (ObjectIdentifierRef<'a>, Optional<AnyRef<'a>>);
 
 impl<'a> FromFields<AlgorithmIdentifierRefFields<'a>> for AlgorithmIdentifierRef<'a> {
@@ -46,7 +46,7 @@ impl<'a> Sequence for AlgorithmIdentifierRef<'a> {
     ghost fits = { (refl, refl) };
 }
 
-/// Decodes the fields one after the other, with the errors of every [`Sequence`].
+/// Decodes the fields, first to last. The errors are those that [`Sequence`] lists.
 impl<'a, R: Lends<Borrowed = &'a [u8]>> DecodeValue<R> for AlgorithmIdentifierRef<'a> {
     type Error = Error;
 
@@ -71,7 +71,7 @@ impl<'a> IsValue for AlgorithmIdentifierRef<'a> {
     }
 }
 
-/// Writes the fields one after the other, with the errors of every [`Sequence`].
+/// Writes the fields, first to last. The errors are those that [`Sequence`] lists.
 impl<'a> HasFields for AlgorithmIdentifierRef<'a> {
     ghost fields_size = { λ v. ⟦<AlgorithmIdentifierRefFields<'a> as Encode>⟧.size
         (⟦<AlgorithmIdentifierRef<'a> as FromFields<AlgorithmIdentifierRefFields<'a>>>⟧.fields v) };

@@ -24,7 +24,7 @@ pub struct SubjectPublicKeyInfoRef<'a> {
     pub subject_public_key: BitStringRef<'a>,
 }
 
-/// The fields of a [`SubjectPublicKeyInfoRef`], in the order in which they are encoded.
+/// The fields of [`SubjectPublicKeyInfoRef`] as one type, in the order in which they are encoded.
 pub type SubjectPublicKeyInfoRefFields<'a> = (AlgorithmIdentifierRef<'a>, BitStringRef<'a>);
 
 impl<'a> FromFields<SubjectPublicKeyInfoRefFields<'a>> for SubjectPublicKeyInfoRef<'a> {
@@ -48,7 +48,7 @@ impl<'a> Sequence for SubjectPublicKeyInfoRef<'a> {
     ghost fits = { (refl, refl) };
 }
 
-/// Decodes the fields one after the other, with the errors of every [`Sequence`].
+/// Decodes the fields, first to last. The errors are those that [`Sequence`] lists.
 impl<'a, R: Lends<Borrowed = &'a [u8]>> DecodeValue<R> for SubjectPublicKeyInfoRef<'a> {
     type Error = Error;
 
@@ -71,7 +71,7 @@ impl<'a> IsValue for SubjectPublicKeyInfoRef<'a> {
     }
 }
 
-/// Writes the fields one after the other, with the errors of every [`Sequence`].
+/// Writes the fields, first to last. The errors are those that [`Sequence`] lists.
 impl<'a> HasFields for SubjectPublicKeyInfoRef<'a> {
     ghost fields_size = { λ v. ⟦<SubjectPublicKeyInfoRefFields<'a> as Encode>⟧.size
         (⟦<SubjectPublicKeyInfoRef<'a> as FromFields<SubjectPublicKeyInfoRefFields<'a>>>⟧.fields v) };

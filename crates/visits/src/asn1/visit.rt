@@ -18,22 +18,22 @@ use der_asn1::{
 };
 use std::alloc::Global;
 
-/// A visit, borrowed from the input.
+/// A visit to a museum, borrowed from the input.
 #[derive(Clone, Copy, Debug, Drop, PartialEq, Eq)]
 pub struct Visit<'a> {
-    /// The number of the ticket.
+    /// The number of the visitor's ticket.
     pub ticket: IntRef<'a>,
     /// The name of the visitor.
     pub visitor: Utf8StringRef<'a>,
-    /// When the visitor came.
+    /// When the visitor arrived.
     pub arrival: GeneralizedTime,
     /// The rooms that the visitor saw, first to last.
     pub rooms: SequenceOf<'a, Utf8StringRef<'a>>,
-    /// Whether the visitor is a member.
+    /// Whether the visitor is a member of the museum.
     pub member: BooleanRef<'a>,
 }
 
-/// The fields of a [`Visit`], in the order in which they are encoded.
+/// The fields of [`Visit`] as one type, in the order in which they are encoded.
 pub type VisitFields<'a> = (
     IntRef<'a>,
     Utf8StringRef<'a>,
@@ -69,7 +69,7 @@ impl<'a> Sequence for Visit<'a> {
     ghost fits = { (refl, refl) };
 }
 
-/// Decodes the fields one after the other, with the errors of every [`Sequence`].
+/// Decodes the fields, first to last. The errors are those that [`Sequence`] lists.
 impl<'a, R: Lends<Borrowed = &'a [u8]>> DecodeValue<R> for Visit<'a> {
     type Error = Error;
 
@@ -95,7 +95,7 @@ impl<'a> IsValue for Visit<'a> {
     }
 }
 
-/// Writes the fields one after the other, with the errors of every [`Sequence`].
+/// Writes the fields, first to last. The errors are those that [`Sequence`] lists.
 impl<'a> HasFields for Visit<'a> {
     ghost fields_size = { λ v. ⟦<VisitFields<'a> as Encode>⟧.size
         (⟦<Visit<'a> as FromFields<VisitFields<'a>>>⟧.fields v) };

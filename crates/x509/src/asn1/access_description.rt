@@ -18,16 +18,16 @@ use der_asn1::{
 };
 use std::alloc::Global;
 
-/// Where information is found (RFC 5280, 4.2.2.1), borrowed from the input.
+/// Where to find information of one kind (RFC 5280, 4.2.2.1), borrowed from the input.
 #[derive(Clone, Copy, Debug, Drop, PartialEq, Eq)]
 pub struct AccessDescription<'a> {
-    /// The kind of the information.
+    /// The kind of the information, as an object identifier, such as id-ad-ocsp.
     pub access_method: ObjectIdentifierRef<'a>,
-    /// The place.
+    /// Where to find the information, such as a URI.
     pub access_location: GeneralName<'a>,
 }
 
-/// The fields of a [`AccessDescription`], in the order in which they are encoded.
+/// The fields of [`AccessDescription`] as one type, in the order in which they are encoded.
 pub type AccessDescriptionFields<'a> = (ObjectIdentifierRef<'a>, GeneralName<'a>);
 
 impl<'a> FromFields<AccessDescriptionFields<'a>> for AccessDescription<'a> {
@@ -51,7 +51,7 @@ impl<'a> Sequence for AccessDescription<'a> {
     ghost fits = { (refl, refl) };
 }
 
-/// Decodes the fields one after the other, with the errors of every [`Sequence`].
+/// Decodes the fields, first to last. The errors are those that [`Sequence`] lists.
 impl<'a, R: Lends<Borrowed = &'a [u8]>> DecodeValue<R> for AccessDescription<'a> {
     type Error = Error;
 
@@ -84,7 +84,7 @@ impl<'a> IsValue for AccessDescription<'a> {
     }
 }
 
-/// Writes the fields one after the other, with the errors of every [`Sequence`].
+/// Writes the fields, first to last. The errors are those that [`Sequence`] lists.
 impl<'a> HasFields for AccessDescription<'a> {
     ghost fields_size = { λ v. ⟦<AccessDescriptionFields<'a> as Encode>⟧.size
         (⟦<AccessDescription<'a> as FromFields<AccessDescriptionFields<'a>>>⟧.fields v) };

@@ -26,7 +26,7 @@ pub struct Attribute<'a> {
     pub values: AttributeValues<'a>,
 }
 
-/// The fields of a [`Attribute`], in the order in which they are encoded.
+/// The fields of [`Attribute`] as one type, in the order in which they are encoded.
 pub type AttributeFields<'a> = (ObjectIdentifierRef<'a>, AttributeValues<'a>);
 
 impl<'a> FromFields<AttributeFields<'a>> for Attribute<'a> {
@@ -47,7 +47,7 @@ impl<'a> Sequence for Attribute<'a> {
     ghost fits = { (refl, refl) };
 }
 
-/// Decodes the fields one after the other, with the errors of every [`Sequence`].
+/// Decodes the fields, first to last. The errors are those that [`Sequence`] lists.
 impl<'a, R: Lends<Borrowed = &'a [u8]>> DecodeValue<R> for Attribute<'a> {
     type Error = Error;
 
@@ -70,7 +70,7 @@ impl<'a> IsValue for Attribute<'a> {
     }
 }
 
-/// Writes the fields one after the other, with the errors of every [`Sequence`].
+/// Writes the fields, first to last. The errors are those that [`Sequence`] lists.
 impl<'a> HasFields for Attribute<'a> {
     ghost fields_size = { λ v. ⟦<AttributeFields<'a> as Encode>⟧.size
         (⟦<Attribute<'a> as FromFields<AttributeFields<'a>>>⟧.fields v) };

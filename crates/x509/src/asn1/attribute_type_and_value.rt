@@ -25,7 +25,7 @@ pub struct AttributeTypeAndValue<'a> {
     pub value: AnyRef<'a>,
 }
 
-/// The fields of a [`AttributeTypeAndValue`], in the order in which they are encoded.
+/// The fields of [`AttributeTypeAndValue`] as one type, in the order in which they are encoded.
 pub type AttributeTypeAndValueFields<'a> = (ObjectIdentifierRef<'a>, AnyRef<'a>);
 
 impl<'a> FromFields<AttributeTypeAndValueFields<'a>> for AttributeTypeAndValue<'a> {
@@ -45,7 +45,7 @@ impl<'a> Sequence for AttributeTypeAndValue<'a> {
     ghost fits = { (refl, refl) };
 }
 
-/// Decodes the fields one after the other, with the errors of every [`Sequence`].
+/// Decodes the fields, first to last. The errors are those that [`Sequence`] lists.
 impl<'a, R: Lends<Borrowed = &'a [u8]>> DecodeValue<R> for AttributeTypeAndValue<'a> {
     type Error = Error;
 
@@ -68,7 +68,7 @@ impl<'a> IsValue for AttributeTypeAndValue<'a> {
     }
 }
 
-/// Writes the fields one after the other, with the errors of every [`Sequence`].
+/// Writes the fields, first to last. The errors are those that [`Sequence`] lists.
 impl<'a> HasFields for AttributeTypeAndValue<'a> {
     ghost fields_size = { λ v. ⟦<AttributeTypeAndValueFields<'a> as Encode>⟧.size
         (⟦<AttributeTypeAndValue<'a> as FromFields<AttributeTypeAndValueFields<'a>>>⟧.fields v) };

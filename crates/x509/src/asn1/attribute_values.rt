@@ -5,5 +5,5 @@
 use der_asn1::{AnyRef, SetOf};
 
 /// The values of an attribute, of any type, in ascending order of their encodings. The contents of
-/// these elements are not checked.
+/// the values are not checked.
 pub type AttributeValues<'a> = SetOf<'a, AnyRef<'a>>;

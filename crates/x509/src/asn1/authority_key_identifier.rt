@@ -26,14 +26,14 @@ use std::alloc::Global;
 pub struct AuthorityKeyIdentifier<'a> {
     /// The identifier of the issuer's key, if present.
     pub key_identifier: Optional<Implicit<KeyIdentifier<'a>, 0>>,
-    /// The issuer of the issuer's certificate, if present. The RFC requires it exactly if the serial
-    /// number is present, but decoding does not check this.
+    /// The issuer of the issuer's certificate, if present. The RFC requires it exactly if the
+    /// serial number is present, but decoding does not check this.
     pub authority_cert_issuer: Optional<Implicit<GeneralNames<'a>, 1>>,
     /// The serial number of the issuer's certificate, if present.
     pub authority_cert_serial_number: Optional<Implicit<CertificateSerialNumber<'a>, 2>>,
 }
 
-/// The fields of a [`AuthorityKeyIdentifier`], in the order in which they are encoded.
+/// The fields of [`AuthorityKeyIdentifier`] as one type, in the order in which they are encoded.
 pub type AuthorityKeyIdentifierFields<'a> = (
     Optional<Implicit<KeyIdentifier<'a>, 0>>,
     Optional<Implicit<GeneralNames<'a>, 1>>,
@@ -67,7 +67,7 @@ impl<'a> Sequence for AuthorityKeyIdentifier<'a> {
     ghost fits = { (refl, refl) };
 }
 
-/// Decodes the fields one after the other, with the errors of every [`Sequence`].
+/// Decodes the fields, first to last. The errors are those that [`Sequence`] lists.
 impl<'a, R: Lends<Borrowed = &'a [u8]>> DecodeValue<R> for AuthorityKeyIdentifier<'a> {
     type Error = Error;
 
@@ -97,7 +97,7 @@ impl<'a> IsValue for AuthorityKeyIdentifier<'a> {
     }
 }
 
-/// Writes the fields one after the other, with the errors of every [`Sequence`].
+/// Writes the fields, first to last. The errors are those that [`Sequence`] lists.
 impl<'a> HasFields for AuthorityKeyIdentifier<'a> {
     ghost fields_size = { λ v. ⟦<AuthorityKeyIdentifierFields<'a> as Encode>⟧.size
         (⟦<AuthorityKeyIdentifier<'a> as FromFields<AuthorityKeyIdentifierFields<'a>>>⟧.fields v) };

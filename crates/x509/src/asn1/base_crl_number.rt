@@ -4,5 +4,5 @@
 
 use crate::asn1::crl_number::CrlNumber;
 
-/// The number of the list to which a list has the changes (RFC 5280, 5.2.4).
+/// The number of the complete list to which a delta list gives the changes (RFC 5280, 5.2.4).
 pub type BaseCrlNumber<'a> = CrlNumber<'a>;

@@ -4,5 +4,5 @@
 
 use der_asn1::IntRef;
 
-/// A number of levels (RFC 5280, 4.2.1.10).
+/// A number of levels below a name (RFC 5280, 4.2.1.10).
 pub type BaseDistance<'a> = IntRef<'a>;

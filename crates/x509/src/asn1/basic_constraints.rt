@@ -17,18 +17,18 @@ use der_asn1::{
 };
 use std::alloc::Global;
 
-/// Whether the subject is a certification authority, and how many of them may follow it (RFC 5280,
-/// 4.2.1.9), borrowed from the input.
+/// Whether the subject is a certification authority, and how many further authorities may follow it
+/// in a chain of certificates (RFC 5280, 4.2.1.9), borrowed from the input.
 #[derive(Clone, Copy, Debug, Drop, PartialEq, Eq)]
 pub struct BasicConstraints<'a> {
     /// Whether the subject is a certification authority. The default is false.
     pub ca: Defaulted<BooleanRef<'a>>,
-    /// How many further authorities a chain of certificates may have, if it is limited. That the
-    /// number is not negative is not checked.
+    /// How many further authorities may follow in a chain of certificates; if absent, there is no
+    /// limit. That the number is not negative is not checked.
     pub path_len_constraint: Optional<IntRef<'a>>,
 }
 
-/// The fields of a [`BasicConstraints`], in the order in which they are encoded.
+/// The fields of [`BasicConstraints`] as one type, in the order in which they are encoded.
 pub type BasicConstraintsFields<'a> = (Defaulted<BooleanRef<'a>>, Optional<IntRef<'a>>);
 
 impl<'a> FromFields<BasicConstraintsFields<'a>> for BasicConstraints<'a> {
@@ -52,7 +52,7 @@ impl<'a> Sequence for BasicConstraints<'a> {
     ghost fits = { (refl, refl) };
 }
 
-/// Decodes the fields one after the other, with the errors of every [`Sequence`].
+/// Decodes the fields, first to last. The errors are those that [`Sequence`] lists.
 impl<'a, R: Lends<Borrowed = &'a [u8]>> DecodeValue<R> for BasicConstraints<'a> {
     type Error = Error;
 
@@ -77,7 +77,7 @@ impl<'a> IsValue for BasicConstraints<'a> {
     }
 }
 
-/// Writes the fields one after the other, with the errors of every [`Sequence`].
+/// Writes the fields, first to last. The errors are those that [`Sequence`] lists.
 impl<'a> HasFields for BasicConstraints<'a> {
     ghost fields_size = { λ v. ⟦<BasicConstraintsFields<'a> as Encode>⟧.size
         (⟦<BasicConstraints<'a> as FromFields<BasicConstraintsFields<'a>>>⟧.fields v) };

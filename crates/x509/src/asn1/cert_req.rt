@@ -28,7 +28,7 @@ pub struct CertReq<'a> {
     pub signature: BitStringRef<'a>,
 }
 
-/// The fields of a [`CertReq`], in the order in which they are encoded.
+/// The fields of [`CertReq`] as one type, in the order in which they are encoded.
 pub type CertReqFields<'a> = (
     CertReqInfo<'a>,
     AlgorithmIdentifierRef<'a>,
@@ -58,7 +58,7 @@ impl<'a> Sequence for CertReq<'a> {
     ghost fits = { (refl, refl) };
 }
 
-/// Decodes the fields one after the other, with the errors of every [`Sequence`].
+/// Decodes the fields, first to last. The errors are those that [`Sequence`] lists.
 impl<'a, R: Lends<Borrowed = &'a [u8]>> DecodeValue<R> for CertReq<'a> {
     type Error = Error;
 
@@ -82,7 +82,7 @@ impl<'a> IsValue for CertReq<'a> {
     }
 }
 
-/// Writes the fields one after the other, with the errors of every [`Sequence`].
+/// Writes the fields, first to last. The errors are those that [`Sequence`] lists.
 impl<'a> HasFields for CertReq<'a> {
     ghost fields_size = { λ v. ⟦<CertReqFields<'a> as Encode>⟧.size
         (⟦<CertReq<'a> as FromFields<CertReqFields<'a>>>⟧.fields v) };

@@ -36,7 +36,7 @@ pub struct CertReqInfo<'a> {
     pub attributes: Implicit<Attributes<'a>, 0>,
 }
 
-/// The fields of a [`CertReqInfo`], in the order in which they are encoded.
+/// The fields of [`CertReqInfo`] as one type, in the order in which they are encoded.
 pub type CertReqInfoFields<'a> = (
     NamedInteger<CertReqVersion>,
     Name<'a>,
@@ -69,7 +69,7 @@ impl<'a> Sequence for CertReqInfo<'a> {
     ghost fits = { (refl, refl) };
 }
 
-/// Decodes the fields one after the other, with the errors of every [`Sequence`].
+/// Decodes the fields, first to last. The errors are those that [`Sequence`] lists.
 impl<'a, R: Lends<Borrowed = &'a [u8]>> DecodeValue<R> for CertReqInfo<'a> {
     type Error = Error;
 
@@ -94,7 +94,7 @@ impl<'a> IsValue for CertReqInfo<'a> {
     }
 }
 
-/// Writes the fields one after the other, with the errors of every [`Sequence`].
+/// Writes the fields, first to last. The errors are those that [`Sequence`] lists.
 impl<'a> HasFields for CertReqInfo<'a> {
     ghost fields_size = { λ v. ⟦<CertReqInfoFields<'a> as Encode>⟧.size
         (⟦<CertReqInfo<'a> as FromFields<CertReqInfoFields<'a>>>⟧.fields v) };

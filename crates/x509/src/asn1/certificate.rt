@@ -28,7 +28,7 @@ pub struct Certificate<'a> {
     pub signature: BitStringRef<'a>,
 }
 
-/// The fields of a [`Certificate`], in the order in which they are encoded.
+/// The fields of [`Certificate`] as one type, in the order in which they are encoded.
 pub type CertificateFields<'a> = (
     TbsCertificate<'a>,
     AlgorithmIdentifierRef<'a>,
@@ -58,7 +58,7 @@ impl<'a> Sequence for Certificate<'a> {
     ghost fits = { (refl, refl) };
 }
 
-/// Decodes the fields one after the other, with the errors of every [`Sequence`].
+/// Decodes the fields, first to last. The errors are those that [`Sequence`] lists.
 impl<'a, R: Lends<Borrowed = &'a [u8]>> DecodeValue<R> for Certificate<'a> {
     type Error = Error;
 
@@ -82,7 +82,7 @@ impl<'a> IsValue for Certificate<'a> {
     }
 }
 
-/// Writes the fields one after the other, with the errors of every [`Sequence`].
+/// Writes the fields, first to last. The errors are those that [`Sequence`] lists.
 impl<'a> HasFields for Certificate<'a> {
     ghost fields_size = { λ v. ⟦<CertificateFields<'a> as Encode>⟧.size
         (⟦<Certificate<'a> as FromFields<CertificateFields<'a>>>⟧.fields v) };

@@ -28,7 +28,7 @@ pub struct CertificateList<'a> {
     pub signature: BitStringRef<'a>,
 }
 
-/// The fields of a [`CertificateList`], in the order in which they are encoded.
+/// The fields of [`CertificateList`] as one type, in the order in which they are encoded.
 pub type CertificateListFields<'a> = (
     TbsCertList<'a>,
     AlgorithmIdentifierRef<'a>,
@@ -58,7 +58,7 @@ impl<'a> Sequence for CertificateList<'a> {
     ghost fits = { (refl, refl) };
 }
 
-/// Decodes the fields one after the other, with the errors of every [`Sequence`].
+/// Decodes the fields, first to last. The errors are those that [`Sequence`] lists.
 impl<'a, R: Lends<Borrowed = &'a [u8]>> DecodeValue<R> for CertificateList<'a> {
     type Error = Error;
 
@@ -82,7 +82,7 @@ impl<'a> IsValue for CertificateList<'a> {
     }
 }
 
-/// Writes the fields one after the other, with the errors of every [`Sequence`].
+/// Writes the fields, first to last. The errors are those that [`Sequence`] lists.
 impl<'a> HasFields for CertificateList<'a> {
     ghost fields_size = { λ v. ⟦<CertificateListFields<'a> as Encode>⟧.size
         (⟦<CertificateList<'a> as FromFields<CertificateListFields<'a>>>⟧.fields v) };

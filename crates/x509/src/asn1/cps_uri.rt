@@ -4,5 +4,5 @@
 
 use der_asn1::Ia5StringRef;
 
-/// Where the statement of a certification practice is found (RFC 5280, 4.2.1.4).
+/// The URI of a certification practice statement (RFC 5280, 4.2.1.4).
 pub type CpsUri<'a> = Ia5StringRef<'a>;

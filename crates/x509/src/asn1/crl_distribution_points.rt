@@ -5,6 +5,6 @@
 use crate::asn1::distribution_point::DistributionPoint;
 use der_asn1::SequenceOf;
 
-/// Where revocation lists are found (RFC 5280, 4.2.1.13), borrowed from the input. That there is at
-/// least one place is not checked.
+/// Places where revocation lists are found (RFC 5280, 4.2.1.13), borrowed from the input. That
+/// there is at least one place is not checked.
 pub type CrlDistributionPoints<'a> = SequenceOf<'a, DistributionPoint<'a>>;

@@ -22,13 +22,13 @@ use std::alloc::Global;
 /// UniversalString, which is left out. That the text is not empty is not checked.
 #[derive(Clone, Copy, Debug, Drop, PartialEq, Eq)]
 pub enum DirectoryString<'a> {
-    /// teletexString
+    /// The alternative `teletexString`.
     TeletexString(TeletexStringRef<'a>),
-    /// printableString
+    /// The alternative `printableString`.
     PrintableString(PrintableStringRef<'a>),
-    /// utf8String
+    /// The alternative `utf8String`.
     Utf8String(Utf8StringRef<'a>),
-    /// bmpString
+    /// The alternative `bmpString`.
     BmpString(BmpStringRef<'a>),
 }
 
@@ -79,7 +79,7 @@ impl<'a> DescribedChoice for DirectoryString<'a> {
         ⟦<DirectoryString<'a> as FromFields<DirectoryStringAlternatives<'a>>>⟧.fields };
 }
 
-/// Decodes the alternative whose tag is next, with the errors of [`Either`].
+/// Decodes the alternative with the next tag. The errors are those of decoding an [`Either`].
 impl<'a, R: Lends<Borrowed = &'a [u8]>> Decode<R> for DirectoryString<'a> {
     type Error = Error;
 
@@ -115,7 +115,7 @@ impl<'a, R: Lends<Borrowed = &'a [u8]>> DecodeChoice<R> for DirectoryString<'a> 
     ghost begins = { ⟦<DirectoryString<'a> as DescribedChoice>⟧.alternative.begins };
 }
 
-/// Writes the alternative that the value has.
+/// Writes the alternative that the value has. The errors are those of writing it.
 impl<'a> Encode for DirectoryString<'a> {
     ghost encoding = { λ v. ⟦<DirectoryStringAlternatives<'a> as Encode>⟧.encoding
         (⟦<DirectoryString<'a> as FromFields<DirectoryStringAlternatives<'a>>>⟧.fields v) };

@@ -15,14 +15,14 @@ use der::{
 use der_asn1::{BorrowedItem, DecodeItem, Described, DescribedChoice, Item, Nestable, WrittenItem};
 use std::alloc::Global;
 
-/// What an explicit tag has in it: a [`DirectoryString`].
+/// The contents of an element with an explicit tag: a [`DirectoryString`].
 #[derive(Clone, Copy, Debug, Drop, PartialEq, Eq)]
 pub struct DirectoryStringTagged<'a> {
-    /// The value after the tag.
+    /// The value inside the explicit tag.
     pub value: DirectoryString<'a>,
 }
 
-/// The fields of a [`DirectoryStringTagged`], in the order in which they are encoded.
+/// The fields of [`DirectoryStringTagged`] as one type, in the order in which they are encoded.
 pub type DirectoryStringTaggedFields<'a> = DirectoryString<'a>;
 
 impl<'a> FromFields<DirectoryStringTaggedFields<'a>> for DirectoryStringTagged<'a> {
@@ -41,7 +41,7 @@ impl<'a> Sequence for DirectoryStringTagged<'a> {
     ghost fits = { (refl, refl) };
 }
 
-/// Decodes the fields one after the other, with the errors of every [`Sequence`].
+/// Decodes the fields, first to last. The errors are those that [`Sequence`] lists.
 impl<'a, R: Lends<Borrowed = &'a [u8]>> DecodeValue<R> for DirectoryStringTagged<'a> {
     type Error = Error;
 
@@ -68,7 +68,7 @@ impl<'a> IsValue for DirectoryStringTagged<'a> {
     }
 }
 
-/// Writes the fields one after the other, with the errors of every [`Sequence`].
+/// Writes the fields, first to last. The errors are those that [`Sequence`] lists.
 impl<'a> HasFields for DirectoryStringTagged<'a> {
     ghost fields_size = { λ v. ⟦<DirectoryStringTaggedFields<'a> as Encode>⟧.size
         (⟦<DirectoryStringTagged<'a> as FromFields<DirectoryStringTaggedFields<'a>>>⟧.fields v) };

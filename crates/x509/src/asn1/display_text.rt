@@ -22,13 +22,13 @@ use std::alloc::Global;
 /// is not checked.
 #[derive(Clone, Copy, Debug, Drop, PartialEq, Eq)]
 pub enum DisplayText<'a> {
-    /// ia5String
+    /// The alternative `ia5String`.
     Ia5String(Ia5StringRef<'a>),
-    /// visibleString
+    /// The alternative `visibleString`.
     VisibleString(VisibleStringRef<'a>),
-    /// bmpString
+    /// The alternative `bmpString`.
     BmpString(BmpStringRef<'a>),
-    /// utf8String
+    /// The alternative `utf8String`.
     Utf8String(Utf8StringRef<'a>),
 }
 
@@ -75,7 +75,7 @@ impl<'a> DescribedChoice for DisplayText<'a> {
         ⟦<DisplayText<'a> as FromFields<DisplayTextAlternatives<'a>>>⟧.fields };
 }
 
-/// Decodes the alternative whose tag is next, with the errors of [`Either`].
+/// Decodes the alternative with the next tag. The errors are those of decoding an [`Either`].
 impl<'a, R: Lends<Borrowed = &'a [u8]>> Decode<R> for DisplayText<'a> {
     type Error = Error;
 
@@ -111,7 +111,7 @@ impl<'a, R: Lends<Borrowed = &'a [u8]>> DecodeChoice<R> for DisplayText<'a> {
     ghost begins = { ⟦<DisplayText<'a> as DescribedChoice>⟧.alternative.begins };
 }
 
-/// Writes the alternative that the value has.
+/// Writes the alternative that the value has. The errors are those of writing it.
 impl<'a> Encode for DisplayText<'a> {
     ghost encoding = { λ v. ⟦<DisplayTextAlternatives<'a> as Encode>⟧.encoding
         (⟦<DisplayText<'a> as FromFields<DisplayTextAlternatives<'a>>>⟧.fields v) };

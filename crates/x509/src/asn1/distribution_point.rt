@@ -20,18 +20,19 @@ use der_asn1::{
 };
 use std::alloc::Global;
 
-/// Where a revocation list is found (RFC 5280, 4.2.1.13), borrowed from the input.
+/// A place where a revocation list is found (RFC 5280, 4.2.1.13), borrowed from the input.
 #[derive(Clone, Copy, Debug, Drop, PartialEq, Eq)]
 pub struct DistributionPoint<'a> {
-    /// The place, if present. The RFC requires it or `crl_issuer`, but decoding does not check this.
+    /// The name of the place, if present. The RFC requires it or `crl_issuer`, but decoding does
+    /// not check this.
     pub distribution_point: Optional<Implicit<DistributionPointNameTagged<'a>, 0>>,
-    /// The reasons that the list covers, if it does not cover all.
+    /// The reasons for revocation that the list covers; if absent, the list covers all.
     pub reasons: Optional<Implicit<ReasonFlags<'a>, 1>>,
-    /// Who issues the list, if it is not the issuer of the certificate.
+    /// The issuer of the list, if it is not the issuer of the certificate.
     pub crl_issuer: Optional<Implicit<GeneralNames<'a>, 2>>,
 }
 
-/// The fields of a [`DistributionPoint`], in the order in which they are encoded.
+/// The fields of [`DistributionPoint`] as one type, in the order in which they are encoded.
 pub type DistributionPointFields<'a> = (
     Optional<Implicit<DistributionPointNameTagged<'a>, 0>>,
     Optional<Implicit<ReasonFlags<'a>, 1>>,
@@ -61,7 +62,7 @@ impl<'a> Sequence for DistributionPoint<'a> {
     ghost fits = { (refl, refl) };
 }
 
-/// Decodes the fields one after the other, with the errors of every [`Sequence`].
+/// Decodes the fields, first to last. The errors are those that [`Sequence`] lists.
 impl<'a, R: Lends<Borrowed = &'a [u8]>> DecodeValue<R> for DistributionPoint<'a> {
     type Error = Error;
 
@@ -91,7 +92,7 @@ impl<'a> IsValue for DistributionPoint<'a> {
     }
 }
 
-/// Writes the fields one after the other, with the errors of every [`Sequence`].
+/// Writes the fields, first to last. The errors are those that [`Sequence`] lists.
 impl<'a> HasFields for DistributionPoint<'a> {
     ghost fields_size = { λ v. ⟦<DistributionPointFields<'a> as Encode>⟧.size
         (⟦<DistributionPoint<'a> as FromFields<DistributionPointFields<'a>>>⟧.fields v) };

@@ -22,13 +22,13 @@ use std::alloc::Global;
 /// input.
 #[derive(Clone, Copy, Debug, Drop, PartialEq, Eq)]
 pub enum DistributionPointName<'a> {
-    /// Its names.
+    /// Whole names of the place.
     FullName(Implicit<GeneralNames<'a>, 0>),
-    /// Its name below that of the issuer of the list.
+    /// One level of a distinguished name, which is appended to the name of the list's issuer.
     NameRelativeToCrlIssuer(Implicit<RelativeDistinguishedName<'a>, 1>),
 }
 
-/// The alternatives, as nested choices of two.
+/// The alternatives as one type: an [`Either`] of two, which may be [`Either`]s in turn.
 pub type DistributionPointNameAlternatives<'a> = Either<
     Implicit<GeneralNames<'a>, 0>,
     Implicit<RelativeDistinguishedName<'a>, 1>,
@@ -55,7 +55,7 @@ impl<'a> DescribedChoice for DistributionPointName<'a> {
         ⟦<DistributionPointName<'a> as FromFields<DistributionPointNameAlternatives<'a>>>⟧.fields };
 }
 
-/// Decodes the alternative whose tag is next, with the errors of [`Either`].
+/// Decodes the alternative with the next tag. The errors are those of decoding an [`Either`].
 impl<'a, R: Lends<Borrowed = &'a [u8]>> Decode<R> for DistributionPointName<'a> {
     type Error = Error;
 
@@ -93,7 +93,7 @@ impl<'a, R: Lends<Borrowed = &'a [u8]>> DecodeChoice<R> for DistributionPointNam
     ghost begins = { ⟦<DistributionPointName<'a> as DescribedChoice>⟧.alternative.begins };
 }
 
-/// Writes the alternative that the value has.
+/// Writes the alternative that the value has. The errors are those of writing it.
 impl<'a> Encode for DistributionPointName<'a> {
     ghost encoding = { λ v. ⟦<DistributionPointNameAlternatives<'a> as Encode>⟧.encoding
         (⟦<DistributionPointName<'a> as FromFields<DistributionPointNameAlternatives<'a>>>⟧.fields v) };

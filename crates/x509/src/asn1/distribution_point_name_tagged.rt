@@ -15,14 +15,14 @@ use der::{
 use der_asn1::{BorrowedItem, DecodeItem, Described, DescribedChoice, Item, Nestable, WrittenItem};
 use std::alloc::Global;
 
-/// What an explicit tag has in it: a [`DistributionPointName`].
+/// The contents of an element with an explicit tag: a [`DistributionPointName`].
 #[derive(Clone, Copy, Debug, Drop, PartialEq, Eq)]
 pub struct DistributionPointNameTagged<'a> {
-    /// The value after the tag.
+    /// The value inside the explicit tag.
     pub value: DistributionPointName<'a>,
 }
 
-/// The fields of a [`DistributionPointNameTagged`], in the order in which they are encoded.
+/// The fields of [`DistributionPointNameTagged`] as one type, in the order in which they are encoded.
 pub type DistributionPointNameTaggedFields<'a> = DistributionPointName<'a>;
 
 impl<'a> FromFields<DistributionPointNameTaggedFields<'a>> for DistributionPointNameTagged<'a> {
@@ -41,7 +41,7 @@ impl<'a> Sequence for DistributionPointNameTagged<'a> {
     ghost fits = { (refl, refl) };
 }
 
-/// Decodes the fields one after the other, with the errors of every [`Sequence`].
+/// Decodes the fields, first to last. The errors are those that [`Sequence`] lists.
 impl<'a, R: Lends<Borrowed = &'a [u8]>> DecodeValue<R> for DistributionPointNameTagged<'a> {
     type Error = Error;
 
@@ -66,7 +66,7 @@ impl<'a> IsValue for DistributionPointNameTagged<'a> {
     }
 }
 
-/// Writes the fields one after the other, with the errors of every [`Sequence`].
+/// Writes the fields, first to last. The errors are those that [`Sequence`] lists.
 impl<'a> HasFields for DistributionPointNameTagged<'a> {
     ghost fields_size = { λ v. ⟦<DistributionPointNameTaggedFields<'a> as Encode>⟧.size
         (⟦<DistributionPointNameTagged<'a> as FromFields<DistributionPointNameTaggedFields<'a>>>⟧.fields v) };

@@ -4,5 +4,5 @@
 
 use der_asn1::Ia5StringRef;
 
-/// A label of a domain (RFC 5280, appendix A).
+/// One label of a domain name (RFC 5280, appendix A).
 pub type DomainComponent<'a> = Ia5StringRef<'a>;

@@ -23,11 +23,11 @@ use std::alloc::Global;
 pub struct EdiPartyName<'a> {
     /// Who assigned the name, if present.
     pub name_assigner: Optional<Implicit<DirectoryStringTagged<'a>, 0>>,
-    /// The name.
+    /// The name of the party.
     pub party_name: Implicit<DirectoryStringTagged<'a>, 1>,
 }
 
-/// The fields of a [`EdiPartyName`], in the order in which they are encoded.
+/// The fields of [`EdiPartyName`] as one type, in the order in which they are encoded.
 pub type EdiPartyNameFields<'a> = (
     Optional<Implicit<DirectoryStringTagged<'a>, 0>>,
     Implicit<DirectoryStringTagged<'a>, 1>,
@@ -54,7 +54,7 @@ impl<'a> Sequence for EdiPartyName<'a> {
     ghost fits = { (refl, refl) };
 }
 
-/// Decodes the fields one after the other, with the errors of every [`Sequence`].
+/// Decodes the fields, first to last. The errors are those that [`Sequence`] lists.
 impl<'a, R: Lends<Borrowed = &'a [u8]>> DecodeValue<R> for EdiPartyName<'a> {
     type Error = Error;
 
@@ -79,7 +79,7 @@ impl<'a> IsValue for EdiPartyName<'a> {
     }
 }
 
-/// Writes the fields one after the other, with the errors of every [`Sequence`].
+/// Writes the fields, first to last. The errors are those that [`Sequence`] lists.
 impl<'a> HasFields for EdiPartyName<'a> {
     ghost fields_size = { λ v. ⟦<EdiPartyNameFields<'a> as Encode>⟧.size
         (⟦<EdiPartyName<'a> as FromFields<EdiPartyNameFields<'a>>>⟧.fields v) };

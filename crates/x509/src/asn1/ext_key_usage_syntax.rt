@@ -5,6 +5,6 @@
 use crate::asn1::key_purpose_id::KeyPurposeId;
 use der_asn1::SequenceOf;
 
-/// What a public key may be used for, by object identifiers (RFC 5280, 4.2.1.12). That there is at
+/// What a public key may be used for, as object identifiers (RFC 5280, 4.2.1.12). That there is at
 /// least one is not checked.
 pub type ExtKeyUsageSyntax<'a> = SequenceOf<'a, KeyPurposeId<'a>>;

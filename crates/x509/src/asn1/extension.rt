@@ -30,7 +30,7 @@ pub struct Extension<'a> {
     pub extn_value: OctetStringRef<'a>,
 }
 
-/// The fields of a [`Extension`], in the order in which they are encoded.
+/// The fields of [`Extension`] as one type, in the order in which they are encoded.
 pub type ExtensionFields<'a> = (
     ObjectIdentifierRef<'a>,
     Defaulted<BooleanRef<'a>>,
@@ -61,7 +61,7 @@ impl<'a> Sequence for Extension<'a> {
     ghost fits = { (refl, refl) };
 }
 
-/// Decodes the fields one after the other, with the errors of every [`Sequence`].
+/// Decodes the fields, first to last. The errors are those that [`Sequence`] lists.
 impl<'a, R: Lends<Borrowed = &'a [u8]>> DecodeValue<R> for Extension<'a> {
     type Error = Error;
 
@@ -85,7 +85,7 @@ impl<'a> IsValue for Extension<'a> {
     }
 }
 
-/// Writes the fields one after the other, with the errors of every [`Sequence`].
+/// Writes the fields, first to last. The errors are those that [`Sequence`] lists.
 impl<'a> HasFields for Extension<'a> {
     ghost fields_size = { λ v. ⟦<ExtensionFields<'a> as Encode>⟧.size
         (⟦<Extension<'a> as FromFields<ExtensionFields<'a>>>⟧.fields v) };

@@ -19,7 +19,7 @@ use std::alloc::Global;
 /// (5.1), borrowed from the input.
 #[derive(Clone, Copy, Debug, Drop, PartialEq, Eq)]
 pub struct Extensions<'a> {
-    /// The list: a SEQUENCE OF its items.
+    /// The items, as a SEQUENCE OF.
     pub items: SequenceOf<'a, Extension<'a>>,
 }
 
@@ -40,7 +40,7 @@ impl<'a> Sequence for Extensions<'a> {
     ghost fits = { (refl, refl) };
 }
 
-/// Decodes the list, with the errors of [`SequenceOf`].
+/// Decodes the list. The errors are those of decoding a [`SequenceOf`].
 impl<'a, R: Lends<Borrowed = &'a [u8]>> DecodeValue<R> for Extensions<'a> {
     type Error = Error;
 
@@ -62,7 +62,7 @@ impl<'a> IsValue for Extensions<'a> {
     }
 }
 
-/// Writes the list, with the errors of [`SequenceOf`].
+/// Writes the list. The errors are those of writing a [`SequenceOf`].
 impl<'a> EncodeValue for Extensions<'a> {
     ghost value_size = { λ v. ⟦<Items<'a> as EncodeValue>⟧.value_size v.items };
 

@@ -27,23 +27,23 @@ use std::alloc::Global;
 /// x400Address are not checked.
 #[derive(Clone, Copy, Debug, Drop, PartialEq, Eq)]
 pub enum GeneralName<'a> {
-    /// otherName
+    /// The alternative `otherName`.
     OtherName(Implicit<OtherName<'a>, 0>),
-    /// rfc822Name
+    /// The alternative `rfc822Name`.
     Rfc822Name(Implicit<Ia5StringRef<'a>, 1>),
-    /// dNSName
+    /// The alternative `dNSName`.
     DnsName(Implicit<Ia5StringRef<'a>, 2>),
-    /// x400Address
+    /// The alternative `x400Address`.
     X400Address(Implicit<SequenceRef<'a>, 3>),
-    /// directoryName
+    /// The alternative `directoryName`.
     DirectoryName(Explicit<Name<'a>, 4>),
-    /// ediPartyName
+    /// The alternative `ediPartyName`.
     EdiPartyName(Implicit<EdiPartyName<'a>, 5>),
-    /// uniformResourceIdentifier
+    /// The alternative `uniformResourceIdentifier`.
     UniformResourceIdentifier(Implicit<Ia5StringRef<'a>, 6>),
-    /// iPAddress
+    /// The alternative `iPAddress`.
     IpAddress(Implicit<OctetStringRef<'a>, 7>),
-    /// registeredID
+    /// The alternative `registeredID`.
     RegisteredId(Implicit<ObjectIdentifierRef<'a>, 8>),
 }
 
@@ -136,7 +136,7 @@ impl<'a> DescribedChoice for GeneralName<'a> {
         ⟦<GeneralName<'a> as FromFields<GeneralNameAlternatives<'a>>>⟧.fields };
 }
 
-/// Decodes the alternative whose tag is next, with the errors of [`Either`].
+/// Decodes the alternative with the next tag. The errors are those of decoding an [`Either`].
 impl<'a, R: Lends<Borrowed = &'a [u8]>> Decode<R> for GeneralName<'a> {
     type Error = Error;
 
@@ -172,7 +172,7 @@ impl<'a, R: Lends<Borrowed = &'a [u8]>> DecodeChoice<R> for GeneralName<'a> {
     ghost begins = { ⟦<GeneralName<'a> as DescribedChoice>⟧.alternative.begins };
 }
 
-/// Writes the alternative that the value has.
+/// Writes the alternative that the value has. The errors are those of writing it.
 impl<'a> Encode for GeneralName<'a> {
     ghost encoding = { λ v. ⟦<GeneralNameAlternatives<'a> as Encode>⟧.encoding
         (⟦<GeneralName<'a> as FromFields<GeneralNameAlternatives<'a>>>⟧.fields v) };

@@ -20,20 +20,21 @@ use der_asn1::{
 };
 use std::alloc::Global;
 
-/// All names below a name (RFC 5280, 4.2.1.10), borrowed from the input.
+/// A subtree of names: a name, and the names below it (RFC 5280, 4.2.1.10), borrowed from the
+/// input.
 #[derive(Clone, Copy, Debug, Drop, PartialEq, Eq)]
 pub struct GeneralSubtree<'a> {
-    /// The name.
+    /// The name at the top of the subtree.
     pub base: GeneralName<'a>,
-    /// From which level below the name, as a `u64`. The default is 0, and the RFC allows no other
-    /// number, but decoding does not check this.
+    /// The number of levels below `base` at which the subtree begins. The default is 0, and the RFC
+    /// allows no other number, but decoding does not check this.
     pub minimum: Defaulted<Implicit<WithDefault<IntegerOf<u64>, DefaultU64<0>>, 0>>,
-    /// To which level below the name, if it is limited. The RFC does not allow a limit, but decoding
-    /// does not check this.
+    /// The number of levels below `base` at which the subtree ends, if it is limited. The RFC does
+    /// not allow a limit, but decoding does not check this.
     pub maximum: Optional<Implicit<BaseDistance<'a>, 1>>,
 }
 
-/// The fields of a [`GeneralSubtree`], in the order in which they are encoded.
+/// The fields of [`GeneralSubtree`] as one type, in the order in which they are encoded.
 pub type GeneralSubtreeFields<'a> = (
     GeneralName<'a>,
     Defaulted<Implicit<WithDefault<IntegerOf<u64>, DefaultU64<0>>, 0>>,
@@ -65,7 +66,7 @@ impl<'a> Sequence for GeneralSubtree<'a> {
     ghost fits = { (refl, refl) };
 }
 
-/// Decodes the fields one after the other, with the errors of every [`Sequence`].
+/// Decodes the fields, first to last. The errors are those that [`Sequence`] lists.
 impl<'a, R: Lends<Borrowed = &'a [u8]>> DecodeValue<R> for GeneralSubtree<'a> {
     type Error = Error;
 
@@ -101,7 +102,7 @@ impl<'a> IsValue for GeneralSubtree<'a> {
     }
 }
 
-/// Writes the fields one after the other, with the errors of every [`Sequence`].
+/// Writes the fields, first to last. The errors are those that [`Sequence`] lists.
 impl<'a> HasFields for GeneralSubtree<'a> {
     ghost fields_size = { λ v. ⟦<GeneralSubtreeFields<'a> as Encode>⟧.size
         (⟦<GeneralSubtree<'a> as FromFields<GeneralSubtreeFields<'a>>>⟧.fields v) };

@@ -15,11 +15,11 @@ use der::{
 use der_asn1::{BorrowedItem, DecodeItem, Described, Item, Nestable, SequenceOf, WrittenItem};
 use std::alloc::Global;
 
-/// Sets of names (RFC 5280, 4.2.1.10), borrowed from the input. That there is at least one is not
-/// checked.
+/// Subtrees of names (RFC 5280, 4.2.1.10), borrowed from the input. That there is at least one is
+/// not checked.
 #[derive(Clone, Copy, Debug, Drop, PartialEq, Eq)]
 pub struct GeneralSubtrees<'a> {
-    /// The list: a SEQUENCE OF its items.
+    /// The items, as a SEQUENCE OF.
     pub items: SequenceOf<'a, GeneralSubtree<'a>>,
 }
 
@@ -40,7 +40,7 @@ impl<'a> Sequence for GeneralSubtrees<'a> {
     ghost fits = { (refl, refl) };
 }
 
-/// Decodes the list, with the errors of [`SequenceOf`].
+/// Decodes the list. The errors are those of decoding a [`SequenceOf`].
 impl<'a, R: Lends<Borrowed = &'a [u8]>> DecodeValue<R> for GeneralSubtrees<'a> {
     type Error = Error;
 
@@ -62,7 +62,7 @@ impl<'a> IsValue for GeneralSubtrees<'a> {
     }
 }
 
-/// Writes the list, with the errors of [`SequenceOf`].
+/// Writes the list. The errors are those of writing a [`SequenceOf`].
 impl<'a> EncodeValue for GeneralSubtrees<'a> {
     ghost value_size = { λ v. ⟦<Items<'a> as EncodeValue>⟧.value_size v.items };
 

@@ -4,5 +4,6 @@
 
 use crate::asn1::skip_certs::SkipCerts;
 
-/// After how many certificates anyPolicy is not accepted any more (RFC 5280, 4.2.1.14).
+/// The number of further certificates in a chain after which the policy anyPolicy is no longer
+/// accepted (RFC 5280, 4.2.1.14).
 pub type InhibitAnyPolicy<'a> = SkipCerts<'a>;

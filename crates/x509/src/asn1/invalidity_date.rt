@@ -4,5 +4,6 @@
 
 use der_asn1::GeneralizedTime;
 
-/// When a private key was lost or a certificate became invalid (RFC 5280, 5.3.2).
+/// When a private key is known or thought to have been compromised, or a certificate to have become
+/// invalid (RFC 5280, 5.3.2).
 pub type InvalidityDate = GeneralizedTime;

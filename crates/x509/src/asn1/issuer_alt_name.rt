@@ -4,5 +4,5 @@
 
 use crate::asn1::general_names::GeneralNames;
 
-/// The names of the issuer (RFC 5280, 4.2.1.7).
+/// Alternative names of the issuer (RFC 5280, 4.2.1.7).
 pub type IssuerAltName<'a> = GeneralNames<'a>;

@@ -20,25 +20,26 @@ use der_asn1::{
 };
 use std::alloc::Global;
 
-/// Which certificates and reasons a revocation list covers (RFC 5280, 5.2.5), borrowed from the
-/// input.
+/// Which certificates and which reasons a revocation list covers (RFC 5280, 5.2.5), borrowed from
+/// the input.
 #[derive(Clone, Copy, Debug, Drop, PartialEq, Eq)]
 pub struct IssuingDistributionPoint<'a> {
     /// Where the list is found, if present.
     pub distribution_point: Optional<Implicit<DistributionPointNameTagged<'a>, 0>>,
-    /// Whether it only covers certificates of users. The default is false.
+    /// Whether the list covers only certificates of end users. The default is false.
     pub only_contains_user_certs: Defaulted<Implicit<BooleanRef<'a>, 1>>,
-    /// Whether it only covers certificates of authorities. The default is false.
+    /// Whether the list covers only certificates of certification authorities. The default is
+    /// false.
     pub only_contains_ca_certs: Defaulted<Implicit<BooleanRef<'a>, 2>>,
-    /// The reasons that it covers, if it does not cover all.
+    /// The reasons for revocation that the list covers; if absent, the list covers all.
     pub only_some_reasons: Optional<Implicit<ReasonFlags<'a>, 3>>,
-    /// Whether it has entries for certificates of other issuers. The default is false.
+    /// Whether the list has entries for certificates of other issuers. The default is false.
     pub indirect_crl: Defaulted<Implicit<BooleanRef<'a>, 4>>,
-    /// Whether it only covers attribute certificates. The default is false.
+    /// Whether the list covers only attribute certificates. The default is false.
     pub only_contains_attribute_certs: Defaulted<Implicit<BooleanRef<'a>, 5>>,
 }
 
-/// The fields of a [`IssuingDistributionPoint`], in the order in which they are encoded.
+/// The fields of [`IssuingDistributionPoint`] as one type, in the order in which they are encoded.
 pub type IssuingDistributionPointFields<'a> = (
     Optional<Implicit<DistributionPointNameTagged<'a>, 0>>,
     Defaulted<Implicit<BooleanRef<'a>, 1>>,
@@ -95,7 +96,7 @@ impl<'a> Sequence for IssuingDistributionPoint<'a> {
     ghost fits = { (refl, refl) };
 }
 
-/// Decodes the fields one after the other, with the errors of every [`Sequence`].
+/// Decodes the fields, first to last. The errors are those that [`Sequence`] lists.
 impl<'a, R: Lends<Borrowed = &'a [u8]>> DecodeValue<R> for IssuingDistributionPoint<'a> {
     type Error = Error;
 
@@ -126,7 +127,7 @@ impl<'a> IsValue for IssuingDistributionPoint<'a> {
     }
 }
 
-/// Writes the fields one after the other, with the errors of every [`Sequence`].
+/// Writes the fields, first to last. The errors are those that [`Sequence`] lists.
 impl<'a> HasFields for IssuingDistributionPoint<'a> {
     ghost fields_size = { λ v. ⟦<IssuingDistributionPointFields<'a> as Encode>⟧.size
         (⟦<IssuingDistributionPoint<'a> as FromFields<IssuingDistributionPointFields<'a>>>⟧.fields v) };

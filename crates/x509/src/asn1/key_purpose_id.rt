@@ -4,5 +4,5 @@
 
 use der_asn1::ObjectIdentifierRef;
 
-/// A purpose of a public key (RFC 5280, 4.2.1.12).
+/// A purpose of a public key, as an object identifier (RFC 5280, 4.2.1.12).
 pub type KeyPurposeId<'a> = ObjectIdentifierRef<'a>;

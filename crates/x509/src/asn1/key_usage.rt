@@ -4,8 +4,8 @@
 
 use der_asn1::NamedBitsRef;
 
-/// What a public key may be used for (RFC 5280, 4.2.1.3), borrowed from the input. `has_bit` says
-/// whether a bit is one. Its number is that of a [`KeyUsageBit`], as a `u32`.
+/// What a public key may be used for (RFC 5280, 4.2.1.3), borrowed from the input. `has_bit` takes
+/// a [`KeyUsageBit`] as a `u32`, and says whether this bit is one.
 pub type KeyUsage<'a> = NamedBitsRef<'a>;
 
 /// The named bits of a [`KeyUsage`], with their numbers.

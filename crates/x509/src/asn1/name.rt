@@ -18,7 +18,7 @@ use std::alloc::Global;
 /// A distinguished name (RFC 5280, 4.1.2.4), borrowed from the input.
 #[derive(Clone, Copy, Debug, Drop, PartialEq, Eq)]
 pub struct Name<'a> {
-    /// The list: a SEQUENCE OF its items.
+    /// The items, as a SEQUENCE OF.
     pub levels: SequenceOf<'a, RelativeDistinguishedName<'a>>,
 }
 
@@ -39,7 +39,7 @@ impl<'a> Sequence for Name<'a> {
     ghost fits = { (refl, refl) };
 }
 
-/// Decodes the list, with the errors of [`SequenceOf`].
+/// Decodes the list. The errors are those of decoding a [`SequenceOf`].
 impl<'a, R: Lends<Borrowed = &'a [u8]>> DecodeValue<R> for Name<'a> {
     type Error = Error;
 
@@ -61,7 +61,7 @@ impl<'a> IsValue for Name<'a> {
     }
 }
 
-/// Writes the list, with the errors of [`SequenceOf`].
+/// Writes the list. The errors are those of writing a [`SequenceOf`].
 impl<'a> EncodeValue for Name<'a> {
     ghost value_size = { λ v. ⟦<Items<'a> as EncodeValue>⟧.value_size v.levels };
 

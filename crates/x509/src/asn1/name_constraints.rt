@@ -17,17 +17,17 @@ use der_asn1::{
 };
 use std::alloc::Global;
 
-/// The names that a certification authority may issue certificates for (RFC 5280, 4.2.1.10),
+/// The names for which a certification authority may issue certificates (RFC 5280, 4.2.1.10),
 /// borrowed from the input. That at least one list is present is not checked.
 #[derive(Clone, Copy, Debug, Drop, PartialEq, Eq)]
 pub struct NameConstraints<'a> {
-    /// The names that are permitted, if they are limited.
+    /// The names that are permitted; if absent, all are.
     pub permitted_subtrees: Optional<Implicit<GeneralSubtrees<'a>, 0>>,
-    /// The names that are excluded, if there are any.
+    /// The names that are excluded; if absent, none are.
     pub excluded_subtrees: Optional<Implicit<GeneralSubtrees<'a>, 1>>,
 }
 
-/// The fields of a [`NameConstraints`], in the order in which they are encoded.
+/// The fields of [`NameConstraints`] as one type, in the order in which they are encoded.
 pub type NameConstraintsFields<'a> = (
     Optional<Implicit<GeneralSubtrees<'a>, 0>>,
     Optional<Implicit<GeneralSubtrees<'a>, 1>>,
@@ -54,7 +54,7 @@ impl<'a> Sequence for NameConstraints<'a> {
     ghost fits = { (refl, refl) };
 }
 
-/// Decodes the fields one after the other, with the errors of every [`Sequence`].
+/// Decodes the fields, first to last. The errors are those that [`Sequence`] lists.
 impl<'a, R: Lends<Borrowed = &'a [u8]>> DecodeValue<R> for NameConstraints<'a> {
     type Error = Error;
 
@@ -81,7 +81,7 @@ impl<'a> IsValue for NameConstraints<'a> {
     }
 }
 
-/// Writes the fields one after the other, with the errors of every [`Sequence`].
+/// Writes the fields, first to last. The errors are those that [`Sequence`] lists.
 impl<'a> HasFields for NameConstraints<'a> {
     ghost fields_size = { λ v. ⟦<NameConstraintsFields<'a> as Encode>⟧.size
         (⟦<NameConstraints<'a> as FromFields<NameConstraintsFields<'a>>>⟧.fields v) };

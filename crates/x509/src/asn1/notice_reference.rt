@@ -18,16 +18,17 @@ use der_asn1::{
 };
 use std::alloc::Global;
 
-/// Notices of an organization, by their numbers (RFC 5280, 4.2.1.4), borrowed from the input.
+/// Notices of an organization, which their numbers identify (RFC 5280, 4.2.1.4), borrowed from the
+/// input.
 #[derive(Clone, Copy, Debug, Drop, PartialEq, Eq)]
 pub struct NoticeReference<'a> {
-    /// The organization.
+    /// The name of the organization.
     pub organization: DisplayText<'a>,
     /// The numbers of the notices.
     pub notice_numbers: SequenceOf<'a, IntRef<'a>>,
 }
 
-/// The fields of a [`NoticeReference`], in the order in which they are encoded.
+/// The fields of [`NoticeReference`] as one type, in the order in which they are encoded.
 pub type NoticeReferenceFields<'a> = (DisplayText<'a>, SequenceOf<'a, IntRef<'a>>);
 
 impl<'a> FromFields<NoticeReferenceFields<'a>> for NoticeReference<'a> {
@@ -51,7 +52,7 @@ impl<'a> Sequence for NoticeReference<'a> {
     ghost fits = { (refl, refl) };
 }
 
-/// Decodes the fields one after the other, with the errors of every [`Sequence`].
+/// Decodes the fields, first to last. The errors are those that [`Sequence`] lists.
 impl<'a, R: Lends<Borrowed = &'a [u8]>> DecodeValue<R> for NoticeReference<'a> {
     type Error = Error;
 
@@ -79,7 +80,7 @@ impl<'a> IsValue for NoticeReference<'a> {
     }
 }
 
-/// Writes the fields one after the other, with the errors of every [`Sequence`].
+/// Writes the fields, first to last. The errors are those that [`Sequence`] lists.
 impl<'a> HasFields for NoticeReference<'a> {
     ghost fields_size = { λ v. ⟦<NoticeReferenceFields<'a> as Encode>⟧.size
         (⟦<NoticeReference<'a> as FromFields<NoticeReferenceFields<'a>>>⟧.fields v) };

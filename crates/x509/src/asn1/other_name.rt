@@ -17,16 +17,17 @@ use der_asn1::{
 };
 use std::alloc::Global;
 
-/// A name whose form its object identifier gives (RFC 5280, 4.2.1.6), borrowed from the input.
+/// A name of another form, which an OBJECT IDENTIFIER gives (RFC 5280, 4.2.1.6), borrowed from the
+/// input.
 #[derive(Clone, Copy, Debug, Drop, PartialEq, Eq)]
 pub struct OtherName<'a> {
-    /// The form of the name.
+    /// The form of the name, as an object identifier.
     pub type_id: ObjectIdentifierRef<'a>,
     /// The name: an element of any tag. Its contents are not checked.
     pub value: ExplicitAny<'a, 0>,
 }
 
-/// The fields of a [`OtherName`], in the order in which they are encoded.
+/// The fields of [`OtherName`] as one type, in the order in which they are encoded.
 pub type OtherNameFields<'a> = (ObjectIdentifierRef<'a>, ExplicitAny<'a, 0>);
 
 impl<'a> FromFields<OtherNameFields<'a>> for OtherName<'a> {
@@ -47,7 +48,7 @@ impl<'a> Sequence for OtherName<'a> {
     ghost fits = { (refl, refl) };
 }
 
-/// Decodes the fields one after the other, with the errors of every [`Sequence`].
+/// Decodes the fields, first to last. The errors are those that [`Sequence`] lists.
 impl<'a, R: Lends<Borrowed = &'a [u8]>> DecodeValue<R> for OtherName<'a> {
     type Error = Error;
 
@@ -70,7 +71,7 @@ impl<'a> IsValue for OtherName<'a> {
     }
 }
 
-/// Writes the fields one after the other, with the errors of every [`Sequence`].
+/// Writes the fields, first to last. The errors are those that [`Sequence`] lists.
 impl<'a> HasFields for OtherName<'a> {
     ghost fields_size = { λ v. ⟦<OtherNameFields<'a> as Encode>⟧.size
         (⟦<OtherName<'a> as FromFields<OtherNameFields<'a>>>⟧.fields v) };

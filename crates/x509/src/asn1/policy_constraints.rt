@@ -17,17 +17,19 @@ use der_asn1::{
 };
 use std::alloc::Global;
 
-/// What a chain of certificates must fulfil as to policies (RFC 5280, 4.2.1.11), borrowed from the
+/// Requirements for the policies of a chain of certificates (RFC 5280, 4.2.1.11), borrowed from the
 /// input. That at least one number is present is not checked.
 #[derive(Clone, Copy, Debug, Drop, PartialEq, Eq)]
 pub struct PolicyConstraints<'a> {
-    /// After how many certificates a policy is required, if present.
+    /// If present, the number of further certificates in the chain after which an explicit policy is
+    /// required: then each certificate of the chain must have an acceptable policy.
     pub require_explicit_policy: Optional<Implicit<SkipCerts<'a>, 0>>,
-    /// After how many certificates policies may not be mapped, if present.
+    /// If present, the number of further certificates in the chain after which policies may no longer
+    /// be mapped.
     pub inhibit_policy_mapping: Optional<Implicit<SkipCerts<'a>, 1>>,
 }
 
-/// The fields of a [`PolicyConstraints`], in the order in which they are encoded.
+/// The fields of [`PolicyConstraints`] as one type, in the order in which they are encoded.
 pub type PolicyConstraintsFields<'a> = (
     Optional<Implicit<SkipCerts<'a>, 0>>,
     Optional<Implicit<SkipCerts<'a>, 1>>,
@@ -54,7 +56,7 @@ impl<'a> Sequence for PolicyConstraints<'a> {
     ghost fits = { (refl, refl) };
 }
 
-/// Decodes the fields one after the other, with the errors of every [`Sequence`].
+/// Decodes the fields, first to last. The errors are those that [`Sequence`] lists.
 impl<'a, R: Lends<Borrowed = &'a [u8]>> DecodeValue<R> for PolicyConstraints<'a> {
     type Error = Error;
 
@@ -81,7 +83,7 @@ impl<'a> IsValue for PolicyConstraints<'a> {
     }
 }
 
-/// Writes the fields one after the other, with the errors of every [`Sequence`].
+/// Writes the fields, first to last. The errors are those that [`Sequence`] lists.
 impl<'a> HasFields for PolicyConstraints<'a> {
     ghost fields_size = { λ v. ⟦<PolicyConstraintsFields<'a> as Encode>⟧.size
         (⟦<PolicyConstraints<'a> as FromFields<PolicyConstraintsFields<'a>>>⟧.fields v) };

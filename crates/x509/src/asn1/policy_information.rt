@@ -23,11 +23,11 @@ use std::alloc::Global;
 pub struct PolicyInformation<'a> {
     /// The object identifier of the policy.
     pub policy_identifier: ObjectIdentifierRef<'a>,
-    /// Its qualifiers, if present.
+    /// The qualifiers of the policy, if present.
     pub policy_qualifiers: Optional<SequenceOf<'a, PolicyQualifierInfo<'a>>>,
 }
 
-/// The fields of a [`PolicyInformation`], in the order in which they are encoded.
+/// The fields of [`PolicyInformation`] as one type, in the order in which they are encoded.
 pub type PolicyInformationFields<'a> = (
     ObjectIdentifierRef<'a>,
     Optional<SequenceOf<'a, PolicyQualifierInfo<'a>>>,
@@ -54,7 +54,7 @@ impl<'a> Sequence for PolicyInformation<'a> {
     ghost fits = { (refl, refl) };
 }
 
-/// Decodes the fields one after the other, with the errors of every [`Sequence`].
+/// Decodes the fields, first to last. The errors are those that [`Sequence`] lists.
 impl<'a, R: Lends<Borrowed = &'a [u8]>> DecodeValue<R> for PolicyInformation<'a> {
     type Error = Error;
 
@@ -79,7 +79,7 @@ impl<'a> IsValue for PolicyInformation<'a> {
     }
 }
 
-/// Writes the fields one after the other, with the errors of every [`Sequence`].
+/// Writes the fields, first to last. The errors are those that [`Sequence`] lists.
 impl<'a> HasFields for PolicyInformation<'a> {
     ghost fields_size = { λ v. ⟦<PolicyInformationFields<'a> as Encode>⟧.size
         (⟦<PolicyInformation<'a> as FromFields<PolicyInformationFields<'a>>>⟧.fields v) };

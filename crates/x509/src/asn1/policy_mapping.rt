@@ -16,8 +16,8 @@ use der_asn1::{
 };
 use std::alloc::Global;
 
-/// A policy of the issuer, and the subject's policy that equals it (RFC 5280, 4.2.1.5), borrowed
-/// from the input.
+/// A policy of the issuer, and the policy of the subject that counts as equal (RFC 5280, 4.2.1.5),
+/// borrowed from the input.
 #[derive(Clone, Copy, Debug, Drop, PartialEq, Eq)]
 pub struct PolicyMapping<'a> {
     /// The policy of the issuer.
@@ -26,7 +26,7 @@ pub struct PolicyMapping<'a> {
     pub subject_domain_policy: ObjectIdentifierRef<'a>,
 }
 
-/// The fields of a [`PolicyMapping`], in the order in which they are encoded.
+/// The fields of [`PolicyMapping`] as one type, in the order in which they are encoded.
 pub type PolicyMappingFields<'a> = (ObjectIdentifierRef<'a>, ObjectIdentifierRef<'a>);
 
 impl<'a> FromFields<PolicyMappingFields<'a>> for PolicyMapping<'a> {
@@ -50,7 +50,7 @@ impl<'a> Sequence for PolicyMapping<'a> {
     ghost fits = { (refl, refl) };
 }
 
-/// Decodes the fields one after the other, with the errors of every [`Sequence`].
+/// Decodes the fields, first to last. The errors are those that [`Sequence`] lists.
 impl<'a, R: Lends<Borrowed = &'a [u8]>> DecodeValue<R> for PolicyMapping<'a> {
     type Error = Error;
 
@@ -73,7 +73,7 @@ impl<'a> IsValue for PolicyMapping<'a> {
     }
 }
 
-/// Writes the fields one after the other, with the errors of every [`Sequence`].
+/// Writes the fields, first to last. The errors are those that [`Sequence`] lists.
 impl<'a> HasFields for PolicyMapping<'a> {
     ghost fields_size = { λ v. ⟦<PolicyMappingFields<'a> as Encode>⟧.size
         (⟦<PolicyMapping<'a> as FromFields<PolicyMappingFields<'a>>>⟧.fields v) };

@@ -5,6 +5,6 @@
 use crate::asn1::policy_mapping::PolicyMapping;
 use der_asn1::SequenceOf;
 
-/// Policies of the issuer that equal policies of the subject (RFC 5280, 4.2.1.5), borrowed from the
-/// input. That there is at least one pair is not checked.
+/// Pairs of a policy of the issuer and a policy of the subject that counts as equal (RFC 5280,
+/// 4.2.1.5), borrowed from the input. That there is at least one pair is not checked.
 pub type PolicyMappings<'a> = SequenceOf<'a, PolicyMapping<'a>>;

@@ -19,14 +19,14 @@ use std::alloc::Global;
 /// A qualifier of a policy (RFC 5280, 4.2.1.4), borrowed from the input.
 #[derive(Clone, Copy, Debug, Drop, PartialEq, Eq)]
 pub struct PolicyQualifierInfo<'a> {
-    /// The kind of the qualifier.
+    /// The kind of the qualifier, as an object identifier.
     pub policy_qualifier_id: ObjectIdentifierRef<'a>,
     /// The qualifier: a CPSuri, a UserNotice, or an element of another type. Its contents are not
     /// checked.
     pub qualifier: AnyRef<'a>,
 }
 
-/// The fields of a [`PolicyQualifierInfo`], in the order in which they are encoded.
+/// The fields of [`PolicyQualifierInfo`] as one type, in the order in which they are encoded.
 pub type PolicyQualifierInfoFields<'a> = (ObjectIdentifierRef<'a>, AnyRef<'a>);
 
 impl<'a> FromFields<PolicyQualifierInfoFields<'a>> for PolicyQualifierInfo<'a> {
@@ -49,7 +49,7 @@ impl<'a> Sequence for PolicyQualifierInfo<'a> {
     ghost fits = { (refl, refl) };
 }
 
-/// Decodes the fields one after the other, with the errors of every [`Sequence`].
+/// Decodes the fields, first to last. The errors are those that [`Sequence`] lists.
 impl<'a, R: Lends<Borrowed = &'a [u8]>> DecodeValue<R> for PolicyQualifierInfo<'a> {
     type Error = Error;
 
@@ -72,7 +72,7 @@ impl<'a> IsValue for PolicyQualifierInfo<'a> {
     }
 }
 
-/// Writes the fields one after the other, with the errors of every [`Sequence`].
+/// Writes the fields, first to last. The errors are those that [`Sequence`] lists.
 impl<'a> HasFields for PolicyQualifierInfo<'a> {
     ghost fields_size = { λ v. ⟦<PolicyQualifierInfoFields<'a> as Encode>⟧.size
         (⟦<PolicyQualifierInfo<'a> as FromFields<PolicyQualifierInfoFields<'a>>>⟧.fields v) };

@@ -4,8 +4,8 @@
 
 use der_asn1::NamedBitsRef;
 
-/// Reasons for a revocation (RFC 5280, 4.2.1.13), borrowed from the input. `has_bit` says whether a
-/// bit is one. Its number is that of a [`ReasonFlagsBit`], as a `u32`.
+/// Reasons for a revocation (RFC 5280, 4.2.1.13), borrowed from the input. `has_bit` takes a
+/// [`ReasonFlagsBit`] as a `u32`, and says whether this bit is one.
 pub type ReasonFlags<'a> = NamedBitsRef<'a>;
 
 /// The named bits of a [`ReasonFlags`], with their numbers.

@@ -18,7 +18,7 @@ use std::alloc::Global;
 /// One level of a name (RFC 5280, 4.1.2.4), borrowed from the input.
 #[derive(Clone, Copy, Debug, Drop, PartialEq, Eq)]
 pub struct RelativeDistinguishedName<'a> {
-    /// The list: a SET OF its items.
+    /// The items, as a SET OF.
     pub attributes: SetOf<'a, AttributeTypeAndValue<'a>>,
 }
 
@@ -71,7 +71,7 @@ impl<'a> Lawful for RelativeDistinguishedName<'a> {
     ghost lawful = { ⟦<RelativeDistinguishedName<'a> as Described>⟧.element.lawful refl };
 }
 
-/// Decodes the list, with the errors of [`SetOf`].
+/// Decodes the list. The errors are those of decoding a [`SetOf`].
 impl<'a, R: Lends<Borrowed = &'a [u8]>> DecodeValue<R> for RelativeDistinguishedName<'a> {
     type Error = Error;
 
@@ -93,7 +93,7 @@ impl<'a> IsValue for RelativeDistinguishedName<'a> {
     }
 }
 
-/// Writes the list, with the errors of [`SetOf`].
+/// Writes the list. The errors are those of writing a [`SetOf`].
 impl<'a> EncodeValue for RelativeDistinguishedName<'a> {
     ghost value_size = { λ v. ⟦<Items<'a> as EncodeValue>⟧.value_size v.attributes };
 

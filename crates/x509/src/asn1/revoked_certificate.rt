@@ -23,16 +23,16 @@ use std::alloc::Global;
 /// An entry of a revocation list (RFC 5280, 5.1.2.6), borrowed from the input.
 #[derive(Clone, Copy, Debug, Drop, PartialEq, Eq)]
 pub struct RevokedCertificate<'a> {
-    /// The serial number of the certificate.
+    /// The serial number of the revoked certificate.
     pub user_certificate: CertificateSerialNumber<'a>,
-    /// When it was revoked.
+    /// When the certificate was revoked.
     pub revocation_date: Time,
     /// The extensions of the entry, if present. Only version 2 allows them, but decoding does not
     /// check this.
     pub crl_entry_extensions: Optional<Extensions<'a>>,
 }
 
-/// The fields of a [`RevokedCertificate`], in the order in which they are encoded.
+/// The fields of [`RevokedCertificate`] as one type, in the order in which they are encoded.
 pub type RevokedCertificateFields<'a> = (
     CertificateSerialNumber<'a>,
     Time,
@@ -62,7 +62,7 @@ impl<'a> Sequence for RevokedCertificate<'a> {
     ghost fits = { (refl, refl) };
 }
 
-/// Decodes the fields one after the other, with the errors of every [`Sequence`].
+/// Decodes the fields, first to last. The errors are those that [`Sequence`] lists.
 impl<'a, R: Lends<Borrowed = &'a [u8]>> DecodeValue<R> for RevokedCertificate<'a> {
     type Error = Error;
 
@@ -91,7 +91,7 @@ impl<'a> IsValue for RevokedCertificate<'a> {
     }
 }
 
-/// Writes the fields one after the other, with the errors of every [`Sequence`].
+/// Writes the fields, first to last. The errors are those that [`Sequence`] lists.
 impl<'a> HasFields for RevokedCertificate<'a> {
     ghost fields_size = { λ v. ⟦<RevokedCertificateFields<'a> as Encode>⟧.size
         (⟦<RevokedCertificate<'a> as FromFields<RevokedCertificateFields<'a>>>⟧.fields v) };

@@ -4,6 +4,6 @@
 
 use der_asn1::OctetStringRef;
 
-/// Signed timestamps of a certificate (RFC 6962, 3.3): octets in a format of their own, which are
-/// not checked.
+/// The signed certificate timestamps of a certificate (RFC 6962, 3.3): octets in a format that is
+/// not ASN.1, which are not checked.
 pub type SignedCertificateTimestampList<'a> = OctetStringRef<'a>;

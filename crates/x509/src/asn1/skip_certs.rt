@@ -4,5 +4,6 @@
 
 use der_asn1::IntRef;
 
-/// A number of certificates (RFC 5280, 4.2.1.11). That it is not negative is not checked.
+/// A number of certificates in a chain (RFC 5280, 4.2.1.11). That it is not negative is not
+/// checked.
 pub type SkipCerts<'a> = IntRef<'a>;

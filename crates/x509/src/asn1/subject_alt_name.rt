@@ -4,5 +4,5 @@
 
 use crate::asn1::general_names::GeneralNames;
 
-/// The names of the subject (RFC 5280, 4.2.1.6).
+/// Alternative names of the subject (RFC 5280, 4.2.1.6).
 pub type SubjectAltName<'a> = GeneralNames<'a>;

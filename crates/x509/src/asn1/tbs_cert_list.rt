@@ -28,10 +28,11 @@ use std::alloc::Global;
 /// input.
 #[derive(Clone, Copy, Debug, Drop, PartialEq, Eq)]
 pub struct TbsCertList<'a> {
-    /// The version of the list, if present. The RFC allows version 2 alone, but decoding also
+    /// The version of the list, if present. The RFC allows only version 2, but decoding also
     /// accepts 1 and 3.
     pub version: Optional<Version<'a>>,
-    /// The algorithm of the list's signature. The signature itself is not in this part.
+    /// The algorithm of the list's signature. The signature itself is a field of the
+    /// CertificateList.
     pub signature: AlgorithmIdentifierRef<'a>,
     /// The issuer of the list.
     pub issuer: Name<'a>,
@@ -46,7 +47,7 @@ pub struct TbsCertList<'a> {
     pub crl_extensions: Optional<Explicit<Extensions<'a>, 0>>,
 }
 
-/// The fields of a [`TbsCertList`], in the order in which they are encoded.
+/// The fields of [`TbsCertList`] as one type, in the order in which they are encoded.
 pub type TbsCertListFields<'a> = (
     Optional<Version<'a>>,
     AlgorithmIdentifierRef<'a>,
@@ -103,7 +104,7 @@ impl<'a> Sequence for TbsCertList<'a> {
     ghost fits = { (refl, refl) };
 }
 
-/// Decodes the fields one after the other, with the errors of every [`Sequence`].
+/// Decodes the fields, first to last. The errors are those that [`Sequence`] lists.
 impl<'a, R: Lends<Borrowed = &'a [u8]>> DecodeValue<R> for TbsCertList<'a> {
     type Error = Error;
 
@@ -145,7 +146,7 @@ impl<'a> IsValue for TbsCertList<'a> {
     }
 }
 
-/// Writes the fields one after the other, with the errors of every [`Sequence`].
+/// Writes the fields, first to last. The errors are those that [`Sequence`] lists.
 impl<'a> HasFields for TbsCertList<'a> {
     ghost fields_size = { λ v. ⟦<TbsCertListFields<'a> as Encode>⟧.size
         (⟦<TbsCertList<'a> as FromFields<TbsCertListFields<'a>>>⟧.fields v) };

@@ -31,7 +31,8 @@ pub struct TbsCertificate<'a> {
     pub version: Defaulted<Explicit<Version<'a>, 0>>,
     /// The serial number of the certificate.
     pub serial_number: CertificateSerialNumber<'a>,
-    /// The algorithm of the certificate's signature. The signature itself is not in this part.
+    /// The algorithm of the certificate's signature. The signature itself is a field of the
+    /// Certificate.
     pub signature: AlgorithmIdentifierRef<'a>,
     /// The issuer of the certificate.
     pub issuer: Name<'a>,
@@ -51,7 +52,7 @@ pub struct TbsCertificate<'a> {
     pub extensions: Optional<Explicit<Extensions<'a>, 3>>,
 }
 
-/// The fields of a [`TbsCertificate`], in the order in which they are encoded.
+/// The fields of [`TbsCertificate`] as one type, in the order in which they are encoded.
 pub type TbsCertificateFields<'a> = (
     Defaulted<Explicit<Version<'a>, 0>>,
     CertificateSerialNumber<'a>,
@@ -124,7 +125,7 @@ impl<'a> Sequence for TbsCertificate<'a> {
     ghost fits = { (refl, refl) };
 }
 
-/// Decodes the fields one after the other, with the errors of every [`Sequence`].
+/// Decodes the fields, first to last. The errors are those that [`Sequence`] lists.
 impl<'a, R: Lends<Borrowed = &'a [u8]>> DecodeValue<R> for TbsCertificate<'a> {
     type Error = Error;
 
@@ -161,7 +162,7 @@ impl<'a> IsValue for TbsCertificate<'a> {
     }
 }
 
-/// Writes the fields one after the other, with the errors of every [`Sequence`].
+/// Writes the fields, first to last. The errors are those that [`Sequence`] lists.
 impl<'a> HasFields for TbsCertificate<'a> {
     ghost fields_size = { λ v. ⟦<TbsCertificateFields<'a> as Encode>⟧.size
         (⟦<TbsCertificate<'a> as FromFields<TbsCertificateFields<'a>>>⟧.fields v) };

@@ -20,13 +20,13 @@ use std::alloc::Global;
 /// GeneralizedTime after that. Decoding also accepts a GeneralizedTime for an earlier time.
 #[derive(Clone, Copy, Debug, Drop, PartialEq, Eq)]
 pub enum Time {
-    /// utcTime
+    /// The alternative `utcTime`.
     UtcTime(UtcTime),
-    /// generalTime
+    /// The alternative `generalTime`.
     GeneralTime(GeneralizedTime),
 }
 
-/// The alternatives, as nested choices of two.
+/// The alternatives as one type: an [`Either`] of two, which may be [`Either`]s in turn.
 pub type TimeAlternatives = Either<UtcTime, GeneralizedTime>;
 
 impl FromFields<TimeAlternatives> for Time {
@@ -49,7 +49,7 @@ impl DescribedChoice for Time {
         ⟦<Time as FromFields<TimeAlternatives>>⟧.fields };
 }
 
-/// Decodes the alternative whose tag is next, with the errors of [`Either`].
+/// Decodes the alternative with the next tag. The errors are those of decoding an [`Either`].
 impl<'a, R: Lends<Borrowed = &'a [u8]>> Decode<R> for Time {
     type Error = Error;
 
@@ -85,7 +85,7 @@ impl<'a, R: Lends<Borrowed = &'a [u8]>> DecodeChoice<R> for Time {
     ghost begins = { ⟦<Time as DescribedChoice>⟧.alternative.begins };
 }
 
-/// Writes the alternative that the value has.
+/// Writes the alternative that the value has. The errors are those of writing it.
 impl Encode for Time {
     ghost encoding = { λ v. ⟦<TimeAlternatives as Encode>⟧.encoding
         (⟦<Time as FromFields<TimeAlternatives>>⟧.fields v) };

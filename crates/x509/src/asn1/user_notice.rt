@@ -21,13 +21,13 @@ use std::alloc::Global;
 /// A notice to the user of a certificate (RFC 5280, 4.2.1.4), borrowed from the input.
 #[derive(Clone, Copy, Debug, Drop, PartialEq, Eq)]
 pub struct UserNotice<'a> {
-    /// Where the text of the notice is found, if present.
+    /// Where the text of the notice is found, if present: the numbers of an organization's notices.
     pub notice_ref: Optional<NoticeReference<'a>>,
     /// The text itself, if present.
     pub explicit_text: Optional<DisplayText<'a>>,
 }
 
-/// The fields of a [`UserNotice`], in the order in which they are encoded.
+/// The fields of [`UserNotice`] as one type, in the order in which they are encoded.
 pub type UserNoticeFields<'a> = (Optional<NoticeReference<'a>>, Optional<DisplayText<'a>>);
 
 impl<'a> FromFields<UserNoticeFields<'a>> for UserNotice<'a> {
@@ -51,7 +51,7 @@ impl<'a> Sequence for UserNotice<'a> {
     ghost fits = { (refl, refl) };
 }
 
-/// Decodes the fields one after the other, with the errors of every [`Sequence`].
+/// Decodes the fields, first to last. The errors are those that [`Sequence`] lists.
 impl<'a, R: Lends<Borrowed = &'a [u8]>> DecodeValue<R> for UserNotice<'a> {
     type Error = Error;
 
@@ -83,7 +83,7 @@ impl<'a> IsValue for UserNotice<'a> {
     }
 }
 
-/// Writes the fields one after the other, with the errors of every [`Sequence`].
+/// Writes the fields, first to last. The errors are those that [`Sequence`] lists.
 impl<'a> HasFields for UserNotice<'a> {
     ghost fields_size = { λ v. ⟦<UserNoticeFields<'a> as Encode>⟧.size
         (⟦<UserNotice<'a> as FromFields<UserNoticeFields<'a>>>⟧.fields v) };

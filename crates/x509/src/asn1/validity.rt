@@ -15,8 +15,7 @@ use der::{
 use der_asn1::{BorrowedItem, DecodeItem, Described, DescribedChoice, Item, Nestable, WrittenItem};
 use std::alloc::Global;
 
-/// The period in which a certificate is valid (RFC 5280, 4.1.2.5): the times at its two ends
-/// included.
+/// The period in which a certificate is valid (RFC 5280, 4.1.2.5). It includes both times.
 #[derive(Clone, Copy, Debug, Drop, PartialEq, Eq)]
 pub struct Validity {
     /// The first time at which the certificate is valid.
@@ -25,7 +24,7 @@ pub struct Validity {
     pub not_after: Time,
 }
 
-/// The fields of a [`Validity`], in the order in which they are encoded.
+/// The fields of [`Validity`] as one type, in the order in which they are encoded.
 pub type ValidityFields = (Time, Time);
 
 impl FromFields<ValidityFields> for Validity {
@@ -48,7 +47,7 @@ impl Sequence for Validity {
     ghost fits = { (refl, refl) };
 }
 
-/// Decodes the fields one after the other, with the errors of every [`Sequence`].
+/// Decodes the fields, first to last. The errors are those that [`Sequence`] lists.
 impl<'a, R: Lends<Borrowed = &'a [u8]>> DecodeValue<R> for Validity {
     type Error = Error;
 
@@ -77,7 +76,7 @@ impl IsValue for Validity {
     }
 }
 
-/// Writes the fields one after the other, with the errors of every [`Sequence`].
+/// Writes the fields, first to last. The errors are those that [`Sequence`] lists.
 impl HasFields for Validity {
     ghost fields_size = { λ v. ⟦<ValidityFields as Encode>⟧.size
         (⟦<Validity as FromFields<ValidityFields>>⟧.fields v) };

@@ -6,7 +6,7 @@ ghost use Rattle.der_asn1.specs.Arcs.{oid_octets};
 
 use der_asn1::ObjectIdentifierRef;
 
-/// The arc of the identifiers of RFC 5280 (appendix A).
+/// The arc of the object identifiers of RFC 5280 (appendix A).
 pub fn id_pkix() -> ObjectIdentifierRef<'static>
     ensures { result.octets.now ≡ oid_octets (1 ∷ 3 ∷ 6 ∷ 1 ∷ 5 ∷ 5 ∷ 7 ∷ []) }
 {
@@ -16,7 +16,7 @@ pub fn id_pkix() -> ObjectIdentifierRef<'static>
     value
 }
 
-/// The arc of extensions of private use (RFC 5280, 4.2.2).
+/// The arc of private extensions (RFC 5280, 4.2.2).
 pub fn id_pe() -> ObjectIdentifierRef<'static>
     ensures { result.octets.now ≡ oid_octets (1 ∷ 3 ∷ 6 ∷ 1 ∷ 5 ∷ 5 ∷ 7 ∷ 1 ∷ []) }
 {
@@ -48,7 +48,7 @@ pub fn id_pe_subject_info_access() -> ObjectIdentifierRef<'static>
     value
 }
 
-/// The arc of qualifiers of policies (RFC 5280, 4.2.1.4).
+/// The arc of the kinds of policy qualifiers (RFC 5280, 4.2.1.4).
 pub fn id_qt() -> ObjectIdentifierRef<'static>
     ensures { result.octets.now ≡ oid_octets (1 ∷ 3 ∷ 6 ∷ 1 ∷ 5 ∷ 5 ∷ 7 ∷ 2 ∷ []) }
 {
@@ -58,7 +58,7 @@ pub fn id_qt() -> ObjectIdentifierRef<'static>
     value
 }
 
-/// A qualifier that is a CPSuri (RFC 5280, 4.2.1.4).
+/// The kind of a policy qualifier that is a CPSuri (RFC 5280, 4.2.1.4).
 pub fn id_qt_cps() -> ObjectIdentifierRef<'static>
     ensures { result.octets.now ≡ oid_octets (1 ∷ 3 ∷ 6 ∷ 1 ∷ 5 ∷ 5 ∷ 7 ∷ 2 ∷ 1 ∷ []) }
 {
@@ -69,7 +69,7 @@ pub fn id_qt_cps() -> ObjectIdentifierRef<'static>
     value
 }
 
-/// A qualifier that is a UserNotice (RFC 5280, 4.2.1.4).
+/// The kind of a policy qualifier that is a UserNotice (RFC 5280, 4.2.1.4).
 pub fn id_qt_unotice() -> ObjectIdentifierRef<'static>
     ensures { result.octets.now ≡ oid_octets (1 ∷ 3 ∷ 6 ∷ 1 ∷ 5 ∷ 5 ∷ 7 ∷ 2 ∷ 2 ∷ []) }
 {
@@ -80,7 +80,7 @@ pub fn id_qt_unotice() -> ObjectIdentifierRef<'static>
     value
 }
 
-/// The arc of purposes of keys (RFC 5280, 4.2.1.12).
+/// The arc of key purposes (RFC 5280, 4.2.1.12).
 pub fn id_kp() -> ObjectIdentifierRef<'static>
     ensures { result.octets.now ≡ oid_octets (1 ∷ 3 ∷ 6 ∷ 1 ∷ 5 ∷ 5 ∷ 7 ∷ 3 ∷ []) }
 {
@@ -90,7 +90,7 @@ pub fn id_kp() -> ObjectIdentifierRef<'static>
     value
 }
 
-/// The purpose of a TLS server (RFC 5280, 4.2.1.12).
+/// The purpose of a key with which a TLS server authenticates itself (RFC 5280, 4.2.1.12).
 pub fn id_kp_server_auth() -> ObjectIdentifierRef<'static>
     ensures { result.octets.now ≡ oid_octets (1 ∷ 3 ∷ 6 ∷ 1 ∷ 5 ∷ 5 ∷ 7 ∷ 3 ∷ 1 ∷ []) }
 {
@@ -101,7 +101,7 @@ pub fn id_kp_server_auth() -> ObjectIdentifierRef<'static>
     value
 }
 
-/// The purpose of a TLS client (RFC 5280, 4.2.1.12).
+/// The purpose of a key with which a TLS client authenticates itself (RFC 5280, 4.2.1.12).
 pub fn id_kp_client_auth() -> ObjectIdentifierRef<'static>
     ensures { result.octets.now ≡ oid_octets (1 ∷ 3 ∷ 6 ∷ 1 ∷ 5 ∷ 5 ∷ 7 ∷ 3 ∷ 2 ∷ []) }
 {
@@ -112,7 +112,7 @@ pub fn id_kp_client_auth() -> ObjectIdentifierRef<'static>
     value
 }
 
-/// The purpose of signing programs (RFC 5280, 4.2.1.12).
+/// The purpose of a key that signs programs (RFC 5280, 4.2.1.12).
 pub fn id_kp_code_signing() -> ObjectIdentifierRef<'static>
     ensures { result.octets.now ≡ oid_octets (1 ∷ 3 ∷ 6 ∷ 1 ∷ 5 ∷ 5 ∷ 7 ∷ 3 ∷ 3 ∷ []) }
 {
@@ -123,7 +123,7 @@ pub fn id_kp_code_signing() -> ObjectIdentifierRef<'static>
     value
 }
 
-/// The purpose of protecting e-mail (RFC 5280, 4.2.1.12).
+/// The purpose of a key that protects e-mail (RFC 5280, 4.2.1.12).
 pub fn id_kp_email_protection() -> ObjectIdentifierRef<'static>
     ensures { result.octets.now ≡ oid_octets (1 ∷ 3 ∷ 6 ∷ 1 ∷ 5 ∷ 5 ∷ 7 ∷ 3 ∷ 4 ∷ []) }
 {
@@ -134,7 +134,7 @@ pub fn id_kp_email_protection() -> ObjectIdentifierRef<'static>
     value
 }
 
-/// The purpose of signing timestamps (RFC 5280, 4.2.1.12).
+/// The purpose of a key that signs timestamps (RFC 5280, 4.2.1.12).
 pub fn id_kp_time_stamping() -> ObjectIdentifierRef<'static>
     ensures { result.octets.now ≡ oid_octets (1 ∷ 3 ∷ 6 ∷ 1 ∷ 5 ∷ 5 ∷ 7 ∷ 3 ∷ 8 ∷ []) }
 {
@@ -145,7 +145,7 @@ pub fn id_kp_time_stamping() -> ObjectIdentifierRef<'static>
     value
 }
 
-/// The purpose of signing OCSP responses (RFC 5280, 4.2.1.12).
+/// The purpose of a key that signs OCSP responses (RFC 5280, 4.2.1.12).
 pub fn id_kp_ocsp_signing() -> ObjectIdentifierRef<'static>
     ensures { result.octets.now ≡ oid_octets (1 ∷ 3 ∷ 6 ∷ 1 ∷ 5 ∷ 5 ∷ 7 ∷ 3 ∷ 9 ∷ []) }
 {
@@ -156,7 +156,8 @@ pub fn id_kp_ocsp_signing() -> ObjectIdentifierRef<'static>
     value
 }
 
-/// The arc of access methods (RFC 5280, 4.2.2).
+/// The arc of access methods: of the kinds of information in an AccessDescription (RFC 5280,
+/// 4.2.2).
 pub fn id_ad() -> ObjectIdentifierRef<'static>
     ensures { result.octets.now ≡ oid_octets (1 ∷ 3 ∷ 6 ∷ 1 ∷ 5 ∷ 5 ∷ 7 ∷ 48 ∷ []) }
 {
@@ -166,7 +167,7 @@ pub fn id_ad() -> ObjectIdentifierRef<'static>
     value
 }
 
-/// Access to an OCSP responder (RFC 5280, 4.2.2.1).
+/// The access method for an OCSP responder (RFC 5280, 4.2.2.1).
 pub fn id_ad_ocsp() -> ObjectIdentifierRef<'static>
     ensures { result.octets.now ≡ oid_octets (1 ∷ 3 ∷ 6 ∷ 1 ∷ 5 ∷ 5 ∷ 7 ∷ 48 ∷ 1 ∷ []) }
 {
@@ -177,7 +178,7 @@ pub fn id_ad_ocsp() -> ObjectIdentifierRef<'static>
     value
 }
 
-/// Access to certificates of the issuer (RFC 5280, 4.2.2.1).
+/// The access method for certificates of the issuer (RFC 5280, 4.2.2.1).
 pub fn id_ad_ca_issuers() -> ObjectIdentifierRef<'static>
     ensures { result.octets.now ≡ oid_octets (1 ∷ 3 ∷ 6 ∷ 1 ∷ 5 ∷ 5 ∷ 7 ∷ 48 ∷ 2 ∷ []) }
 {
@@ -188,7 +189,7 @@ pub fn id_ad_ca_issuers() -> ObjectIdentifierRef<'static>
     value
 }
 
-/// Access to a timestamp authority (RFC 5280, 4.2.2.2).
+/// The access method for a timestamp authority (RFC 5280, 4.2.2.2).
 pub fn id_ad_time_stamping() -> ObjectIdentifierRef<'static>
     ensures { result.octets.now ≡ oid_octets (1 ∷ 3 ∷ 6 ∷ 1 ∷ 5 ∷ 5 ∷ 7 ∷ 48 ∷ 3 ∷ []) }
 {
@@ -199,7 +200,7 @@ pub fn id_ad_time_stamping() -> ObjectIdentifierRef<'static>
     value
 }
 
-/// Access to the repository of an authority (RFC 5280, 4.2.2.2).
+/// The access method for the repository of a certification authority (RFC 5280, 4.2.2.2).
 pub fn id_ad_ca_repository() -> ObjectIdentifierRef<'static>
     ensures { result.octets.now ≡ oid_octets (1 ∷ 3 ∷ 6 ∷ 1 ∷ 5 ∷ 5 ∷ 7 ∷ 48 ∷ 5 ∷ []) }
 {
@@ -210,7 +211,7 @@ pub fn id_ad_ca_repository() -> ObjectIdentifierRef<'static>
     value
 }
 
-/// The arc of extensions (RFC 5280, 4.2.1).
+/// The arc of the extensions of certificates and lists (RFC 5280, 4.2.1).
 pub fn id_ce() -> ObjectIdentifierRef<'static>
     ensures { result.octets.now ≡ oid_octets (2 ∷ 5 ∷ 29 ∷ []) }
 {
@@ -370,7 +371,7 @@ pub fn id_ce_certificate_policies() -> ObjectIdentifierRef<'static>
     value
 }
 
-/// The policy that stands for all policies (RFC 5280, 4.2.1.4).
+/// The policy anyPolicy, which stands for all policies (RFC 5280, 4.2.1.4).
 pub fn any_policy() -> ObjectIdentifierRef<'static>
     ensures { result.octets.now ≡ oid_octets (2 ∷ 5 ∷ 29 ∷ 32 ∷ 0 ∷ []) }
 {
@@ -420,7 +421,7 @@ pub fn id_ce_ext_key_usage() -> ObjectIdentifierRef<'static>
     value
 }
 
-/// The purpose that stands for all purposes (RFC 5280, 4.2.1.12).
+/// The purpose of a key that may be used for all purposes (RFC 5280, 4.2.1.12).
 pub fn any_extended_key_usage() -> ObjectIdentifierRef<'static>
     ensures { result.octets.now ≡ oid_octets (2 ∷ 5 ∷ 29 ∷ 37 ∷ 0 ∷ []) }
 {
@@ -450,7 +451,7 @@ pub fn id_ce_inhibit_any_policy() -> ObjectIdentifierRef<'static>
     value
 }
 
-/// The extension with the signed timestamps of a certificate (RFC 6962, 3.3).
+/// The extension with the signed certificate timestamps of a certificate (RFC 6962, 3.3).
 pub fn id_sct_list() -> ObjectIdentifierRef<'static>
     ensures { result.octets.now ≡ oid_octets (1 ∷ 3 ∷ 6 ∷ 1 ∷ 4 ∷ 1 ∷ 11129 ∷ 2 ∷ 4 ∷ 2 ∷ []) }
 {
@@ -474,7 +475,7 @@ pub fn id_extension_request() -> ObjectIdentifierRef<'static>
     value
 }
 
-/// The arc of attribute types (RFC 5280, appendix A).
+/// The arc of the types of attributes of names (RFC 5280, appendix A).
 pub fn id_at() -> ObjectIdentifierRef<'static>
     ensures { result.octets.now ≡ oid_octets (2 ∷ 5 ∷ 4 ∷ []) }
 {
@@ -658,7 +659,8 @@ pub fn id_email_address() -> ObjectIdentifierRef<'static>
     value
 }
 
-/// The name that the module has for an OBJECT IDENTIFIER; the first one if it has several.
+/// The name of an OBJECT IDENTIFIER in the ASN.1 module, or the first of several; `None` if it
+/// has no name there.
 pub fn name_of(oid: &ObjectIdentifierRef<'_>) -> Option<&'static str> {
     match oid.octets() {
         [0x2B, 0x06, 0x01, 0x05, 0x05, 0x07] => Some("id-pkix"),

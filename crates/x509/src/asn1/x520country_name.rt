@@ -4,5 +4,6 @@
 
 use der_asn1::PrintableStringRef;
 
-/// The two letters of a country (RFC 5280, appendix A). That there are two is not checked.
+/// The code of a country, which should have two letters (RFC 5280, appendix A). Their number is not
+/// checked.
 pub type X520countryName<'a> = PrintableStringRef<'a>;

@@ -4,5 +4,5 @@
 
 use der_asn1::PrintableStringRef;
 
-/// What distinguishes names that are equal otherwise (RFC 5280, appendix A).
+/// A text that distinguishes two names which are equal otherwise (RFC 5280, appendix A).
 pub type X520dnQualifier<'a> = PrintableStringRef<'a>;

@@ -4,5 +4,5 @@
 
 use crate::asn1::directory_string::DirectoryString;
 
-/// The text of an attribute of a name (RFC 5280, appendix A).
+/// The text of an attribute of a name, such as a surname (RFC 5280, appendix A).
 pub type X520name<'a> = DirectoryString<'a>;

@@ -14,13 +14,14 @@ use der::Error;
 use der_asn1::SetOf;
 use std::alloc::Global;
 
-/// The attribute of type `K` with this value, such as
+/// Returns the attribute of type `K` whose only value is `value`. `K` is a type such as
 /// [`attr::ExtensionRequest`](crate::attr::ExtensionRequest). The encoding of the value is written
 /// to the start of `buffer`, from which the attribute is borrowed.
 ///
 /// # Errors
 ///
-/// The errors of [`Encode::encode_to_slice`](der::Encode::encode_to_slice) of the value: `Overlength` if the buffer is too short.
+/// The errors of [`Encode::encode_to_slice`](der::Encode::encode_to_slice) for the value. One of
+/// them is `Overlength`, if the buffer is too short.
 pub fn attribute_of<'b, K: KnownAttribute<'b>>(
     alloc: Global,
     value: &K::Value,

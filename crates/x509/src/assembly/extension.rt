@@ -8,12 +8,13 @@ use crate::find::KnownExtension;
 use der::{Encode, EncodeValue, Error};
 use der_asn1::{BooleanRef, Defaulted, OctetStringRef};
 
-/// The extension of type `K` with this value. The encoding of the value is written to the start of
-/// `buffer`, from which the extension is borrowed.
+/// Returns the extension of type `K` with the value `value`. The encoding of the value is written
+/// to the start of `buffer`, from which the extension is borrowed.
 ///
 /// # Errors
 ///
-/// The errors of [`Encode::encode_to_slice`] of the value: `Overlength` if the buffer is too short.
+/// The errors of [`Encode::encode_to_slice`] for the value. One of them is `Overlength`, if the
+/// buffer is too short.
 pub fn extension_of<'b, K: KnownExtension<'b>>(
     critical: bool,
     value: &K::Value,

@@ -10,8 +10,10 @@ use der_asn1::{Item, ObjectIdentifierRef};
 use std::alloc::Global;
 
 impl<'a> CertReqInfo<'a> {
-    /// What the request has with the object identifier `oid`: no attribute, one, or more than one.
-    /// For attributes whose types have no [`KnownAttribute`], or more than one value.
+    /// Looks up the attribute of the request with the type `oid`. The result holds the attribute,
+    /// if exactly one attribute has this type. Otherwise the result says whether no attribute or
+    /// more than one has this type. Use this function for attributes that have more than one value,
+    /// and for types that do not implement [`KnownAttribute`].
     pub fn get_attribute(
         &self,
         alloc: Global,
@@ -24,17 +26,18 @@ impl<'a> CertReqInfo<'a> {
         occurrence_of(self.attributes.0.iter(alloc), oid.octets())
     }
 
-    /// The value of the attribute of type `K`, such as the extensions that are requested
-    /// ([`attr::ExtensionRequest`](crate::attr::ExtensionRequest)); `None` if no attribute has this
-    /// type. Allocates only if decoding the value does; decoding the types of this crate does not.
+    /// The value of the attribute of type `K`; `None` if no attribute has this type. For example,
+    /// [`attr::ExtensionRequest`](crate::attr::ExtensionRequest) finds the requested extensions.
+    /// The function allocates only if decoding the value allocates. Decoding the types of this
+    /// crate does not allocate.
     ///
     /// # Errors
     ///
     /// - `Repeated`, if more than one attribute has this type.
-    /// - `Contents`, if the attribute does not have exactly one value, or the value is not one of
-    ///   this type: the error of decoding the contents of the SET of values as one value. Its
-    ///   position counts from the start of these contents. Without a value it is `Incomplete`; with
-    ///   more than one it is `TrailingData`.
+    /// - `Contents`, if the attribute does not have exactly one value of this type. It holds the
+    ///   error of decoding the contents of the SET of values as one value. This is `Incomplete` if
+    ///   there is no value, and `TrailingData` if there is more than one. Positions count from the
+    ///   start of these contents.
     pub fn find_attribute<K: KnownAttribute<'a>>(
         &self,
         alloc: Global,

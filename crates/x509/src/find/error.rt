@@ -3,13 +3,15 @@
 use der::Error;
 use std::fmt;
 
-/// The error of a lookup by type.
+/// The error of a lookup of an extension or an attribute by its type.
 #[derive(Clone, Copy, Debug, PartialEq, Eq, Drop)]
 pub enum FindError {
-    /// The type occurs more than once.
+    /// More than one extension or attribute has the type.
     Repeated,
-    /// The contents are not the encoding of a value. The position counts from the start of the
-    /// contents: of the octets inside the extension's OCTET STRING, or inside the attribute's SET.
+    /// The contents of the extension or the attribute are not the encoding of a value of its type.
+    /// The field is the error of decoding them. Its position counts from the start of these
+    /// contents: of the octets inside the extension's OCTET STRING, or inside the attribute's SET
+    /// of values.
     Contents(Error),
 }
 

@@ -10,8 +10,10 @@ use der_asn1::{Item, ObjectIdentifierRef};
 use std::alloc::Global;
 
 impl<'a> Extensions<'a> {
-    /// What the list has with the object identifier `oid`: no extension, one, or more than one. For
-    /// extensions whose types have no [`KnownExtension`].
+    /// Looks up the extension of the list with the type `oid`. The result holds the extension, if
+    /// exactly one extension has this type. Otherwise the result says whether no extension or more
+    /// than one has this type. Use this function for types that do not implement
+    /// [`KnownExtension`].
     pub fn get(&self, alloc: Global, oid: &ObjectIdentifierRef<'_>) -> Occurrence<Extension<'a>>
         ensures { HasOccurrence ⟦<Extension<'a> as Item>⟧.item.valid
             ⟦<Extension<'a> as Item>⟧.item.octets (λ e. e.extn_id.octets.now) oid.now.octets.now
@@ -21,13 +23,14 @@ impl<'a> Extensions<'a> {
     }
 
     /// The extension of type `K`, with its contents decoded; `None` if no extension has this type.
-    /// Allocates only if decoding the value does; decoding the types of this crate does not.
+    /// The function allocates only if decoding the value allocates. Decoding the types of this
+    /// crate does not allocate.
     ///
     /// # Errors
     ///
     /// - `Repeated`, if more than one extension has this type.
-    /// - `Contents`, if the contents of the extension are not the encoding of a value: the error of
-    ///   decoding them. Its position counts from the start of these contents.
+    /// - `Contents`, if the contents of the extension are not the encoding of a value. It holds the
+    ///   error of decoding the contents. Positions count from the start of these contents.
     pub fn find<K: KnownExtension<'a>>(
         &self,
         alloc: Global,

@@ -8,11 +8,13 @@ use der::{DecodeValue, EncodeValue, Error, Lawful, SliceReader};
 use der_asn1::{ObjectIdentifierRef, lawful_from_der};
 use std::alloc::Global;
 
-/// Types of extensions: the object identifier, and the type of the value.
+/// Types that stand for a type of extension. Each of them gives the object identifier of the
+/// extension and the type of its value.
 ///
 /// Ghost member (for proofs only): `id_octets` is the contents octets of the object identifier.
 pub trait KnownExtension<'a> {
-    /// The type of the value, whose encoding the contents of the extension are.
+    /// The type of the value of the extension. The encoding of the value is inside the OCTET STRING
+    /// of the extension.
     type Value: Lawful + EncodeValue;
 
     ghost id_octets: { List ℕ };

@@ -1,4 +1,4 @@
-//! Attributes of requests whose types are known.
+//! Attributes of certification requests whose types are known.
 ghost use Rattle.std.specs.Prelude.{◌≡◌, ℕ, List};
 ghost use Rattle.x509.specs.Find.{AttributeAnswer, WholeRead};
 
@@ -8,12 +8,13 @@ use der::{DecodeValue, EncodeValue, Error, Lawful, SliceReader};
 use der_asn1::{ObjectIdentifierRef, lawful_from_der};
 use std::alloc::Global;
 
-/// Types of attributes of certification requests that have exactly one value: the object
-/// identifier, and the type of the value.
+/// Types that stand for a type of attribute of certification requests. The attribute has exactly
+/// one value. Each of the types gives the object identifier of the attribute and the type of its
+/// value.
 ///
 /// Ghost member (for proofs only): `id_octets` is the contents octets of the object identifier.
 pub trait KnownAttribute<'a> {
-    /// The type of the value.
+    /// The type of the value of the attribute.
     type Value: Lawful + EncodeValue;
 
     ghost id_octets: { List ℕ };

@@ -1,4 +1,5 @@
-//! Lookup of extensions where they stand: in certificates, revocation lists and their entries.
+//! Lookup of extensions in certificates, in revocation lists, and in the entries of revocation
+//! lists.
 ghost use Rattle.std.specs.Prelude.{◌≡◌, IfNone, IfSome};
 ghost use Rattle.x509.specs.Find.{FindsExtension, WholeRead};
 
@@ -10,12 +11,12 @@ use der_asn1::Item;
 use std::alloc::Global;
 
 impl<'a> TbsCertificate<'a> {
-    /// The extension of type `K`, with its contents decoded; `None` if no extension has
-    /// this type, or there are no extensions.
+    /// The extension of type `K` of the certificate, with its contents decoded; `None` if no
+    /// extension has this type, or there are no extensions.
     ///
     /// # Errors
     ///
-    /// Those of [`Extensions::find`](crate::Extensions::find).
+    /// The errors of [`Extensions::find`](crate::Extensions::find).
     pub fn find_extension<K: KnownExtension<'a>>(
         &self,
         alloc: Global,
@@ -36,12 +37,12 @@ impl<'a> TbsCertificate<'a> {
 }
 
 impl<'a> TbsCertList<'a> {
-    /// The extension of type `K` of the list, with its contents decoded; `None` if no extension has
-    /// this type, or there are no extensions.
+    /// The extension of type `K` of the revocation list, with its contents decoded; `None` if no
+    /// extension has this type, or there are no extensions.
     ///
     /// # Errors
     ///
-    /// Those of [`Extensions::find`](crate::Extensions::find).
+    /// The errors of [`Extensions::find`](crate::Extensions::find).
     pub fn find_extension<K: KnownExtension<'a>>(
         &self,
         alloc: Global,
@@ -62,12 +63,12 @@ impl<'a> TbsCertList<'a> {
 }
 
 impl<'a> RevokedCertificate<'a> {
-    /// The extension of type `K` of the entry, with its contents decoded; `None` if no extension
-    /// has this type, or there are no extensions.
+    /// The extension of type `K` of the entry of a revocation list, with its contents decoded;
+    /// `None` if no extension has this type, or there are no extensions.
     ///
     /// # Errors
     ///
-    /// Those of [`Extensions::find`](crate::Extensions::find).
+    /// The errors of [`Extensions::find`](crate::Extensions::find).
     pub fn find_extension<K: KnownExtension<'a>>(
         &self,
         alloc: Global,

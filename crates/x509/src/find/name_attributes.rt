@@ -8,8 +8,8 @@ use crate::asn1::{AttributeTypeAndValue, Name, RelativeDistinguishedName};
 use der_asn1::{Item, Iter, SetOf};
 use std::alloc::Global;
 
-/// An iterator over the attributes of a name, level by level, and in the order of each level. It
-/// returns `None` only after the last attribute. Nothing is allocated.
+/// An iterator over the attributes of all RelativeDistinguishedNames of a name, in the order of the
+/// encoding. `next` returns `None` only after the last attribute. Nothing is allocated.
 #[derive(Drop)]
 pub struct NameAttributes<'a> {
     // the attributes that are left of a level, and the levels after it
@@ -19,8 +19,9 @@ pub struct NameAttributes<'a> {
 }
 
 impl<'a> Name<'a> {
-    /// An iterator over the attributes of all levels, in order. To find those of one type, compare
-    /// each `oid`.
+    /// An iterator over the attributes of all RelativeDistinguishedNames of the name, in the order
+    /// of the encoding. To find the attributes of one type, compare the field `oid` of each
+    /// attribute.
     pub fn attributes(&self, alloc: Global) -> NameAttributes<'a>
         ensures level { rest_of (slice_state result.level.items.reader) ≡ [] }
         ensures levels { rest_of (slice_state result.levels.items.reader)

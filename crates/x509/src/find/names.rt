@@ -8,7 +8,9 @@ use der_asn1::{Item, ObjectIdentifierRef};
 use std::alloc::Global;
 
 impl<'a> RelativeDistinguishedName<'a> {
-    /// What the level has with the object identifier `oid`: no attribute, one, or more than one.
+    /// Looks up the attribute of this RelativeDistinguishedName with the type `oid`. The result
+    /// holds the attribute, if exactly one attribute has this type. Otherwise the result says
+    /// whether no attribute or more than one has this type.
     pub fn get(
         &self,
         alloc: Global,
@@ -23,8 +25,13 @@ impl<'a> RelativeDistinguishedName<'a> {
 }
 
 impl<'a> Name<'a> {
-    /// What the name has with the object identifier `oid`, in all its levels: no attribute, one, or
-    /// more than one. Where a type occurs more than once, as domainComponent does, ask each level.
+    /// Looks up the attribute with the type `oid` in all RelativeDistinguishedNames of the name.
+    /// The result holds the attribute, if exactly one attribute has this type. Otherwise the result
+    /// says whether no attribute or more than one has this type.
+    ///
+    /// A name may have several attributes of some types, such as domainComponent. For these types,
+    /// call [`RelativeDistinguishedName::get`] for each RelativeDistinguishedName, or use
+    /// [`Name::attributes`].
     pub fn get(
         &self,
         alloc: Global,

@@ -1,4 +1,4 @@
-//! The only item of a type in a list.
+//! The result of a search for the only item of a list that has a given type.
 ghost use Rattle.std.specs.Prelude.{◌≡◌};
 ghost use Rattle.der.specs.Prelude.{rest_of, slice_state};
 ghost use Rattle.x509.specs.Find.{HasOccurrence, occurrence_and, occurrence_with};
@@ -7,7 +7,8 @@ use super::typed::Typed;
 use der::SliceReader;
 use der_asn1::{BorrowedItem, DecodeItem, Iter};
 
-/// What a list has of one type: no item, one, or more than one.
+/// The result of a search for the item of a list that has a given type: no item, one, or more than
+/// one.
 #[derive(Clone, Copy, Drop)]
 pub enum Occurrence<T> {
     /// No item has the type.

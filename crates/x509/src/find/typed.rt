@@ -3,7 +3,8 @@ ghost use Rattle.std.specs.Prelude.{◌≡◌, ℕ, List};
 
 use crate::asn1::{Attribute, AttributeTypeAndValue, Extension};
 
-/// Items of a list that have a type, which is given by an object identifier.
+/// Items of a list that have a type, such as extensions and attributes. The type is given by an
+/// object identifier.
 ///
 /// Ghost member (for proofs only): `type_octets` is the contents octets of that object identifier.
 pub trait Typed {

@@ -9,7 +9,7 @@ use spki::SubjectPublicKeyInfoRef;
 
 impl<'a> Certificate<'a> {
     /// The part of `octets` that the signature covers: the element TBSCertificate, with its header
-    /// (RFC 5280, 4.1.1.3). `octets` are the whole encoding of this certificate.
+    /// (RFC 5280, 4.1.1.3). `octets` must be the whole encoding of this certificate.
     pub fn signed_octets<'i>(&self, octets: &'i [u8]) -> &'i [u8]
         requires whole { octets.now ≡ element_octets ⟦<Certificate<'a> as FixedTag>⟧.tag_is
             (⟦<Certificate<'a> as WrittenValue>⟧.contents self.now) }
@@ -23,9 +23,9 @@ impl<'a> Certificate<'a> {
 }
 
 impl<'a> TbsCertificate<'a> {
-    /// The part of `octets` that is the name of the issuer: the element, with its header. An OCSP
-    /// request has a hash of it (RFC 6960, 4.1.1). `octets` are the whole encoding of this part, as
-    /// [`Certificate::signed_octets`] returns it.
+    /// The part of `octets` that is the name of the issuer, with its header. An OCSP request has a
+    /// hash of this part (RFC 6960, 4.1.1). `octets` must be the whole encoding of this
+    /// `TbsCertificate`, as [`Certificate::signed_octets`] returns it.
     pub fn issuer_octets<'i>(&self, octets: &'i [u8]) -> &'i [u8]
         requires whole { octets.now ≡ ⟦<TbsCertificate<'a> as Encode>⟧.encoding self.now }
         requires short { length octets.now < 2 ^ 32 }
@@ -50,8 +50,8 @@ impl<'a> TbsCertificate<'a> {
         )
     }
 
-    /// The part of `octets` that is the name of the subject: the element, with its header. `octets`
-    /// are the whole encoding of this part.
+    /// The part of `octets` that is the name of the subject, with its header. `octets` must be the
+    /// whole encoding of this `TbsCertificate`, as [`Certificate::signed_octets`] returns it.
     pub fn subject_octets<'i>(&self, octets: &'i [u8]) -> &'i [u8]
         requires whole { octets.now ≡ ⟦<TbsCertificate<'a> as Encode>⟧.encoding self.now }
         requires short { length octets.now < 2 ^ 32 }
@@ -74,8 +74,9 @@ impl<'a> TbsCertificate<'a> {
         )
     }
 
-    /// The part of `octets` that is the public key of the subject, with its header. `octets` are the
-    /// whole encoding of this part.
+    /// The part of `octets` that is the element SubjectPublicKeyInfo, with its header: the
+    /// algorithm and the public key of the subject. `octets` must be the whole encoding of this
+    /// `TbsCertificate`, as [`Certificate::signed_octets`] returns it.
     pub fn public_key_octets<'i>(&self, octets: &'i [u8]) -> &'i [u8]
         requires whole { octets.now ≡ ⟦<TbsCertificate<'a> as Encode>⟧.encoding self.now }
         requires short { length octets.now < 2 ^ 32 }

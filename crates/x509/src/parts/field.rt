@@ -1,11 +1,11 @@
-//! A field of a SEQUENCE, as a part of the octets of the SEQUENCE.
+//! The octets of one field of a SEQUENCE, as a part of the octets of the SEQUENCE.
 ghost use Rattle.std.specs.Prelude.{◌≡◌, ◌<◌, ◌^◌, ◌++◌, ℕ, List, length};
 ghost use Rattle.der.specs.Prelude.{Sequence, element_octets, header_octets};
 
 use der::Encode;
 
-/// The octets of the first field of a SEQUENCE. `octets` are the whole encoding of the SEQUENCE;
-/// `rest` are its other fields.
+/// The encoding of the first field of a SEQUENCE, as a part of `octets`. `octets` must be the whole
+/// encoding of the SEQUENCE. `rest` must be all fields after the first one.
 pub fn first_field<'a, T: Encode, U: Encode>(octets: &'a [u8], _first: &T, rest: &U) -> &'a [u8]
     requires whole { octets.now
         ≡ element_octets Sequence (T.encoding _first.now ++ U.encoding rest.now) }
@@ -18,8 +18,9 @@ pub fn first_field<'a, T: Encode, U: Encode>(octets: &'a [u8], _first: &T, rest:
     &octets[start..end]
 }
 
-/// The octets of a field of a SEQUENCE: `value`, with the fields `first` before it, and `rest` after
-/// it.
+/// The encoding of the field `value` of a SEQUENCE, as a part of `octets`. `octets` must be the
+/// whole encoding of the SEQUENCE. The SEQUENCE must consist of the fields of `_first`, then
+/// `value`, then the fields of `rest`.
 pub fn field_between<'a, F: Encode, T: Encode, U: Encode>(
     octets: &'a [u8],
     _first: &F,
@@ -36,8 +37,9 @@ pub fn field_between<'a, F: Encode, T: Encode, U: Encode>(
     part_before(octets, value, rest)
 }
 
-/// The octets of a field of a SEQUENCE: `value`, with the fields `first` and `second` before it, and
-/// `rest` after it.
+/// The encoding of the field `value` of a SEQUENCE, as a part of `octets`. `octets` must be the
+/// whole encoding of the SEQUENCE. The SEQUENCE must consist of the fields of `_first`, the fields
+/// of `_second`, then `value`, then the fields of `rest`.
 pub fn field_in_middle<'a, F: Encode, S: Encode, T: Encode, U: Encode>(
     octets: &'a [u8],
     _first: &F,

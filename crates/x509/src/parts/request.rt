@@ -9,7 +9,7 @@ use spki::SubjectPublicKeyInfoRef;
 
 impl<'a> CertReq<'a> {
     /// The part of `octets` that the signature covers: the element CertificationRequestInfo, with
-    /// its header (RFC 2986, 4.2). `octets` are the whole encoding of this request.
+    /// its header (RFC 2986, 4.2). `octets` must be the whole encoding of this request.
     pub fn signed_octets<'i>(&self, octets: &'i [u8]) -> &'i [u8]
         requires whole { octets.now ≡ element_octets ⟦<CertReq<'a> as FixedTag>⟧.tag_is
             (⟦<CertReq<'a> as WrittenValue>⟧.contents self.now) }
@@ -23,8 +23,9 @@ impl<'a> CertReq<'a> {
 }
 
 impl<'a> CertReqInfo<'a> {
-    /// The part of `octets` that is the public key, with its header. `octets` are the whole encoding
-    /// of this part, as [`CertReq::signed_octets`] returns it.
+    /// The part of `octets` that is the element SubjectPublicKeyInfo, with its header: the
+    /// algorithm and the public key. `octets` must be the whole encoding of this `CertReqInfo`, as
+    /// [`CertReq::signed_octets`] returns it.
     pub fn public_key_octets<'i>(&self, octets: &'i [u8]) -> &'i [u8]
         requires whole { octets.now ≡ ⟦<CertReqInfo<'a> as Encode>⟧.encoding self.now }
         requires short { length octets.now < 2 ^ 32 }

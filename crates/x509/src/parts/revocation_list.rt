@@ -8,7 +8,7 @@ use der::{DecodeValue, Encode, FixedTag, IsValue, ReadValue, WrittenValue, field
 
 impl<'a> CertificateList<'a> {
     /// The part of `octets` that the signature covers: the element TBSCertList, with its header
-    /// (RFC 5280, 5.1.1.3). `octets` are the whole encoding of this list.
+    /// (RFC 5280, 5.1.1.3). `octets` must be the whole encoding of this list.
     pub fn signed_octets<'i>(&self, octets: &'i [u8]) -> &'i [u8]
         requires whole { octets.now ≡ element_octets ⟦<CertificateList<'a> as FixedTag>⟧.tag_is
             (⟦<CertificateList<'a> as WrittenValue>⟧.contents self.now) }

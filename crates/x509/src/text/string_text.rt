@@ -20,17 +20,17 @@ use std::fmt;
 pub enum Text<'a> {
     /// Characters in UTF-8.
     Utf8(Utf8StringRef<'a>),
-    /// Characters of one octet each, in ISO 8859-1. Those below 128 are those of ASCII.
+    /// Characters of one octet each, in ISO 8859-1. Octets below 128 are ASCII characters.
     Latin1(Latin1<'a>),
-    /// Characters of two octets each.
+    /// Characters of two octets each: the first octet is the more significant.
     Bmp(BmpStringRef<'a>),
 }
 
 impl<'a> Text<'a> {
-    /// The characters of `value`, if it is a UTF8String, NumericString, PrintableString,
-    /// TeletexString, IA5String, VisibleString or BMPString with valid contents; otherwise `None`.
-    /// A TeletexString is read as ISO 8859-1, as most software does, although its own character
-    /// sets differ (X.680 41).
+    /// The characters of `value`, if it is a string with valid contents; otherwise `None`. A string
+    /// is a UTF8String, NumericString, PrintableString, TeletexString, IA5String, VisibleString or
+    /// BMPString. A TeletexString is read as ISO 8859-1, as most software does, although the
+    /// character sets of a TeletexString differ from it (X.680 41).
     pub fn of(value: &AnyRef<'a>) -> Option<Self>
         ensures { found_text result ≡ string_text value.now.tag value.now.contents.now }
     {
@@ -47,8 +47,9 @@ impl<'a> Text<'a> {
         }
     }
 
-    /// The characters as a `str`, if they are in UTF-8, or in ISO 8859-1 and all of ASCII; otherwise
-    /// `None`. Printing a [`Text`] gives the characters of each.
+    /// The characters as a `str`, if they are [`Text::Utf8`], or if they are [`Text::Latin1`] and
+    /// all of them are ASCII characters. Otherwise `None`; to get the characters then, print the
+    /// `Text`.
     pub fn as_str(&self) -> Option<&'a str>
         ensures some { IfSome result (λ t. t.now ≡ text_octets self.now) }
         ensures none { IfNone result (IsTextOfOther self.now) }
@@ -62,7 +63,8 @@ impl<'a> Text<'a> {
 }
 
 impl<'a> AttributeTypeAndValue<'a> {
-    /// The characters of the value, as [`Text::of`] reads them: `None` if the value is no string.
+    /// The characters of the value, as [`Text::of`] reads them; `None` if [`Text::of`] does not
+    /// read the value as a string.
     pub fn text(&self) -> Option<Text<'a>>
         ensures { found_text result
             ≡ string_text self.now.value.tag self.now.value.contents.now }

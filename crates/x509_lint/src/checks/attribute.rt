@@ -12,8 +12,8 @@ use der_asn1::{
 use x509::AttributeTypeAndValue;
 use x509::values::{id_domain_component, id_email_address};
 
-/// Whether the value has as many characters as RFC 5280, A.1, allows for the type of the
-/// attribute. Decoding does not check this.
+/// Whether the number of characters of the value is within the bounds of RFC 5280, A.1, for the
+/// type of the attribute. True if A.1 has no bounds for the type. Decoding does not check this.
 pub fn has_length_of_type(attribute: &AttributeTypeAndValue<'_>) -> bool
     ensures { (result ≡ true) ↔ HasLengthOfType attribute.now }
 {
@@ -26,7 +26,7 @@ pub fn has_length_of_type(attribute: &AttributeTypeAndValue<'_>) -> bool
 }
 
 /// Whether all characters of the value belong to the string type that its tag names (X.680 41).
-/// A value that is not a string has no such characters. Decoding does not check this.
+/// Also true if the value is not a string. Decoding does not check this.
 pub fn has_characters_of_tag(attribute: &AttributeTypeAndValue<'_>) -> bool
     ensures { (result ≡ true) ↔ HasCharactersOfTag attribute.now }
 {

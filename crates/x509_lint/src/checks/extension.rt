@@ -15,26 +15,30 @@ use x509::values::{
     id_ce_subject_key_identifier, id_pe_authority_info_access, id_pe_subject_info_access,
 };
 
-/// Whether the extension is critical if it must be: nameConstraints, policyConstraints and
-/// inhibitAnyPolicy (RFC 5280, 4.2.1.10, 4.2.1.11, 4.2.1.14). Decoding does not check this.
+/// False if RFC 5280 requires the extension to be critical, and the extension is not critical.
+/// Otherwise true. The requirement is for nameConstraints, policyConstraints and inhibitAnyPolicy
+/// (4.2.1.10, 4.2.1.11, 4.2.1.14). Decoding does not check this.
 pub fn is_critical_if_required(extension: &Extension<'_>) -> bool
     ensures { (result ≡ true) ↔ IsCriticalIfRequired extension.now }
 {
     extension.is_critical() || !must_be_critical(extension.extn_id.octets())
 }
 
-/// Whether the extension is not critical if it must not be: authorityKeyIdentifier,
-/// subjectKeyIdentifier, subjectDirectoryAttributes, freshestCRL, authorityInfoAccess and
-/// subjectInfoAccess (RFC 5280, 4.2.1.1, 4.2.1.2, 4.2.1.8, 4.2.1.15, 4.2.2). Decoding does not
-/// check this.
+/// False if RFC 5280 requires the extension to be non-critical, and the extension is critical.
+/// Otherwise true. Decoding does not check this. The requirement is for these extensions:
+///
+/// - authorityKeyIdentifier (4.2.1.1) and subjectKeyIdentifier (4.2.1.2);
+/// - subjectDirectoryAttributes (4.2.1.8);
+/// - freshestCRL (4.2.1.15);
+/// - authorityInfoAccess and subjectInfoAccess (4.2.2).
 pub fn is_not_critical_if_forbidden(extension: &Extension<'_>) -> bool
     ensures { (result ≡ true) ↔ IsNotCriticalIfForbidden extension.now }
 {
     !extension.is_critical() || !must_not_be_critical(extension.extn_id.octets())
 }
 
-/// Whether the value is not an empty SEQUENCE, if RFC 5280, 4.2, requires that its SEQUENCE has
-/// an element. Decoding does not check this.
+/// False if the value is an empty SEQUENCE, and RFC 5280, 4.2, requires that this SEQUENCE has an
+/// element. Otherwise true. Decoding does not check this.
 pub fn is_not_empty(extension: &Extension<'_>) -> bool
     ensures { (result ≡ true) ↔ IsNotEmpty extension.now }
 {
@@ -42,8 +46,8 @@ pub fn is_not_empty(extension: &Extension<'_>) -> bool
         || !must_not_be_empty(extension.extn_id.octets())
 }
 
-/// Whether a keyUsage has a bit that is one (RFC 5280, 4.2.1.3). Decoding does not check this. This
-/// does not use `alloc`.
+/// False if the extension is a keyUsage and none of its bits is one (RFC 5280, 4.2.1.3). Otherwise
+/// true. Decoding does not check this. The function does not use `alloc`.
 pub fn has_usage_if_key_usage(alloc: Global, extension: &Extension<'_>) -> bool
     ensures { (result ≡ true) ↔ HasUsageIfKeyUsage extension.now }
 {
@@ -51,8 +55,9 @@ pub fn has_usage_if_key_usage(alloc: Global, extension: &Extension<'_>) -> bool
         || has_usage(alloc, extension.extn_value.octets())
 }
 
-/// Whether the basicConstraints of an authority is critical (RFC 5280, 4.2.1.9). Decoding does not
-/// check this. This does not use `alloc`.
+/// False if the extension is a basicConstraints whose cA is true, and the extension is not critical
+/// (RFC 5280, 4.2.1.9). Otherwise true. Decoding does not check this. The function does not use
+/// `alloc`.
 pub fn is_critical_if_authority(alloc: Global, extension: &Extension<'_>) -> bool
     ensures { (result ≡ true) ↔ IsCriticalIfAuthority extension.now }
 {

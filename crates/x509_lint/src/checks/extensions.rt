@@ -14,8 +14,8 @@ use crate::extension_rule::ExtensionRule;
 use std::alloc::Global;
 use x509::{Extension, Extensions};
 
-/// The place of the first extension that breaks the rule, counted from 0; `None` if all keep
-/// it. This does not use `alloc`.
+/// The index, counted from 0, of the first extension that breaks the rule; `None` if all extensions
+/// keep the rule. The function does not use `alloc`.
 pub fn first_failing_extension(
     alloc: Global,
     extensions: &Extensions<'_>,
@@ -41,7 +41,8 @@ pub fn extensions_keep(alloc: Global, extensions: &Extensions<'_>, rule: Extensi
     first_failing_extension(alloc, extensions, rule).is_none()
 }
 
-/// The number of extensions with this identifier. This does not use `alloc`.
+/// The number of extensions whose identifier is an OBJECT IDENTIFIER with the contents octets `id`.
+/// The function does not use `alloc`.
 pub fn instances(alloc: Global, extensions: &Extensions<'_>, id: &[u8]) -> usize
     ensures { (l : AreExtensions extensions.now) → result ≡ instances id.now l.items }
 {

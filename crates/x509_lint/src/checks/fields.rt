@@ -1,4 +1,4 @@
-//! Checks of parts of the values of extensions.
+//! Checks of components inside the values of extensions.
 ghost use Rattle.std.specs.Prelude.{◌≡◌, ◌↔◌, true};
 ghost use Rattle.der.specs.Prelude.{Tag as ATag};
 ghost use Rattle.x509_lint.specs.Elements.{EachOfSequence};
@@ -92,8 +92,8 @@ fn has_pointers(alloc: Global, value: &[u8]) -> bool
     each_of_sequence(alloc, value, &policy)
 }
 
-/// Whether the distribution points in a value keep the rule (RFC 5280, 4.2.1.13). This does not use
-/// `alloc`.
+/// Whether the distribution points in the value of a cRLDistributionPoints or a freshestCRL keep
+/// the rule (RFC 5280, 4.2.1.13). This does not use `alloc`.
 pub fn points_keep(alloc: Global, value: &[u8], rule: PointRule) -> bool
     ensures { (result ≡ true) ↔ PointKeeps rule value.now }
 {

@@ -1,4 +1,4 @@
-//! Extensions that are looked for among those of a certificate.
+//! Search for extensions of a given kind in a certificate.
 ghost use Rattle.std.specs.Prelude.{◌≡◌, ◌↔◌, true};
 ghost use Rattle.der.specs.Prelude.{Integer};
 ghost use Rattle.x509_lint.specs.CertificateChecks.{IsPresent};
@@ -19,7 +19,8 @@ use x509::values::{
 };
 use x509::{Extension, Extensions, TbsCertificate};
 
-/// Whether a certificate with the one extension has the other too. This does not use `alloc`.
+/// Whether the certificate keeps the rule, which is about two extensions. The certificate must have
+/// the second extension, if it has the first. The function does not use `alloc`.
 pub fn has_pair(alloc: Global, signed: &TbsCertificate<'_>, rule: PairRule) -> bool
     ensures { (result ≡ true)
         ↔ (IsPresent (given_of rule) signed.now → IsPresent (wanted_of rule) signed.now) }
@@ -27,7 +28,7 @@ pub fn has_pair(alloc: Global, signed: &TbsCertificate<'_>, rule: PairRule) -> b
     !is_present(alloc, signed, rule.given()) || is_present(alloc, signed, rule.wanted())
 }
 
-/// Whether the certificate has such an extension. This does not use `alloc`.
+/// Whether the certificate has an extension of the kind `test`. This does not use `alloc`.
 pub fn is_present(alloc: Global, signed: &TbsCertificate<'_>, test: ExtensionTest) -> bool
     ensures { (result ≡ true) ↔ IsPresent test signed.now }
 {
@@ -37,7 +38,7 @@ pub fn is_present(alloc: Global, signed: &TbsCertificate<'_>, test: ExtensionTes
     }
 }
 
-/// Whether one of the extensions is looked for. This does not use `alloc`.
+/// Whether one of the extensions is of the kind `test`. This does not use `alloc`.
 pub fn has_extension(alloc: Global, extensions: &Extensions<'_>, test: ExtensionTest) -> bool
     ensures { (result ≡ true) ↔ HasFound test extensions.now }
 {

@@ -1,4 +1,4 @@
-//! Extensions that are of one type.
+//! Whether an extension is one of a group of types, by its identifier.
 ghost use Rattle.std.specs.Prelude.{◌≡◌, ◌↔◌, true};
 ghost use Rattle.x509_lint.specs.ExtensionKinds.{IsAltNames, IsPoints};
 

@@ -1,4 +1,4 @@
-//! Checks of the levels of a name (RFC 5280, 4.1.2.4).
+//! Checks of the RelativeDistinguishedNames of a name (RFC 5280, 4.1.2.4).
 ghost use Rattle.std.specs.Prelude.{◌≡◌, ◌↔◌, true};
 ghost use Rattle.x509.specs.CertificateLists.{AreAttributes, AreLevels, level_octets};
 ghost use Rattle.x509.specs.Firsts.{FirstFailing};
@@ -11,8 +11,8 @@ use crate::name_rule::NameRule;
 use std::alloc::Global;
 use x509::{AttributeTypeAndValue, Name, RelativeDistinguishedName};
 
-/// The place of the first level that breaks the rule, counted from 0; `None` if all keep it.
-/// This does not use `alloc`.
+/// The index, counted from 0, of the first RelativeDistinguishedName that breaks the rule; `None`
+/// if all RelativeDistinguishedNames keep the rule. The function does not use `alloc`.
 pub fn first_failing_level(alloc: Global, name: &Name<'_>, rule: NameRule) -> Option<usize>
     ensures { (l : AreLevels name.now) → FirstFailing (LevelKeeps rule) l.items result }
 {
@@ -26,9 +26,10 @@ pub fn first_failing_level(alloc: Global, name: &Name<'_>, rule: NameRule) -> Op
     None
 }
 
-/// The place of the first level with an attribute that breaks the rule, and the place of the
-/// first such attribute in it, both counted from 0; `None` if all attributes keep it. This does
-/// not use `alloc`.
+/// Finds the first attribute of a name that breaks the rule. Returns the index of its
+/// RelativeDistinguishedName in the name, and its own index in that RelativeDistinguishedName. Both
+/// indices count from 0. Returns `None` if all attributes keep the rule. The function does not use
+/// `alloc`.
 pub fn first_failing_attribute(
     alloc: Global,
     name: &Name<'_>,
@@ -46,14 +47,14 @@ pub fn first_failing_attribute(
     None
 }
 
-/// Whether all levels keep the rule. This does not use `alloc`.
+/// Whether all RelativeDistinguishedNames of the name keep the rule. This does not use `alloc`.
 pub fn name_keeps(alloc: Global, name: &Name<'_>, rule: NameRule) -> bool
     ensures { (result ≡ true) ↔ NameKeeps rule name.now }
 {
     first_failing_level(alloc, name, rule).is_none()
 }
 
-/// Whether the level keeps the rule. This does not use `alloc`.
+/// Whether the RelativeDistinguishedName keeps the rule. This does not use `alloc`.
 pub fn level_keeps(alloc: Global, level: &RelativeDistinguishedName<'_>, rule: NameRule) -> bool
     ensures { (result ≡ true) ↔ LevelKeeps rule level.now }
 {
@@ -63,8 +64,8 @@ pub fn level_keeps(alloc: Global, level: &RelativeDistinguishedName<'_>, rule: N
     }
 }
 
-/// The place of the first attribute that breaks the rule, counted from 0; `None` if all keep
-/// it. This does not use `alloc`.
+/// The index, counted from 0, of the first attribute of the RelativeDistinguishedName that breaks
+/// the rule; `None` if all attributes keep the rule. The function does not use `alloc`.
 pub fn first_failing_of_level(
     alloc: Global,
     level: &RelativeDistinguishedName<'_>,

@@ -6,16 +6,16 @@ ghost use Rattle.x509_lint.specs.PolicyChecks.{AreDistinctPolicies, ArePolicies,
 use std::alloc::Global;
 use x509::{CertificatePolicies, PolicyInformation};
 
-/// Whether no policy occurs twice (RFC 5280, 4.2.1.4). Decoding does not check this. This does not
-/// use `alloc`.
+/// Whether no policy occurs twice (RFC 5280, 4.2.1.4). Decoding does not check this. The function
+/// does not use `alloc`.
 pub fn has_distinct_policies(alloc: Global, policies: &CertificatePolicies<'_>) -> bool
     ensures { (result ≡ true) ↔ AreDistinctPolicies policies.now.octets.now }
 {
     first_repeated_policy(alloc, policies).is_none()
 }
 
-/// The place of the first policy that occurs again, counted from 0; `None` if none does. This does
-/// not use `alloc`.
+/// The index, counted from 0, of the first policy that occurs again later in the list; `None` if
+/// each policy occurs once. The function does not use `alloc`.
 pub fn first_repeated_policy(alloc: Global, policies: &CertificatePolicies<'_>) -> Option<usize>
     ensures { (l : ArePolicies policies.now.octets.now)
         → FirstFailing (IsOnlyPolicy l.items) l.items result }

@@ -1,4 +1,4 @@
-//! Checks that lists of a certificate are not empty.
+//! Checks that lists of a certificate are not empty, and that unique identifiers are absent.
 ghost use Rattle.std.specs.Prelude.{◌≡◌, ◌≢◌, ◌↔◌, [], true};
 ghost use Rattle.x509_lint.specs.CertificateChecks.{HasExtensionIfPresent, HasIssuer, HasNoUniqueIdentifier};
 ghost use Rattle.x509.specs.CertificateLists.{level_octets};
@@ -6,15 +6,15 @@ ghost use Rattle.x509.specs.CertificateLists.{level_octets};
 use der_asn1::{Item, SequenceOf};
 use x509::{RelativeDistinguishedName, TbsCertificate};
 
-/// Whether a list has an item, as the size `1..MAX` requires, for example of the lists of RFC 5280,
-/// 4.2.1. Decoding does not check this.
+/// Whether a list has an item. RFC 5280, 4.2.1, requires an item of several lists, by the size
+/// `1..MAX`. Decoding does not check this.
 pub fn has_item<T: Item>(list: &SequenceOf<'_, T>) -> bool
     ensures { (result ≡ true) ↔ (list.now.octets.now ≢ []) }
 {
     !list.octets().is_empty()
 }
 
-/// Whether the level of a name has an attribute, as its size `1..MAX` requires (RFC 5280,
+/// Whether the RelativeDistinguishedName has an attribute, as its size `1..MAX` requires (RFC 5280,
 /// 4.1.2.4). Decoding does not check this.
 pub fn has_attribute(level: &RelativeDistinguishedName<'_>) -> bool
     ensures { (result ≡ true) ↔ (level_octets level.now ≢ []) }
@@ -30,8 +30,8 @@ pub fn has_issuer(signed: &TbsCertificate<'_>) -> bool
     has_item(&signed.issuer.levels)
 }
 
-/// Whether there is an extension if the field `extensions` is present (RFC 5280, 4.1). Decoding
-/// does not check this.
+/// False if the field `extensions` is present and has no extension (RFC 5280, 4.1). Otherwise true.
+/// Decoding does not check this.
 pub fn has_extension_if_present(signed: &TbsCertificate<'_>) -> bool
     ensures { (result ≡ true) ↔ HasExtensionIfPresent signed.now }
 {
@@ -41,7 +41,8 @@ pub fn has_extension_if_present(signed: &TbsCertificate<'_>) -> bool
     }
 }
 
-/// Whether there are no unique identifiers (RFC 5280, 4.1.2.8). Decoding does not check this.
+/// Whether the certificate has neither an issuerUniqueID nor a subjectUniqueID (RFC 5280, 4.1.2.8).
+/// Decoding does not check this.
 pub fn has_no_unique_identifier(signed: &TbsCertificate<'_>) -> bool
     ensures { (result ≡ true) ↔ HasNoUniqueIdentifier signed.now }
 {

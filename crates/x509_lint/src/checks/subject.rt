@@ -9,24 +9,24 @@ use std::alloc::Global;
 use x509::TbsCertificate;
 
 /// Whether the subject has a name: the field `subject` is not empty, or there is a critical
-/// subjectAltName (RFC 5280, 4.1.2.6, 4.2.1.6). Decoding does not check this. This does not use
-/// `alloc`.
+/// subjectAltName (RFC 5280, 4.1.2.6, 4.2.1.6). Decoding does not check this. The function does not
+/// use `alloc`.
 pub fn has_subject(alloc: Global, signed: &TbsCertificate<'_>) -> bool
     ensures { (result ≡ true) ↔ HasSubject signed.now }
 {
     has_item(&signed.subject.levels) || is_present(alloc, signed, ExtensionTest::CriticalAltName)
 }
 
-/// Whether the field `subject` is not empty, if the subject is an authority (RFC 5280, 4.1.2.6).
-/// This does not use `alloc`.
+/// False if the field `subject` is empty and the certificate has a basicConstraints whose cA is
+/// true (RFC 5280, 4.1.2.6). Otherwise true. The function does not use `alloc`.
 pub fn has_authority_subject(alloc: Global, signed: &TbsCertificate<'_>) -> bool
     ensures { (result ≡ true) ↔ HasAuthoritySubject signed.now }
 {
     has_item(&signed.subject.levels) || !is_present(alloc, signed, ExtensionTest::Authority)
 }
 
-/// Whether there is an authorityKeyIdentifier with a keyIdentifier, if issuer and subject are not
-/// the same (RFC 5280, 4.2.1.1). This does not use `alloc`.
+/// Whether the certificate has an authorityKeyIdentifier with a keyIdentifier (RFC 5280, 4.2.1.1).
+/// Also true if its issuer and its subject have the same name. The function does not use `alloc`.
 pub fn has_key_identifier(alloc: Global, signed: &TbsCertificate<'_>) -> bool
     ensures { (result ≡ true) ↔ HasKeyIdentifier signed.now }
 {

@@ -5,8 +5,8 @@ ghost use Rattle.x509_lint.specs.ValidityChecks.{HasFormOfYear, HasFormsOfYears,
 use std::cmp::Ordering;
 use x509::{Time, Validity};
 
-/// Whether the time is a UTCTime through the year 2049, and a GeneralizedTime from 2050 on (RFC
-/// 5280, 4.1.2.5). Decoding does not check this.
+/// Whether the time has the form that its year requires: UTCTime for the year 2049 and earlier
+/// years, GeneralizedTime from 2050 on (RFC 5280, 4.1.2.5). Decoding does not check this.
 pub fn has_form_of_year(time: &Time) -> bool
     ensures { (result ≡ true) ↔ HasFormOfYear time.now }
 {
@@ -23,8 +23,8 @@ pub fn has_forms_of_years(validity: &Validity) -> bool
     has_form_of_year(&validity.not_before) && has_form_of_year(&validity.not_after)
 }
 
-/// Whether the period does not end before it begins (RFC 5280, 4.1.2.5). Both times may be the
-/// same.
+/// Whether the period of validity does not end before it begins (RFC 5280, 4.1.2.5). Also true if
+/// it ends when it begins.
 pub fn is_ordered(validity: &Validity) -> bool
     ensures { (result ≡ true) ↔ IsOrdered validity.now }
 {

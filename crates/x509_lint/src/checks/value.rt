@@ -38,8 +38,9 @@ use x509::values::{
     id_ce_policy_mappings,
 };
 
-/// Whether the value of an extension with this identifier keeps the rule. This does not use
-/// `alloc`.
+/// Whether the value of an extension keeps the rule. `id` are the contents octets of the identifier
+/// of the extension, and `value` is the octets inside its OCTET STRING. True if the rule is for
+/// other extensions. The function does not use `alloc`.
 pub fn value_keeps(alloc: Global, id: &[u8], value: &[u8], rule: ValueRule) -> bool
     ensures { (result ≡ true) ↔ ValueKeeps rule id.now value.now }
 {

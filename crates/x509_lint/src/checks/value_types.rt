@@ -1,4 +1,4 @@
-//! Whether the value of an extension is one of its type (RFC 5280, 4.2.1 and 4.2.2).
+//! Whether the value of an extension is an encoding of its type (RFC 5280, 4.2.1 and 4.2.2).
 ghost use Rattle.std.specs.Prelude.{◌≡◌, ◌↔◌, true};
 ghost use Rattle.x509_lint.specs.ValueTypes.{ArePurposes, HasKeys, HasPlaces, HasPolicies, HasPoliciesAndKeys, HasValueOfType, IsIdentifierValue, IsNumberValue, IsPurposesValue, IsUsageValue};
 
@@ -22,8 +22,10 @@ use x509::{
     GeneralName, NameConstraints, PolicyConstraints, PolicyInformation, PolicyMapping,
 };
 
-/// Whether the value of an extension with this identifier is one of the type that RFC 5280 gives it;
-/// true if RFC 5280 does not know the identifier. This does not use `alloc`.
+/// Whether the value of an extension is an encoding of the type that RFC 5280 gives to the
+/// extension. `id` are the contents octets of the identifier of the extension, and `value` is the
+/// octets inside its OCTET STRING. True if RFC 5280 does not define an extension with this
+/// identifier. The function does not use `alloc`.
 pub fn has_value_of_type<'a>(alloc: Global, id: &[u8], value: &'a [u8]) -> bool
     ensures { (result ≡ true) ↔ HasValueOfType id.now value.now }
 {

@@ -1,4 +1,5 @@
-//! Owned byte strings from contents that may be in segments.
+//! Owned byte strings from the contents of an element. If the element is constructed, its contents
+//! are segments (X.690 8.7.3), which are joined.
 ghost use Rattle.std.specs.Prelude.{◌≡◌, ◌⊎◌, ℕ, List, true, false, IfOk, IfErr, IsOk, IsErrAnd};
 ghost use Rattle.der_base.specs.Error.{error_of_kind};
 ghost use Rattle.der_base.specs.declared.error.ErrorKind.TheVariants.{OutOfMemory as NoMemory};

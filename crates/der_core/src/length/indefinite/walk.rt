@@ -1,4 +1,5 @@
-//! The scan of a body by an index, for readers that return slices (X.690 8.1.3.6).
+//! Finds where a body with an indefinite length ends (X.690 8.1.3.6). This code scans a slice by an
+//! index; it serves the readers that return slices of their input.
 ghost use Rattle.std.specs.Prelude.{◌≡◌, ◌≢◌, ◌+◌, ◌^◌, ◌<◌, ◌≤◌, true, [], ◌∷◌, length, Err, IfOk, IfErr, OnOk};
 
 use crate::identifier::{Identifier, has_constructed_bit, is_ber_identifier, unknown};

@@ -1,4 +1,5 @@
-//! Comparisons of items, pair by pair.
+//! Comparisons of two sequences of values, pair by pair, where the iterators return the values
+//! themselves.
 ghost use Rattle.std.specs.Prelude.{◌≡◌};
 ghost use Rattle.std.specs.Iterator.{IsFinite};
 ghost use Rattle.der_core.specs.Items.{ComparesItems, OfItems, ComparesJoined, SortsJoined, lists_order};

@@ -1,4 +1,5 @@
-//! Extensions on paths and on further information (RFC 5280, 4.2.1, 4.2.2; RFC 6962, 3.3).
+//! Extensions that limit certification paths or the use of keys, or that say where further
+//! information is (RFC 5280, 4.2.1, 4.2.2; RFC 6962, 3.3).
 ghost use Rattle.std.specs.Prelude.{◌≡◌, ◌∷◌, []};
 ghost use Rattle.der_asn1.specs.Arcs.{oid_octets};
 
@@ -6,8 +7,8 @@ use crate::asn1::{self, values};
 use crate::find::KnownExtension;
 use der_asn1::ObjectIdentifierRef;
 
-/// basicConstraints (RFC 5280, 4.2.1.9): whether the subject is an authority, and how long a path
-/// may be below it.
+/// basicConstraints (RFC 5280, 4.2.1.9): whether the subject is a certification authority, and how
+/// many certificates of further authorities may follow in a path.
 pub struct BasicConstraints;
 
 impl<'a> KnownExtension<'a> for BasicConstraints {
@@ -22,7 +23,8 @@ impl<'a> KnownExtension<'a> for BasicConstraints {
     }
 }
 
-/// nameConstraints (RFC 5280, 4.2.1.10): which names certificates below may have.
+/// nameConstraints (RFC 5280, 4.2.1.10): which names are allowed in the later certificates of a
+/// path.
 pub struct NameConstraints;
 
 impl<'a> KnownExtension<'a> for NameConstraints {
@@ -37,7 +39,9 @@ impl<'a> KnownExtension<'a> for NameConstraints {
     }
 }
 
-/// policyConstraints (RFC 5280, 4.2.1.11): which policies certificates below must have.
+/// policyConstraints (RFC 5280, 4.2.1.11). Its value limits the later certificates of a path: after
+/// how many certificates an acceptable policy is required, and after how many no policies may be
+/// mapped.
 pub struct PolicyConstraints;
 
 impl<'a> KnownExtension<'a> for PolicyConstraints {
@@ -67,7 +71,7 @@ impl<'a> KnownExtension<'a> for ExtKeyUsage {
     }
 }
 
-/// cRLDistributionPoints (RFC 5280, 4.2.1.13): where revocation lists are.
+/// cRLDistributionPoints (RFC 5280, 4.2.1.13): where revocation lists can be found.
 pub struct CrlDistributionPoints;
 
 impl<'a> KnownExtension<'a> for CrlDistributionPoints {
@@ -82,7 +86,8 @@ impl<'a> KnownExtension<'a> for CrlDistributionPoints {
     }
 }
 
-/// inhibitAnyPolicy (RFC 5280, 4.2.1.14): from where on the policy anyPolicy does not count.
+/// inhibitAnyPolicy (RFC 5280, 4.2.1.14). Its value is the number of certificates of a path after
+/// which the policy anyPolicy no longer counts as a match for other policies.
 pub struct InhibitAnyPolicy;
 
 impl<'a> KnownExtension<'a> for InhibitAnyPolicy {
@@ -97,7 +102,8 @@ impl<'a> KnownExtension<'a> for InhibitAnyPolicy {
     }
 }
 
-/// freshestCRL (RFC 5280, 4.2.1.15, 5.2.6): where lists of changes are.
+/// freshestCRL (RFC 5280, 4.2.1.15, 5.2.6): where delta revocation lists can be found. A delta list
+/// contains only changes.
 pub struct FreshestCrl;
 
 impl<'a> KnownExtension<'a> for FreshestCrl {
@@ -112,7 +118,7 @@ impl<'a> KnownExtension<'a> for FreshestCrl {
     }
 }
 
-/// authorityInfoAccess (RFC 5280, 4.2.2.1, 5.2.7): where information on the issuer is.
+/// authorityInfoAccess (RFC 5280, 4.2.2.1, 5.2.7): where information about the issuer can be found.
 pub struct AuthorityInfoAccess;
 
 impl<'a> KnownExtension<'a> for AuthorityInfoAccess {
@@ -127,7 +133,7 @@ impl<'a> KnownExtension<'a> for AuthorityInfoAccess {
     }
 }
 
-/// subjectInfoAccess (RFC 5280, 4.2.2.2): where information on the subject is.
+/// subjectInfoAccess (RFC 5280, 4.2.2.2): where information about the subject can be found.
 pub struct SubjectInfoAccess;
 
 impl<'a> KnownExtension<'a> for SubjectInfoAccess {
@@ -142,8 +148,8 @@ impl<'a> KnownExtension<'a> for SubjectInfoAccess {
     }
 }
 
-/// SignedCertificateTimestampList (RFC 6962, 3.3): the proofs that logs have the certificate, in
-/// the encoding of TLS.
+/// SignedCertificateTimestampList (RFC 6962, 3.3): the timestamps by which logs promise to include
+/// the certificate, in the encoding of TLS.
 pub struct SignedCertificateTimestamps;
 
 impl<'a> KnownExtension<'a> for SignedCertificateTimestamps {

@@ -21,7 +21,8 @@ impl<'a> KnownExtension<'a> for CrlNumber {
     }
 }
 
-/// deltaCRLIndicator (RFC 5280, 5.2.4): the number of the list whose changes this list has.
+/// deltaCRLIndicator (RFC 5280, 5.2.4): the list is a delta revocation list, which contains only
+/// changes. The value is the number of the complete list to which the changes apply.
 pub struct DeltaCrlIndicator;
 
 impl<'a> KnownExtension<'a> for DeltaCrlIndicator {
@@ -66,8 +67,8 @@ impl<'a> KnownExtension<'a> for ReasonCode {
     }
 }
 
-/// invalidityDate (RFC 5280, 5.3.2): when the key was lost, or the certificate became invalid for
-/// another reason.
+/// invalidityDate (RFC 5280, 5.3.2): when the private key was compromised, or the certificate
+/// became invalid for another reason.
 pub struct InvalidityDate;
 
 impl<'a> KnownExtension<'a> for InvalidityDate {
@@ -82,7 +83,7 @@ impl<'a> KnownExtension<'a> for InvalidityDate {
     }
 }
 
-/// certificateIssuer (RFC 5280, 5.3.3): who issued the certificate of an entry.
+/// certificateIssuer (RFC 5280, 5.3.3): who issued the revoked certificate that an entry names.
 pub struct CertificateIssuer;
 
 impl<'a> KnownExtension<'a> for CertificateIssuer {
