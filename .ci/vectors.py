@@ -4,11 +4,11 @@ words of each kind, and compares what it says."""
 import errno
 import os
 import re
-import resource
 import subprocess
 import tempfile
 
 import checker
+import growth
 from checker import TOP, crates, text_of
 
 VECTORS = f"{TOP}/tests/vectors"
@@ -136,6 +136,13 @@ def compare(compiler, name):
     return held
 
 
+def lists(folder, count):
+    """The path of a module whose type is so many lists, each in the one before."""
+    with open(f"{folder}/lists{count}.asn1", "w", encoding="utf-8") as file:
+        file.write(f"Lists DEFINITIONS ::= BEGIN\nDeep ::= {'SEQUENCE OF ' * count}INTEGER\nEND\n")
+    return file.name
+
+
 def calls(folder):
     """Calls of the compiler, which may write to a folder: the words, the status, and the texts that it prints, to
     standard output for the help and the version, and else to standard error."""
@@ -177,6 +184,8 @@ def calls(folder):
         (["--schema", f"{folder}/table", module], 1, [f"{module}:5:12: found Number, expected a type"]),
         (["--schema", f"{folder}/table", "--only", "Away", partly], 1, [f"{partly}:4:24: found Missing, expected a module"]),
         (["--schema", f"{folder}/table", "--only", "Visits.None", f"{TOP}/asn1/visits.asn1"], 1, ["found Visits, expected a module that has"]),
+        (["--schema", f"{folder}/table", lists(folder, 63)], 0, ["Lists.Deep 0\n"]),
+        (["--schema", f"{folder}/table", lists(folder, 64)], 1, [":2:778: found INTEGER, expected at most 63 types around a type"]),
         (checker.args_of("asn1_compile"), 1, [text_of(f"{checker.folder_of('asn1_compile')}/stderr")]),
     ]
 
@@ -195,23 +204,15 @@ def says(compiler, words, status, texts):
     return held
 
 
-def seconds(compiler, folder, count):
-    """The processor time that a module with so many types takes."""
-    types = "".join(f"T{it} ::= INTEGER\n" for it in range(count))
-    with open(f"{folder}/many.asn1", "w", encoding="utf-8") as file:
-        file.write(f"Many DEFINITIONS ::= BEGIN\n{types}END\n")
-    before = resource.getrusage(resource.RUSAGE_CHILDREN).ru_utime
-    subprocess.run([compiler, "--out", f"{folder}/many{count}", f"{folder}/many.asn1"], check=True)
-    return resource.getrusage(resource.RUSAGE_CHILDREN).ru_utime - before
-
-
 def is_linear(compiler):
-    """Whether eight times as many types take less than sixteen times as long."""
+    """Whether the time for a module is linear in its number of types."""
     with tempfile.TemporaryDirectory() as folder:
-        few, many = seconds(compiler, folder, 50), seconds(compiler, folder, 400)
-    if many >= 16 * few:
-        print(f"test: asn1_compile: 400 types take {many:.2f} seconds, and 50 types {few:.2f}")
-    return many < 16 * few
+        def measured(count):
+            types = "".join(f"T{it} ::= INTEGER\n" for it in range(count))
+            with open(f"{folder}/many.asn1", "w", encoding="utf-8") as file:
+                file.write(f"Many DEFINITIONS ::= BEGIN\n{types}END\n")
+            return growth.seconds([compiler, "--out", f"{folder}/many{count}", f"{folder}/many.asn1"])
+        return growth.is_linear("asn1_compile", 50, measured)
 
 
 def run_calls(compiler):

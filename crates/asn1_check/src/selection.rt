@@ -31,8 +31,8 @@ pub struct Selection<'a> {
 ///
 /// An assignment is left out in these cases:
 ///
-/// - It has a form that is not supported. `known` tells of the cases that the parser does not
-///   notice.
+/// - It has a form that is not supported. The parser does not notice each of these cases; `known`
+///   has the others.
 /// - It refers to an assignment that is left out.
 /// - It refers to an imported name, but the module of that name is not among `externals`, or does
 ///   not have the name because it leaves the name out.

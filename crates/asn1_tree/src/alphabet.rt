@@ -66,7 +66,7 @@ fn are_codes_allowed(
     true
 }
 
-// Whether a node has a permitted alphabet. Without one no character is looked at.
+// Whether a node has a permitted alphabet. Without one each character is allowed.
 fn has_alphabet(schema: &Schema<'_>, limits: Span) -> bool
     requires { IsWithin limits schema.now.counts.limits }
     ensures { result ≡ false → (k : ℕ) (l : ALimit)

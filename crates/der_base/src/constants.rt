@@ -11,76 +11,81 @@ use crate::tag::{
     CLASS_APPLICATION, CLASS_CONTEXT_SPECIFIC, CLASS_PRIVATE, CLASS_UNIVERSAL, TagMode,
 };
 
-/// Returns [`Length::ZERO`]; the contract states that it is the definite length of zero octets.
+/// Returns [`Length::ZERO`]. The contract of this function states that it is the definite length of
+/// zero octets.
 fn zero() -> Length
     ensures { result ≡ definite_length 0 }
 {
     Length::ZERO
 }
 
-/// Returns [`Length::ONE`]; the contract states that it is the definite length of one octet.
+/// Returns [`Length::ONE`]. The contract of this function states that it is the definite length of
+/// one octet.
 fn one() -> Length
     ensures { result ≡ definite_length 1 }
 {
     Length::ONE
 }
 
-/// Returns [`Length::MAX`]; the contract states that it is the greatest definite length, 4294967295
-/// octets.
+/// Returns [`Length::MAX`]. The contract of this function states that it is the greatest definite
+/// length, 4294967295 octets.
 fn max() -> Length
     ensures { result ≡ definite_length 4294967295 }
 {
     Length::MAX
 }
 
-/// Returns [`CLASS_UNIVERSAL`]; the contract states that it is `0x00`: in an identifier octet of
-/// class UNIVERSAL bits 8 and 7 are both 0 (X.690 8.1.2.2, table 1).
+/// Returns [`CLASS_UNIVERSAL`]. The contract of this function states that it is `0x00`: in an
+/// identifier octet of class UNIVERSAL bits 8 and 7 are both 0 (X.690 8.1.2.2, table 1).
 fn class_universal() -> u8
     ensures { result ≡ 0x00 }
 {
     CLASS_UNIVERSAL
 }
 
-/// Returns [`CLASS_APPLICATION`]; the contract states that it is `0x40`: in an identifier octet of
-/// class APPLICATION bit 8 is 0 and bit 7 is 1 (X.690 8.1.2.2, table 1).
+/// Returns [`CLASS_APPLICATION`]. The contract of this function states that it is `0x40`: in an
+/// identifier octet of class APPLICATION bit 8 is 0 and bit 7 is 1 (X.690 8.1.2.2, table 1).
 fn class_application() -> u8
     ensures { result ≡ 0x40 }
 {
     CLASS_APPLICATION
 }
 
-/// Returns [`CLASS_CONTEXT_SPECIFIC`]; the contract states that it is `0x80`: in an identifier
-/// octet of class CONTEXT-SPECIFIC bit 8 is 1 and bit 7 is 0 (X.690 8.1.2.2, table 1).
+/// Returns [`CLASS_CONTEXT_SPECIFIC`]. The contract of this function states that it is `0x80`: in
+/// an identifier octet of class CONTEXT-SPECIFIC bit 8 is 1 and bit 7 is 0 (X.690 8.1.2.2, table
+/// 1).
 fn class_context_specific() -> u8
     ensures { result ≡ 0x80 }
 {
     CLASS_CONTEXT_SPECIFIC
 }
 
-/// Returns [`CLASS_PRIVATE`]; the contract states that it is `0xC0`: in an identifier octet of
-/// class PRIVATE bits 8 and 7 are both 1 (X.690 8.1.2.2, table 1).
+/// Returns [`CLASS_PRIVATE`]. The contract of this function states that it is `0xC0`: in an
+/// identifier octet of class PRIVATE bits 8 and 7 are both 1 (X.690 8.1.2.2, table 1).
 fn class_private() -> u8
     ensures { result ≡ 0xC0 }
 {
     CLASS_PRIVATE
 }
 
-/// Returns the default [`Length`]; the contract states that it is the definite length 0.
+/// Returns the default [`Length`]. The contract of this function states that it is the definite
+/// length 0.
 fn default_length() -> Length
     ensures { result ≡ definite_length 0 }
 {
     Length::default()
 }
 
-/// Returns the default [`TagMode`]; the contract states that it is explicit tagging.
+/// Returns the default [`TagMode`]. The contract of this function states that it is explicit
+/// tagging.
 fn default_mode() -> TagMode
     ensures { result ≡ Explicit }
 {
     TagMode::default()
 }
 
-/// Returns the default [`EncodingRules`]; the contract states that they are the Distinguished
-/// Encoding Rules.
+/// Returns the default [`EncodingRules`]. The contract of this function states that they are the
+/// Distinguished Encoding Rules.
 fn default_rules() -> EncodingRules
     ensures { result ≡ Der }
 {

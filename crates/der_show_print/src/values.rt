@@ -28,7 +28,7 @@ pub fn bit_octets(bits: Cursor<'_>) -> &[u8] {
 }
 
 /// Whether the element is primitive and of the type `universal`. If the element has an EXPLICIT
-/// tag, the element inside is looked at.
+/// tag, this is said of the element inside.
 pub fn is_of(element: Cursor<'_>, universal: Universal) -> bool {
     let value = element.untagged();
     value.universal() == Some(universal) && !value.is_constructed()

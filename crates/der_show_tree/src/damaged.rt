@@ -3,9 +3,9 @@
 use asn1_schema::Schema;
 use asn1_tree::Entry;
 
-/// Counts the octets that belong to elements whose type is in the table of types. Only the first
-/// `elements` items of `entries`, the elements of a tree, are looked at. The header of an element
-/// is always counted. Its contents are counted only if no elements are inside.
+/// Counts the octets that belong to elements whose type is in the table of types. `entries` are the
+/// elements of a tree, of which only the first `elements` are counted. The header of an element is
+/// always counted. Its contents are counted only if no elements are inside.
 pub fn typed_len(schema: &Schema<'_>, entries: &[Entry], elements: usize) -> usize {
     let mut rest = entries.get(..elements).unwrap_or(entries);
     let mut count = 0usize;

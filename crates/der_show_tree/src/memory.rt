@@ -59,7 +59,7 @@ impl Memory for Heap {
     }
 }
 
-/// Memory that the caller lends for reading values. The fields are arguments of the function
+/// Memory of the caller that is used to read values. The fields are arguments of the function
 /// `read_into` of the crate `asn1_tree`.
 #[derive(Drop)]
 pub struct Room<'e, 'd, 'm, 't> {

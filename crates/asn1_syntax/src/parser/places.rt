@@ -97,8 +97,12 @@ impl<'a> Parser<'a> {
         None
     }
 
-    /// Moves the parser to a place, where it reads what the name `used` stands for. `parameters`
-    /// are the parameters of the type at that place. Returns where the parser must come back to.
+    /// Moves the parser to a place, where it reads what the name `used` stands for. The parser must
+    /// come back with [`Parser::come_back`], which takes what this function returns.
+    ///
+    /// If the place is an argument, names in it are looked up where the argument is written, and
+    /// `parameters` is not used. Otherwise the place is an assignment, and `parameters` are those
+    /// of its type with their arguments.
     pub(super) fn go(
         &mut self,
         place: Place,

@@ -49,7 +49,7 @@ impl<'a> Parser<'a> {
     // The failure of a type that has too many around it, or leads back to itself by what is in the
     // place of names.
     fn too_deep(&self, item: Item<'a>) -> Failure<'a> {
-        let expected = "at most 64 types around a type";
+        let expected = "at most 63 types around a type";
         if self.frame < self.modules.len() {
             return refused(item, expected);
         }

@@ -50,8 +50,9 @@ impl<T: ReadValue + FixedTag> ReadValue for BitStringOf<T> {
     ghost takes_valid = { bits_of_hold (λ v. v.0) T.takes_valid };
 }
 
-/// Reads the number of unused bits, and then the inner element. The inner element must be all
-/// octets after the first one.
+/// Reads the number of unused bits, and then the inner element. If octets are left after the inner
+/// element, the function leaves them unread and returns `Ok`; the caller must report them, as
+/// [`decode_tlv`](der::decode_tlv) does.
 ///
 /// # Errors
 ///

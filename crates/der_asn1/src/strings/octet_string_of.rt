@@ -48,7 +48,8 @@ impl<T: ReadValue + FixedTag> ReadValue for OctetStringOf<T> {
     ghost takes_valid = { explicit_holds (λ v. v.0) T.takes_valid };
 }
 
-/// Decodes the inner element, which must be all of the contents.
+/// Decodes the inner element. If octets are left after it, the function leaves them unread and
+/// returns `Ok`; the caller must report them, as [`decode_tlv`](der::decode_tlv) does.
 ///
 /// # Errors
 ///

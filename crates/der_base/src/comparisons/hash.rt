@@ -8,8 +8,8 @@ use crate::length::Length;
 use crate::tag::{Tag, TagNumber};
 use std::hash::{Hash, Hasher};
 
-/// Calls `Hash::hash`; the contract states that a [`Length`] is hashed in two parts: first the
-/// number of octets, then the flag for the indefinite form.
+/// Calls `Hash::hash`. The contract of this function states that a [`Length`] is hashed in two
+/// parts: first the number of octets, then the flag for the indefinite form.
 fn length_hash<H: Hasher>(length: Length, state: &mut H)
     ensures { state.new
         ≡ fold H.write state.old (fed.u32 (number length) ++ fed.bool (is_indefinite length)) }
@@ -28,16 +28,17 @@ fn equal_lengths_hash_equally<H: Hasher>(a: Length, b: Length, state: &mut H, ot
     a == b
 }
 
-/// Calls `Hash::hash`; the contract states that a [`TagNumber`] is hashed as its number, a `u32`.
+/// Calls `Hash::hash`. The contract of this function states that a [`TagNumber`] is hashed as its
+/// number, a `u32`.
 fn tag_number_hash<H: Hasher>(number: TagNumber, state: &mut H)
     ensures { state.new ≡ fold H.write state.old (fed.u32 number.0) }
 {
     number.hash(state);
 }
 
-/// Calls `Hash::hash`; the contract states that a [`Tag`] is hashed as the index of its variant in
-/// the declaration. If the variant has the fields `constructed` and `number`, they are hashed after
-/// the index, in this order.
+/// Calls `Hash::hash`. The contract of this function states that a [`Tag`] is hashed as the index
+/// of its variant in the declaration. If the variant has the fields `constructed` and `number`,
+/// they are hashed after the index, in this order.
 fn tag_hash<H: Hasher>(tag: Tag, state: &mut H)
     ensures { state.new ≡ fold H.write state.old (tag_writes tag) }
 {

@@ -25,8 +25,8 @@ pub trait FieldsCall<S> {
     ghost gives: { Self → List ℕ → Type 0 → AResult ALength AnError → WriterAnswer → S → S
         → List ℕ → List ℕ → Self.Output → Type 0 };
 
-    /// Performs the operation on `fields`. The operation may change `state` and the octets of
-    /// `buf`.
+    /// Performs the operation that this value describes on `fields`: for example, it writes them.
+    /// The operation may change `state` and the octets of `buf`.
     fn call<F: Encode>(&self, fields: &F, state: &mut S, buf: &mut [u8]) -> Self::Output
         ensures { gives self.now (F.encoding fields.now) (F.encodable fields.now)
             (F.size fields.now) (F.encode_answers fields.now) state.old state.new buf.old buf.new
