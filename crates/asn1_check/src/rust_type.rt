@@ -6,9 +6,9 @@ use std::fmt::Write;
 /// How the field of a Rust type is decoded, if the field is of a given type.
 #[derive(Clone, Copy, Debug, PartialEq, Eq)]
 pub enum RustKind {
-    /// The field is decoded as an element with a certain tag.
+    /// The field is decoded as an element with the one tag that its type has.
     Element,
-    /// The field is decoded as an element with any tag.
+    /// The field is decoded as an element, whatever its tag is.
     Any,
     /// The field is decoded as one of the alternatives of a CHOICE.
     Choice,

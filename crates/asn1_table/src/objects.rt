@@ -8,9 +8,10 @@ use asn1_syntax::{
 };
 use std::alloc::{AllocError, Global};
 
-/// Finds a table constraint with a component relation (`{@name}`) in the type with this index: on
-/// the type itself, on its items or on its contents. Returns the index of the constraint among the
-/// `tables`; `None` if there is none.
+/// Finds a table constraint with a component relation (`{@name}`, X.682 10.7) in the type with this
+/// index: on the type itself, on the items of a SEQUENCE OF or SET OF, or on the type that an OCTET
+/// STRING or BIT STRING contains. Returns the index of the constraint among the `tables`; `None` if
+/// there is none.
 pub fn use_in(library: &Library<'_>, index: usize) -> Option<usize> {
     let mut index = index;
     for _ in 0..=library.module.nodes.len() {

@@ -17,7 +17,8 @@ pub struct Parts {
 }
 
 impl Parts {
-    /// Finds what each type of a module is made of. No type is in the order yet.
+    /// Finds what each type of a module is made of. The order that this helps to make is empty at
+    /// first: it has no type yet.
     pub fn of(alloc: Global, module: &Module<'_>) -> Result<Self, AllocError> {
         let mut parts = Parts {
             missing: vec![in alloc; 0usize; module.nodes.len()]?,

@@ -19,7 +19,7 @@ use der_asn1::{
 use spki::AlgorithmIdentifierRef;
 use std::alloc::Global;
 
-/// The seal of a label.
+/// A seal on a label: a text, and the algorithm with which the seal was made.
 #[derive(Clone, Copy, Debug, Drop, PartialEq, Eq)]
 pub struct Seal<'a> {
     /// The algorithm with which the seal was made.
