@@ -26,7 +26,8 @@ fn sum_of(content: &Segmented<'_>) -> u32 {
     sum
 }
 
-/// The digest of the content that this signature covers; `None` if it has no such attribute.
+/// The digest of the content, as the signed attribute messageDigest has it. `None` if there is no
+/// such attribute, or if it cannot be decoded.
 fn digest_of<'a>(alloc: Global, signer: &SignerInfo<'a>) -> Option<MessageDigest<'a>> {
     let attributes = signer.signed_attrs.0?;
     for attribute in attributes.0.iter(alloc) {

@@ -11,7 +11,7 @@ static VISIT: [u8; 38] = [
     0x0C, 0x01, 0x42, 0x01, 0x01, 0xFF,
 ];
 
-// The visit that these octets encode.
+// The visit that the octets of `VISIT` encode.
 fn visit(alloc: Global) -> Option<Visit<'static>> {
     let noon = DateTime {
         year: 2026,

@@ -9,10 +9,10 @@
  *
  * Errors. A function that can fail returns a |der_error| by value, whose |kind| is |DER_OK| on
  * success. These rules hold for every function:
- *   - Any error makes the reader or the writer that was passed in fail: every later call on it fails
- *     with |DER_FAILED|. Two errors of readers leave the reader where it was: |DER_TAG_UNEXPECTED|,
- *     after which the caller may ask for another tag, and |DER_READER|, which |der_open| and
- *     |der_element_octets| report for an element of another reader.
+ *   - Two errors leave the reader as it was, not failed: |DER_TAG_UNEXPECTED|, after which the caller
+ *     may ask for another tag, and |DER_READER|, which |der_open| and |der_element_octets| report for
+ *     an element of another reader. Any other error makes the reader or the writer that was passed in
+ *     fail: every later call on it fails with |DER_FAILED|.
  *   - A call to which the reader or the writer is |const|, as to |der_peek| and |der_finish|, leaves it
  *     as it is, whatever the result.
  *   - No out-parameter changes in a call that fails, except those of |der_read_tree|, which reports
@@ -20,12 +20,17 @@
  *   - |DER_INCOMPLETE| says that octets are missing. |first| octets are needed, and |second| are
  *     there, both counted from the start of the input. If the header of the element was read, |first|
  *     is where the element would end. If the header itself is cut, the length of the element is not
- *     known, and |first| is |second| plus one.
- *     The same error is reported if an element inside a certificate, a request, a key, a list, an item
- *     or the value of an extension passes the end of the element around it. More octets do not help
- *     then. |der_key_usage|, and the other calls that read the value of an extension, count from the
- *     start of that value. If a list is cut, they need |second| plus one octets; so do
- *     |der_key_usage_lenient| and |der_basic_constraints_lenient| if a value is cut.
+ *     known, and |first| is |second| plus one. An indefinite length is known only at the end of the
+ *     contents: there this holds for the element inside that is cut. If |first| would be above
+ *     4294967295, the error is |DER_OVERFLOW|.
+ *     More octets do not help in two cases:
+ *       - A reader that |der_enter| or |der_open| made has no octets left, or its next element passes
+ *         its end. |second| is that end.
+ *       - In a certificate, a request, a key, a revocation list, an item or the value of an extension,
+ *         an element passes the end of the element around it.
+ *     |der_key_usage|, and the other calls that read the value of an extension, count from the start
+ *     of that value. |first| is |second| plus one if the list of extensions is cut, and always in
+ *     |der_key_usage_lenient| and |der_basic_constraints_lenient|.
  *     Under BER, a primitive element with an indefinite length, such as 04 80, may have this error too:
  *     the end of its contents is looked for before its form is refused.
  *
@@ -33,9 +38,9 @@
  * number and for the length (X.690 10.1). Under BER, lengths of the indefinite form are read too, at
  * every level, with their end-of-contents octets, and an OCTET STRING may be constructed of segments.
  * Nothing more of BER is read: a length in more octets than necessary is |DER_LENGTH|, and another
- * constructed string is |DER_TAG_UNKNOWN|. So are, under both rules, the universal tags 0, 7, 8, 11,
- * 14, 15, 25, 28 and 29, and each whose constructed bit is not that of its type; universal tags from
- * 31 are |DER_TAG_NUMBER_INVALID| if they are primitive.
+ * constructed string is |DER_TAG_UNKNOWN|. Under both rules these are |DER_TAG_UNKNOWN| too: the
+ * universal tags 0, 7, 8, 11, 14, 15, 25, 28 and 29, each universal tag whose constructed bit is not
+ * that of its type, and constructed ones from 31. Primitive ones from 31 are |DER_TAG_NUMBER_INVALID|.
  *
  * The caller must ensure the following, which no function can check:
  *   - A pointer and a length describe octets that may be read, or a buffer that may be written. The
@@ -43,8 +48,8 @@
  *   - Octets that a struct points to live as long as it does, and are not written meanwhile. The
  *     buffer of a |der_writer| is written only by the functions here.
  *   - A struct that is passed in by pointer was initialised with its macro |.._INIT|, or set by a
- *     function here. The fields of readers, writers and marks are changed only by the functions
- *     here. A |bool| is 0 or 1.
+ *     function here. The fields of readers, writers, counters and marks are changed only by the
+ *     functions here. A |bool| is 0 or 1.
  *   - Two pointers in one call point to different structs, and a buffer that is written overlaps
  *     nothing else that is passed to the call.
  *   - No two threads use one reader or writer at a time, unless all of them only read it.
@@ -110,13 +115,13 @@ enum {
     DER_LENGTH = 6,            /* the length octets after tag |actual| break the encoding rules */
     DER_NESTING_DEPTH = 7,     /* elements are nested too deeply */
     DER_NONCANONICAL = 8,      /* a value with tag |actual| is not encoded canonically */
-    DER_OID_MALFORMED = 9,
-    DER_SET_DUPLICATE = 10,
-    DER_SET_ORDERING = 11,
+    DER_OID_MALFORMED = 9,     /* a text is not the dotted notation of an OBJECT IDENTIFIER */
+    DER_SET_DUPLICATE = 10,    /* an extension occurs twice */
+    DER_SET_ORDERING = 11,     /* the elements of a SET OF are not in order */
     DER_OVERFLOW = 12,           /* a number of octets, or a value, is too large */
     DER_OVERLENGTH = 13,         /* there is too little space */
     DER_READER = 14,             /* the element does not lie in the octets of the reader */
-    DER_TAG_MODE_UNKNOWN = 15,
+    DER_TAG_MODE_UNKNOWN = 15,   /* not reported by any function here */
     DER_TAG_NUMBER_INVALID = 16, /* a tag number is malformed, or a |der_tag| is not a tag */
     DER_TAG_UNEXPECTED = 17,     /* the tag is |actual|, and |expected| was requested */
     DER_TAG_UNKNOWN = 18,        /* no universal tag has the identifier octet |first| */
@@ -148,7 +153,8 @@ size_t der_error_text(der_error error, char *text, size_t capacity);
 /* Tags. */
 
 /* A der_tag is the first identifier octet of a tag, plus 256 times its number if that is 31 or
- * more. */
+ * more. Under BER, an OCTET STRING in segments (identifier octet 0x24) also has the tag
+ * |DER_OCTET_STRING|: the field |constructed| of its element is true. */
 typedef uint64_t der_tag;
 
 #define DER_BOOLEAN UINT64_C(0x01)
@@ -299,7 +305,7 @@ bool der_next_is(const der_reader *reader, der_tag tag);
 
 /* der_expect reads an element that has this tag. Fails like |der_read_element|; with
  * DER_TAG_UNEXPECTED, at the start of the next element, if that has another tag; and with
- * DER_TAG_NUMBER_INVALID if |tag| is no tag. */
+ * DER_TAG_NUMBER_INVALID if |tag| is no tag and there is a next element. */
 DER_MUST_USE DER_NONNULL(1, 3)
 der_error der_expect(der_reader *reader, der_tag tag, der_element *element);
 
@@ -327,8 +333,9 @@ der_error der_open(der_reader *reader, const der_element *element, der_reader *i
 
 /* der_element_octets sets |*octets| to all octets of |element|, which |reader| or a copy of it has
  * read before: the header, the contents and the end-of-contents octets, as they are signed or
- * hashed. Fails with DER_READER if the element does not lie in the octets of the reader, which the
- * macro sees as that of |der_open| does. */
+ * hashed. Fails with DER_FAILED if the reader has failed, and with DER_READER if the element does not
+ * lie in the octets of the reader. The macro also compares where its contents are, as that of
+ * |der_open| does. */
 DER_MUST_USE DER_NONNULL(1, 2, 3)
 der_error der_element_octets(const der_reader *reader, const der_element *element, der_span *octets);
 

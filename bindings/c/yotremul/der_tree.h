@@ -6,10 +6,11 @@
  * types.
  *
  * Memory. A tree is read into memory of the caller, which a |der_tree| points to: the table of the
- * types (|DER_TYPES_ROOM| octets), an array of entries (one for each element), an array of marks and
- * a buffer. The marks and the buffer are working memory of the calls. If a call reports too little
- * memory, try again with more entries; a value has at most half as many elements as octets. For the
- * known types 4096 marks are enough, and a buffer that is one octet longer than the input.
+ * types (|DER_TYPES_ROOM| octets), an array of entries (one for each element), an array of numbers
+ * (|marks|, which are no |der_mark|s) and a buffer. The last two are working memory of the calls. Half
+ * as many entries as the input has octets are always enough. For the known types 4096 marks are
+ * enough, and a buffer that is one octet longer than the input. Only |der_kind_find| tells too little
+ * memory from other faults.
  *
  * Texts. A call that writes a text writes a zero octet after it, and returns the number of octets of
  * the text, without the zero octet. It returns |DER_NONE| if the text does not fit, or if there is no
@@ -44,7 +45,7 @@ typedef struct der_entry {
     size_t parent;          /* the index of the element around it; its own index for the first */
     uint32_t type;          /* the index of the type in the table; DER_NO_TYPE if it has none */
     uint32_t field;         /* the index of the field in the table; DER_NO_TYPE if it is no field */
-    uint32_t alternative;   /* the same of the alternative of a CHOICE */
+    uint32_t alternative;   /* the index of the alternative of a CHOICE; DER_NO_TYPE if it is none */
     uint8_t header_length;  /* the number of octets of the header */
     uint8_t depth;          /* the number of elements around it */
 } der_entry;
@@ -53,9 +54,9 @@ typedef struct der_entry {
 /* What |der_tree_read| found. A departure is a fault by which the octets are not DER. */
 typedef struct der_tree_found {
     size_t entries;    /* the number of elements */
-    size_t departures; /* the number of departures in the list */
-    size_t lost;       /* the number of departures for which the list had no place */
-    size_t listed;     /* the number of octets of the list; SIZE_MAX if it does not fit */
+    size_t departures; /* the number of departures that were kept: the first 1000 at most */
+    size_t lost;       /* the number of departures after these */
+    size_t listed;     /* the number of octets of the text in |list|; SIZE_MAX if it does not fit */
     uint32_t verdict;  /* 0 if the octets are DER, 1 if they are only BER, 2 if they are neither */
 } der_tree_found;
 #define DER_TREE_FOUND_INIT {0, 0, 0, 0, 2}
@@ -78,7 +79,7 @@ uint32_t der_type_find(const uint8_t *table, size_t table_length, const char *na
  * DER_NO_ROOM if there is too little memory. |table| must be the table of the known types.
  * der_kind_of_label returns the kind that a PEM block with this label should contain; DER_NO_TYPE if
  * the label stands for none. der_kind_type returns the index of the type of a kind in the table of the
- * known types; for a number that is no kind, that of any value. der_kind_word writes the word for a
+ * known types; for a number that is no kind, that of the type that any element has. der_kind_word writes the word for a
  * kind, as the option `--as` of `der_show` has it. */
 uint32_t der_kind_find(const uint8_t *table, size_t table_length, const uint8_t *octets, size_t length,
                        der_entry *entries, size_t capacity, uint32_t *marks, size_t mark_count, uint8_t *buffer,
@@ -117,9 +118,10 @@ bool der_tree_contents(const uint8_t *octets, size_t length, const der_entry *en
                        der_span *part);
 
 /* der_tree_name writes the name of the field or of the alternative that an element is, and der_tree_type
- * the name of its type; the text is empty if there is no name. der_tree_text writes the value of an
- * element as `der_show` prints it: a distinguished name, an OBJECT IDENTIFIER with its name, a time, a
- * number or a string. */
+ * the name of its type; the text is empty if there is no name. der_tree_text writes the value of a
+ * primitive element as `der_show` prints it: an OBJECT IDENTIFIER with its name, a time, a number or a
+ * string. Of a distinguished name it writes the name; of another element that begins with an OBJECT
+ * IDENTIFIER, that one; of all others an empty text. */
 size_t der_tree_name(const uint8_t *table, size_t table_length, const uint8_t *octets, size_t length,
                      const der_entry *entries, size_t count, size_t index, char *text, size_t capacity);
 size_t der_tree_type(const uint8_t *table, size_t table_length, const uint8_t *octets, size_t length,
@@ -184,7 +186,7 @@ typedef struct der_pem_block {
     size_t label_length;
     size_t line;   /* the number of the -----BEGIN line, or of the line with the error, from 1 */
     size_t length; /* the number of decoded octets */
-    size_t end;    /* the position of the -----END line; look for the next block after it */
+    size_t end;    /* where the -----END line begins; the search for the next block may begin here */
 } der_pem_block;
 #define DER_PEM_BLOCK_INIT {0, 0, 0, 0, 0}
 
@@ -196,13 +198,14 @@ enum {
 };
 
 /* der_pem_next decodes the first block of |text| into |octets|, and returns one of the numbers above.
- * |length| octets are always enough for |octets|; too few are an error. After an error in the base64 text of a
- * block, |label| and |end| are those of the block; after any other error they are unchanged. */
+ * |length| octets are always enough for |octets|; too few are an error. If the base64 of a block is invalid, or
+ * if its octets do not fit, |label|, |label_length| and |end| are those of the block. After any other error these
+ * fields are unchanged. */
 uint32_t der_pem_next(const char *text, size_t length, uint8_t *octets, size_t capacity, der_pem_block *block);
 
 /* der_base64_decode decodes base64, which may have white space in it, and returns the number of octets. It
- * returns DER_NONE if |text| is not base64, or if the octets do not fit; then some of |octets| may have been
- * written. */
+ * returns DER_NONE if the octets do not fit, or if |text| is not base64. If it has digits for more octets than
+ * fit, nothing is written. Otherwise some of |octets| may have been written. */
 size_t der_base64_decode(const char *text, size_t length, uint8_t *octets, size_t capacity);
 
 /* The number of octets that der_base64_encode and der_pem_write write, for |length| octets and a label of

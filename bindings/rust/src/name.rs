@@ -52,8 +52,7 @@ impl<'a> Name<'a> {
     }
 
     /// The text of the name, as RFC 4514 writes it: `CN=example.org,O=Example,C=DE`. It is written into `space`, which needs
-    /// room for one octet more. Printing the name needs no space, escapes `=` too, and writes a value that is no string as its
-    /// contents octets alone.
+    /// room for one octet more. Printing the name (`Display`) needs no space, and also escapes `=`.
     ///
     /// # Errors
     ///
