@@ -15,7 +15,7 @@
 static der_span write_extensions(uint8_t *space)
 {
     uint8_t constraints_space[16];
-    der_mark mark;
+    der_mark mark = DER_MARK_INIT;
     der_writer constraints = begin_sequence(constraints_space, sizeof constraints_space, &mark);
     der_write_boolean(&constraints, DER_BOOLEAN, true);
     der_span value = end_sequence(&constraints, &mark);

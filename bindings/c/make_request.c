@@ -14,7 +14,7 @@
 static der_span write_extensions(uint8_t *space, const char *name)
 {
     uint8_t names_space[512];
-    der_mark mark;
+    der_mark mark = DER_MARK_INIT;
     der_writer names = begin_sequence(names_space, sizeof names_space, &mark);
     der_write_text(&names, DER_CONTEXT(2), DER_IA5_STRING, (const uint8_t *)name, strlen(name));
     der_span value = end_sequence(&names, &mark);

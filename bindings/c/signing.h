@@ -23,7 +23,7 @@ static inline der_span end_sequence(der_writer *writer, const der_mark *mark)
 /* A name with one attribute, the common name. */
 static inline der_span write_common_name(uint8_t *space, const char *name)
 {
-    der_mark mark;
+    der_mark mark = DER_MARK_INIT;
     der_writer writer = begin_sequence(space, FILE_SPACE, &mark);
     der_write_name_attribute(&writer, DER_ID_COMMON_NAME, DER_UTF8_STRING, (const uint8_t *)name, strlen(name));
     return end_sequence(&writer, &mark);

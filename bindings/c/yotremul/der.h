@@ -21,16 +21,16 @@
  *     there, both counted from the start of the input. If the header of the element was read, |first|
  *     is where the element would end. If the header itself is cut, the length of the element is not
  *     known, and |first| is |second| plus one. An indefinite length is known only at the end of the
- *     contents: there this holds for the element inside that is cut. If |first| would be above
- *     4294967295, the error is |DER_OVERFLOW|.
+ *     contents: in an element inside that is cut, |first| is at most where that element would end. If
+ *     |first| would be above 4294967295, the error is |DER_OVERFLOW|.
  *     More octets do not help in two cases:
  *       - A reader that |der_enter| or |der_open| made has no octets left, or its next element passes
  *         its end. |second| is that end.
  *       - In a certificate, a request, a key, a revocation list, an item or the value of an extension,
  *         an element passes the end of the element around it.
  *     |der_key_usage|, and the other calls that read the value of an extension, count from the start
- *     of that value. |first| is |second| plus one if the list of extensions is cut, and always in
- *     |der_key_usage_lenient| and |der_basic_constraints_lenient|.
+ *     of that value. |first| is |second| plus one if the list of extensions is cut, and, if no length is
+ *     indefinite, also in |der_key_usage_lenient| and |der_basic_constraints_lenient|.
  *     Under BER, a primitive element with an indefinite length, such as 04 80, may have this error too:
  *     the end of its contents is looked for before its form is refused.
  *
@@ -53,7 +53,8 @@
  *   - Two pointers in one call point to different structs, and a buffer that is written overlaps
  *     nothing else that is passed to the call.
  *   - No two threads use one reader or writer at a time, unless all of them only read it.
- * A length above 4294967295 is reported as an error.
+ * A length above 4294967295 is reported as an error, except by |der_writer_init| and
+ * |der_next_character|.
  *
  * Link with libder_c.a (pkg-config der_c). It needs memcpy, memmove, memset and memcmp, and nothing
  * else. It is compiled for x86-64-v2. */
@@ -398,8 +399,8 @@ der_error der_compare(const uint8_t *first, size_t first_length, const uint8_t *
 
 /* Values.
  *
- * Each call reads the next element, which must have |tag|, and checks its contents by X.690. A
- * |tag| other than the type's own is that of a value with an IMPLICIT tag. They fail like
+ * Each call reads the next element, which must have |tag|, and checks its contents by the rules of
+ * DER, also if the reader reads BER. A |tag| other than the type's own is that of a value with an IMPLICIT tag. They fail like
  * |der_expect|; and with DER_VALUE, at the position after the element, if its contents are not those
  * of a value of the type. An ENUMERATED is read by |der_read_int64|, an OCTET STRING by
  * |der_expect|. */
@@ -442,13 +443,16 @@ typedef struct der_text {
 
 /* der_read_text reads a string, and checks that its characters are those of |type|, which is
  * DER_UTF8_STRING, DER_NUMERIC_STRING, DER_PRINTABLE_STRING, DER_TELETEX_STRING, DER_IA5_STRING,
- * DER_VISIBLE_STRING or DER_BMP_STRING; another |type| is DER_TAG_NUMBER_INVALID. */
+ * DER_VISIBLE_STRING or DER_BMP_STRING; another |type| is DER_TAG_NUMBER_INVALID. Any octets are a
+ * TeletexString. A BMPString has no surrogates. */
 DER_MUST_USE DER_NONNULL(1, 4)
 der_error der_read_text(der_reader *reader, der_tag tag, der_tag type, der_text *text);
 
 /* der_next_character removes the first character of |text|, sets |*character| to its number in
- * Unicode, and returns true. At the end, and if the octets are not characters of the type, it returns
- * false. A TeletexString is read as ISO 8859-1. */
+ * Unicode, and returns true. It returns false and changes nothing if no octets are left, if the octets
+ * of a UTF8String or BMPString do not begin with a character, and if |type| is no string type. In the
+ * other types each octet is a character of ISO 8859-1: that it belongs to |type| is checked only by
+ * |der_read_text|. */
 DER_MUST_USE DER_NONNULL(1, 2)
 bool der_next_character(der_text *text, uint32_t *character);
 
@@ -487,19 +491,20 @@ der_error der_oid_text(const uint8_t *oid, size_t length, char *text, size_t cap
 
 /* der_oid_arcs writes the arcs of an OBJECT IDENTIFIER into |arcs|, an array of |capacity| numbers, and
  * sets |*count| to how many they are: at most one more than |length|. Fails with DER_VALUE if |oid| is
- * no OBJECT IDENTIFIER, with DER_OVERFLOW if an arc needs more than 64 bits (the text has it), and
- * with DER_OVERLENGTH if |capacity| is too small. */
+ * no OBJECT IDENTIFIER, with DER_OVERFLOW if an arc needs more than 64 bits (|der_oid_text| allows 128),
+ * and with DER_OVERLENGTH if |capacity| is too small. */
 DER_MUST_USE DER_NONNULL(5)
 der_error der_oid_arcs(const uint8_t *oid, size_t length, uint64_t *arcs, size_t capacity, size_t *count);
 
 /* der_oid_from_text writes the contents octets of an OBJECT IDENTIFIER in dotted notation into |oid|,
- * and sets |*count| to their number. Fails with DER_OID_MALFORMED if |text| is none, however large its
- * numbers are; with DER_OVERFLOW if it is one, and a subidentifier needs more than 128 bits or all of
- * them more than 256 octets; and with DER_OVERLENGTH if |capacity| is too small. */
+ * and sets |*count| to their number. Fails with DER_OID_MALFORMED if |text| is no dotted notation, however
+ * large its numbers are; with DER_OVERFLOW if it is, but a subidentifier needs more than 128 bits or all
+ * of them more than 256 octets; and with DER_OVERLENGTH if |capacity| is too small. */
 DER_MUST_USE DER_NONNULL(5)
 der_error der_oid_from_text(const char *text, size_t length, uint8_t *oid, size_t capacity, size_t *count);
 
-/* der_oid_is returns whether |oid| is the OBJECT IDENTIFIER that |text| is in dotted notation. With
+/* der_oid_is returns whether |text| is the dotted notation of |oid|. It is false if |oid| is no OBJECT
+ * IDENTIFIER, and if a subidentifier needs more than 128 bits. With
  * DER_LITERAL the text is a literal: der_oid_is(oid, length, DER_LITERAL("2.5.29.17")). It stands for
  * the octets of a literal and their number, without the final zero octet. */
 bool der_oid_is(const uint8_t *oid, size_t length, const char *text, size_t text_length);
@@ -507,9 +512,17 @@ bool der_oid_is(const uint8_t *oid, size_t length, const char *text, size_t text
 
 /* Certificates, requests and keys.
  *
- * They are read under DER. All spans and bits point into the input. Nothing is validated: no
- * signature, no chain of certificates, no clock. The contents of extensions, of parameters, of keys
- * and of values of attributes are not checked, except by the calls that read them. */
+ * They are read under DER. All spans and bits that have octets point into the input. Nothing is
+ * validated: no signature, no chain of certificates, no clock. The contents of extensions, of
+ * parameters, of keys and of values of attributes are not checked, except by the calls that read them.
+ * Nor is it checked that the algorithm inside the signed part is the one outside it, or that |version|
+ * allows the fields that are there.
+ *
+ * The calls that read a whole value fail with the first error that they find, and with
+ * DER_TRAILING_DATA also if octets follow. A position counts from the start of |octets|. Not every
+ * error has one (see |has_position|): that a SEQUENCE has another tag, for example, is
+ * DER_TAG_UNEXPECTED without a position. The same holds for the items of lists and the values of
+ * extensions below. */
 
 /* An element of any tag, without its header. */
 typedef struct der_any {
@@ -533,8 +546,7 @@ typedef struct der_public_key {
 } der_public_key;
 #define DER_PUBLIC_KEY_INIT {DER_SPAN_INIT, DER_ALGORITHM_INIT, DER_BITS_INIT}
 
-/* A certificate (RFC 5280, 4.1). A name is the contents of a Name, which |der_next_attribute|
- * reads. */
+/* A certificate (RFC 5280, 4.1). A name is the contents of a Name: see |der_next_attribute|. */
 typedef struct der_certificate {
     der_span signed_part;              /* all octets of tbsCertificate, which the signature covers */
     der_span serial_number;            /* the octets of an INTEGER; it may be negative */
@@ -559,8 +571,7 @@ typedef struct der_certificate {
      DER_BITS_INIT, DER_BITS_INIT, DER_SPAN_INIT, DER_ALGORITHM_INIT, DER_BITS_INIT,      0,                        \
      0,             0,             false,         false,              false}
 
-/* der_certificate_read reads |octets|, which must be one certificate and no more. It fails with the
- * first step of reading that fails, at its position. */
+/* der_certificate_read reads |octets|, which must be one certificate and no more. */
 DER_MUST_USE DER_NONNULL(3)
 der_error der_certificate_read(const uint8_t *octets, size_t length, der_certificate *certificate);
 
@@ -628,8 +639,9 @@ typedef struct der_revocation_list {
 DER_MUST_USE DER_NONNULL(3)
 der_error der_revocation_list_read(const uint8_t *octets, size_t length, der_revocation_list *list);
 
-/* Items of lists. Make a |der_reader| of the span of the list, read items until |der_is_finished|;
- * positions of errors count from the start of the span. At the end the error is DER_INCOMPLETE. */
+/* Items of lists. Make a |der_reader| of the span of the list, with |ber| false: a reader of BER also
+ * accepts items that are not DER. Read items until |der_is_finished|. Positions of errors count from
+ * the start of the span. At the end the error is DER_INCOMPLETE. */
 
 /* An extension (RFC 5280, 4.2). */
 typedef struct der_extension {
@@ -657,11 +669,14 @@ DER_MUST_USE DER_NONNULL(1, 2)
 der_error der_next_attribute(der_reader *reader, der_attribute *attribute);
 
 /* der_name_text writes a name as RFC 4514 does, as "CN=example.org,O=Example,C=DE", and a zero octet into
- * |text|, and sets |*count| to the number of octets without the zero octet. A type without a short name
- * in RFC 4514 or RFC 4519 is written as its OBJECT IDENTIFIER; its value, and one that is no string, as #
- * and its encoding in hexadecimal. Control characters are escaped, too: there is no other zero octet.
- * Fails with the error of the first level that cannot be read, at its position in |name|, and with
- * DER_OVERLENGTH if |capacity| is too small. */
+ * |text|, and sets |*count| to the number of octets without the zero octet. The last level comes first.
+ * A type without a short name in RFC 4514 or RFC 4519 is written as its OBJECT IDENTIFIER, with ? for an
+ * arc that needs more than 128 bits. The value of such a type is written as # and its encoding in
+ * hexadecimal, and so is each value that is not a string that |der_read_text| accepts. The control
+ * characters of ASCII are escaped, so there is no other zero octet; those from U+0080 to U+009F are not.
+ * Fails with the error of the first level that cannot be read, whose position counts from the start of
+ * |name|, and with DER_OVERLENGTH if |capacity| is too small. In DER_INCOMPLETE |first| is |second| plus
+ * one. */
 DER_MUST_USE DER_NONNULL(5)
 der_error der_name_text(const uint8_t *name, size_t length, char *text, size_t capacity, size_t *count);
 
@@ -671,7 +686,7 @@ enum {
     DER_RFC822_NAME = 1,    /* a mail address, in characters of 7 bits */
     DER_DNS_NAME = 2,       /* characters of 7 bits */
     DER_X400_ADDRESS = 3,   /* the contents of a SEQUENCE, which are not checked */
-    DER_DIRECTORY_NAME = 4, /* a name, for |der_next_attribute| */
+    DER_DIRECTORY_NAME = 4, /* a name: enter each level, as |der_next_attribute| says */
     DER_EDI_PARTY_NAME = 5, /* its fields are not given */
     DER_URI = 6,            /* characters of 7 bits */
     DER_IP_ADDRESS = 7,     /* octets, whose number is not checked */
@@ -704,10 +719,14 @@ typedef struct der_revoked {
 DER_MUST_USE DER_NONNULL(1, 2)
 der_error der_next_revoked(der_reader *reader, der_revoked *entry);
 
-/* Extensions that are found and read by their type, in the contents of a list of extensions. An
- * extension that is absent is no error. They fail with DER_SET_DUPLICATE if the list has it more than
- * once; with the error of its value, whose position counts from the start of that value; and with
- * the error of a list that is none, which the one of |der_certificate_read| is not. */
+/* Extensions that are found and read by their type. |extensions| are the contents of a list. An
+ * extension that is absent is no error: |present| is then false, and all else 0, false or empty. The
+ * calls fail, in this order:
+ *   - with the first error of the list itself, whose position counts from the start of the list. The
+ *     lists that |der_certificate_read|, |der_revocation_list_read| and |der_next_revoked| set have
+ *     none;
+ *   - with DER_SET_DUPLICATE, without a position, if the list has the extension more than once;
+ *   - with the error of its value, whose position, if any, counts from the start of the value. */
 
 /* Bits of keyUsage (RFC 5280, 4.2.1.3). */
 enum {
@@ -733,8 +752,9 @@ typedef struct der_usage {
 DER_MUST_USE DER_NONNULL(3)
 der_error der_key_usage(const uint8_t *extensions, size_t length, der_usage *usage);
 
-/* der_key_usage_lenient does the same where the contents of the extension are BER and not DER: the bits may have zero
- * bits after them, as some roots have them. |*is_der| is whether they are DER, and true if the extension is absent. */
+/* der_key_usage_lenient is |der_key_usage|, but also accepts BER that is not DER: the bits may have zero bits
+ * after them, as in some roots. |*is_der| is whether the contents are DER; it is true if the extension is absent.
+ * Unused bits that are 1, segments, and lengths in more octets than necessary are errors. */
 DER_MUST_USE DER_NONNULL(3, 4)
 der_error der_key_usage_lenient(const uint8_t *extensions, size_t length, der_usage *usage, bool *is_der);
 
@@ -752,13 +772,14 @@ typedef struct der_constraints {
 DER_MUST_USE DER_NONNULL(3)
 der_error der_basic_constraints(const uint8_t *extensions, size_t length, der_constraints *constraints);
 
-/* der_basic_constraints_lenient is |der_basic_constraints|, but accepts a field that is written though it
- * has its default value, such as |cA FALSE|. */
+/* der_basic_constraints_lenient is |der_basic_constraints|, but also accepts BER that is not DER: |cA FALSE|
+ * may be written, and the length may be indefinite. A TRUE other than FF is an error. |*is_der| is as in
+ * |der_key_usage_lenient|. */
 DER_MUST_USE DER_NONNULL(3, 4)
 der_error der_basic_constraints_lenient(const uint8_t *extensions, size_t length, der_constraints *constraints,
                                         bool *is_der);
 
-/* The names of subjectAltName (RFC 5280, 4.2.1.6), for |der_next_general_name|. */
+/* The names of subjectAltName (RFC 5280, 4.2.1.6), for |der_next_general_name|. There may be none. */
 typedef struct der_names {
     der_span names;
     bool present;
@@ -795,7 +816,7 @@ der_error der_subject_key_identifier(const uint8_t *extensions, size_t length, d
 /* What authorityKeyIdentifier says (RFC 5280, 4.2.1.1): which key of the issuer signed the certificate. */
 typedef struct der_authority_key {
     der_span key_identifier; /* octets; none if they are absent */
-    der_span issuer;         /* of the issuer's certificate, for |der_next_general_name|; none if it is absent */
+    der_span issuer;         /* names of who issued the issuer's certificate, for |der_next_general_name|; may be empty */
     der_span serial_number;  /* of that certificate, the octets of an INTEGER; none if it is absent */
     bool present;
     bool critical;
@@ -841,13 +862,13 @@ enum {
     DER_AA_COMPROMISE = 1 << 8
 };
 
-/* Where a revocation list is found (DistributionPoint). The place has a full name or a relative name; it may be
- * absent. */
+/* Where a revocation list is found (DistributionPoint). The place has a full name or a relative name. Place and
+ * issuer may both be absent. */
 typedef struct der_distribution_point {
     der_span full_name;     /* the names of the place, for |der_next_general_name|; most are URIs */
-    der_span relative_name; /* a level below the name of the issuer of the list, for |der_next_attribute| */
+    der_span relative_name; /* attributes of a level below the name of the issuer of the list, for |der_next_attribute| */
     der_span list_issuer;   /* for |der_next_general_name|; if it is absent, the issuer of the certificate */
-    uint16_t reasons;       /* bit n is 1 << n; if they are absent, the list covers all reasons */
+    uint16_t reasons;       /* bit n is 1 << n, below 16; 0 if they are absent: the list covers all reasons */
     bool has_full_name;
     bool has_relative_name;
     bool has_reasons;
@@ -914,7 +935,7 @@ DER_NONNULL(1)
 der_error der_write_element(der_writer *writer, der_tag tag, const uint8_t *contents, size_t length);
 
 /* der_write_parts writes a header, and then the octets of |count| spans, one after another, which are
- * the contents. Fails like |der_write_element| with all of them. */
+ * the contents. Fails like |der_write_element| with all these octets as contents. */
 DER_NONNULL(1)
 der_error der_write_parts(der_writer *writer, der_tag tag, const der_span *parts, size_t count);
 
@@ -994,13 +1015,15 @@ der_error der_write_int64(der_writer *writer, der_tag tag, int64_t value);
 DER_NONNULL(1)
 der_error der_write_integer(der_writer *writer, der_tag tag, const uint8_t *octets, size_t length);
 
-/* The |unused| low bits of the last octet are 0. */
+/* The |unused| low bits of the last octet are 0. After an error of space, octets that were already written
+ * remain. */
 DER_NONNULL(1)
 der_error der_write_bit_string(der_writer *writer, der_tag tag, const uint8_t *octets, size_t length, uint8_t unused);
 DER_NONNULL(1)
 der_error der_write_null(der_writer *writer, der_tag tag);
 
-/* An OBJECT IDENTIFIER, given as contents octets, and in dotted notation. */
+/* An OBJECT IDENTIFIER, given as contents octets, and in dotted notation. All errors of |der_oid_from_text|
+ * in the text, also that it is too large, are DER_VALUE here. */
 DER_NONNULL(1)
 der_error der_write_oid(der_writer *writer, der_tag tag, const uint8_t *oid, size_t length);
 DER_NONNULL(1)
@@ -1011,7 +1034,7 @@ DER_NONNULL(1)
 der_error der_write_text(der_writer *writer, der_tag tag, der_tag type, const uint8_t *octets, size_t length);
 
 /* A time of |type|, from its fields, without |seconds|; and from seconds since 1970. A UTCTime is in
- * the years 1950 to 2049. Another |type|, here and above, is DER_VALUE. */
+ * the years 1950 to 2049. In the calls that write, another |type| is DER_VALUE. */
 DER_NONNULL(1, 4)
 der_error der_write_time(der_writer *writer, der_tag tag, der_tag type, const der_time *time);
 DER_NONNULL(1)
@@ -1025,8 +1048,9 @@ der_error der_write_time_seconds(der_writer *writer, der_tag tag, der_tag type, 
  * was written is a request or a certificate, read it with |der_request_read| or |der_certificate_read|.
  * No call signs.
  *
- * The calls fail like |der_write_element|, and with DER_VALUE if an argument that is checked is no value.
- * The writer has failed then. */
+ * The calls fail like |der_write_element|. OBJECT IDENTIFIERs, texts, times and the serial number are
+ * checked: one that is no value is DER_VALUE, with the tag of the element that is written. The writer has
+ * failed then. */
 
 #ifdef __cplusplus
 #define DER_OCTETS(text) (reinterpret_cast<const uint8_t *>("" text)), (sizeof(text) - 1)
@@ -1056,8 +1080,9 @@ der_error der_write_time_seconds(der_writer *writer, der_tag tag, der_tag type, 
 #define DER_ID_EXTENDED_KEY_USAGE DER_OCTETS("\x55\x1D\x25") /* 2.5.29.37 */
 #define DER_ID_AUTHORITY_INFORMATION_ACCESS DER_OCTETS("\x2B\x06\x01\x05\x05\x07\x01\x01") /* 1.3.6.1.5.5.7.1.1 */
 
-/* Algorithms of keys and of signatures (RFC 4055, 5758 and 8410). Those with RSA in their name have NULL
- * parameters, and the others have none. An id-ecPublicKey has a curve as its parameters. */
+/* Algorithms of keys and of signatures (RFC 4055, 5480, 5758 and 8410). Those with RSA in their name have
+ * NULL parameters. Those of ECDSA, and Ed25519, have none. DER_ID_EC_PUBLIC_KEY has a curve, which
+ * |der_write_algorithm| cannot write. */
 #define DER_ID_RSA_ENCRYPTION DER_OCTETS("\x2A\x86\x48\x86\xF7\x0D\x01\x01\x01") /* 1.2.840.113549.1.1.1 */
 #define DER_ID_SHA256_WITH_RSA DER_OCTETS("\x2A\x86\x48\x86\xF7\x0D\x01\x01\x0B") /* 1.2.840.113549.1.1.11 */
 #define DER_ID_SHA384_WITH_RSA DER_OCTETS("\x2A\x86\x48\x86\xF7\x0D\x01\x01\x0C") /* 1.2.840.113549.1.1.12 */
@@ -1077,7 +1102,7 @@ der_error der_write_time_seconds(der_writer *writer, der_tag tag, der_tag type, 
 #define DER_ID_OCSP_SIGNING DER_OCTETS("\x2B\x06\x01\x05\x05\x07\x03\x09") /* 1.3.6.1.5.5.7.3.9 */
 
 /* der_write_name_attribute writes one level of a name with one attribute: its type, and the characters of a
- * string of |type|, which is one that |der_read_text| takes. A name is a SEQUENCE of levels: begin and end it.
+ * string of |type|, which is one that |der_read_text| takes. A Name is a SEQUENCE of levels: begin and end it.
  * RFC 5280 (4.1.2.4) wants DER_UTF8_STRING or DER_PRINTABLE_STRING, the latter for DER_ID_COUNTRY_NAME and
  * DER_ID_SERIAL_NUMBER, and DER_IA5_STRING for DER_ID_EMAIL_ADDRESS and DER_ID_DOMAIN_COMPONENT. */
 DER_NONNULL(1)
@@ -1094,19 +1119,22 @@ DER_NONNULL(1)
 der_error der_write_algorithm(der_writer *writer, const uint8_t *identifier, size_t length, bool null_parameters);
 
 /* der_write_request_part writes the part of a certification request (RFC 2986, 4.1) that is signed. The
- * subject is a name, the key a SubjectPublicKeyInfo, and |extensions|, if it has octets, are requested. All
- * are elements. */
+ * subject is a Name, the key a SubjectPublicKeyInfo, and |extensions|, if it has octets, a SEQUENCE of those
+ * that are requested. All are elements. A name or a list of extensions that was read has no header: write it
+ * with |der_write_element| and DER_SEQUENCE first. */
 DER_NONNULL(1)
 der_error der_write_request_part(der_writer *writer, const uint8_t *subject, size_t subject_length,
                                  const uint8_t *public_key, size_t key_length, const uint8_t *extensions,
                                  size_t extensions_length);
 
 /* der_write_validity writes the validity of a certificate, from seconds since 1970-01-01T00:00:00Z. Times
- * from 1950 to 2049 are UTCTimes, and others GeneralizedTimes. */
+ * from 1950 to 2049 are UTCTimes, and others GeneralizedTimes. A time outside the years 0 to 9999 is
+ * DER_VALUE; octets that were already written remain. The order of the times is not checked. */
 DER_NONNULL(1)
 der_error der_write_validity(der_writer *writer, int64_t not_before, int64_t not_after);
 
-/* The parts of a certificate that is written: elements, but for the serial number. */
+/* The parts of a certificate that is written: elements, but for the serial number. A name or a list of
+ * extensions that was read has no header: see |der_write_request_part|. */
 typedef struct der_certificate_parts {
     der_span serial_number; /* the contents octets of an INTEGER */
     der_span signature_algorithm;

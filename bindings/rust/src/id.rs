@@ -79,8 +79,9 @@ pub const AUTHORITY_INFORMATION_ACCESS: Oid<'static> = Oid {
     contents: &[0x2B, 0x06, 0x01, 0x05, 0x05, 0x07, 0x01, 0x01],
 };
 
-// Algorithms of keys and of signatures (RFC 4055, 5758 and 8410). Those with RSA in their name have NULL
-// parameters, and the others have none. An id-ecPublicKey has a curve as its parameters.
+// Algorithms of keys and of signatures (RFC 4055, 5480, 5758 and 8410). Those with RSA in their name have
+// NULL parameters. Those of ECDSA, and Ed25519, have none. DER_ID_EC_PUBLIC_KEY has a curve, which
+// |der_write_algorithm| cannot write.
 /// `1.2.840.113549.1.1.1`.
 pub const RSA_ENCRYPTION: Oid<'static> = Oid {
     contents: &[0x2A, 0x86, 0x48, 0x86, 0xF7, 0x0D, 0x01, 0x01, 0x01],
