@@ -30,8 +30,8 @@ pub struct CertificateParts<'a> {
 ///
 /// # Errors
 ///
-/// Those of [`Writer::element`]; and [`Value`](crate::ErrorKind::Value) if an argument that is checked is no
-/// value.
+/// Those of [`Writer::element`]; and [`Value`](crate::ErrorKind::Value) if an OBJECT IDENTIFIER, a text, a time or the
+/// serial number is not a value of its type.
 impl Writer<'_> {
     /// One level of a name (RFC 5280, 4.1.2.4), with one attribute: its type, and the characters of a string of
     /// the type `string_type`. A name is a SEQUENCE of levels.
@@ -64,15 +64,17 @@ impl Writer<'_> {
         answer(unsafe { sys::der_write_extension(&mut self.0, id, length, critical, value.as_ptr(), value.len()) })
     }
 
-    /// An algorithm (RFC 5280, 4.1.1.2) with NULL parameters, as RSA has them, or with none.
+    /// An algorithm (RFC 5280, 4.1.1.2) with NULL parameters, as RSA has them, or with none. Other parameters, such as the
+    /// curve of `id::EC_PUBLIC_KEY`, cannot be written with this call.
     pub fn algorithm(&mut self, identifier: Oid<'_>, null_parameters: bool) -> Result<(), Error> {
         let (id, length) = (identifier.contents.as_ptr(), identifier.contents.len());
         // SAFETY: pointer and length describe a slice, and the call only reads it.
         answer(unsafe { sys::der_write_algorithm(&mut self.0, id, length, null_parameters) })
     }
 
-    /// The part of a certification request that is signed (RFC 2986, 4.1), from the encodings of a name, of a
-    /// SubjectPublicKeyInfo, and of the extensions that are requested, or of none. They are not checked.
+    /// The part of a certification request that is signed (RFC 2986, 4.1). The arguments are the encodings of a name, of a
+    /// SubjectPublicKeyInfo, and of a SEQUENCE of extensions. If `extensions` has no octets, none are requested. They are
+    /// not checked.
     pub fn request_part(&mut self, subject: &[u8], public_key: &[u8], extensions: &[u8]) -> Result<(), Error> {
         let (key, key_length) = (public_key.as_ptr(), public_key.len());
         let (more, more_length) = (extensions.as_ptr(), extensions.len());
@@ -83,7 +85,9 @@ impl Writer<'_> {
         })
     }
 
-    /// The validity of a certificate (RFC 5280, 4.1.2.5), in seconds since 1970-01-01T00:00:00Z.
+    /// The validity of a certificate (RFC 5280, 4.1.2.5), in seconds since 1970-01-01T00:00:00Z. Times from 1950 to 2049
+    /// are UTCTimes, others GeneralizedTimes. `Value` if a year is not from 0 to 9999. That `not_before` is first is not
+    /// checked.
     pub fn validity(&mut self, not_before: i64, not_after: i64) -> Result<(), Error> {
         answer(sys::der_write_validity(&mut self.0, not_before, not_after))
     }

@@ -79,6 +79,10 @@ impl fmt::Debug for PublicKey<'_> {
 
 impl<'a> PublicKey<'a> {
     /// The public key that these octets are in DER.
+    ///
+    /// # Errors
+    ///
+    /// The first step of reading that fails, at its position. The octets must be one public key, and no more.
     pub fn from_der(octets: &'a [u8]) -> Result<Self, Error> {
         let mut raw = RawPublicKey::EMPTY;
         // SAFETY: pointer and length describe a slice, which the key borrows for 'a.

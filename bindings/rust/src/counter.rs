@@ -4,8 +4,10 @@ use crate::sys::{self, RawCounter, RawMark};
 use crate::tag::Tag;
 use core::fmt;
 
-/// Counts the octets that the same calls on a [`Writer`](crate::Writer) would write. Any error makes it
-/// fail, and every later call on it fails.
+/// Counts the octets that the same calls on a [`Writer`](crate::Writer) would write. Each error of the counter makes it
+/// fail, and every later call on it fails: `Failed`, `Overflow` if there are more than 4294967295 octets, and
+/// `TagNumberInvalid` if `tag` is not a tag. An error of the closure of [`inside`](Self::inside) does not: the element
+/// stays open, and [`finish`](Self::finish) fails.
 ///
 /// ```
 /// use der_c::{Counter, Error, Tag};

@@ -37,8 +37,8 @@ impl From<RawHeader> for Header {
     }
 }
 
-/// An element, whose contents borrow from the input of the reader. Two elements are equal if they
-/// have the same tag, contents, form and place.
+/// An element, whose contents borrow from the input of the reader. Two elements are equal if they have the same tag,
+/// the same contents, the same place in their input, and if both or neither are constructed and of indefinite length.
 #[derive(Clone, Copy)]
 pub struct Element<'a>(pub(crate) RawElement<'a>);
 
@@ -91,6 +91,7 @@ impl PartialEq for Element<'_> {
         self.tag() == other.tag()
             && self.start() == other.start()
             && self.contents_start() == other.contents_start()
+            && self.is_constructed() == other.is_constructed()
             && self.is_indefinite() == other.is_indefinite()
             && self.contents() == other.contents()
     }

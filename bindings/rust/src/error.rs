@@ -3,12 +3,12 @@ use crate::sys::{self, RawError};
 use crate::tag::Tag;
 use core::fmt;
 
-/// Why a read or a write failed: a kind, and mostly a position. It is `Copy`, and holds no octets of
-/// the input.
+/// Why a read or a write failed: a kind, and mostly a position. It is `Copy`, and borrows nothing. Of the input it
+/// holds at most tags and one octet.
 #[derive(Clone, Copy, PartialEq, Eq, Hash)]
 pub struct Error(pub(crate) RawError);
 
-/// The kinds of error, as numbered in `der.h`.
+/// The kinds of error. `der.h` numbers them.
 #[derive(Clone, Copy, PartialEq, Eq, Hash, Debug)]
 #[non_exhaustive]
 pub enum ErrorKind {
@@ -18,11 +18,13 @@ pub enum ErrorKind {
     EncodingRules,
     /// The reader or writer had failed before.
     Failed,
-    /// Octets are missing at the end. Both numbers count from the start of the input.
+    /// Octets are missing. Both numbers count from where positions count: see [`Error::position`]. More octets do not
+    /// help if the reader comes from `enter` or `open`, or if an element inside a certificate, a request, a key, a list
+    /// or an extension passes the end of the element around it.
     Incomplete {
-        /// How many octets are needed: where the element would end, if its header was read.
+        /// How many octets are needed: where the element would end. If its header is cut, this is `actual` plus one.
         expected: u32,
-        /// How many there are.
+        /// How many there are; for a reader from `enter` or `open`, where its contents end.
         actual: u32,
     },
     /// An indefinite length where none is allowed, or one that is not closed properly.
@@ -33,7 +35,7 @@ pub enum ErrorKind {
     NestingDepth,
     /// A value with this tag is not encoded canonically.
     Noncanonical(Tag),
-    /// A text or octets are no OBJECT IDENTIFIER.
+    /// A text is not the dotted notation of an OBJECT IDENTIFIER.
     ObjectIdentifier,
     /// The elements of a SET OF are not in order.
     SetOrdering,
@@ -43,7 +45,7 @@ pub enum ErrorKind {
     Overflow,
     /// There is too little space.
     Overlength,
-    /// The element was not read by this reader.
+    /// The element does not lie in the octets of this reader.
     Reader,
     /// A tag number is malformed, or a [`Tag`] is not a tag.
     TagNumberInvalid,
@@ -80,6 +82,14 @@ impl Error {
         })
     }
 
+    /// The error of an element of a SET OF that begins here, and is less than the one before it.
+    pub(crate) fn of_order(place: usize) -> Self {
+        let mut error = Self::of_kind(sys::SET_ORDERING);
+        // a reader has at most 4294967295 octets
+        (error.0.has_position, error.0.position) = (true, place as u32);
+        error
+    }
+
     /// The kind of error, with its tags and numbers.
     pub fn kind(&self) -> ErrorKind {
         let RawError { first, second, .. } = self.0;
@@ -99,7 +109,7 @@ impl Error {
             8 => ErrorKind::Noncanonical(actual),
             9 => ErrorKind::ObjectIdentifier,
             10 => ErrorKind::Duplicate,
-            11 => ErrorKind::SetOrdering,
+            sys::SET_ORDERING => ErrorKind::SetOrdering,
             12 => ErrorKind::Overflow,
             13 => ErrorKind::Overlength,
             14 => ErrorKind::Reader,
@@ -119,7 +129,9 @@ impl Error {
         }
     }
 
-    /// The position, in octets from the start of the input or of the output, if one is known.
+    /// The position, if it is known, in octets from the start of the input or of the output. In an error of the value of
+    /// an extension it counts from the start of the value; in an error of an item, from the start of the contents of the
+    /// list.
     pub fn position(&self) -> Option<u32> {
         self.0.has_position.then_some(self.0.position)
     }

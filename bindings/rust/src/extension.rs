@@ -33,7 +33,7 @@ impl fmt::Debug for Extension<'_> {
 /// What keyUsage says (RFC 5280, 4.2.1.3).
 #[derive(Clone, Copy, PartialEq, Eq, Hash, Debug)]
 pub struct KeyUsage {
-    /// Bit n of the extension as `1 << n`: digitalSignature is 1, keyCertSign is 32.
+    /// Bit n of the extension as `1 << n`: digitalSignature is 1, keyCertSign is 32. Bits from 16 on are left out.
     pub bits: u16,
     /// Whether the extension is critical.
     pub critical: bool,
@@ -124,8 +124,8 @@ impl<'a> Extensions<'a> {
         Ok(raw.present.then(|| KeyUsage::of(&raw)))
     }
 
-    /// The keyUsage extension, if it is there, and whether its contents are DER: they may be BER, as some roots have
-    /// them, with zero bits after the last one. Fails as [`key_usage`](Self::key_usage) does.
+    /// The keyUsage extension, if it is there, and whether its value is DER. The value may also be BER: the bits may end
+    /// in zeros, as those of some roots do. Fails as [`key_usage`](Self::key_usage) does, but with the error under BER.
     pub fn key_usage_lenient(&self) -> Result<Option<(KeyUsage, bool)>, Error> {
         let (mut raw, mut is_der) = (RawUsage::default(), false);
         // SAFETY: as above.
@@ -135,7 +135,8 @@ impl<'a> Extensions<'a> {
         Ok(raw.present.then(|| (KeyUsage::of(&raw), is_der)))
     }
 
-    /// The basicConstraints extension, if it is there. Fails as [`key_usage`](Self::key_usage) does.
+    /// The basicConstraints extension, if it is there. Fails as [`key_usage`](Self::key_usage) does, and with `Value`,
+    /// without a position, if the limit is negative or above 2^64 - 1.
     pub fn basic_constraints(&self) -> Result<Option<BasicConstraints>, Error> {
         let mut raw = RawConstraints::default();
         // SAFETY: as above.
@@ -143,8 +144,9 @@ impl<'a> Extensions<'a> {
         Ok(raw.present.then(|| BasicConstraints::of(&raw)))
     }
 
-    /// The basicConstraints extension, if it is there, and whether its contents are DER: they may be BER, with a field
-    /// that has its default. Fails as [`key_usage`](Self::key_usage) does.
+    /// The basicConstraints extension, if it is there, and whether its value is DER. The value may also be BER, for
+    /// example with a field that has its default value. Fails as [`basic_constraints`](Self::basic_constraints) does, but
+    /// with the error under BER.
     pub fn basic_constraints_lenient(&self) -> Result<Option<(BasicConstraints, bool)>, Error> {
         let (mut raw, mut is_der) = (RawConstraints::default(), false);
         // SAFETY: as above.

@@ -13,7 +13,7 @@ use core::fmt;
 #[derive(Clone, Copy, PartialEq, Eq, Hash, Debug)]
 #[non_exhaustive]
 pub enum GeneralName<'a> {
-    /// A name of another form.
+    /// An otherName: the OBJECT IDENTIFIER of its form, and its value.
     Other(Oid<'a>, Any<'a>),
     /// A mail address.
     Mail(&'a str),

@@ -45,7 +45,8 @@ pub trait Listed<'a>: Sized {
     fn read(reader: &mut Reader<'a>) -> Result<Self, Error>;
 }
 
-/// The items of a list, in order; the iterator ends after an error.
+/// The items of a list, in order; the iterator ends after an error. Positions of errors count from the start of the
+/// contents of the list.
 #[derive(Clone, Debug)]
 pub struct ItemIter<'a, T> {
     reader: Result<Reader<'a>, Error>,

@@ -4,9 +4,10 @@
 //!
 //! Nothing is validated: no signature, no chain of certificates, no date against a clock.
 //!
-//! Two errors of a [`Reader`] leave it where it was; after any other, every later call on it fails.
-//! It reads BER with indefinite lengths, and an OCTET STRING in segments; not longer lengths than
-//! necessary, and no other constructed strings.
+//! Two errors of a [`Reader`] leave it as it was; after any other, every later call on it fails. Of BER it reads
+//! indefinite lengths, and an OCTET STRING in segments. It does not join the segments: if [`Element::is_constructed`]
+//! is true for an OCTET STRING, its contents are the encodings of the segments. It refuses lengths in more octets than
+//! necessary, and other constructed strings.
 //!
 //! # Features
 //!

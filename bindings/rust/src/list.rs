@@ -82,7 +82,8 @@ pub struct DistributionPoint<'a> {
     pub full_name: Option<GeneralNames<'a>>,
     /// The level of the place below the name of the issuer of the list.
     pub relative_name: Option<RelativeName<'a>>,
-    /// The reasons that the list covers, if it does not cover all: bit n as `1 << n`; keyCompromise is 2.
+    /// The reasons that the list covers, if it does not cover all: bit n as `1 << n`; keyCompromise is 2. Bits from 16 on
+    /// are left out.
     pub reasons: Option<u16>,
     /// The names of the issuer of the list, if it is not the issuer of the certificate.
     pub list_issuer: Option<GeneralNames<'a>>,

@@ -21,13 +21,14 @@ pub struct Attribute<'a> {
 }
 
 impl<'a> Attribute<'a> {
-    /// The characters of the value, if it is a string of a type with characters.
+    /// The characters of the value; `None` if its type is not one that [`Reader::text`] names, or if the octets are no
+    /// characters, such as wrong UTF-8. That they are in the alphabet of the type is not checked.
     pub fn text(&self) -> Option<Text<'a>> {
         Text::of(self.value.tag, self.value.contents)
     }
 }
 
-/// A name (RFC 5280, 4.1.2.4): levels, from the root of the directory, of attributes each.
+/// A name (RFC 5280, 4.1.2.4): a list of levels, from the root of the directory down. Each level has attributes.
 #[derive(Clone, Copy, PartialEq, Eq, Hash)]
 pub struct Name<'a> {
     pub(crate) contents: &'a [u8],
@@ -43,16 +44,16 @@ impl<'a> Name<'a> {
         let mut levels = crate::items::list(octets)?;
         let contents = levels.rest();
         while !levels.is_finished() {
-            let mut level = levels.enter(Tag::SET)?;
-            while !level.is_finished() {
-                next_attribute(&mut level)?;
-            }
+            check_level(levels.enter(Tag::SET)?)?;
         }
         Ok(Name { contents })
     }
 
-    /// The text of the name, as RFC 4514 writes it: `CN=example.org,O=Example,C=DE`. It is written into `space`, which needs
-    /// room for one octet more. Printing the name (`Display`) needs no space, and also escapes `=`.
+    /// The text of the name, as RFC 4514 writes it: `CN=example.org,O=Example,C=DE`. It is written into `space`, which
+    /// needs room for one octet more. It is not the text of `Display`, which needs no space: `Display` also escapes `=`
+    /// and the control characters from U+0080 to U+009F, has only the short names of RFC 4514, 3, writes `STREET` for
+    /// `street` and hexadecimal digits in lower case, and prints the characters of a string that are not in the alphabet
+    /// of its type. Do not compare the two texts.
     ///
     /// # Errors
     ///
@@ -73,7 +74,7 @@ impl<'a> Name<'a> {
         Ok(core::str::from_utf8(&space[..count]).unwrap_or_default())
     }
 
-    /// All attributes, level by level.
+    /// All attributes, from the first level to the last. Where a level ends is not told.
     pub fn attributes(&self) -> Attributes<'a> {
         Attributes {
             levels: Reader::der(self.contents),
@@ -82,7 +83,7 @@ impl<'a> Name<'a> {
     }
 }
 
-/// All attributes, level by level.
+/// All attributes, from the first level to the last.
 impl<'a> IntoIterator for Name<'a> {
     type Item = Result<Attribute<'a>, Error>;
     type IntoIter = Attributes<'a>;
@@ -92,7 +93,8 @@ impl<'a> IntoIterator for Name<'a> {
     }
 }
 
-/// A level of a name alone: what the name of a place has more than that of an issuer (RFC 5280, 4.2.1.13).
+/// One level of a name. Added to the name of the issuer of a revocation list, it names where that list is found (RFC
+/// 5280, 4.2.1.13).
 #[derive(Clone, Copy, PartialEq, Eq, Hash)]
 pub struct RelativeName<'a> {
     pub(crate) contents: &'a [u8],
@@ -185,6 +187,9 @@ impl<'a> Iterator for Attributes<'a> {
     fn next(&mut self) -> Option<Self::Item> {
         loop {
             if let Some(found) = crate::items::next(&mut self.level, next_attribute) {
+                if found.is_err() {
+                    self.levels = Reader::der(&[]);
+                }
                 return Some(found);
             }
             match crate::items::next(&mut self.levels, |it| it.enter(Tag::SET))? {
@@ -196,6 +201,21 @@ impl<'a> Iterator for Attributes<'a> {
 }
 
 impl FusedIterator for Attributes<'_> {}
+
+/// Reads a level to its end: attributes in the order of a SET OF (X.690 11.6).
+fn check_level(mut level: Reader<'_>) -> Result<(), Error> {
+    let mut last: &[u8] = &[];
+    while !level.is_finished() {
+        let (place, rest) = (level.position(), level.rest());
+        next_attribute(&mut level)?;
+        let attribute = &rest[..level.position() - place];
+        if attribute < last {
+            return Err(Error::of_order(place));
+        }
+        last = attribute;
+    }
+    Ok(())
+}
 
 fn next_attribute<'a>(reader: &mut Reader<'a>) -> Result<Attribute<'a>, Error> {
     let mut raw = RawAttribute::EMPTY;

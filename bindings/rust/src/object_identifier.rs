@@ -37,9 +37,10 @@ impl ObjectIdentifier {
     }
 }
 
-/// The identifier with this text in dotted notation. Fails with
-/// [`ObjectIdentifier`](crate::ErrorKind::ObjectIdentifier) if the text is none, and with
-/// [`Overlength`](crate::ErrorKind::Overlength) if it has more than 63 contents octets.
+/// The identifier with this text in dotted notation. Fails as [`Oid::from_text`] does with 63 octets of space: with
+/// [`ObjectIdentifier`](crate::ErrorKind::ObjectIdentifier) if the text is not one, with
+/// [`Overflow`](crate::ErrorKind::Overflow) if a subidentifier needs more than 128 bits or all need more than 256 octets,
+/// and with [`Overlength`](crate::ErrorKind::Overlength) if they need 64 to 256 octets.
 impl FromStr for ObjectIdentifier {
     type Err = Error;
 

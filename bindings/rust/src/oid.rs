@@ -70,7 +70,8 @@ impl<'a> Oid<'a> {
     }
 }
 
-/// Whether the identifier has this text in dotted notation.
+/// Whether the identifier has this text in dotted notation. False if a subidentifier of the identifier has more than 128
+/// bits, or if the text has leading zeros.
 impl PartialEq<str> for Oid<'_> {
     fn eq(&self, text: &str) -> bool {
         let Oid { contents } = *self;
@@ -93,7 +94,7 @@ impl Oid<'_> {
 }
 
 /// Prints the arcs in decimal, separated by dots. An identifier whose text has 1024 octets or more, or
-/// with an arc of more than 128 bits, is printed as its contents octets in hexadecimal, after `#`.
+/// with a subidentifier of more than 128 bits, is printed as its contents octets in hexadecimal, after `#`.
 impl fmt::Display for Oid<'_> {
     fn fmt(&self, f: &mut fmt::Formatter<'_>) -> fmt::Result {
         match self.write_text(&mut [0; SPACE]) {

@@ -1,6 +1,7 @@
 //! PEM texts (RFC 7468), and base64 (RFC 4648, section 4).
 //!
-//! What base64 is decoded to, and what is written, is proved; which blocks a text has is tested.
+//! Proved: what base64 is decoded to, what is written, and which block is the first of a text. Tested: that a block is
+//! encrypted, and that [`Blocks`] goes on after a block.
 //!
 //! ```
 //! use der_c::pem;
@@ -27,8 +28,7 @@ pub const fn base64_length(octets: usize) -> usize {
     octets.div_ceil(3).saturating_mul(4)
 }
 
-/// The number of octets that [`write()`] writes, with a label of so many octets and of so many octets in
-/// the block.
+/// The number of octets that [`write()`] writes for a label of `label` octets and a block of `octets` octets.
 pub const fn length(label: usize, octets: usize) -> usize {
     let text = base64_length(octets);
     label
@@ -49,8 +49,8 @@ pub fn encode_base64<'s>(octets: &[u8], space: &'s mut [u8]) -> Option<&'s str> 
     text_of(space, count)
 }
 
-/// Decodes base64, with white space in it. Returns `None` if the text is no base64, and if there is no room
-/// for its octets: fewer than the text has.
+/// Decodes base64, which may have white space in it. Returns `None` if the text is not base64, or if its octets do not
+/// fit; some of `space` may be written then. As many octets as the text has are always enough.
 pub fn decode_base64<'s>(text: &[u8], space: &'s mut [u8]) -> Option<&'s [u8]> {
     // SAFETY: as above.
     let count = unsafe { sys::der_base64_decode(text.as_ptr(), text.len(), space.as_mut_ptr(), space.len()) };
@@ -58,8 +58,8 @@ pub fn decode_base64<'s>(text: &[u8], space: &'s mut [u8]) -> Option<&'s [u8]> {
 }
 
 /// Writes a block of PEM, with base64 in lines of 64 characters, each of which ends in LF. Returns `None` if
-/// there is no room for [`length()`] octets, and if the label is none: printable ASCII characters, where each
-/// `-` and each space stands between two others (RFC 7468, section 3). Then nothing is written.
+/// there is no room for [`length()`] octets, or if the label is not one; then nothing is written. A label has printable
+/// ASCII characters, and each `-` and each space in it is between two others (RFC 7468, section 3); it may be empty.
 pub fn write<'s>(label: &str, octets: &[u8], space: &'s mut [u8]) -> Option<&'s str> {
     // SAFETY: pointers and lengths describe slices, and the call writes the third alone.
     let count = unsafe {
@@ -106,7 +106,8 @@ impl PemError {
         self.line
     }
 
-    /// Whether the block is right, and encrypted by PEM itself (RFC 1421, section 4.6.1.1).
+    /// Whether the header Proc-Type says that the block is encrypted (RFC 1421, section 4.6.1.1). Its base64 is not
+    /// checked.
     pub fn is_encrypted(&self) -> bool {
         self.is_encrypted
     }
@@ -194,12 +195,14 @@ impl<'a> Blocks<'a> {
         self.rest = rest;
     }
 
-    /// The next block, whose octets are decoded into `space`; `None` if there is no other one. As much space
-    /// as the text has octets is enough; if there is too little, this is an error.
+    /// The next block, whose octets are decoded into `space`; `None` if there is no other one. As much space as the text
+    /// has octets is enough.
     ///
     /// # Errors
     ///
-    /// What is no block, no base64 or has no room, with its line; and an encrypted block.
+    /// An error if the lines of the block are wrong, if it is not base64, if its octets do not fit, or if it is
+    /// encrypted. Only in the first case is it the last item; otherwise the next call reads the next block, also after
+    /// too little space. After an error some of `space` may be written.
     pub fn read<'s>(&mut self, space: &'s mut [u8]) -> Option<Result<Block<'a, &'s [u8]>, PemError>> {
         let found = self.decode(space);
         self.pass(found.as_ref());

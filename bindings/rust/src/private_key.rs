@@ -6,7 +6,7 @@ use crate::value::Bits;
 use core::fmt;
 
 /// A private key with its algorithm (PKCS #8; RFC 5958, 2), borrowed from its octets. An encrypted key
-/// is another format.
+/// is another format, and is refused. That version 1 has no public key is not checked.
 #[derive(Clone, Copy)]
 pub struct PrivateKey<'a> {
     /// The version: 1 or 2.
@@ -15,7 +15,7 @@ pub struct PrivateKey<'a> {
     pub algorithm: Algorithm<'a>,
     /// The key, in the format of its algorithm, which is not checked.
     pub key: &'a [u8],
-    /// The contents of the SET OF attributes, if there is one. They are not checked.
+    /// The contents of the SET OF attributes, if there is one. The contents of their values are not checked.
     pub attributes: Option<&'a [u8]>,
     /// The public key, if there is one. That it belongs to `key` is not checked.
     pub public_key: Option<Bits<'a>>,

@@ -9,11 +9,14 @@ use core::iter::FusedIterator;
 
 /// A reader of octets. It is a small value: a copy reads on independently.
 ///
-/// Any error makes the reader fail, and every later call on it fails with
-/// [`ErrorKind::Failed`](crate::ErrorKind::Failed); so a function may check once, by
-/// [`finish`](Self::finish). Two errors leave the reader where it was:
-/// [`TagUnexpected`](crate::ErrorKind::TagUnexpected), and [`Reader`](crate::ErrorKind::Reader) for
-/// an element of another reader. A call that takes `&self`, as [`peek`](Self::peek), also leaves it there.
+/// Check the result of each call that reads. After an error the reader has failed: it does not move, and every later
+/// call that reads fails with [`ErrorKind::Failed`](crate::ErrorKind::Failed). So end a loop over
+/// [`is_finished`](Self::is_finished) at the first error. Two errors leave the reader as it was, not failed:
+/// [`TagUnexpected`](crate::ErrorKind::TagUnexpected), and [`Reader`](crate::ErrorKind::Reader) for an element of
+/// other octets. After these, later calls and [`finish`](Self::finish) may succeed.
+///
+/// A call that takes `&self`, such as [`peek`](Self::peek), never changes the reader. `finish`, `tree`, `elements` and
+/// a `for` loop take a copy: the reader itself stays where it was.
 ///
 /// ```
 /// use der_c::{Reader, Tag};
@@ -44,7 +47,7 @@ impl<'a> Reader<'a> {
         Self::new(octets, false)
     }
 
-    /// A reader under the Basic Encoding Rules: it also reads indefinite lengths.
+    /// A reader under the Basic Encoding Rules: it also reads indefinite lengths, and OCTET STRINGs in segments.
     ///
     /// # Errors
     ///
@@ -60,7 +63,13 @@ impl<'a> Reader<'a> {
         Ok(Reader(raw))
     }
 
-    /// Reads the next header.
+    /// Reads the next header; the reader is then at the contents. Under BER, contents of an indefinite length are
+    /// scanned for their end.
+    ///
+    /// # Errors
+    ///
+    /// `Failed`, `Incomplete`, `Overflow`, `TagUnknown`, `TagNumberInvalid`, `IndefiniteLength`, `Length`; and
+    /// `NestingDepth` if contents of an indefinite length are nested too deeply.
     #[inline]
     pub fn header(&mut self) -> Result<Header, Error> {
         let mut raw = RawHeader::default();
@@ -69,6 +78,10 @@ impl<'a> Reader<'a> {
     }
 
     /// Consumes the next element.
+    ///
+    /// # Errors
+    ///
+    /// Those of [`header`](Self::header); `Incomplete` and `Overflow` if the contents are cut.
     #[inline]
     pub fn skip(&mut self) -> Result<(), Error> {
         answer(sys::der_skip(&mut self.0))
@@ -76,6 +89,10 @@ impl<'a> Reader<'a> {
 
     /// Returns the number of octets of indefinite-length contents, end-of-contents octets included,
     /// and consumes them. The reader has to be just after octet `0x80`, and read under BER.
+    ///
+    /// # Errors
+    ///
+    /// `EncodingRules` if the reader does not read BER; otherwise the first error in the contents.
     pub fn scan(&mut self) -> Result<u32, Error> {
         let mut count = 0;
         answer(sys::der_scan(&mut self.0, &mut count))?;
@@ -83,6 +100,10 @@ impl<'a> Reader<'a> {
     }
 
     /// Reads the next element.
+    ///
+    /// # Errors
+    ///
+    /// Those of [`header`](Self::header); `Incomplete` and `Overflow` if the contents are cut.
     #[inline]
     pub fn read(&mut self) -> Result<Element<'a>, Error> {
         let mut element = RawElement::EMPTY;
@@ -90,8 +111,13 @@ impl<'a> Reader<'a> {
         Ok(Element(element))
     }
 
-    /// Reads the next element, which must have this tag; another tag is an error that leaves the
-    /// reader where it was.
+    /// Reads the next element, which must have this tag. Under BER, ask [`Element::is_constructed`] before you use the
+    /// contents of an OCTET STRING: if it is in segments, they are the encodings of the segments.
+    ///
+    /// # Errors
+    ///
+    /// Those of [`read`](Self::read); `TagUnexpected` at the next element, which leaves the reader as it was;
+    /// `TagNumberInvalid` if `tag` is not a tag and there is a next element.
     #[inline]
     pub fn expect(&mut self, tag: Tag) -> Result<Element<'a>, Error> {
         let mut element = RawElement::EMPTY;
@@ -99,8 +125,13 @@ impl<'a> Reader<'a> {
         Ok(Element(element))
     }
 
-    /// Reads the next element if there is one and it has this tag. Otherwise returns `None`, and the
-    /// reader stays where it was.
+    /// Reads the next element if it has this tag. At the end, and if the next element has another tag, returns `None`,
+    /// and the reader stays where it was.
+    ///
+    /// # Errors
+    ///
+    /// Those of [`read`](Self::read), also for the header of an element with another tag; `TagNumberInvalid` if `tag`
+    /// is not a tag and there is a next element.
     #[inline]
     pub fn optional(&mut self, tag: Tag) -> Result<Option<Element<'a>>, Error> {
         let (mut element, mut present) = (RawElement::EMPTY, false);
@@ -157,8 +188,12 @@ impl<'a> Reader<'a> {
         Ok(None)
     }
 
-    /// Consumes the next element, which must have this tag, and returns a reader of its contents.
-    /// Fails as [`expect`](Self::expect) does, and if the element is inside 64 others.
+    /// Consumes the next element, which must have this tag, and returns a reader of its contents. Call `finish` on that
+    /// reader: octets may be left in it.
+    ///
+    /// # Errors
+    ///
+    /// Those of [`expect`](Self::expect); `NestingDepth` if the element is inside 64 others.
     #[inline]
     pub fn enter(&mut self, tag: Tag) -> Result<Reader<'a>, Error> {
         let mut inside = RawReader::EMPTY;
@@ -177,8 +212,13 @@ impl<'a> Reader<'a> {
         Err(Error::of_kind(sys::READER))
     }
 
-    /// A reader of the contents of an element that this reader, or a copy of it, has read. An element of
-    /// other octets is the error [`Reader`](crate::ErrorKind::Reader).
+    /// A reader of the contents of an element that this reader, or a copy of it, has read. This reader stays where it
+    /// is.
+    ///
+    /// # Errors
+    ///
+    /// `Failed` if this reader has failed; [`Reader`](crate::ErrorKind::Reader) for an element of other octets;
+    /// `NestingDepth` if the element is inside 64 others, and then this reader has failed.
     #[inline]
     pub fn open(&mut self, element: &Element<'a>) -> Result<Reader<'a>, Error> {
         self.owns(element)?;
@@ -188,8 +228,11 @@ impl<'a> Reader<'a> {
     }
 
     /// All octets of an element that this reader, or a copy of it, has read: its header, contents
-    /// and end-of-contents octets, as they are signed or hashed. An element of other octets is the error
-    /// [`Reader`](crate::ErrorKind::Reader).
+    /// and end-of-contents octets, as they are signed or hashed.
+    ///
+    /// # Errors
+    ///
+    /// `Failed` if the reader has failed; [`Reader`](crate::ErrorKind::Reader) for an element of other octets.
     pub fn octets_of(&self, element: &Element<'a>) -> Result<&'a [u8], Error> {
         self.owns(element)?;
         let mut span = RawSpan::EMPTY;
@@ -233,13 +276,20 @@ impl<'a> Reader<'a> {
         answer(sys::der_finish(&self.0))
     }
 
-    /// The elements that are left.
+    /// The elements that are left. A copy of the reader reads: this one stays where it is. If the reader has failed, the
+    /// first item is the error `Failed`; there is no item if no octets are left.
     pub fn elements(self) -> Elements<'a> {
         self.into_iter()
     }
 
-    /// Fills `nodes` with all elements that are left and those inside them, each before those
-    /// inside it, and returns their number.
+    /// Fills `nodes` with the elements that are left and those inside them, each before those inside it, and returns
+    /// their number. An element that 32 others enclose is one node, without those inside it. A copy of the reader
+    /// reads: this one stays where it is.
+    ///
+    /// # Errors
+    ///
+    /// Those of [`read`](Self::read); `Overlength` if there are too few nodes. The nodes before the error are set, but
+    /// their number is not returned.
     pub fn tree(mut self, nodes: &mut [Node]) -> Result<usize, Error> {
         let mut count = 0;
         // SAFETY: pointer and length describe a slice, and the call only writes it.
@@ -248,8 +298,8 @@ impl<'a> Reader<'a> {
     }
 }
 
-/// Two readers are equal if the same calls on them have the same results: they read the same slice,
-/// under the same rules, at the same place.
+/// Two readers are equal if they read the same memory, under the same rules, at the same place and depth, and both or
+/// neither have failed.
 impl PartialEq for Reader<'_> {
     fn eq(&self, other: &Self) -> bool {
         let place = |it: &RawReader| (it.octets, it.length, it.position, it.end, it.depth, it.ber, it.failed);
@@ -293,6 +343,7 @@ pub struct Elements<'a> {
     is_refused: bool,
 }
 
+/// The elements that are left, as [`elements`](Reader::elements) returns them.
 impl<'a> IntoIterator for Reader<'a> {
     type Item = Result<Element<'a>, Error>;
     type IntoIter = Elements<'a>;

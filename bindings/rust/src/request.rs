@@ -57,8 +57,10 @@ impl<'a> Request<'a> {
     ///
     /// # Errors
     ///
-    /// The first attribute that cannot be read; [`Duplicate`](crate::ErrorKind::Duplicate) if the attribute is
-    /// there more than once; the error of its value.
+    /// The first attribute that cannot be read: its position counts from the start of `attributes`, as does that of
+    /// `Incomplete` if the extensionRequest has no value and of `TrailingData` if it has several.
+    /// [`Duplicate`](crate::ErrorKind::Duplicate) if the attribute is there more than once. The error of the extensions:
+    /// its position counts from the start of the value.
     pub fn extensions(&self) -> Result<Option<Extensions<'a>>, Error> {
         let (mut attributes, mut found) = (Reader::der(self.attributes)?, None);
         while !attributes.is_finished() {

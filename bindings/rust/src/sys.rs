@@ -22,6 +22,9 @@ pub const READER: u8 = 14;
 /// The number of the kind for what may occur once and occurs again.
 pub const DUPLICATE: u8 = 10;
 
+/// The number of the kind for elements of a SET OF that are not in order.
+pub const SET_ORDERING: u8 = 11;
+
 /// The number of the kind for too little space.
 pub const OVERLENGTH: u8 = 13;
 

@@ -1,7 +1,9 @@
 //! Tags.
 use core::fmt;
 
-/// A tag: the first octet of its identifier, plus 256 times its number if that is 31 or more.
+/// A tag: the first octet of its identifier, plus 256 times its number if that is 31 or more. Under BER, an OCTET
+/// STRING in segments (octet `0x24`) also has the tag `OCTET_STRING`. Tags are ordered as these numbers, which is not
+/// the order of X.680 8.6 from tag number 31 on.
 ///
 /// ```
 /// use der_c::Tag;

@@ -9,7 +9,8 @@ use core::str::FromStr;
 #[cfg(feature = "std")]
 use std::time::{Duration, SystemTime};
 
-/// A time in UTC, in the years 0 to 9999. It is printed, and parsed, as RFC 3339 writes it.
+/// A time in UTC, in the years 0 to 9999. It is printed as `2026-11-26T23:05:00Z`, and only this form of RFC 3339 is
+/// parsed. The fields may be no time: then it is printed as they are, and the calls that check it fail.
 ///
 /// ```
 /// use der_c::Time;
@@ -23,7 +24,7 @@ use std::time::{Duration, SystemTime};
 /// ```
 #[derive(Clone, Copy, PartialEq, Eq, PartialOrd, Ord, Hash, Debug)]
 pub struct Time {
-    /// The year.
+    /// The year, from 0 to 9999.
     pub year: u16,
     /// The month, from 1 to 12.
     pub month: u8,
@@ -152,7 +153,8 @@ fn parsed(text: &str) -> Option<Time> {
     })
 }
 
-/// Fails with [`DateTime`](crate::ErrorKind::DateTime) for any other text, and where the fields are no time.
+/// Parses a text such as `2026-11-26T23:05:00Z`. Fails with [`DateTime`](crate::ErrorKind::DateTime) for every other
+/// form, also with a fraction or an offset, and if there is no such time.
 impl FromStr for Time {
     type Err = Error;
 

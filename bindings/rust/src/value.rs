@@ -48,8 +48,8 @@ const STRING_TYPES: [Tag; 7] = [
     Tag::BMP_STRING,
 ];
 
-/// A string of one of the types with characters, borrowed from the input. Its characters are those
-/// of its type.
+/// A string of one of the types that [`Reader::text`] names, borrowed from the input. If `Reader::text` has read it, its
+/// characters are in the alphabet of its type. [`Attribute::text`](crate::Attribute::text) does not check that.
 #[derive(Clone, Copy, PartialEq, Eq, Hash)]
 pub struct Text<'a> {
     octets: &'a [u8],
@@ -109,6 +109,18 @@ impl fmt::Debug for Text<'_> {
 #[derive(Clone)]
 pub struct Characters<'a>(RawText<'a>);
 
+// SAFETY: characters consist of numbers and a `&[u8]`.
+unsafe impl Send for Characters<'_> {}
+// SAFETY: as above.
+unsafe impl Sync for Characters<'_> {}
+
+/// Prints the characters that are left.
+impl fmt::Debug for Characters<'_> {
+    fn fmt(&self, f: &mut fmt::Formatter<'_>) -> fmt::Result {
+        f.debug_list().entries(self.clone()).finish()
+    }
+}
+
 impl Iterator for Characters<'_> {
     type Item = char;
 
@@ -130,9 +142,9 @@ impl Iterator for Characters<'_> {
 
 impl FusedIterator for Characters<'_> {}
 
-/// Values. Each call reads the next element, which must have `tag`, and checks its contents by X.690.
-/// Another tag than the type's own is that of a value with an IMPLICIT tag. They fail as
-/// [`expect`](Reader::expect) does, and with [`Value`](crate::ErrorKind::Value) after the element if
+/// Values. Each call reads the next element, which must have `tag`, and checks its contents by the rules of DER, also
+/// under BER. Strings in segments are not joined. Another tag than the type's own is that of a value with an IMPLICIT
+/// tag. They fail as [`expect`](Reader::expect) does, and with [`Value`](crate::ErrorKind::Value) after the element if
 /// its contents are not those of a value of the type.
 impl<'a> Reader<'a> {
     /// Reads a BOOLEAN.
@@ -185,7 +197,8 @@ impl<'a> Reader<'a> {
     }
 
     /// Reads a string of the type that this universal tag names: UTF8String, NumericString,
-    /// PrintableString, TeletexString, IA5String, VisibleString or BMPString.
+    /// PrintableString, TeletexString, IA5String, VisibleString or BMPString. Another `string_type` is the error
+    /// `TagNumberInvalid`. A TeletexString may have any octets.
     pub fn text(&mut self, tag: Tag, string_type: Tag) -> Result<Text<'a>, Error> {
         let mut text = RawText::EMPTY;
         answer(sys::der_read_text(&mut self.0, tag.0, string_type.0, &mut text))?;
@@ -200,8 +213,9 @@ impl<'a> Reader<'a> {
         })
     }
 
-    /// Reads a UTCTime or a GeneralizedTime, which this universal tag names, and also returns its
-    /// seconds since 1970-01-01T00:00:00Z.
+    /// Reads a UTCTime or a GeneralizedTime, which this universal tag names, and also returns its seconds since
+    /// 1970-01-01T00:00:00Z. The years of a UTCTime are 1950 to 2049. A fraction of a second is `Value`. Another
+    /// `time_type` is the error `TagNumberInvalid`.
     pub fn time(&mut self, tag: Tag, time_type: Tag) -> Result<(Time, i64), Error> {
         let mut raw = RawTime::default();
         answer(sys::der_read_time(&mut self.0, tag.0, time_type.0, &mut raw))?;
@@ -233,7 +247,7 @@ impl Writer<'_> {
         answer(unsafe { sys::der_write_integer(&mut self.0, tag.0, octets.as_ptr(), octets.len()) })
     }
 
-    /// Writes a BIT STRING.
+    /// Writes a BIT STRING. `Value` if `unused` is above 7, or not 0 without octets, or if one of the unused bits is 1.
     pub fn bit_string(&mut self, tag: Tag, bits: Bits<'_>) -> Result<(), Error> {
         let Bits { octets, unused } = bits;
         // SAFETY: as above.
@@ -252,19 +266,22 @@ impl Writer<'_> {
         answer(unsafe { sys::der_write_oid(&mut self.0, tag.0, contents.as_ptr(), contents.len()) })
     }
 
-    /// Writes an OBJECT IDENTIFIER that is given in dotted notation.
+    /// Writes an OBJECT IDENTIFIER that is given in dotted notation. `Value` if the text is not one, if a subidentifier
+    /// needs more than 128 bits, or if all of them need more than 256 octets.
     pub fn oid(&mut self, tag: Tag, text: &str) -> Result<(), Error> {
         // SAFETY: as above.
         answer(unsafe { sys::der_write_oid_text(&mut self.0, tag.0, text.as_ptr(), text.len()) })
     }
 
-    /// Writes a string of the type that this universal tag names, from its contents octets.
+    /// Writes a string of the type that this universal tag names, from its contents octets. `Value` if these are not
+    /// characters of the type, or if `string_type` is not one that [`Reader::text`] names.
     pub fn text(&mut self, tag: Tag, string_type: Tag, octets: &[u8]) -> Result<(), Error> {
         // SAFETY: as above.
         answer(unsafe { sys::der_write_text(&mut self.0, tag.0, string_type.0, octets.as_ptr(), octets.len()) })
     }
 
-    /// Writes a time of the type that this universal tag names, UTCTime or GeneralizedTime.
+    /// Writes a time of the type that this universal tag names, UTCTime or GeneralizedTime. `Value` for another type, if
+    /// there is no such time, and if the year is not from 0 to 9999, or from 1950 to 2049 for a UTCTime.
     pub fn time(&mut self, tag: Tag, time_type: Tag, time: Time) -> Result<(), Error> {
         answer(sys::der_write_time(
             &mut self.0,
@@ -274,7 +291,7 @@ impl Writer<'_> {
         ))
     }
 
-    /// Writes a time that is given in seconds since 1970-01-01T00:00:00Z.
+    /// Writes a time that is given in seconds since 1970-01-01T00:00:00Z. Fails as [`time`](Self::time) does.
     pub fn time_seconds(&mut self, tag: Tag, time_type: Tag, seconds: i64) -> Result<(), Error> {
         answer(sys::der_write_time_seconds(&mut self.0, tag.0, time_type.0, seconds))
     }

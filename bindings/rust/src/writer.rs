@@ -31,7 +31,7 @@ unsafe impl Send for Writer<'_> {}
 unsafe impl Sync for Writer<'_> {}
 
 impl<'a> Writer<'a> {
-    /// A writer into these octets, from their start.
+    /// A writer into these octets, from their start. At most 4294967295 octets are written.
     pub fn new(octets: &'a mut [u8]) -> Self {
         // SAFETY: pointer and length describe a slice, which the writer borrows for 'a.
         unsafe { Self::over(octets.as_mut_ptr(), octets.len()) }
@@ -52,12 +52,21 @@ impl<'a> Writer<'a> {
     }
 
     /// Writes the header of an element with this tag and number of octets of contents.
+    ///
+    /// # Errors
+    ///
+    /// Those of [`element`](Self::element).
     #[inline]
     pub fn header(&mut self, tag: Tag, length: u32) -> Result<(), Error> {
         answer(sys::der_write_header(&mut self.0, tag.0, length))
     }
 
     /// Writes an element.
+    ///
+    /// # Errors
+    ///
+    /// `Failed`; `Overlength` if there is too little space; `Overflow` if there would be more than 4294967295 octets;
+    /// `TagNumberInvalid` if `tag` is not a tag. Octets of the header may stay written.
     #[inline]
     pub fn element(&mut self, tag: Tag, contents: &[u8]) -> Result<(), Error> {
         // SAFETY: pointer and length describe a slice, and the call only reads it.
@@ -76,8 +85,8 @@ impl<'a> Writer<'a> {
         Ok(answer(sys::der_end(&mut self.0, &mark))?)
     }
 
-    /// Writes a SET OF, or another element whose contents are in its order, from the encodings of its
-    /// elements. They are sorted first (X.690 11.6).
+    /// Writes a SET OF, or an element with another tag whose contents are in the order of a SET OF (X.690 11.6). Sorts
+    /// `elements`, each of which must be the encoding of one element; this is not checked.
     pub fn set_of(&mut self, tag: Tag, elements: &mut [&[u8]]) -> Result<(), Error> {
         sort_set(elements);
         self.inside(tag, |inside| elements.iter().try_for_each(|it| inside.write(it)))
@@ -99,7 +108,7 @@ impl<'a> Writer<'a> {
         Ok(mark)
     }
 
-    /// Writes octets unchanged.
+    /// Writes octets unchanged. Fails as [`element`](Self::element) does, and then writes nothing.
     #[inline]
     pub fn write(&mut self, octets: &[u8]) -> Result<(), Error> {
         // SAFETY: pointer and length describe a slice, and the call only reads it.
@@ -115,7 +124,8 @@ impl<'a> Writer<'a> {
     ///
     /// # Errors
     ///
-    /// `Failed` if the writer had failed.
+    /// `Failed` if the writer has failed; `Unbalanced` if an element is open, because a closure of
+    /// [`inside`](Self::inside) panicked.
     pub fn finish(self) -> Result<&'a [u8], Error> {
         answer(sys::der_writer_finish(&self.0))?;
         // SAFETY: proved: that number of octets of the slice is written, and it is borrowed for 'a.
@@ -133,6 +143,10 @@ impl fmt::Debug for Writer<'_> {
 }
 
 /// How many octets an element with this tag and number of octets of contents has.
+///
+/// # Errors
+///
+/// `TagNumberInvalid` if `tag` is not a tag; `Overflow` if there are more than 4294967295.
 pub fn element_length(tag: Tag, length: u32) -> Result<u32, Error> {
     let mut count = 0;
     answer(sys::der_element_length(tag.0, length, &mut count))?;

@@ -335,4 +335,5 @@ fn threads() {
     is_send::<Error>();
     is_send::<der_c::Certificate>();
     is_send::<der_c::Items<der_c::DistributionPoint>>();
+    is_send::<der_c::Characters>();
 }

@@ -98,3 +98,27 @@ fn a_value_that_is_no_string_is_printed_as_its_encoding() {
     let mut space = [0; 64];
     assert_eq!(name.to_text(&mut space), Ok("1.3.6.1.4.1.1466.0=#04024869"));
 }
+
+/// A level is a SET OF (X.690 11.6). A name alone is refused where the proved call refuses it in a request.
+#[test]
+fn a_level_out_of_order_is_refused() {
+    let levels: [Level; 2] = [&[("2.5.4.6", "DE")], &[("2.5.4.11", "x"), ("2.5.4.10", "y")]];
+    let octets = request(&levels);
+    let mut space = [0; 64];
+    let mut writer = Writer::new(&mut space);
+    let written = writer.inside(Tag::SEQUENCE, |name| {
+        levels.iter().try_for_each(|it| write_level(name, it))
+    });
+    written.unwrap();
+    let name = writer.finish().unwrap();
+    let start = octets.windows(name.len()).position(|it| it == name).unwrap() as u32;
+    let (alone, inside) = (
+        Name::from_der(name).unwrap_err(),
+        Request::from_der(&octets).unwrap_err(),
+    );
+    assert_eq!(
+        (alone.kind(), inside.kind()),
+        (ErrorKind::SetOrdering, ErrorKind::SetOrdering)
+    );
+    assert_eq!(alone.position().map(|it| it + start), inside.position());
+}

@@ -154,3 +154,12 @@ fn iterators_say_how_many_items_are_left() {
         assert_eq!(text.chars().collect::<String>(), text.to_string());
     }
 }
+
+/// Under BER, an OCTET STRING in segments has the tag of one in a piece.
+#[test]
+fn an_element_in_segments_is_another_one() {
+    let read = |octets: &'static [u8]| Reader::ber(octets).unwrap().read().unwrap();
+    let (whole, segments) = (read(&[4, 2, 4, 0]), read(&[0x24, 2, 4, 0]));
+    assert_eq!((whole.tag(), whole.contents()), (segments.tag(), segments.contents()));
+    assert_ne!(whole, segments);
+}
