@@ -9,8 +9,8 @@
  * types (|DER_TYPES_ROOM| octets), an array of entries (one for each element), an array of numbers
  * (|marks|, which are no |der_mark|s) and a buffer. The last two are working memory of the calls. Half
  * as many entries as the input has octets are always enough. For the known types 4096 marks are
- * enough, and a buffer that is one octet longer than the input. Only |der_kind_find| tells too little
- * memory from other faults.
+ * enough, and a buffer that is one octet longer than the input. Only |der_kind_find| reports too little
+ * memory apart from other faults.
  *
  * Texts. A call that writes a text writes a zero octet after it, and returns the number of octets of
  * the text, without the zero octet. It returns |DER_NONE| if the text does not fit, or if there is no

@@ -74,7 +74,7 @@ impl<'a> Name<'a> {
         Ok(core::str::from_utf8(&space[..count]).unwrap_or_default())
     }
 
-    /// All attributes, from the first level to the last. Where a level ends is not told.
+    /// All attributes, from the first level to the last. The iterator does not show where a level ends.
     pub fn attributes(&self) -> Attributes<'a> {
         Attributes {
             levels: Reader::der(self.contents),
