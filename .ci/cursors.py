@@ -28,7 +28,7 @@ def store():
 
 
 def run(is_stored):
-    """Returns whether the program finds the elements that openssl finds, and the values."""
+    """Returns whether the program finds the elements that openssl finds, and the values, and how many lines these are."""
     if is_stored:
         store()
     with tempfile.TemporaryDirectory() as folder:
@@ -44,4 +44,4 @@ def run(is_stored):
     print(f"test: {NAME} finds {'what' if held else 'something else than what'} openssl finds")
     if not held:
         print("\n".join([*ran.stdout.splitlines(), ran.stderr[-5000:]]))
-    return [held]
+    return [held], {("cursors", "lines"): len(expected)}

@@ -9,20 +9,21 @@ import re
 from checker import KIT, PARTS, TOP, below, crates, folder_of, give_up, text_of
 
 RECORD = f"{TOP}/.ci/refused"
-RECORD_HEAD = """# The crates all of whose mutants `tools/mutants` saw refused: how many, and a checksum of what it read:
-# their files, those of the crates below, and the name of the kit; comments are left out.
+RECORD_HEAD = """# The crates all of whose mutants `tools/mutants` saw refused: how many by a goal, how many by names alone, and a checksum of what it
+# read: their files, those of the crates below, and the name of the kit; comments are left out.
 """
 
 
 class Edit:
-    """The functions that an edit changes, and the files that it changes, before and after."""
+    """The functions that an edit changes, and the files beneath a folder that it changes, before and after."""
 
-    def __init__(self, at, name):
-        self.at, self.name, self.functions, self.files = at, name, [], {}
+    def __init__(self, at, title, top):
+        self.at, self.title, self.top, self.functions, self.files = at, title, top, [], {}
         self.weak = self.required = ""
+        self.is_by_goal = False
 
     def change(self, file, old, new):
-        path = f"{folder_of(self.name)}/{file}"
+        path = f"{self.top}/{file}"
         was = self.files.get(file) or [text_of(path)] * 2 if os.path.isfile(path) else [""] * 2
         if not old or was[1].count(old) != 1:
             give_up(f"{self.at} has an old text that does not stand once in {file}: {old}")
@@ -35,17 +36,24 @@ class Edit:
         return {(file, at): line for file, at, was, line in every if was != line}
 
 
-def edits_of(name, path):
-    """The edits of a list of the crate, each of which applies."""
+def written(edits):
+    """The texts of the files that these edits change, with all of them."""
+    changed = {key: line for edit in edits for key, line in edit.lines().items()}
+    before = {file: both[0] for edit in edits for file, both in edit.files.items()}
+    return {file: "\n".join(changed.get((file, at), it) for at, it in enumerate(text.splitlines())) + "\n" for file, text in before.items()}
+
+
+def edits_of(top, path, keys=("weak", "required"), kind=Edit):
+    """The edits of a list of the files beneath a folder, each of which applies. Further lines of theirs have these keys."""
     found, last = [], {}
     for number, line in enumerate(text_of(path).splitlines(), 1):
         key, _, rest = line.partition(": ")
         at = f"{os.path.relpath(path, TOP)}:{number}"
         if line.startswith("# "):
-            found.append(Edit(at, name))
+            found.append(kind(at, line[2:], top))
         elif key == "fn":
             found[-1].functions += rest.split()
-        elif key in ("weak", "required"):
+        elif key in keys:
             setattr(found[-1], key, rest)
         elif key in ("file", "old"):
             last[key] = rest
@@ -79,13 +87,15 @@ def mutants(name):
     texts = [text_of(f"{folder_of(name)}/{it}") for it in sources(name).values()]
     words, found = set(re.findall(r"\w+", " ".join(texts))), []
     for path in sorted(glob.glob(f"{folder_of(name)}/mutants/*")):
-        edits = edits_of(name, path)
+        edits = edits_of(folder_of(name), path)
         see_list(name, path, edits)
         found += edits
     for edit in found:
         unknown = [it for it in edit.functions if it.rpartition("::")[2] not in words]
         if unknown or not edit.functions or not edit.lines():
             give_up(f"{edit.at} changes nothing, or names no function of {name}: {unknown}")
+        if edit.required and edit.weak:
+            give_up(f"{edit.at} is required, so a goal has to fail, and no name alone")
     return found
 
 
@@ -96,7 +106,7 @@ def counts():
         found["mutants", name] = len(mutants(name))
         found["required", name] = sum(bool(it.required) for it in mutants(name))
         alone = sorted(glob.glob(f"{folder_of(name)}/must-fail/*.edit"))
-        found["must-fail", name] = sum(len(edits_of(name, it)) for it in alone)
+        found["must-fail", name] = sum(len(edits_of(folder_of(name), it)) for it in alone)
     return found
 
 
@@ -142,24 +152,22 @@ def made_of(name):
 
 
 def recorded():
-    """The line of each crate in the record."""
+    """Of each crate in the record how many mutants a goal refused, how many names alone, and the checksum."""
     lines = text_of(RECORD).splitlines() if os.path.exists(RECORD) else []
-    return {it.split()[0]: it for it in lines if not it.startswith("#")}
-
-
-def line_of(name):
-    return f"{name} {len(mutants(name))} {made_of(name)}"
+    rows = [it.split() for it in lines if not it.startswith("#")]
+    return {name: (int(goals), int(names), made) for name, goals, names, made in rows}
 
 
 def is_recorded(name):
-    return recorded().get(name) == line_of(name)
+    goals, names, made = recorded().get(name, (0, 0, ""))
+    return goals + names == len(mutants(name)) and made == made_of(name)
 
 
-def record(name):
-    """Writes into the record that all mutants of the crate were refused."""
+def record(name, goals):
+    """Writes into the record that all mutants of the crate were refused, so many by a goal."""
     with open(RECORD, "a", encoding="utf-8") as file:
         fcntl.flock(file, fcntl.LOCK_EX)
-        lines = {**recorded(), name: line_of(name)}
-        text = RECORD_HEAD + "".join(f"{lines[it]}\n" for it in crates_with_mutants() if it in lines)
+        lines = {**recorded(), name: (goals, len(mutants(name)) - goals, made_of(name))}
+        text = RECORD_HEAD + "".join(f"{it} {' '.join(map(str, lines[it]))}\n" for it in crates_with_mutants() if it in lines)
         file.truncate(0)
         file.write(text)
