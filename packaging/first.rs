@@ -1,4 +1,5 @@
-//! Prints the subject and the names of a certificate: a first program over the crate der_c.
+//! Prints the subject of a certificate, its end and its version: a first program over the crate der_c. The subject is for
+//! people to read, and says nothing of a host (RFC 9525, 2).
 use der_c::{Certificate, Error};
 
 fn show(octets: &[u8]) -> Result<(), Error> {

@@ -8,5 +8,6 @@ mod modules;
 mod names;
 mod octets;
 mod printed;
+mod secrets;
 mod texts;
 mod unknown;

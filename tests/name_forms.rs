@@ -1,5 +1,6 @@
 //! Tests of the crate `name_forms`.
 
+mod comparable;
 mod constraints;
 mod openssl;
 mod syntax;

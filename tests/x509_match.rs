@@ -4,3 +4,4 @@ mod constraints;
 mod general_names;
 mod names;
 mod openssl;
+mod unclear;

@@ -1,5 +1,6 @@
 /* Prints the DNS names of a certificate, a line each. The certificate is read, and nothing about it
- * is verified.
+ * is verified. To compare a line with the name of a host is no check that the certificate is for that
+ * host (RFC 9525, 6): the library that opens the connection has such a check.
  *
  *     cc names.c $(pkg-config --cflags --libs der_c) -o names
  *     ./names CERTIFICATE

@@ -100,32 +100,122 @@ static void see_block(size_t length)
     for (size_t at = 7, columns = 0; at < 7 + room; at++, columns++)
         if (text[at] == '\n')
             HOLDS(columns <= 64), columns = SIZE_MAX;
-    HOLDS(der_pem_next(text, sizeof text, back, sizeof back, &block) == DER_PEM_BLOCK);
+    der_pem_reader reader = DER_PEM_READER_INIT(text, sizeof text);
+    HOLDS(der_pem_next(&reader, back, sizeof back, &block) == DER_PEM_BLOCK);
     HOLDS(block.line == 2 && block.length == length && memcmp(back, octets, length) == 0);
     HOLDS(block.label == 18 && block.label_length == strlen(label));
     HOLDS(memcmp(text + block.label, label, strlen(label)) == 0);
-    HOLDS(memcmp(text + block.end, "-----END CERTIFICATE-----\n", 26) == 0 && block.end + 26 == 7 + room);
+    HOLDS(memcmp(text + reader.position, "-----END CERTIFICATE-----\n", 26) == 0 && reader.position + 26 == 7 + room);
+    HOLDS(der_pem_next(&reader, back, sizeof back, &block) == DER_PEM_NONE && reader.position == sizeof text);
 }
 
 /* What the readers refuse. */
 static void see_refusals(void)
 {
-    static const char encrypted[] = "-----BEGIN A-----\nProc-Type: 4,ENCRYPTED\n\nZg==\n-----END A-----\n";
-    static const char wrong[] = "\n-----BEGIN A-----\nZm9v\nZ===\n-----END A-----\n";
     uint8_t octets[16];
-    der_pem_block block = DER_PEM_BLOCK_INIT;
     HOLDS(der_base64_decode("Zm 9\nv", 6, octets, sizeof octets) == 3 && memcmp(octets, "foo", 3) == 0);
     HOLDS(der_base64_decode("Zm9v", 4, octets, 2) == DER_NONE);
     HOLDS(der_base64_decode("Zm9", 3, octets, sizeof octets) == DER_NONE);
     HOLDS(der_base64_decode("Zh==", 4, octets, sizeof octets) == DER_NONE);
     HOLDS(der_base64_decode("Zm-_", 4, octets, sizeof octets) == DER_NONE);
-    HOLDS(der_pem_next("Zm9v", 4, octets, sizeof octets, &block) == DER_PEM_NONE);
-    HOLDS(der_pem_next(encrypted, strlen(encrypted), octets, sizeof octets, &block) == DER_PEM_ENCRYPTED);
-    HOLDS(block.line == 1 && block.label == 11 && block.end == strlen(encrypted) - 16);
-    block = (der_pem_block)DER_PEM_BLOCK_INIT;
-    HOLDS(der_pem_next(wrong, strlen(wrong) - 20, octets, sizeof octets, &block) == DER_PEM_ERROR && block.end == 0);
-    HOLDS(der_pem_next(wrong, strlen(wrong), octets, sizeof octets, &block) == DER_PEM_ERROR && block.line == 4);
-    HOLDS(block.label == 12 && block.label_length == 1 && block.end == strlen(wrong) - 16);
+}
+
+/* A block, the result of its call, and the line of its error, counted from its first line. RFC 7468, 3 has two lines with
+ * the same label and dashes at their end, and base64 between them; RFC 1421, 4.6 headers, which an empty line ends. */
+static const struct {
+    const char *text;
+    uint32_t found;
+    size_t line;
+    bool has_lines;
+} blocks[] = {
+    {"-----BEGIN A-----\nZm9v\n-----END A-----\n", DER_PEM_BLOCK, 1, true},
+    {"-----BEGIN A-----\n-----END A-----\n", DER_PEM_BLOCK, 1, true},
+    {"-----BEGIN A-----\nProc-Type: 4,ENCRYPTED\n\nZg==\n-----END A-----\n", DER_PEM_ENCRYPTED, 1, true},
+    {"-----BEGIN A-----\nZm9v\nZ===\n-----END A-----\n", DER_PEM_ERROR, 3, true},
+    {"-----BEGIN A-----\nZm9vZm9vZm9v\nZm9vZm9v\n-----END A-----\n", DER_PEM_ERROR, 2, true}, /* no room for it */
+    {"-----BEGIN A\n", DER_PEM_ERROR, 1, false},
+    {"-----BEGIN -A-----\n", DER_PEM_ERROR, 1, false},
+    {"-----BEGIN A-----\nZm9v\n", DER_PEM_ERROR, 3, false},
+    {"-----BEGIN A-----\nZm9v\n-----END B-----\n", DER_PEM_ERROR, 3, false},
+    {"-----BEGIN A-----\nZm9v\n-----END A\n", DER_PEM_ERROR, 3, false},
+    {"-----BEGIN A-----\nname: value\nZm9v\n-----END A-----\n", DER_PEM_ERROR, 4, false},
+};
+enum { BLOCKS = sizeof blocks / sizeof *blocks };
+
+static size_t lines_in(const char *text)
+{
+    size_t count = 0;
+    for (; *text; text++)
+        count += *text == '\n';
+    return count;
+}
+
+/* All blocks of the text of three blocks of the table, in memory that is no longer than the text. */
+static void see_walk(const size_t *three)
+{
+    char joined[256] = "";
+    size_t length, line = 0, at = 0;
+    for (int i = 0; i < 3; i++)
+        strcat(joined, blocks[three[i]].text);
+    length = strlen(joined);
+    char *text = malloc(length);
+    uint8_t octets[12];
+    der_pem_block block = DER_PEM_BLOCK_INIT;
+    HOLDS(text != NULL);
+    memcpy(text, joined, length);
+    der_pem_reader reader = DER_PEM_READER_INIT(text, length);
+    for (int i = 0; i < 3; i++) {
+        size_t before = reader.position;
+        HOLDS(der_pem_next(&reader, octets, sizeof octets, &block) == blocks[three[i]].found);
+        HOLDS(before < reader.position && reader.position <= length);
+        HOLDS(block.line == line + blocks[three[i]].line);
+        HOLDS(block.label == (blocks[three[i]].has_lines ? at + 11 : 0));
+        HOLDS(block.label_length == (blocks[three[i]].has_lines ? 1 : 0));
+        HOLDS(blocks[three[i]].found == DER_PEM_BLOCK || block.length == 0);
+        line += lines_in(blocks[three[i]].text);
+        at += strlen(blocks[three[i]].text);
+    }
+    der_pem_block kept = block;
+    for (int i = 0; i < 2; i++) {
+        HOLDS(der_pem_next(&reader, octets, sizeof octets, &block) == DER_PEM_NONE);
+        HOLDS(reader.position == length && reader.text == text && memcmp(&kept, &block, sizeof block) == 0);
+    }
+    /* a position after the end is the end */
+    reader.position = SIZE_MAX;
+    HOLDS(der_pem_next(&reader, octets, sizeof octets, &block) == DER_PEM_NONE && reader.position == length);
+    free(text);
+}
+
+/* A text that ends inside a block, after each of its octets. */
+static void see_cut(void)
+{
+    for (size_t i = 0; i < BLOCKS; i++)
+        for (size_t length = 0; length < strlen(blocks[i].text); length++) {
+            char *text = malloc(length + 1);
+            uint8_t octets[12];
+            der_pem_block block = DER_PEM_BLOCK_INIT;
+            HOLDS(text != NULL);
+            text = realloc(memcpy(text, blocks[i].text, length), length ? length : 1);
+            HOLDS(text != NULL);
+            der_pem_reader reader = DER_PEM_READER_INIT(text, length);
+            size_t count = 0;
+            while (der_pem_next(&reader, octets, sizeof octets, &block) != DER_PEM_NONE)
+                count++;
+            HOLDS(count == (length < 11 ? 0 : 1));
+            free(text);
+        }
+}
+
+static void see_walks(void)
+{
+    size_t three[3];
+    for (three[0] = 0; three[0] < BLOCKS; three[0]++)
+        for (three[1] = 0; three[1] < BLOCKS; three[1]++)
+            for (three[2] = 0; three[2] < BLOCKS; three[2]++)
+                see_walk(three);
+    der_pem_reader empty = DER_PEM_READER_INIT(NULL, 0);
+    der_pem_block block = DER_PEM_BLOCK_INIT;
+    HOLDS(der_pem_next(&empty, NULL, 0, &block) == DER_PEM_NONE && empty.position == 0 && empty.line == 0);
 }
 
 static void write_text(const char *word, const char *path)
@@ -149,6 +239,8 @@ int main(int argc, char **argv)
     for (size_t length = 0; length <= 200; length++)
         see_block(length);
     see_refusals();
+    see_walks();
+    see_cut();
     printf("%d cases hold\n", cases);
     return 0;
 }

@@ -1,4 +1,5 @@
-/* Prints the subject of a certificate, as `openssl x509 -subject -nameopt RFC2253,-esc_msb` does. */
+/* Prints the subject of a certificate, as `openssl x509 -subject -nameopt RFC2253,-esc_msb` does. The text is for people: it
+ * says nothing of a host (RFC 9525, 2). */
 #include "files.h"
 
 int main(int argc, char **argv)

@@ -1,7 +1,7 @@
 /* A driver for libFuzzer: the input is read as a value of a known kind, or as one of a type that its
  * first octet chooses. The elements of a tree lie inside each other, in the order of the input. If the
  * verdict is DER, an independent parser finds the same elements, at every level. Each path leads to an
- * element of the tree, and each text fits or is refused. */
+ * element of the tree, and each text fits or is refused. The memory that the header says is enough is enough. */
 #include <stdlib.h>
 #include <yotremul/der_tree.h>
 
@@ -85,13 +85,63 @@ static void see_texts(const der_tree *tree, size_t index)
     must(!der_tree_octets(tree->octets.octets, tree->octets.length, entries, index, index, &part));
 }
 
+/* The number of elements that a walk from child to child finds, with this element. */
+static size_t walk(const der_tree *tree, size_t index)
+{
+    size_t count = 1, child;
+    for (size_t number = 0;
+         (child = der_tree_child(tree->types, tree->types_length, tree->octets.octets, tree->octets.length, tree->entries,
+                                 tree->found.entries, index, number)) != DER_NONE;
+         number++) {
+        must(tree->entries[child].parent == index && child > index);
+        count += walk(tree, child);
+    }
+    return count;
+}
+
+/* Memory that ends with its last octet. */
+static void *memory(size_t length)
+{
+    void *it = malloc(length ? length : 1);
+    must(it != NULL);
+    return it;
+}
+
+/* In the memory that der_tree.h says is enough, and no more, the same is found; and a walk finds each element once. */
+static void see_enough(const uint8_t *octets, size_t length, bool is_read, const der_tree_found *found)
+{
+    size_t capacity = length / 2;
+    uint8_t *copy = memory(length), *table = memory(DER_TYPES_ROOM), *space = memory(length + 1);
+    der_entry *items = memory(capacity * sizeof *items);
+    uint32_t *numbers = memory(MARKS * sizeof *numbers);
+    char text[40], *short_text = memory(3);
+    memcpy(copy, octets, length);
+    der_tree tree = DER_TREE_INIT_SIZED(table, DER_TYPES_ROOM, items, capacity, numbers, MARKS, space, length + 1);
+    must(der_tree_load(&tree, copy, length) == is_read);
+    if (is_read) {
+        must(tree.found.entries == found->entries && tree.found.departures == found->departures);
+        must(tree.found.lost == found->lost && tree.found.verdict == found->verdict);
+    }
+    if (is_read && tree.found.entries > 0 && tree.found.entries < 16) {
+        size_t count = walk(&tree, 0), index = length % tree.found.entries;
+        must(tree.found.verdict == 0 ? count == tree.found.entries : count <= tree.found.entries);
+        size_t all = der_tree_print(&tree, index, "", text, sizeof text);
+        size_t some = der_tree_print(&tree, index, "", short_text, 3);
+        must(some == (all < 3 ? all : DER_NONE));
+        must(some == DER_NONE || memcmp(text, short_text, some + 1) == 0);
+    }
+    free(copy), free(table), free(space), free(items), free(numbers), free(short_text);
+}
+
 int LLVMFuzzerTestOneInput(const uint8_t *octets, size_t length);
 int LLVMFuzzerTestOneInput(const uint8_t *octets, size_t length)
 {
     der_tree tree = DER_TREE_INIT(types, entries, marks, buffer);
     if (length > ROOM)
         return 0;
-    if (!der_tree_load(&tree, octets, length) &&
+    bool is_read = der_tree_load(&tree, octets, length);
+    see_enough(octets, length, is_read, &tree.found);
+    if (!is_read &&
         (length == 0 ||
          !der_tree_read(types, tree.types_length, octets[length - 1], octets, length, entries, ENTRIES, marks, MARKS,
                         buffer, sizeof buffer, list, sizeof list, &tree.found)))

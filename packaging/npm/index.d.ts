@@ -10,7 +10,7 @@ export interface Departure {
   rule: string;
   /** Whether octets that break it may still be BER. */
   ber: boolean;
-  /** The first octets there, in hexadecimal. */
+  /** The first octets there, in hexadecimal; empty if the value may be a private key. */
   found: string;
   /** The index of the element, in the order of the input. */
   node: number;
@@ -48,11 +48,14 @@ export interface Reading {
 
 /** A block of a PEM text. */
 export interface Block {
+  /** The label, as `CERTIFICATE`; empty if the lines of the block are malformed. */
   label: string;
-  /** The line of `-----BEGIN`, counted from 1. */
+  /** The line of `-----BEGIN`, counted from 1. If the block is malformed, the line of the error. */
   line: number;
-  /** The octets; null if PEM itself encrypts them. */
+  /** The octets; null if there is an error. */
   octets: Uint8Array | null;
+  /** Why there are no octets: the block is malformed, or PEM itself encrypts it (RFC 1421); null if there are. */
+  error: 'malformed' | 'encrypted' | null;
 }
 
 /** How to read. */
@@ -71,5 +74,5 @@ export const version: string;
 /** Reads octets as one value. Octets that are not DER are read as far as they can be. */
 export function read(octets: Uint8Array, options?: ReadOptions): Reading;
 
-/** The blocks of a PEM text. Throws if one is malformed. */
+/** The blocks of a PEM text, in order. One that is malformed or encrypted has an `error`, and those after it follow. */
 export function decodePem(text: string | Uint8Array): Block[];

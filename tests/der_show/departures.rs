@@ -107,3 +107,28 @@ fn a_certificate_that_is_cut_off_is_shown_as_elements(rt: HostRuntime) {
     has(&rt, &printed, "OBJECT IDENTIFIER :commonName (2.5.4.3)\n");
     has(&rt, &printed, "at offset 0: X.690 8.1.4: contents cut off; found 30:82:01:B3:");
 }
+
+#[test]
+fn what_is_written_and_is_not_der_is_an_error(rt: HostRuntime) {
+    // a local time (X.690, 11.7.1)
+    let mut options = Options::new();
+    options.shown = Shown::Der;
+    let finished = show_in_memory(rt.alloc(), options, "f", &changed(121, b"2051071720.2644"));
+    has(&rt, &finished.errors.target.buffer, "error: f: a part of the value is not written in DER\n");
+    crate::checks::same(&rt, finished.status, 1);
+}
+
+#[test]
+fn fingerprints_of_ber_are_of_its_der(rt: HostRuntime) {
+    // the certificate with an indefinite length around it. `openssl dgst -sha256 -c` and `-sha1 -c` of the certificate
+    let mut octets = [0u8; 439];
+    octets[..437].copy_from_slice(&CERTIFICATE[2..]);
+    octets[..2].copy_from_slice(&[0x30, 0x80]);
+    let printed = is_shown(&rt, rt.alloc(), &octets, 1);
+    has(&rt, &printed, "SHA-256 Fingerprint: C4:39:B6:E4:62:87:F3:FC:75:96:D1:C4:68:7D:72:5C:69:70:56:03:87:9D:C2:79:4C:5E:C1:3F:F3:93:EE:24\nSHA-1 Fingerprint: 16:05:5B:D4:9C:7A:81:E1:AD:87:1A:0E:A9:E7:3F:33:E9:32:63:AD\n");
+    has(&rt, &printed, "X.690 10.1: indefinite length;");
+    let mut options = Options::new();
+    options.shown = Shown::Short;
+    let finished = show_in_memory(rt.alloc(), options, "f", &octets);
+    has(&rt, &finished.out.target.buffer, "; SHA-256 C4:39:B6:E4:62:87:F3:FC:75:96:D1:C4:68:7D:72:5C:69:70:56:03:87:9D:C2:79:4C:5E:C1:3F:F3:93:EE:24\n");
+}

@@ -4,11 +4,12 @@
 const PAGE = 65536;
 const ENTRY_SIZE = 40;
 const FOUND_SIZE = 40;
-const BLOCK_SIZE = 40;
+const READER_SIZE = 32;
+const BLOCK_SIZE = 32;
 const NO_ROOM = -1n;
 const NONE = 0xffffffff;
 const FULL = 0xfffffffe;
-const BLOCKS = ['block', 'none', 'error', 'encrypted'];
+const BLOCKS = ['block', 'none', 'malformed', 'encrypted'];
 
 class Library {
   constructor(exports) {
@@ -178,24 +179,22 @@ class Library {
       contentsLength: view.getUint32(it * ENTRY_SIZE + 8, true), depth: view.getUint8(it * ENTRY_SIZE + 37) }));
   }
 
-  // The blocks of a PEM text, each with its label, its line and its octets; null octets if it is encrypted.
+  // The blocks of a PEM text, each with its label, its line and its octets; of a block that is malformed or encrypted the
+  // octets are null, and `error` says which.
   blocks(text) {
     return this.within(() => {
       const all = this.put(text), found = [], out = { at: this.take(text.length), length: text.length };
-      const block = this.take(BLOCK_SIZE);
-      for (let from = 0, line = 0; ;) {
-        const rest = { at: all.at + from, length: text.length - from };
-        const answer = BLOCKS[this.calls.page_block(...this.words(rest, out), BigInt(block))];
+      const reader = this.take(READER_SIZE), block = this.take(BLOCK_SIZE);
+      const start = new DataView(this.calls.memory.buffer, reader, READER_SIZE);
+      [...this.words(all), 0n, 0n].forEach((word, slot) => start.setBigUint64(8 * slot, word, true));
+      for (;;) {
+        const answer = BLOCKS[this.calls.page_block(BigInt(reader), ...this.words(out), BigInt(block))];
         if (answer === 'none')
           return found;
         const view = new DataView(this.calls.memory.buffer, block, BLOCK_SIZE), number = slot => Number(view.getBigUint64(8 * slot, true));
-        if (answer === 'error')
-          throw new Error(`there is an error in PEM at line ${line + number(2)}`);
-        const label = new TextDecoder().decode(this.bytes(rest.at + number(0), number(1)));
-        found.push({ label, line: line + number(2), octets: answer === 'encrypted' ? null : this.bytes(out.at, number(3)).slice() });
-        for (const octet of this.bytes(rest.at, number(4)))
-          line += octet === 10;
-        from += number(4);
+        const label = new TextDecoder().decode(this.bytes(all.at + number(0), number(1)));
+        const error = answer === 'block' ? null : answer;
+        found.push({ label, line: number(2), octets: error ? null : this.bytes(out.at, number(3)).slice(), error });
       }
     });
   }

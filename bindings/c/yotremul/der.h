@@ -672,13 +672,25 @@ der_error der_next_attribute(der_reader *reader, der_attribute *attribute);
  * |text|, and sets |*count| to the number of octets without the zero octet. The last level comes first.
  * A type without a short name in RFC 4514 or RFC 4519 is written as its OBJECT IDENTIFIER, with ? for an
  * arc that needs more than 128 bits. The value of such a type is written as # and its encoding in
- * hexadecimal, and so is each value that is not a string that |der_read_text| accepts. The control
- * characters of ASCII are escaped, so there is no other zero octet; those from U+0080 to U+009F are not.
+ * hexadecimal, and so is each value that is not a string that |der_read_text| accepts. The characters that
+ * |der_is_hidden| names are written as a backslash and two hexadecimal digits for each octet in UTF-8, as
+ * "\E2\80\AE" for U+202E (RFC 4514, 2.4), so there is no other zero octet.
+ *
+ * The text is for people. Different names may have one text, as those whose strings have different types:
+ * to compare names, compare elements. To check a host, do not compare this text or its CN with anything
+ * (RFC 9525, 2).
+ *
  * Fails with the error of the first level that cannot be read, whose position counts from the start of
  * |name|, and with DER_OVERLENGTH if |capacity| is too small. In DER_INCOMPLETE |first| is |second| plus
  * one. */
 DER_MUST_USE DER_NONNULL(5)
 der_error der_name_text(const uint8_t *name, size_t length, char *text, size_t capacity, size_t *count);
+
+/* der_is_hidden returns true if a reader would not see a character as it is: a control character, an
+ * invisible one or one that turns the text around it (in Unicode the categories Cc, Cf, Zl and Zp, the
+ * characters with Default_Ignorable_Code_Point, and U+2800). A number that is no character counts as hidden.
+ * Escape such characters before you print other texts of a certificate, as those of |der_next_character|. */
+bool der_is_hidden(uint32_t character);
 
 /* The forms of general names, by the numbers of their tags. */
 enum {

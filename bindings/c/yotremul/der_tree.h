@@ -129,8 +129,10 @@ size_t der_tree_type(const uint8_t *table, size_t table_length, const uint8_t *o
 size_t der_tree_text(const uint8_t *table, size_t table_length, const uint8_t *octets, size_t length,
                      const der_entry *entries, size_t count, size_t index, char *text, size_t capacity);
 
-/* A tree, with the memory that it is read into. Initialise it with DER_TREE_INIT, from four arrays.
- * |octets| is the input, and |found| what was found in it. */
+/* A tree, with the memory that it is read into. Initialise it with DER_TREE_INIT, from four arrays: a
+ * pointer in place of one is refused when the program is compiled, since its memory has no known size.
+ * Initialise it with DER_TREE_INIT_SIZED from pointers, such as malloc returns, each with its number of
+ * octets, entries or marks. |octets| is the input, and |found| what was found in it. */
 typedef struct der_tree {
     uint8_t *types;
     size_t types_length;
@@ -144,10 +146,46 @@ typedef struct der_tree {
     der_tree_found found;
 } der_tree;
 #define DER_TREE_INIT(types, entries, marks, buffer)                                                               \
+    DER_TREE_INIT_SIZED(types, DER_ARRAY_ITEMS(types), entries, DER_ARRAY_ITEMS(entries), marks,                     \
+                        DER_ARRAY_ITEMS(marks), buffer, DER_ARRAY_ITEMS(buffer))
+#define DER_TREE_INIT_SIZED(types, types_length, entries, capacity, marks, mark_count, buffer, buffer_length)        \
     {                                                                                                              \
-        (types), sizeof(types), (entries), sizeof(entries) / sizeof *(entries), (marks), sizeof(marks) / 4,         \
-            (buffer), sizeof(buffer), DER_SPAN_INIT, DER_TREE_FOUND_INIT                                           \
+        (types), (types_length), (entries), (capacity), (marks), (mark_count), (buffer), (buffer_length),            \
+            DER_SPAN_INIT, DER_TREE_FOUND_INIT                                                                      \
     }
+
+/* The number of items of an array; a pointer is an error of the compiler. */
+#define DER_ONLY_ARRAYS "DER_TREE_INIT takes arrays: for pointers use DER_TREE_INIT_SIZED"
+#ifdef __cplusplus
+extern "C++" {
+template <typename T> struct der_array_items {
+    static_assert(sizeof(T) == 0, DER_ONLY_ARRAYS);
+    static const size_t count = 0;
+};
+template <typename T, size_t n> struct der_array_items<T[n]> {
+    static const size_t count = n;
+};
+template <typename T, size_t n> struct der_array_items<T (&)[n]> {
+    static const size_t count = n;
+};
+}
+#define DER_ARRAY_ITEMS(array) (+der_array_items<decltype(array)>::count)
+#elif defined(__GNUC__)
+#define DER_IS_POINTER(array) __builtin_types_compatible_p(__typeof__(array), __typeof__(&(array)[0]))
+#if defined(__STDC_VERSION__) && __STDC_VERSION__ >= 201112L
+#define DER_SEE_ARRAY(array) _Static_assert(!DER_IS_POINTER(array), DER_ONLY_ARRAYS)
+#else
+#define DER_SEE_ARRAY(array)                                                                                       \
+    int DER_TREE_INIT_takes_arrays_for_pointers_use_DER_TREE_INIT_SIZED : DER_IS_POINTER(array) ? -1 : 1
+#endif
+#define DER_ARRAY_ITEMS(array)                                                                                     \
+    (sizeof(array) / sizeof *(array) + 0 * sizeof(struct {                                                         \
+         int none;                                                                                                 \
+         DER_SEE_ARRAY(array);                                                                                     \
+     }))
+#else
+#define DER_ARRAY_ITEMS(array) (sizeof(array) / sizeof *(array))
+#endif
 
 /* der_tree_load reads a value of any known kind into |tree|. It returns false if the value is of no known
  * kind, or if there is too little memory. It keeps the pointer |octets|. */
@@ -178,7 +216,30 @@ static inline size_t der_tree_print(const der_tree *tree, size_t from, const cha
                          tree->found.entries, der_tree_at(tree, from, path), text, capacity);
 }
 
-/* PEM. */
+/* PEM. This loop reads each block of a text:
+ *
+ *     der_pem_reader reader = DER_PEM_READER_INIT(text, length);
+ *     der_pem_block block = DER_PEM_BLOCK_INIT;
+ *     uint32_t found;
+ *     while ((found = der_pem_next(&reader, octets, capacity, &block)) != DER_PEM_NONE) {
+ *         if (found == DER_PEM_BLOCK)
+ *             use(text + block.label, block.label_length, octets, block.length);
+ *         else
+ *             report(block.line);
+ *     }
+ *
+ * Each call moves the reader on, also after an error. So the loop ends, and each block is found once,
+ * also after a block with an error. */
+
+/* A PEM text, and how far it has been read. Initialise it with DER_PEM_READER_INIT. It keeps the pointer
+ * |text|. */
+typedef struct der_pem_reader {
+    const char *text;
+    size_t length;
+    size_t position; /* where the search for the next block begins; at most |length| after each call */
+    size_t line;     /* the number of lines before |position| */
+} der_pem_reader;
+#define DER_PEM_READER_INIT(text, length) {(text), (length), 0, 0}
 
 /* A block of a PEM text. Positions are in octets from the start of the text. */
 typedef struct der_pem_block {
@@ -186,22 +247,25 @@ typedef struct der_pem_block {
     size_t label_length;
     size_t line;   /* the number of the -----BEGIN line, or of the line with the error, from 1 */
     size_t length; /* the number of decoded octets */
-    size_t end;    /* where the -----END line begins; the search for the next block may begin here */
 } der_pem_block;
-#define DER_PEM_BLOCK_INIT {0, 0, 0, 0, 0}
+#define DER_PEM_BLOCK_INIT {0, 0, 0, 0}
 
 enum {
     DER_PEM_BLOCK = 0,
-    DER_PEM_NONE = 1,     /* there is no block */
-    DER_PEM_ERROR = 2,    /* the first error is in the line |line| */
+    DER_PEM_NONE = 1,     /* there is no further block */
+    DER_PEM_ERROR = 2,    /* the first error of the block is in the line |line| */
     DER_PEM_ENCRYPTED = 3 /* the headers of the block say that it is encrypted; it is not decoded */
 };
 
-/* der_pem_next decodes the first block of |text| into |octets|, and returns one of the numbers above.
- * |length| octets are always enough for |octets|; too few are an error. If the base64 of a block is invalid, or
- * if its octets do not fit, |label|, |label_length| and |end| are those of the block. After any other error these
- * fields are unchanged. */
-uint32_t der_pem_next(const char *text, size_t length, uint8_t *octets, size_t capacity, der_pem_block *block);
+/* der_pem_next finds the next block, decodes it into |octets|, and returns one of the numbers above. As many
+ * octets as the text has are always enough for |octets|; too few are an error, and to read the block with more,
+ * copy the reader before the call.
+ *
+ * After DER_PEM_BLOCK and DER_PEM_ENCRYPTED, and if the base64 of a block is invalid or its octets do not fit, the
+ * reader is at the -----END line of the block. After any other error it is after the -----BEGIN line, and all fields
+ * of |block| but |line| are 0. After DER_PEM_NONE it is at the end, and |block| is unchanged. |octets| are unchanged
+ * after DER_PEM_NONE and DER_PEM_ENCRYPTED. */
+uint32_t der_pem_next(der_pem_reader *reader, uint8_t *octets, size_t capacity, der_pem_block *block);
 
 /* der_base64_decode decodes base64, which may have white space in it, and returns the number of octets. It
  * returns DER_NONE if the octets do not fit, or if |text| is not base64. If it has digits for more octets than
@@ -230,7 +294,10 @@ DER_STATIC_ASSERT(entry, sizeof(der_entry) == 40 && offsetof(der_entry, parent) 
                              offsetof(der_entry, header_length) == 36 && offsetof(der_entry, depth) == 37);
 DER_STATIC_ASSERT(tree_found, sizeof(der_tree_found) == 40 && offsetof(der_tree_found, listed) == 24 &&
                                   offsetof(der_tree_found, verdict) == 32);
-DER_STATIC_ASSERT(pem_block, sizeof(der_pem_block) == 40 && offsetof(der_pem_block, end) == 32);
+DER_STATIC_ASSERT(pem_reader, sizeof(der_pem_reader) == 32 && offsetof(der_pem_reader, length) == 8 &&
+                                  offsetof(der_pem_reader, position) == 16 && offsetof(der_pem_reader, line) == 24);
+DER_STATIC_ASSERT(pem_block, sizeof(der_pem_block) == 32 && offsetof(der_pem_block, line) == 16 &&
+                                 offsetof(der_pem_block, length) == 24);
 
 #ifdef __cplusplus
 }

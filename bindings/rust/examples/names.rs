@@ -1,5 +1,6 @@
 //! Prints the DNS names of a certificate, a line each. The certificate is read, and nothing about it is
-//! verified.
+//! verified. To compare a line with the name of a host is no check that the certificate is for that host (RFC
+//! 9525, 6): the library that opens the connection has such a check.
 //!
 //!     DER_C_LIB=/usr/local/lib cargo run --example names CERTIFICATE
 use der_c::{Certificate, Error, GeneralName};

@@ -57,7 +57,7 @@ pub use extension::{AuthorityKeyIdentifier, BasicConstraints, Extension, Extensi
 pub use general_name::{GeneralName, GeneralNameIter, GeneralNames};
 pub use items::ItemIter;
 pub use list::{AccessDescription, DistributionPoint, Items};
-pub use name::{Attribute, Attributes, Name, RelativeName};
+pub use name::{Attribute, Attributes, Name, RelativeName, is_hidden};
 pub use object_identifier::ObjectIdentifier;
 pub use oid::Oid;
 pub use private_key::PrivateKey;

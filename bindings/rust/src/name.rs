@@ -50,10 +50,15 @@ impl<'a> Name<'a> {
     }
 
     /// The text of the name, as RFC 4514 writes it: `CN=example.org,O=Example,C=DE`. It is written into `space`, which
-    /// needs room for one octet more. It is not the text of `Display`, which needs no space: `Display` also escapes `=`
-    /// and the control characters from U+0080 to U+009F, has only the short names of RFC 4514, 3, writes `STREET` for
-    /// `street` and hexadecimal digits in lower case, and prints the characters of a string that are not in the alphabet
-    /// of its type. Do not compare the two texts.
+    /// needs room for one octet more. A hidden character ([`is_hidden`](crate::is_hidden)) is written as a backslash and
+    /// two hexadecimal digits for each octet in UTF-8, as `\E2\80\AE` for U+202E.
+    ///
+    /// The text is for people. Different names may have one text, as those whose strings have different types. Do not
+    /// compare the text, or its CN, with the name of a host (RFC 9525, 2).
+    ///
+    /// It is not the text of `Display`, which needs no space: `Display` also escapes `=`, has only the short names of
+    /// RFC 4514, 3, writes `STREET` for `street` and the octets of an encoding in lower case, and prints the characters of
+    /// a string that are not in the alphabet of its type. Do not compare the two texts.
     ///
     /// # Errors
     ///
@@ -244,8 +249,8 @@ const SHORT_NAMES: [(&[u8], &str); 9] = [
     (b"\x09\x92\x26\x89\x93\xF2\x2C\x64\x01\x01", "UID"),
 ];
 
-/// Prints the name as RFC 4514 does: the last level first, special characters escaped. Control
-/// characters are escaped too. The value of a type without a short name, or one that is no string, is
+/// Prints the name as RFC 4514 does: the last level first, special characters escaped. Hidden characters
+/// ([`is_hidden`](crate::is_hidden)) are escaped too. The value of a type without a short name, or one that is no string, is
 /// its encoding in hexadecimal, after a `#`.
 impl fmt::Display for Name<'_> {
     fn fmt(&self, f: &mut fmt::Formatter<'_>) -> fmt::Result {
@@ -299,7 +304,7 @@ fn write_escaped(f: &mut fmt::Formatter<'_>, text: &Text<'_>) -> fmt::Result {
         let is_at_edge = it == ' ' && (at == 0 || at == last) || it == '#' && at == 0;
         if is_at_edge || matches!(it, ',' | '+' | '"' | '\\' | '<' | '>' | ';' | '=') {
             write!(f, "\\{it}")?;
-        } else if it.is_control() {
+        } else if is_hidden(it) {
             let mut space = [0; 4];
             it.encode_utf8(&mut space)
                 .bytes()
@@ -309,6 +314,14 @@ fn write_escaped(f: &mut fmt::Formatter<'_>, text: &Text<'_>) -> fmt::Result {
         }
     }
     Ok(())
+}
+
+/// Whether a reader of a text would not see a character as it is: a control character, an invisible one, or one that turns
+/// the text around it. In Unicode these are the categories Cc, Cf, Zl and Zp, the characters with
+/// Default_Ignorable_Code_Point, and U+2800. Names are printed with these characters escaped. Escape them before you print
+/// other texts of a certificate.
+pub fn is_hidden(character: char) -> bool {
+    sys::der_is_hidden(u32::from(character))
 }
 
 impl fmt::Debug for Name<'_> {

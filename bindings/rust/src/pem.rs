@@ -1,7 +1,7 @@
 //! PEM texts (RFC 7468), and base64 (RFC 4648, section 4).
 //!
-//! Proved: what base64 is decoded to, what is written, and which block is the first of a text. Tested: that a block is
-//! encrypted, and that [`Blocks`] goes on after a block.
+//! Proved: what base64 is decoded to, what is written, which block is the next of a text, and that each call moves on
+//! in the text, also after an error. Tested: that a block is encrypted.
 //!
 //! ```
 //! use der_c::pem;
@@ -13,7 +13,7 @@
 //! assert_eq!((block.label, block.octets), ("EXAMPLE", &[0x30, 0][..]));
 //! # Ok::<(), pem::PemError>(())
 //! ```
-use crate::sys::{self, RawPemBlock};
+use crate::sys::{self, RawPemBlock, RawPemReader};
 #[cfg(feature = "alloc")]
 use alloc::{string::String, vec, vec::Vec};
 use core::fmt;
@@ -128,14 +128,19 @@ impl core::error::Error for PemError {}
 
 /// The blocks of a PEM text, in order; text between them is skipped.
 pub fn blocks(text: &[u8]) -> Blocks<'_> {
-    Blocks { rest: text, line: 0 }
+    Blocks {
+        text,
+        position: 0,
+        line: 0,
+    }
 }
 
-/// The blocks of a PEM text that are left. After an error in base64 and after an encrypted block the next
-/// block follows; after an error in the lines of a block there is no other one.
+/// The blocks of a PEM text that are left. After an error the blocks after it follow: the next block is sought after
+/// the `-----BEGIN` line of the block with the error.
 #[derive(Clone, Debug)]
 pub struct Blocks<'a> {
-    rest: &'a [u8],
+    text: &'a [u8],
+    position: usize,
     line: usize,
 }
 
@@ -144,17 +149,11 @@ struct Found<'a> {
     answer: u32,
     raw: RawPemBlock,
     text: &'a [u8],
-    lines_before: usize,
 }
 
 impl<'a> Found<'a> {
-    /// Whether the lines of the block are right.
-    fn has_lines(&self) -> bool {
-        self.raw.end > 0
-    }
-
     fn block<O>(&self, octets: O) -> Result<Block<'a, O>, PemError> {
-        let line = self.lines_before + self.raw.line;
+        let line = self.raw.line;
         if self.answer != BLOCK {
             return Err(PemError {
                 line,
@@ -171,28 +170,20 @@ impl<'a> Found<'a> {
 }
 
 impl<'a> Blocks<'a> {
-    /// The first block that is left, decoded into `space`; `None` if there is none.
-    fn decode(&self, space: &mut [u8]) -> Option<Found<'a>> {
-        let (text, mut raw) = (self.rest, RawPemBlock::default());
-        // SAFETY: pointers and lengths describe slices, and the call writes the second and the block alone.
-        let answer = unsafe { sys::der_pem_next(text.as_ptr(), text.len(), space.as_mut_ptr(), space.len(), &mut raw) };
-        (answer != NONE).then_some(Found {
-            answer,
-            raw,
-            text,
-            lines_before: self.line,
-        })
-    }
-
-    /// Continues after a block, or after what was sought if there is none whose lines are right.
-    fn pass(&mut self, found: Option<&Found<'a>>) {
-        let end = match found {
-            Some(found) if found.has_lines() => found.raw.end,
-            _ => self.rest.len(),
+    /// The next block, decoded into `space`; `None` if there is none.
+    fn decode(&mut self, space: &mut [u8]) -> Option<Found<'a>> {
+        let (text, mut raw) = (self.text, RawPemBlock::default());
+        let mut reader = RawPemReader {
+            text: text.as_ptr(),
+            length: text.len(),
+            position: self.position,
+            line: self.line,
+            ..RawPemReader::EMPTY
         };
-        let (passed, rest) = self.rest.split_at(end);
-        self.line += passed.iter().filter(|octet| **octet == b'\n').count();
-        self.rest = rest;
+        // SAFETY: pointers and lengths describe slices, and the call writes the second, the reader and the block alone.
+        let answer = unsafe { sys::der_pem_next(&mut reader, space.as_mut_ptr(), space.len(), &mut raw) };
+        (self.position, self.line) = (reader.position, reader.line);
+        (answer != NONE).then_some(Found { answer, raw, text })
     }
 
     /// The next block, whose octets are decoded into `space`; `None` if there is no other one. As much space as the text
@@ -201,12 +192,10 @@ impl<'a> Blocks<'a> {
     /// # Errors
     ///
     /// An error if the lines of the block are wrong, if it is not base64, if its octets do not fit, or if it is
-    /// encrypted. Only in the first case is it the last item; otherwise the next call reads the next block, also after
-    /// too little space. After an error some of `space` may be written.
+    /// encrypted. The next call reads the next block, also after too little space. After an error some of `space` may be
+    /// written.
     pub fn read<'s>(&mut self, space: &'s mut [u8]) -> Option<Result<Block<'a, &'s [u8]>, PemError>> {
-        let found = self.decode(space);
-        self.pass(found.as_ref());
-        let found = found?;
+        let found = self.decode(space)?;
         Some(found.block(&space[..found.raw.length]))
     }
 }
@@ -218,18 +207,17 @@ impl<'a> Iterator for Blocks<'a> {
 
     fn next(&mut self) -> Option<Self::Item> {
         // without room a block is found and not decoded
-        let (found, octets) = match self.decode(&mut []) {
-            Some(sought) if sought.has_lines() => {
-                // base64 of n octets has fewer
-                let mut octets = vec![0; sought.raw.end - sought.raw.label];
-                let found = self.decode(&mut octets).unwrap_or(sought);
-                octets.truncate(found.raw.length);
-                (Some(found), octets)
-            }
-            found => (found, Vec::new()),
-        };
-        self.pass(found.as_ref());
-        Some(found?.block(octets))
+        let before = self.clone();
+        let sought = self.decode(&mut [])?;
+        if sought.raw.label == 0 {
+            return Some(sought.block(Vec::new()));
+        }
+        // base64 of n octets has fewer
+        let mut octets = vec![0; self.position - sought.raw.label];
+        *self = before;
+        let found = self.decode(&mut octets)?;
+        octets.truncate(found.raw.length);
+        Some(found.block(octets))
     }
 }
 

@@ -86,6 +86,45 @@ fn the_attributes_of_a_name_are_in_order() {
     assert!(name.into_iter().eq(name.attributes()));
 }
 
+/// RFC 4514, 2.4: any character may be written as the octets of its UTF-8, each as a backslash and two digits.
+#[test]
+fn hidden_characters_are_escaped() {
+    for (character, wanted) in [
+        ('\u{7}', r"\07"),
+        ('\u{85}', r"\C2\85"),
+        ('\u{AD}', r"\C2\AD"),
+        ('\u{34F}', r"\CD\8F"),
+        ('\u{2028}', r"\E2\80\A8"),
+        ('\u{202E}', r"\E2\80\AE"),
+        ('\u{2800}', r"\E2\A0\80"),
+        ('\u{E0041}', r"\F3\A0\81\81"),
+    ] {
+        let octets = request(&[&[("2.5.4.3", &format!("a{character}b"))]]);
+        let name = Request::from_der(&octets).unwrap().subject;
+        let wanted = format!("CN=a{wanted}b");
+        assert_eq!(
+            (name.to_string(), name.to_text(&mut [0; 64])),
+            (wanted.clone(), Ok(&*wanted))
+        );
+        assert_eq!(format!("{name:?}"), format!("Name({wanted})"));
+        assert!(der_c::is_hidden(character));
+    }
+}
+
+/// `Display` writes each character as the proved call does, but for `=`, which it escapes.
+#[test]
+fn both_texts_escape_the_same_characters() {
+    for character in (0..=u32::from(u16::MAX)).filter_map(char::from_u32) {
+        let octets = request(&[&[("2.5.4.3", &format!("a{character}b"))]]);
+        let name = Request::from_der(&octets).unwrap().subject;
+        let mut space = [0; 64];
+        let text = name.to_text(&mut space).unwrap();
+        let wanted = if character == '=' { r"CN=a\=b" } else { text };
+        assert_eq!(name.to_string(), wanted, "U+{:04X}", u32::from(character));
+        assert!(!text.chars().any(der_c::is_hidden));
+    }
+}
+
 /// The example of RFC 4514, 4 with the encoding of a value.
 #[test]
 fn a_value_that_is_no_string_is_printed_as_its_encoding() {

@@ -84,6 +84,7 @@ fn rows() -> Vec<Row> {
         Err((13, false)),
         Ok(("D", 15, Vec::new())),
         Err((19, false)),
+        Ok(("G", 20, b"foo".to_vec())),
     ]
 }
 
@@ -100,6 +101,32 @@ fn blocks_are_read_into_space() {
     let error = blocks.read(&mut [0; 2]).unwrap().unwrap_err();
     assert!(!error.is_encrypted());
     assert!(blocks.read(&mut space).unwrap().unwrap_err().is_encrypted());
+}
+
+/// RFC 7468, 3: both lines of a block have its label, and each ends in dashes. The blocks around one that has not are found.
+#[test]
+fn blocks_around_a_wrong_one_are_read() {
+    const GOOD: &str = "-----BEGIN A-----\nZm9v\n-----END A-----\n";
+    for (wrong, line) in [
+        ("-----BEGIN A\n", 4),
+        ("-----BEGIN A-----\nZm9v\n", 6),
+        ("-----BEGIN A-----\nZm9v\n-----END A\n", 6),
+        ("-----BEGIN A-----\nZm9v\n-----END B-----\n", 6),
+        ("-----BEGIN A-----\nZm*v\n-----END A-----\n", 5),
+        ("-----BEGIN A-----\nname: value\nZm9v\n-----END A-----\n", 7),
+    ] {
+        let (text, mut space, mut found) = (format!("{GOOD}{wrong}{GOOD}"), [0; 128], Vec::new());
+        let mut blocks = pem::blocks(text.as_bytes());
+        while let Some(read) = blocks.read(&mut space) {
+            found.push(read.map(|it| (it.label.to_owned(), it.line)).map_err(|it| it.line()));
+        }
+        let next = 4 + wrong.lines().count();
+        assert_eq!(
+            found,
+            [Ok(("A".to_owned(), 1)), Err(line), Ok(("A".to_owned(), next))],
+            "{wrong}"
+        );
+    }
 }
 
 #[test]

@@ -2,7 +2,9 @@
 //!
 //! Written by tools/c_interface: change the crates that der_c uses instead.
 ghost use Rattle.der_asn1.specs.SequenceOf.{IsListOf};
-ghost use Rattle.std.specs.Prelude.{length, slice_index, ◌<◌, ◌^◌, ◌≡◌, ◌≢◌, ◌⊎◌};
+ghost use Rattle.hidden_characters.specs.Hidden.{is_hidden};
+ghost use Rattle.std.specs.Char.{IsScalar};
+ghost use Rattle.std.specs.Prelude.{length, slice_index, true, ◌<◌, ◌^◌, ◌≡◌, ◌≢◌, ◌⊎◌};
 
 use der_asn1::Item;
 use der_c_core::DerError;
@@ -18,8 +20,9 @@ use x509::RelativeDistinguishedName;
 ///
 /// An attribute type without a short name in RFC 4514 or RFC 4519 is written as its OBJECT
 /// IDENTIFIER. The value of an attribute of this type is written as `#` and the octets of its
-/// encoding in hexadecimal, and so is any value that is not a string. ASCII control characters are
-/// escaped, so that the text contains no zero octet.
+/// encoding in hexadecimal, and so is any value that is not a string. The characters for which
+/// `der_is_hidden` returns true, such as control characters, are written as a backslash and two
+/// hexadecimal digits for each octet in UTF-8. So the text contains no zero octet.
 ///
 /// A call that fails leaves `count` unchanged. Fails with:
 ///
@@ -48,4 +51,15 @@ pub extern "C" fn der_name_text<'a>(
         text.new ≡ text.old }
 {
     der_c_names::der_name_text(alloc, name, text, count)
+}
+
+/// Returns true if a reader of a text would not see `character` as it is: if it is a control
+/// character, invisible, or turns the text around it. `der_name_text` escapes these characters. A
+/// number that is not a character counts as hidden.
+#[unsafe(no_mangle)]
+pub extern "C" fn der_is_hidden(character: u32) -> bool
+    ensures known { IsScalar character → result ≡ is_hidden character }
+    ensures none { (IsScalar character → ⊥) → result ≡ true }
+{
+    der_c_names::der_is_hidden(character)
 }

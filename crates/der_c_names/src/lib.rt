@@ -1,10 +1,12 @@
 //! Distinguished names as text, which is written into memory of the caller. The crate `der_c`
-//! exports the function to C.
+//! exports the functions to C.
 #![tactic(auto)]
 
+mod hidden;
 mod length;
 mod levels;
 mod name_text;
 mod room;
 
+pub use hidden::der_is_hidden;
 pub use name_text::der_name_text;

@@ -25,8 +25,9 @@ const OVERLENGTH: DerError = DerError {
 ///
 /// An attribute type without a short name in RFC 4514 or RFC 4519 is written as its OBJECT
 /// IDENTIFIER. The value of an attribute of this type is written as `#` and the octets of its
-/// encoding in hexadecimal, and so is any value that is not a string. ASCII control characters are
-/// escaped, so that the text contains no zero octet.
+/// encoding in hexadecimal, and so is any value that is not a string. The characters for which
+/// `der_is_hidden` returns true, such as control characters, are written as a backslash and two
+/// hexadecimal digits for each octet in UTF-8. So the text contains no zero octet.
 ///
 /// A call that fails leaves `count` unchanged. Fails with:
 ///

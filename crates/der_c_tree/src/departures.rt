@@ -6,11 +6,13 @@ use asn1_schema::Schema;
 use asn1_tree::{Departure, Entry};
 use der_show_print::put_departure;
 use der_show_text::{Output, Space};
+use der_show_tree::{is_private_type, may_be_private_key};
 
 /// Prints `departures` into `list` as a JSON array. Each item is an object with these fields:
 ///
 /// - `node` is the index of the element in `entries`;
-/// - `departure` is the object that `der_show --json` prints.
+/// - `departure` is the object that `der_show --json` prints. It shows no octets if `octets` may be
+///   a private key.
 ///
 /// Returns the number of octets printed, or `usize::MAX` if they do not fit.
 pub(crate) fn list_departures<'a>(
@@ -21,6 +23,11 @@ pub(crate) fn list_departures<'a>(
     list: &mut [u8],
 ) -> usize {
     let root = Cursor::over(octets, schema, entries);
+    let shown = if may_be_secret(root, octets, departures) {
+        None
+    } else {
+        Some(octets)
+    };
     let mut out = Output::to(Space::new(list));
     out.put("[");
     let mut is_first = true;
@@ -33,9 +40,22 @@ pub(crate) fn list_departures<'a>(
         is_first = false;
         out.put_number(departure.node as u64);
         out.put(", \"departure\": ");
-        put_departure(&mut out, octets, root, 0, departure);
+        put_departure(&mut out, shown, root, 0, departure);
         out.put("}");
     }
     out.put("]");
     printed(&out)
+}
+
+// Whether the type is that of a private key; or the octets are not known to be of a type, and may be a key.
+fn may_be_secret(root: Option<Cursor<'_>>, octets: &[u8], departures: &[Departure]) -> bool {
+    let name = match root {
+        Some(root) => root.type_name(),
+        None => None,
+    };
+    match name {
+        Some(name) if is_private_type(name) => true,
+        Some(_) if departures.iter().all(|it| it.rule.verdict().is_ber()) => false,
+        _ => may_be_private_key(octets),
+    }
 }

@@ -9,6 +9,17 @@ use der_show_text::{Characters, Style, put_text};
 use pem::{Block, Blocks};
 use std::fmt::Write;
 
+/// The error for keys of OpenSSH and of OpenPGP.
+const NO_ASN1: &str = "not ASN.1";
+
+/// The octets at the front of a private key of OpenSSH, without base64.
+const OPENSSH: &[u8] = b"openssh-key-v1\0";
+
+// Whether a block with this label holds no ASN.1: those of OpenSSH and of OpenPGP (RFC 9580, 6.2).
+fn is_other_label(label: &str) -> bool {
+    label == "OPENSSH PRIVATE KEY" || label.starts_with("PGP ")
+}
+
 /// Shows the values in each PEM block of `text`. If a block is not valid PEM, prints an error and
 /// stops there.
 pub fn show_blocks(show: &mut Show<'_>, place: &Place<'_>, text: &[u8]) {
@@ -45,6 +56,10 @@ fn show_block(show: &mut Show<'_>, around: &Place<'_>, block: &Block<'_>) {
         show.page.number(place.line as u64);
         show.page.put("):\n");
     }
+    if is_other_label(block.label()) {
+        show.error(&place, NO_ASN1);
+        return;
+    }
     if block.is_encrypted() {
         show_encrypted(show, &place, block);
         return;
@@ -67,9 +82,13 @@ fn show_block(show: &mut Show<'_>, around: &Place<'_>, block: &Block<'_>) {
     }
 }
 
-fn show_decoded(show: &mut Show<'_>, place: &Place<'_>, octets: &[u8]) {
+/// Shows the values in `octets`, the contents of a PEM block or of a file. Octets that are no ASN.1
+/// are refused.
+pub fn show_decoded(show: &mut Show<'_>, place: &Place<'_>, octets: &[u8]) {
     if octets.is_empty() {
         show.error(place, "the block is empty");
+    } else if octets.starts_with(OPENSSH) {
+        show.error(place, NO_ASN1);
     } else {
         show_values(show, place, octets);
     }

@@ -1,11 +1,12 @@
 //! Prints departures: the places at which a value breaks a rule of DER.
 
+use crate::json::put_string;
 use crate::options::Shown;
 use crate::place::Place;
 use crate::show::{Show, put_place};
 use asn1_cursor::Cursor;
 use asn1_tree::Departure;
-use der_show_print::{FOUND, found_at, put_departure, put_path, put_rule};
+use der_show_print::{FOUND, found_at, put_departure, put_departure_fields, put_path, put_rule};
 use der_show_text::{Output, Style, put_octets_with};
 use std::fmt::Write;
 
@@ -20,6 +21,8 @@ pub struct Departures<'i, 'a> {
     pub items: &'i [Departure],
     /// The octets of the value.
     pub octets: &'a [u8],
+    /// Whether `octets` may be secret. Then none of them are printed.
+    pub hides: bool,
     /// The outermost element of the value. `None` if the value was not read as a tree.
     pub root: Option<Cursor<'a>>,
     /// The position at which `octets` begin in the file, or in the contents of the PEM block. It is
@@ -33,7 +36,10 @@ impl<'i, 'a> Departures<'i, 'a> {
     ///
     /// - to standard output, if the output is text or only departures;
     /// - to standard error, if the output is DER or PEM;
-    /// - not at all, if the output is JSON or short.
+    /// - not at all, if the output is short.
+    ///
+    /// If the output is JSON, an object is printed for each departure: into the list of the value,
+    /// by [`put_json`](Departures::put_json), or into that of the file, if there is no value.
     pub fn put(self, show: &mut Show<'_>, place: &Place<'_>) {
         if self.items.is_empty() {
             return;
@@ -53,6 +59,7 @@ impl<'i, 'a> Departures<'i, 'a> {
             Shown::Departures => {
                 self.put_places(&mut show.page.out, place);
             }
+            Shown::Json if self.root.is_none() => self.put_file_json(show, place),
             Shown::Json | Shown::Short => {}
             Shown::Der | Shown::Pem => {
                 show.page.out.flush();
@@ -104,7 +111,9 @@ impl<'i, 'a> Departures<'i, 'a> {
         let _ = write!(out, "{}: ", departure.rule.section());
         put_rule(out, departure.rule);
         let found = found_at(self.octets, departure);
-        if found.is_empty() {
+        if self.hides {
+            out.put("; octets are not shown");
+        } else if found.is_empty() {
             out.put("; found the end");
         } else {
             out.put("; found ");
@@ -116,23 +125,49 @@ impl<'i, 'a> Departures<'i, 'a> {
         out.put("\n");
     }
 
-    /// Prints the JSON field `departures`, whose value is the list of the departures.
+    /// Prints the JSON fields `departures`, the list of the first departures, and `departureCount`,
+    /// the number of all departures.
     pub fn put_json(self, show: &mut Show<'_>) {
-        show.page.put(",\n      \"departures\": [");
+        let out = &mut show.page.out;
+        out.put(",\n      \"departures\": [");
         let mut is_first = true;
         for departure in self.shown() {
-            show.page.put(if is_first { "\n" } else { ",\n" });
+            out.put(if is_first { "\n" } else { ",\n" });
             is_first = false;
-            show.page.put("        ");
-            put_departure(
-                &mut show.page.out,
-                self.octets,
-                self.root,
-                self.base,
-                departure,
-            );
+            out.put("        ");
+            put_departure(out, self.shown_octets(), self.root, self.base, departure);
         }
-        show.page.put(if is_first { "]" } else { "\n      ]" });
+        out.put(if is_first { "]" } else { "\n      ]" });
+        out.put(",\n      \"departureCount\": ");
+        out.put_number(self.items.len() as u64);
+    }
+
+    // Adds the departures to the list at the end of the JSON object of the file.
+    fn put_file_json(self, show: &mut Show<'_>, place: &Place<'_>) {
+        for departure in self.shown() {
+            let out = &mut show.outside;
+            out.put(if show.has_outside {
+                ",\n    {"
+            } else {
+                "\n    {"
+            });
+            show.has_outside = true;
+            if let Some(label) = place.label {
+                out.put("\"label\": ");
+                put_string(out, label);
+                out.put(", \"line\": ");
+                out.put_number(place.line as u64);
+                out.put(", ");
+            }
+            let octets = self.shown_octets();
+            put_departure_fields(out, octets, self.root, self.base, departure);
+            out.put("}");
+        }
+    }
+
+    // The octets of the value, unless they may be secret.
+    fn shown_octets(self) -> Option<&'a [u8]> {
+        if self.hides { None } else { Some(self.octets) }
     }
 }
 

@@ -6,7 +6,8 @@ use asn1_tree::{Departure, Rule};
 use ber::{Header, Length, Universal, is_end_of_contents, read_header};
 use der_show_print::{Page, put_header_tag, tag_of_universal};
 use der_show_text::{
-    Characters, Output, Style, is_text, put_identifier, put_some_octets, put_text, put_value_text,
+    Characters, Output, Style, is_text, long_name, put_identifier, put_some_octets, put_text,
+    put_value_text,
 };
 use std::alloc::{AllocError, Global};
 
@@ -41,6 +42,8 @@ struct Walk<'a> {
     // The elements around the next one, the innermost last.
     around: Vec<Part>,
     departures: Vec<Departure>,
+    // Whether one of the departures is not allowed by BER.
+    has_fault: bool,
     hides: bool,
 }
 
@@ -51,8 +54,9 @@ struct Walk<'a> {
 /// - If an OCTET STRING or a BIT STRING contains an encoding, prints the elements of this encoding
 ///   too.
 /// - If an element cannot be read, continues after the element that encloses it.
-/// - If `hides` is true, values may be secret. Then the value of an INTEGER, an OCTET STRING or a
-///   BIT STRING is not printed, and neither is the value of an element without a universal type.
+/// - If `hides` is true, values may be secret. Then no contents are printed but NULL, BOOLEAN and
+///   OBJECT IDENTIFIERs that have a name. Strings are not looked into, and reading ends at a place
+///   at which `octets` are not BER.
 /// - `base` is added to each offset that is printed.
 ///
 /// Fails if an allocation fails.
@@ -68,6 +72,7 @@ pub fn put_elements(
         position: 0,
         around: Vec::new(page.alloc),
         departures: Vec::new(page.alloc),
+        has_fault: false,
         hides,
     };
     for _ in 0..=octets.len() {
@@ -77,6 +82,12 @@ pub fn put_elements(
             break;
         }
         walk.step(page, end)?;
+        if hides && walk.has_fault {
+            break;
+        }
+    }
+    if hides {
+        page.line_beside("Values are not shown, as this may be a private key; --tree shows them");
     }
     Ok(walk.departures)
 }
@@ -90,6 +101,7 @@ impl<'a> Walk<'a> {
     }
 
     fn depart(&mut self, rule: Rule, offset: usize) -> Result<(), AllocError> {
+        self.has_fault = self.has_fault || !rule.verdict().is_ber();
         self.departures.push(Departure {
             rule,
             offset,
@@ -147,7 +159,11 @@ impl<'a> Walk<'a> {
         if !header.constructed {
             self.judge_contents(header, contents, start)?;
         }
-        let held = held_start(header, contents);
+        let held = if self.hides {
+            None
+        } else {
+            held_start(header, contents)
+        };
         self.put_line(page, header, start, contents, held.is_some());
         self.position = part.end;
         if header.constructed || held.is_some() {
@@ -258,10 +274,8 @@ impl<'a> Walk<'a> {
 fn put_contents(out: &mut Output, header: Header, contents: &[u8], hides: bool) {
     let universal = header.universal();
     match universal {
+        _ if hides && !is_harmless(universal, contents) => out.put("not shown"),
         Some(Universal::ObjectIdentifier) => put_identifier(out, contents),
-        Some(Universal::Integer | Universal::OctetString | Universal::BitString) if hides => {
-            out.put("not shown");
-        }
         Some(universal) => {
             let is_put = match tag_of_universal(universal) {
                 Some(tag) => put_value_text(out, tag, contents, Style::Line),
@@ -271,9 +285,17 @@ fn put_contents(out: &mut Output, header: Header, contents: &[u8], hides: bool) 
                 put_some_octets(out, contents, SHOWN_OCTETS);
             }
         }
-        None if hides => out.put("not shown"),
         None if is_plain(contents) => put_text(out, contents, Characters::Utf8, Style::Line),
         None => put_some_octets(out, contents, SHOWN_OCTETS),
+    }
+}
+
+// Whether contents are no octets of a key.
+fn is_harmless(universal: Option<Universal>, contents: &[u8]) -> bool {
+    match universal {
+        Some(Universal::ObjectIdentifier) => long_name(contents).is_some(),
+        Some(Universal::Boolean | Universal::Null) => contents.len() < 2,
+        _ => false,
     }
 }
 

@@ -1,13 +1,12 @@
 //! Shows a whole file, which is PEM, another text, DER or BER.
 
-use crate::blocks::show_blocks;
+use crate::blocks::{show_blocks, show_decoded};
 use crate::departures::put_totals;
 use crate::json::{begin_file, end_file};
 use crate::options::Shown;
 use crate::place::Place;
 use crate::show::Show;
 use crate::texts::pem_text;
-use crate::values::show_values;
 use der_show_tree::{ANY, is_encoding};
 use pem::Blocks;
 use std::str;
@@ -34,7 +33,7 @@ pub fn show_octets(show: &mut Show<'_>, file: &str, octets: &[u8]) {
         if is_other_text(show, octets) {
             show.error(&place, "the file is a text without a PEM block");
         } else {
-            show_values(show, &place, octets);
+            show_decoded(show, &place, octets);
         }
     }
     if show.options.shown == Shown::Json {
@@ -62,9 +61,11 @@ fn show_other_text(show: &mut Show<'_>, place: &Place<'_>, octets: &[u8]) -> boo
     }
 }
 
-// Whether the octets are text, and no element.
+// Whether the octets are text, and no element. If the user gave their type, they are not judged.
 fn is_other_text(show: &Show<'_>, octets: &[u8]) -> bool {
     is_plain(octets)
+        && show.node.is_none()
+        && show.options.kind.is_none()
         && !matches!(
             is_encoding(show.page.alloc, show.page.schema, ANY, octets),
             Ok(true)

@@ -9,7 +9,7 @@ use crate::value::Target;
 use asn1_cursor::Cursor;
 use der::DecodeBytes;
 use der_show_print::{Form, Printer, print_json};
-use der_show_text::{Characters, Output, Style, put_text};
+use der_show_text::{Characters, Output, Sink, Style, put_text};
 use der_show_tree::Kind;
 use std::fmt::Write;
 use x509::{Certificate, CertificateList};
@@ -19,20 +19,31 @@ use x509_lint::{LIST_RULES, findings, list_keeps};
 /// values.
 pub fn begin_file(show: &mut Show<'_>, file: &str) {
     show.count = 0;
+    show.outside = Output::new(show.page.alloc, Sink::Memory);
+    show.has_outside = false;
     show.page.put("{\n  \"file\": ");
     put_string(&mut show.page.out, file);
     show.page.put(",\n  \"values\": [");
 }
 
-/// Ends the JSON object for a file. Closes the list of its values, and then the object.
+/// Ends the JSON object for a file. Closes the list of its values. Then prints the list of the
+/// departures that are in none of them, and the number of all departures of the file.
 pub fn end_file(show: &mut Show<'_>) {
     if show.count > 0 {
         show.page.put("\n  ");
     }
-    show.page.put("]\n}\n");
+    let out = &mut show.page.out;
+    out.put("],\n  \"departures\": [");
+    out.put_bytes(show.outside.target.buffer.as_slice());
+    out.has_failed = out.has_failed || show.outside.has_failed;
+    out.put(if show.has_outside { "\n  ]" } else { "]" });
+    out.put(",\n  \"departureCount\": ");
+    out.put_number(show.departures as u64);
+    out.put("\n}\n");
 }
 
-fn put_string(out: &mut Output, text: &str) {
+/// Prints a text as a JSON string.
+pub fn put_string(out: &mut Output, text: &str) {
     out.put("\"");
     put_text(out, text.as_bytes(), Characters::Utf8, Style::Json);
     out.put("\"");

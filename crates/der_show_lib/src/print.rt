@@ -81,8 +81,8 @@ pub fn take_output(page: &mut Page<'_>) -> Output {
 /// Prints the octets of a value, or a PEM block with these octets.
 ///
 /// - If the value is DER, or not even BER, prints the octets as they are.
-/// - If the value is BER but not DER, prints its DER encoding instead. If it cannot be written in
-///   DER, prints an error.
+/// - If the value is BER but not DER, prints its DER encoding instead. If a part of it cannot be
+///   written in DER, this part is printed as it is, with an error.
 pub fn put_octets(
     show: &mut Show<'_>,
     place: &Place<'_>,
@@ -97,7 +97,12 @@ pub fn put_octets(
     if is_only_ber(departures) {
         let schema = show.page.schema;
         match rewritten(show.page.alloc, schema, target.node(), octets) {
-            Ok(written) => put_form(show, place, label, written.octets.as_slice()),
+            Ok(written) => {
+                put_form(show, place, label, written.octets.as_slice());
+                if !written.is_der {
+                    show.error(place, "a part of the value is not written in DER");
+                }
+            }
             Err(_) => show.error(place, "the value cannot be written in DER"),
         }
         return;

@@ -212,9 +212,12 @@ fn new_show<'s>(
         options,
         node: None,
         status: 0,
+        is_private: false,
         count: 0,
         departures: 0,
         faults: 0,
+        outside: Output::new(alloc, Sink::Memory),
+        has_outside: false,
     }
 }
 

@@ -19,12 +19,19 @@ pub struct Show<'s> {
     pub node: Option<u32>,
     /// The exit status so far.
     pub status: u8,
+    /// Whether the label of the current PEM block is that of a private key, or the octets of the
+    /// block or the file may be one.
+    pub is_private: bool,
     /// The number of values of the current file that were printed as JSON.
     pub count: usize,
     /// The number of departures from DER in the current file.
     pub departures: usize,
     /// The number of places in the current file where the octets are not even valid BER.
     pub faults: usize,
+    /// The departures of the current file that are in no value, as the items of a list in JSON.
+    pub outside: Output,
+    /// Whether `outside` has an item.
+    pub has_outside: bool,
 }
 
 impl<'s> Show<'s> {

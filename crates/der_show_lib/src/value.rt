@@ -9,8 +9,8 @@ use crate::print::{put_text_value, put_typed};
 use crate::show::{Show, put_place};
 use asn1_cursor::Cursor;
 use asn1_tree::{Departure, Rule};
-use der_show_print::put_short_line;
-use der_show_tree::{ANY, Kind, read_as};
+use der_show_print::{Page, put_short_line};
+use der_show_tree::{ANY, Kind, is_private_type, read_as};
 
 /// The type by which the octets of a value are read.
 #[derive(Clone, Copy)]
@@ -66,19 +66,44 @@ pub fn show_value(
         return;
     };
     let root = Cursor::root(octets, schema, &tree);
+    let items = tree.departures.as_slice();
     let departures = Departures {
-        items: tree.departures.as_slice(),
+        items,
         octets,
+        hides: may_be_secret(show, target, root, items),
         root,
         base,
     };
     show.page.base = base;
+    show.page.hides = departures.hides && !are_of_der(items);
     match root {
         Some(root) => put_root(show, place, target, root, written, departures),
         None => {}
     }
     show.page.base = 0;
+    show.page.hides = false;
     departures.put(show, place);
+}
+
+// Whether the type is that of a private key; or the octets are of no known type, and the file may hold a key.
+fn may_be_secret(
+    show: &Show<'_>,
+    target: Target,
+    root: Option<Cursor<'_>>,
+    departures: &[Departure],
+) -> bool {
+    let name = match root {
+        Some(root) => root.type_name(),
+        None => None,
+    };
+    if is_private_type(name.unwrap_or("")) {
+        return true;
+    }
+    match target {
+        Target::Kind(kind) if kind.is_private() => true,
+        Target::Kind(_) | Target::Node(_) if root.is_some() && are_of_der(departures) => false,
+        _ => show.is_private,
+    }
 }
 
 // Prints a value in the form that the options want.
@@ -91,8 +116,8 @@ fn put_root(
     departures: Departures<'_, '_>,
 ) {
     match (show.options.shown, target) {
-        (Shown::Text, _) if !is_read(root, departures.items) => {
-            put_unread(show, place, departures.octets, departures.base);
+        (Shown::Text, _) if is_unreadable(&show.page, target, root, departures.items) => {
+            put_unread(show, place, departures);
         }
         (Shown::Text, Target::Kind(kind)) => put_text_value(show, kind, root),
         (Shown::Text, _) => put_typed(&mut show.page, root),
@@ -109,14 +134,26 @@ fn put_root(
 }
 
 // Prints the elements of a value that is not one of its type. Its departures are listed as those of the type.
-fn put_unread(show: &mut Show<'_>, place: &Place<'_>, octets: &[u8], base: usize) {
-    let hides = match place.label {
-        Some(label) => label.ends_with("PRIVATE KEY"),
-        None => false,
-    };
-    if put_elements(&mut show.page, octets, base, hides).is_err() {
+fn put_unread(show: &mut Show<'_>, place: &Place<'_>, departures: Departures<'_, '_>) {
+    let (octets, hides) = (departures.octets, departures.hides);
+    if put_elements(&mut show.page, octets, departures.base, hides).is_err() {
         show.memory_error(place);
     }
+}
+
+// Whether the fields of a value are not printed: it is not one of its type; or what is a field of the public part of a
+// private key may be one of its secret part, since the key is damaged.
+fn is_unreadable(
+    page: &Page<'_>,
+    target: Target,
+    root: Cursor<'_>,
+    departures: &[Departure],
+) -> bool {
+    let is_key = match target {
+        Target::Kind(kind) => kind != Kind::Pfx,
+        Target::Node(_) | Target::Elements => false,
+    };
+    !is_read(root, departures) || is_key && page.hides
 }
 
 // Whether the value has the tag of its type, and is not cut off.
@@ -134,9 +171,14 @@ fn is_read(root: Cursor<'_>, departures: &[Departure]) -> bool {
 
 /// Whether there are departures, and BER allows all of them.
 pub fn is_only_ber(departures: &[Departure]) -> bool {
-    let mut is_ber = !departures.is_empty();
+    !departures.is_empty() && are_of_der(departures)
+}
+
+// Whether BER allows all departures.
+fn are_of_der(departures: &[Departure]) -> bool {
+    let mut are = true;
     for departure in departures {
-        is_ber = is_ber && departure.rule.verdict().is_ber();
+        are = are && departure.rule.verdict().is_ber();
     }
-    is_ber
+    are
 }

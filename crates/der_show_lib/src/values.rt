@@ -11,12 +11,16 @@ use asn1_cursor::Cursor;
 use asn1_tree::{Departure, Rule};
 use ber::{ElementFault, body_len, read_element};
 use der_show_print::put_trust;
-use der_show_tree::{Kind, TRUST, find_kind, is_encoding, read_as};
+use der_show_tree::{
+    Kind, TRUST, find_kind, is_encoding, is_private_label, may_be_private_key, read_as,
+};
 use std::alloc::AllocError;
 
 /// Shows the values in `octets`, one after another. A value of a known kind is shown with its
 /// fields. From the first value of no known kind on, all octets are shown as elements.
 pub fn show_values(show: &mut Show<'_>, place: &Place<'_>, octets: &[u8]) {
+    show.is_private = may_be_private_key(octets)
+        || matches!(place.label, Some(label) if is_private_label(label));
     let mut start = 0usize;
     for _ in 0..octets.len() {
         let rest = octets.get(start..).unwrap_or(&[]);
@@ -173,6 +177,7 @@ fn refuse_rest(show: &mut Show<'_>, place: &Place<'_>, rest: &[u8], start: usize
     let departures = Departures {
         items: &items,
         octets: rest,
+        hides: show.is_private,
         root: None,
         base: start,
     };
@@ -192,24 +197,17 @@ fn show_elements(
     if !show.options.is_tree {
         show.page.put("Elements of no known kind:\n");
     }
-    let hides = !show.options.is_tree && may_be_secret(place);
-    let found = put_elements(&mut show.page, octets, base, hides)?;
+    let hides = show.is_private;
+    let found = put_elements(&mut show.page, octets, base, hides && !show.options.is_tree)?;
     let departures = Departures {
         items: found.as_slice(),
         octets,
+        hides,
         root: None,
         base,
     };
     departures.put(show, place);
     Ok(())
-}
-
-// Whether the label is that of a private key.
-fn may_be_secret(place: &Place<'_>) -> bool {
-    match place.label {
-        Some(label) => label.ends_with("PRIVATE KEY"),
-        None => false,
-    }
 }
 
 // Shows octets as elements in another form than text.
@@ -243,10 +241,14 @@ fn show_each(
         }
         let count = value_len(rest).max(1);
         let octets = rest.get(..count).unwrap_or(rest);
+        let target = match show.node {
+            Some(node) => Target::Node(node),
+            None => Target::Elements,
+        };
         show_value(
             show,
             place,
-            Target::Elements,
+            target,
             (octets, octets),
             base.saturating_add(start),
         );

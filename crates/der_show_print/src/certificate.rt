@@ -29,7 +29,7 @@ pub fn put_certificate(page: &mut Page<'_>, certificate: Cursor<'_>) {
         put_extensions(page, "X509v3 extensions:", signed.at("extensions"));
     }
     put_signature(page, certificate);
-    put_fingerprints(page, "", certificate.octets());
+    put_fingerprints(page, "", certificate);
 }
 
 /// Prints lines with the algorithm and the length of a signature. `holder` is the signed value,

@@ -17,15 +17,29 @@ pub const FOUND: usize = 16;
 /// - the section of the standard;
 /// - the rule that is broken;
 /// - whether BER allows the octets, since only DER has the rule;
-/// - the first octets of the element in hexadecimal.
+/// - the first octets of the element in hexadecimal; none, if `octets` are `None`, because they may
+///   be secret.
 pub fn put_departure<T: Target>(
     out: &mut Output<T>,
-    octets: &[u8],
+    octets: Option<&[u8]>,
     root: Option<Cursor<'_>>,
     base: usize,
     departure: &Departure,
 ) {
-    out.put("{\"path\": \"");
+    out.put("{");
+    put_departure_fields(out, octets, root, base, departure);
+    out.put("}");
+}
+
+/// Prints the fields that [`put_departure`] prints, without the braces around them.
+pub fn put_departure_fields<T: Target>(
+    out: &mut Output<T>,
+    octets: Option<&[u8]>,
+    root: Option<Cursor<'_>>,
+    base: usize,
+    departure: &Departure,
+) {
+    out.put("\"path\": \"");
     let _ = put_path(out, root, departure, Style::Json);
     out.put("\", \"offset\": ");
     out.put_number(base.saturating_add(departure.offset) as u64);
@@ -40,9 +54,11 @@ pub fn put_departure<T: Target>(
         "false"
     });
     out.put(", \"found\": \"");
-    let found = found_at(octets, departure);
-    put_octets(out, found.get(..FOUND).unwrap_or(found));
-    out.put("\"}");
+    if let Some(octets) = octets {
+        let found = found_at(octets, departure);
+        put_octets(out, found.get(..FOUND).unwrap_or(found));
+    }
+    out.put("\"");
 }
 
 /// Prints the path of the element at which a departure was found. Prints nothing if `root` is

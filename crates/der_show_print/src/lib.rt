@@ -48,7 +48,7 @@ mod walk;
 mod words;
 
 pub use certificate::{put_certificate, put_trust};
-pub use departures::{FOUND, found_at, put_departure, put_path, put_rule};
+pub use departures::{FOUND, found_at, put_departure, put_departure_fields, put_path, put_rule};
 pub use encryption::put_encrypted_key;
 pub use fields::{print_fields, print_json};
 pub use form::Form;

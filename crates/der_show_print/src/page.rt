@@ -22,6 +22,9 @@ pub struct Page<'s> {
     /// The position at which the printed value begins in the file or in the PEM block. It is added
     /// to the offset of each element in the value.
     pub base: usize,
+    /// Whether the printed value is damaged and may hold a private key. What could be an octet of
+    /// the key is then not printed.
+    pub hides: bool,
 }
 
 impl<'s> Page<'s> {
@@ -34,6 +37,7 @@ impl<'s> Page<'s> {
             has_offsets,
             indent: 0,
             base: 0,
+            hides: false,
         }
     }
 

@@ -104,17 +104,21 @@ fn put_bags(page: &mut Page<'_>, bags: Cursor<'_>) {
         if let Some(value) = bag.at("bagValue") {
             put_bag(page, bag, value.untagged());
         }
-        if let Some(attributes) = bag.at("bagAttributes") {
-            page.deeper();
-            page.line(attributes, "Bag Attributes");
-            put_attribute_list(page, attributes);
-            page.higher();
+        match bag.at("bagAttributes") {
+            Some(attributes) if !page.hides => {
+                page.deeper();
+                page.line(attributes, "Bag Attributes");
+                put_attribute_list(page, attributes);
+                page.higher();
+            }
+            _ => {}
         }
     }
 }
 
 fn put_bag(page: &mut Page<'_>, bag: Cursor<'_>, value: Cursor<'_>) {
     match value.type_name() {
+        Some("PrivateKeyInfo") if page.hides => page.line(bag, "Key bag, not shown"),
         Some("PrivateKeyInfo") => {
             page.line(bag, "Key bag");
             page.deeper();

@@ -47,7 +47,7 @@ pub fn kind_of(identifier: &[u8]) -> KeyKind {
 /// parameters, the key itself, and its fingerprints.
 pub fn put_public_key(page: &mut Page<'_>, key: Cursor<'_>) {
     put_key_fields(page, key);
-    put_fingerprints(page, "Key ", key.octets());
+    put_fingerprints(page, "Key ", key);
 }
 
 fn put_key_fields(page: &mut Page<'_>, key: Cursor<'_>) {

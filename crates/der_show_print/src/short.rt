@@ -45,7 +45,7 @@ const PERIODS: [(&str, &str); 3] = [
 /// - the first and the last time at which `value` is valid;
 /// - the number of days until the last time, if `now` is given, in seconds since
 ///   1970-01-01T00:00:00Z;
-/// - the SHA-256 digest of `value`, if it has a public key or a first time.
+/// - the SHA-256 digest of `value` in DER, if it has a public key or a first time.
 pub fn put_short_line(page: &mut Page<'_>, kind: &str, value: Cursor<'_>, now: Option<i64>) {
     page.put(kind);
     for path in SUBJECTS {
@@ -74,7 +74,7 @@ pub fn put_short_line(page: &mut Page<'_>, kind: &str, value: Cursor<'_>, now: O
     }
     if is_public {
         page.put("; SHA-256 ");
-        put_digest(page, value.octets());
+        put_digest(page, value);
     }
     page.end();
 }

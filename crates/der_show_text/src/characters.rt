@@ -1,29 +1,9 @@
-//! Decides which characters of a printed text are escaped, and prints the escapes.
+//! Prints characters, and the escapes of those that are escaped.
 
 use crate::output::Output;
 use crate::style::Style;
 use crate::target::Target;
-use unicode::properties::{GeneralCategory, is_default_ignorable_code_point};
-
-/// Whether the character must not be printed as it is. This is the case for:
-///
-/// - a control character (category Cc of Unicode);
-/// - a character that is invisible, or that changes the direction of the text around it (the
-///   categories Cf, Zl and Zp, and the characters that Unicode calls Default_Ignorable_Code_Point);
-/// - the Braille pattern without dots, which looks like a space.
-pub fn is_hidden(c: char) -> bool {
-    if c.is_ascii() {
-        return c.is_control();
-    }
-    let is_format = matches!(
-        GeneralCategory::for_char(c),
-        GeneralCategory::Control
-            | GeneralCategory::Format
-            | GeneralCategory::LineSeparator
-            | GeneralCategory::ParagraphSeparator
-    );
-    is_format || is_default_ignorable_code_point(c) || c == '\u{2800}'
-}
+use hidden_characters::is_hidden;
 
 /// Prints a character. `style` says which characters are escaped, and how.
 pub fn put_escaped<T: Target>(out: &mut Output<T>, c: char, style: Style) {

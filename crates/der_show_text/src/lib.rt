@@ -20,7 +20,6 @@ mod style;
 mod target;
 mod times;
 
-pub use characters::is_hidden;
 pub use element::{Element, moved};
 pub use elements::Elements;
 pub use identifier::{is_hexadecimal_of, long_name, put_arcs, put_identifier, short_name};

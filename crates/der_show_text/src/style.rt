@@ -1,7 +1,7 @@
 //! The styles in which text is escaped.
 
 /// The place at which text is printed. The place decides which characters are escaped. A hidden
-/// character is one for which [`is_hidden`](crate::is_hidden) is true.
+/// character is one for which [`is_hidden`](hidden_characters::is_hidden) is true.
 #[derive(Clone, Copy, PartialEq, Eq)]
 pub enum Style {
     /// The text is on a line. Backslashes and hidden characters are escaped.

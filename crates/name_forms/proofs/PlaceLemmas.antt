@@ -2,7 +2,7 @@
 use Rattle.std.proofs.Common.{◌≡◌, ◌↔◌, Bool, true, subst, drop, ◌+◌, ℕ, List, arith, inl, inr}
 use Rattle.std.proofs.lemmas.Bool.{cases_lt}
 use Rattle.name_forms.specs.Hosts.{IsHostWithin}
-use Rattle.name_forms.specs.Mailboxes.{HasNoAt, HasPartsAt, IsLastAt, IsMailbox, IsMailWithin, IsSameAt, MailboxesMatch}
+use Rattle.name_forms.specs.Mailboxes.{HasNoAt, IsLastAt, IsMailWithin, IsSameAt, MailboxesMatch}
 
 pub same_place : (os : List ℕ) (n m : ℕ) → IsLastAt os n → IsLastAt os m → n ≡ m
 same_place os n m a b =
@@ -24,5 +24,6 @@ within base name n b none at h = (
   ],
 )
 
-pub parted : (os : List ℕ) (n : ℕ) (b : Bool) → IsLastAt os n → (b ≡ true) ↔ HasPartsAt os n → (b ≡ true) ↔ IsMailbox os
-parted os n b at h = (λ e. (n, at, h.0 e), λ m. h.1 (subst (HasPartsAt os) (same_place os m.0 n m.1 at) m.2))
+-- what holds at the place of the last @
+pub parted : (P : List ℕ → ℕ → Type 0) (os : List ℕ) (n : ℕ) (b : Bool) → IsLastAt os n → (b ≡ true) ↔ P os n → (b ≡ true) ↔ ((at : ℕ) × IsLastAt os at × P os at)
+parted P os n b at h = (λ e. (n, at, h.0 e), λ m. h.1 (subst (P os) (same_place os m.0 n m.1 at) m.2))

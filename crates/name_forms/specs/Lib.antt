@@ -5,3 +5,4 @@ pub mod Mailboxes
 pub mod Uris
 pub mod UriSyntax
 pub mod Addresses
+pub mod Comparable

@@ -2,6 +2,7 @@
 -- have no case, and spaces count only between other characters, as one space. The tables of
 -- RFC 4518 for characters beyond ASCII are no part of it.
 use Rattle.std.specs.Prelude.{◌≡◌, ◌||◌, ◌&&◌, ◌==◌, ℕ, Bool, List, [], ◌∷◌, if◌then◌else◌, nat_lt}
+use Rattle.std.specs.Prelude.{true, slice_index, EachIndex}
 use Rattle.std.specs.Char.{to_ascii_lowercase}
 
 -- a space, or one of the five controls that become a space (RFC 4518, 2.2)
@@ -22,6 +23,14 @@ squeezed (o ∷ os) =
 -- the same with one space at the beginning, unless there are spaces alone (RFC 4518, 2.6.1)
 abbrev pub prepared : List ℕ → List ℕ
 prepared octets = spaced (squeezed octets)
+
+-- a character whose preparation here is that of RFC 4518: a space, or a printed one of ASCII. The
+-- RFC drops other controls (2.2), and has tables for characters beyond ASCII
+abbrev pub is_plain_character : ℕ → Bool
+is_plain_character o = is_space o || nat_lt 32 o && nat_lt o 127
+
+abbrev pub IsPlainText : List ℕ → Type 0
+IsPlainText octets = EachIndex octets (λ k. is_plain_character (slice_index octets k) ≡ true)
 
 -- two texts are the same after preparation
 abbrev pub TextsMatch : List ℕ → List ℕ → Type 0

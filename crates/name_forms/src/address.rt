@@ -1,6 +1,8 @@
 //! IP addresses and ranges of IP addresses.
 ghost use Rattle.std.specs.Prelude.{◌≡◌, ◌↔◌, ◌*◌, ◌+◌, ◌<◌, true, EachIndex, bit_and, length, slice_index};
-ghost use Rattle.name_forms.specs.Addresses.{IsAddress, IsAddressWithin, IsRange};
+ghost use Rattle.name_forms.specs.Addresses.{FitsMask, IsAddress, IsAddressWithin, IsCidrRange, IsMask, IsRange, is_mask_octet};
+
+use crate::rest::rest;
 
 /// Whether the octets have the length of an IP address: 4 octets for IPv4, or 16 for IPv6.
 pub fn is_address(octets: &[u8]) -> bool
@@ -15,6 +17,47 @@ pub fn is_range(octets: &[u8]) -> bool
     ensures { (result ≡ true) ↔ IsRange octets.now }
 {
     octets.len() == 8 || octets.len() == 32
+}
+
+/// Whether the octets are a range of IP addresses in the style of RFC 4632 (RFC 5280, 4.2.1.10): an
+/// address and a mask, whose one bits are all before its zero bits.
+pub fn is_cidr_range(octets: &[u8]) -> bool
+    ensures { (result ≡ true) ↔ IsCidrRange octets.now }
+{
+    is_range(octets) && is_mask(rest(octets, octets.len() / 2))
+}
+
+fn is_mask(mask: &[u8]) -> bool
+    ensures { (result ≡ true) ↔ IsMask mask.now }
+{
+    for at in 0..mask.len() {
+        if !fits_mask(mask, at) {
+            return false;
+        }
+    }
+    true
+}
+
+// Whether the octet at a place has ones and then zeros, and after a zero no one follows.
+fn fits_mask(mask: &[u8], at: usize) -> bool
+    requires { at < length mask.now }
+    ensures { (result ≡ true) ↔ FitsMask mask.now at }
+{
+    is_mask_octet(mask[at]) && (mask[at] == 255 || mask.len() - at == 1 || mask[at + 1] == 0)
+}
+
+fn is_mask_octet(octet: u8) -> bool
+    ensures { result ≡ is_mask_octet octet }
+{
+    octet == 0
+        || octet == 128
+        || octet == 192
+        || octet == 224
+        || octet == 240
+        || octet == 248
+        || octet == 252
+        || octet == 254
+        || octet == 255
 }
 
 /// Whether the address `name` is within the range `base` (RFC 5280, 4.2.1.10). A range is an

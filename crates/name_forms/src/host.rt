@@ -47,7 +47,7 @@ pub fn is_host_within(base: &[u8], name: &[u8]) -> bool
     }
 }
 
-fn begins_with_dot(octets: &[u8]) -> bool
+pub(crate) fn begins_with_dot(octets: &[u8]) -> bool
     ensures { result ≡ begins_with_dot octets.now }
 {
     match octets {
@@ -57,7 +57,7 @@ fn begins_with_dot(octets: &[u8]) -> bool
 }
 
 // Whether a name ends with these octets, and has more before them.
-fn has_before(end: &[u8], name: &[u8]) -> bool
+pub(crate) fn has_before(end: &[u8], name: &[u8]) -> bool
     ensures { (result ≡ true) ↔ HasBefore end.now name.now }
 {
     name.len() > end.len() && is_same_host(rest(name, name.len() - end.len()), end)

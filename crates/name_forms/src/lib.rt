@@ -13,6 +13,7 @@
 #![tactic(auto)]
 
 mod address;
+mod comparable;
 mod host;
 mod host_name;
 mod mailbox;
@@ -25,12 +26,16 @@ mod uri;
 mod uri_part;
 mod uri_syntax;
 
-pub use address::{is_address, is_address_within, is_range};
+pub use address::{is_address, is_address_within, is_cidr_range, is_range};
+pub use comparable::{
+    is_host_constraint, is_host_mailbox, is_host_uri, is_mail_constraint, is_plain_host,
+    is_uri_constraint, is_wildcard_above,
+};
 pub use host::{is_below_host, is_domain_name, is_host_within, is_same_host};
 pub use host_name::{is_host, is_host_name};
 pub use mailbox::{has_mailbox, is_mail_within, mailboxes_match};
 pub use mailbox_syntax::is_mailbox;
 pub use scheme::has_scheme;
-pub use text::texts_match;
+pub use text::{is_plain_text, texts_match};
 pub use uri::{has_domain_name, is_uri_within};
 pub use uri_syntax::{has_host, is_uri};

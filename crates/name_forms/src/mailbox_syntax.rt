@@ -32,7 +32,7 @@ fn is_local_part(octets: &[u8]) -> bool
     is_dot_string(octets) || is_quoted_string(octets)
 }
 
-fn is_dot_string(octets: &[u8]) -> bool
+pub(crate) fn is_dot_string(octets: &[u8]) -> bool
     ensures { (result ≡ true) ↔ IsDotString octets.now }
 {
     !octets.is_empty() && all_local(octets)

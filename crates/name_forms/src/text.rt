@@ -1,7 +1,7 @@
 //! Comparison of texts in names. The case of ASCII letters is ignored, and so are spaces at the
 //! ends and repeated spaces.
-ghost use Rattle.std.specs.Prelude.{◌≡◌, ◌↔◌, ◌<◌, ◌≤◌, ◌∷◌, [], true, false, length, drop, slice_index, IfNone, IfSome};
-ghost use Rattle.name_forms.specs.PreparedText.{is_space, spaced, squeezed, TextsMatch};
+ghost use Rattle.std.specs.Prelude.{◌≡◌, ◌↔◌, ◌<◌, ◌≤◌, ◌∷◌, [], true, false, length, drop, slice_index, EachIndex, IfNone, IfSome};
+ghost use Rattle.name_forms.specs.PreparedText.{IsPlainText, is_plain_character, is_space, spaced, squeezed, TextsMatch};
 
 /// Whether two texts in ASCII or UTF-8 match (RFC 5280, 7.1; RFC 4518). The case of ASCII letters
 /// is ignored. Spaces at the beginning and at the end are ignored too. Several spaces between other
@@ -24,6 +24,26 @@ pub fn texts_match(first: &[u8], second: &[u8]) -> bool
         }
     }
     next_of(second, place).is_none()
+}
+
+/// Whether all octets are spaces, printed characters of ASCII, or the controls 9 to 13, which count
+/// as spaces. For two such texts, [`texts_match`] gives the answer of RFC 4518. Of other texts, it
+/// may say that they differ although they match by the tables of RFC 4518.
+pub fn is_plain_text(octets: &[u8]) -> bool
+    ensures { (result ≡ true) ↔ IsPlainText octets.now }
+{
+    for at in 0..octets.len() {
+        if !is_plain_character(octets[at]) {
+            return false;
+        }
+    }
+    true
+}
+
+fn is_plain_character(octet: u8) -> bool
+    ensures { result ≡ is_plain_character octet }
+{
+    is_space(octet) || 32 < octet && octet < 127
 }
 
 // The next octet of the prepared text that begins at a place, and where the text goes on.

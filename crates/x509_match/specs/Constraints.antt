@@ -1,16 +1,18 @@
 -- Names and the lists of subtrees of a nameConstraints (RFC 5280, 4.2.1.10): `IsTally` is what one
 -- list says of a name, and `HasVerdict` what both lists say.
-use Rattle.std.specs.Prelude.{◌≡◌, ◌↔◌, ℕ, true, List, IsNone}
+use Rattle.std.specs.Prelude.{◌≡◌, ◌⊎◌, ◌↔◌, ℕ, true, List, [], ◌∷◌, IsNone}
 use Rattle.der_asn1.specs.SequenceOf.{IsListOf}
-use Rattle.name_forms.specs.Addresses.{IsAddress, IsRange}
-use Rattle.name_forms.specs.Mailboxes.{HasMailbox}
-use Rattle.name_forms.specs.Uris.{HasDomainName}
+use Rattle.name_forms.specs.Addresses.{IsAddress, IsCidrRange}
+use Rattle.name_forms.specs.Comparable.{IsHostConstraint, IsHostMailbox, IsHostUri}
+use Rattle.name_forms.specs.Comparable.{IsMailConstraint, IsUriConstraint, IsWildcardAbove}
+use Rattle.name_forms.specs.UriSyntax.{IsHost}
 use Rattle.x509.specs.contracts.asn1.general_subtree.GeneralSubtreeItem.TheImpl as subtree
 use Rattle.x509.specs.declared.asn1.general_name.GeneralName.{GeneralName}
 use Rattle.x509.specs.declared.asn1.general_name.GeneralName.TheVariants as name
 use Rattle.x509.specs.declared.asn1.general_subtree.GeneralSubtree.{GeneralSubtree}
 use Rattle.x509_match.specs.GeneralNames.{IsWithinBase}
 use Rattle.x509_match.specs.Lists.{SomeItem}
+use Rattle.x509_match.specs.NameMatching.{IsDecided}
 use Rattle.x509_match.specs.declared.tally.Tally.{Tally}
 
 -- the number of the form: that of its tag
@@ -25,28 +27,51 @@ form_of (name.UniformResourceIdentifier _) = 6
 form_of (name.IpAddress _) = 7
 form_of (name.RegisteredId _) = 8
 
--- a name can be compared with constraints of its form: a mailbox has an @, a URI a host name, and an
--- address 4 or 16 octets. The RFC has no constraints for the other forms
+-- the type of a SmtpUTF8Mailbox, 1.3.6.1.5.5.7.8.9 (RFC 9598, 3)
+abbrev pub smtp_utf8_mailbox : List ℕ
+smtp_utf8_mailbox = 43 ∷ 6 ∷ 1 ∷ 5 ∷ 5 ∷ 7 ∷ 8 ∷ 9 ∷ []
+
+-- a mailbox is an rfc822Name, or a SmtpUTF8Mailbox, an otherName with this type
+abbrev pub IsMailName : GeneralName → Type 0
+IsMailName (name.Rfc822Name n) = Unit {0}
+IsMailName (name.OtherName n) = n.0.type_id.octets.now ≡ smtp_utf8_mailbox
+IsMailName _ = ⊥
+
+-- a name can be compared with constraints of its form: a mailbox at a host, a host name (whose first
+-- label may be an asterisk), a URI with a host name, and an address of 4 or 16 octets. The RFC has
+-- no constraints for the other forms
 abbrev pub CanBeCompared : GeneralName → Type 0
-CanBeCompared (name.Rfc822Name n) = HasMailbox n.0.octets.now
-CanBeCompared (name.DnsName n) = Unit {0}
+CanBeCompared (name.Rfc822Name n) = IsHostMailbox n.0.octets.now
+CanBeCompared (name.DnsName n) = IsHost n.0.octets.now
 CanBeCompared (name.DirectoryName n) = Unit {0}
-CanBeCompared (name.UniformResourceIdentifier n) = HasDomainName n.0.octets.now
+CanBeCompared (name.UniformResourceIdentifier n) = IsHostUri n.0.octets.now
 CanBeCompared (name.IpAddress n) = IsAddress n.0.octets.now
 CanBeCompared _ = ⊥
 
--- a base can be compared with names: the constraint of an iPAddress has 8 or 32 octets
+-- a base can be compared with names: it has the syntax that the RFC gives constraints of its form
 abbrev pub IsBase : GeneralName → Type 0
-IsBase (name.IpAddress b) = IsRange b.0.octets.now
-IsBase _ = Unit {0}
+IsBase (name.Rfc822Name b) = IsMailConstraint b.0.octets.now
+IsBase (name.DnsName b) = IsHostConstraint b.0.octets.now
+IsBase (name.DirectoryName b) = Unit {0}
+IsBase (name.UniformResourceIdentifier b) = IsUriConstraint b.0.octets.now
+IsBase (name.IpAddress b) = IsCidrRange b.0.octets.now
+IsBase _ = ⊥
+
+-- a base and a name can be compared with each other: all names for which an asterisk stands are
+-- within the base, or none is; the comparison of the levels of two names is decided
+abbrev pub AreComparable : GeneralName → GeneralName → Type 0
+AreComparable (name.DnsName b) (name.DnsName n) =
+    IsWildcardAbove b.0.octets.now n.0.octets.now → ⊥
+AreComparable (name.DirectoryName b) (name.DirectoryName n) = IsDecided b.0 n.0
+AreComparable _ _ = Unit {0}
 
 -- the subtrees of a list with these octets
 abbrev pub AreSubtrees : List ℕ → Type 0
 AreSubtrees octets = IsListOf subtree.ghosts.item.valid subtree.ghosts.item.octets octets
 
--- a subtree has the form of a name
+-- a subtree has the form of a name. Those of rfc822Names concern a SmtpUTF8Mailbox too (RFC 9598, 6)
 abbrev pub Concerns : GeneralName → GeneralSubtree → Type 0
-Concerns n s = form_of s.base ≡ form_of n
+Concerns n s = (form_of s.base ≡ form_of n) ⊎ (IsMailName s.base × IsMailName n)
 
 -- the name is within the subtree
 abbrev pub Contains : GeneralName → GeneralSubtree → Type 0
@@ -58,7 +83,8 @@ HasBaseAlone s = (s.minimum.0.0.value.number ≡ 0) × IsNone s.maximum.0
 
 -- the subtree can be compared with the name
 abbrev pub IsUsable : GeneralName → GeneralSubtree → Type 0
-IsUsable n s = HasBaseAlone s × IsBase s.base × CanBeCompared n
+IsUsable n s =
+    HasBaseAlone s × ((IsBase s.base × CanBeCompared n) × AreComparable s.base n)
 
 -- the subtree has the form of the name, and cannot be compared with it
 abbrev pub IsUnclear : GeneralName → GeneralSubtree → Type 0

@@ -1,10 +1,12 @@
 //! Comparison of the attributes of names.
 ghost use Rattle.std.specs.Prelude.{◌≡◌, ◌↔◌, ◌&&◌, true};
-ghost use Rattle.x509_match.specs.NameMatching.{AttributesMatch, IsSameElement, ValuesMatch, is_text_tag};
+ghost use Rattle.name_forms.specs.PreparedText.{IsPlainText};
+ghost use Rattle.x509_match.specs.NameMatching.{AreExact, ArePlainTexts, AttributesAgree, AttributesMatch, IsSameElement, ValuesAgree, ValuesMatch, is_text_tag};
 
+use crate::matching::Matching;
 use der::Tag;
 use der_asn1::AnyRef;
-use name_forms::texts_match;
+use name_forms::{is_plain_text, texts_match};
 use x509::AttributeTypeAndValue;
 
 /// Whether two attributes have the same type, and values that match (RFC 5280, 7.1). If each value
@@ -17,7 +19,47 @@ pub fn attributes_match(
 ) -> bool
     ensures { (result ≡ true) ↔ AttributesMatch first.now second.now }
 {
-    first.oid.octets() == second.oid.octets() && values_match(&first.value, &second.value)
+    attributes_agree(first, second, Matching::Prepared)
+}
+
+// Whether two attributes have the same type, and values that match in this sense.
+pub(crate) fn attributes_agree(
+    first: &AttributeTypeAndValue<'_>,
+    second: &AttributeTypeAndValue<'_>,
+    matching: Matching,
+) -> bool
+    ensures { (result ≡ true) ↔ AttributesAgree matching first.now second.now }
+{
+    first.oid.octets() == second.oid.octets() && values_agree(&first.value, &second.value, matching)
+}
+
+fn values_agree(first: &AnyRef<'_>, second: &AnyRef<'_>, matching: Matching) -> bool
+    ensures { (result ≡ true) ↔ ValuesAgree matching first.now second.now }
+{
+    match matching {
+        Matching::Prepared => values_match(first, second),
+        Matching::Certain => are_exact(first, second) && values_match(first, second),
+        Matching::Possible => !are_exact(first, second) || values_match(first, second),
+    }
+}
+
+// Whether the comparison of two values gives the answer of the standard.
+fn are_exact(first: &AnyRef<'_>, second: &AnyRef<'_>) -> bool
+    ensures { (result ≡ true) ↔ AreExact first.now second.now }
+{
+    are_plain_texts(first, second) || elements_match(first, second)
+}
+
+fn are_plain_texts(first: &AnyRef<'_>, second: &AnyRef<'_>) -> bool
+    ensures { (result ≡ true) ↔ ArePlainTexts first.now second.now }
+{
+    are_texts(first.tag, second.tag) && are_plain(first.contents, second.contents)
+}
+
+fn are_plain(first: &[u8], second: &[u8]) -> bool
+    ensures { (result ≡ true) ↔ (IsPlainText first.now × IsPlainText second.now) }
+{
+    is_plain_text(first) && is_plain_text(second)
 }
 
 fn values_match(first: &AnyRef<'_>, second: &AnyRef<'_>) -> bool

@@ -1,9 +1,10 @@
 //! Comparison of RelativeDistinguishedNames.
 ghost use Rattle.std.specs.Prelude.{◌≡◌, ◌↔◌, true};
 ghost use Rattle.x509.specs.CertificateLists.{level_octets};
-ghost use Rattle.x509_match.specs.NameMatching.{AreAsMany, HasMatch, HaveMatches, LevelsMatch};
+ghost use Rattle.x509_match.specs.NameMatching.{AreAsMany, HasMatch, HaveMatches, LevelsAgree, LevelsMatch};
 
-use crate::attribute::attributes_match;
+use crate::attribute::attributes_agree;
+use crate::matching::Matching;
 use std::alloc::Global;
 use x509::{AttributeTypeAndValue, RelativeDistinguishedName};
 
@@ -16,7 +17,19 @@ pub fn levels_match(
 ) -> bool
     ensures { (result ≡ true) ↔ LevelsMatch first.now second.now }
 {
-    are_as_many(alloc, first, second) && have_matches(alloc, first, second)
+    levels_agree(alloc, first, second, Matching::Prepared)
+}
+
+// Whether two levels match in this sense.
+pub(crate) fn levels_agree(
+    alloc: Global,
+    first: &RelativeDistinguishedName<'_>,
+    second: &RelativeDistinguishedName<'_>,
+    matching: Matching,
+) -> bool
+    ensures { (result ≡ true) ↔ LevelsAgree matching first.now second.now }
+{
+    are_as_many(alloc, first, second) && have_matches(alloc, first, second, matching)
 }
 
 fn are_as_many(
@@ -44,11 +57,13 @@ fn have_matches(
     alloc: Global,
     first: &RelativeDistinguishedName<'_>,
     second: &RelativeDistinguishedName<'_>,
+    matching: Matching,
 ) -> bool
-    ensures { (result ≡ true) ↔ HaveMatches (level_octets first.now) (level_octets second.now) }
+    ensures { (result ≡ true)
+        ↔ HaveMatches matching (level_octets first.now) (level_octets second.now) }
 {
     for attribute in first.attributes.iter(alloc) {
-        if !has_match(alloc, second, &attribute) {
+        if !has_match(alloc, second, &attribute, matching) {
             return false;
         }
     }
@@ -60,11 +75,12 @@ fn has_match(
     alloc: Global,
     level: &RelativeDistinguishedName<'_>,
     attribute: &AttributeTypeAndValue<'_>,
+    matching: Matching,
 ) -> bool
-    ensures { (result ≡ true) ↔ HasMatch (level_octets level.now) attribute.now }
+    ensures { (result ≡ true) ↔ HasMatch matching (level_octets level.now) attribute.now }
 {
     for other in level.attributes.iter(alloc) {
-        if attributes_match(attribute, &other) {
+        if attributes_agree(attribute, &other, matching) {
             return true;
         }
     }

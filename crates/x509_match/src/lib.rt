@@ -12,6 +12,10 @@
 //! ignores the case of ASCII letters. It ignores spaces at the beginning and the end, and takes
 //! several spaces for one. Values of other types are compared octet by octet. Nothing is allocated.
 //!
+//! This comparison may say that two names differ although the tables of RFC 4518 make them equal:
+//! for letters beyond ASCII, and for types such as BMPString. A verdict does not rely on it there: it
+//! is [`Verdict::Unclear`] if the comparison of a base and a name is not exact.
+//!
 //! The time is in proportion to the size of the names, and within one RelativeDistinguishedName to
 //! the product of the numbers of attributes. A list of names is compared in time in proportion to
 //! its size times the size of the nameConstraints. So a caller should limit the sizes of both.
@@ -20,6 +24,7 @@
 mod attribute;
 mod general_name;
 mod level;
+mod matching;
 mod name;
 mod names;
 mod tally;

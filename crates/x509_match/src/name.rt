@@ -1,8 +1,9 @@
 //! Comparison of names.
 ghost use Rattle.std.specs.Prelude.{◌≡◌, ◌↔◌, true};
-ghost use Rattle.x509_match.specs.NameMatching.{HasLevelsOf, IsNameWithin, NamesMatch};
+ghost use Rattle.x509_match.specs.NameMatching.{HasLevelsOf, IsDecided, IsNameWithin, NamesMatch};
 
-use crate::level::levels_match;
+use crate::level::levels_agree;
+use crate::matching::Matching;
 use std::alloc::Global;
 use x509::Name;
 
@@ -12,7 +13,7 @@ use x509::Name;
 pub fn names_match(alloc: Global, first: &Name<'_>, second: &Name<'_>) -> bool
     ensures { (result ≡ true) ↔ NamesMatch first.now second.now }
 {
-    has_levels_of(alloc, first, second, true)
+    has_levels_of(alloc, first, second, true, Matching::Prepared)
 }
 
 /// Whether `name` is within the subtree of `base` (RFC 5280, 7.1 and 4.2.1.10). The first
@@ -21,18 +22,32 @@ pub fn names_match(alloc: Global, first: &Name<'_>, second: &Name<'_>) -> bool
 pub fn is_name_within(alloc: Global, base: &Name<'_>, name: &Name<'_>) -> bool
     ensures { (result ≡ true) ↔ IsNameWithin base.now name.now }
 {
-    has_levels_of(alloc, base, name, false)
+    has_levels_of(alloc, base, name, false, Matching::Prepared)
 }
 
-// Whether the second name has the levels of the first, and, as a whole, no others.
-fn has_levels_of(alloc: Global, first: &Name<'_>, second: &Name<'_>, whole: bool) -> bool
-    ensures { (result ≡ true) ↔ HasLevelsOf whole first.now second.now }
+// Whether it is certain that the name is within the subtree of the base, or that it is not.
+pub(crate) fn is_decided(alloc: Global, base: &Name<'_>, name: &Name<'_>) -> bool
+    ensures { (result ≡ true) ↔ IsDecided base.now name.now }
+{
+    !has_levels_of(alloc, base, name, false, Matching::Possible)
+        || has_levels_of(alloc, base, name, false, Matching::Certain)
+}
+
+// Whether the second name has levels that match those of the first, and, as a whole, no others.
+fn has_levels_of(
+    alloc: Global,
+    first: &Name<'_>,
+    second: &Name<'_>,
+    whole: bool,
+    matching: Matching,
+) -> bool
+    ensures { (result ≡ true) ↔ HasLevelsOf matching whole first.now second.now }
 {
     let mut others = second.levels.iter(alloc);
     for level in first.levels.iter(alloc) {
         match others.next() {
             Some(other) => {
-                if !levels_match(alloc, &level, &other) {
+                if !levels_agree(alloc, &level, &other, matching) {
                     return false;
                 }
             }

@@ -1,9 +1,13 @@
 //! Comparison of a name with the subtrees of one list.
 ghost use Rattle.std.specs.Prelude.{◌≡◌, ◌↔◌, ◌⊎◌, true, false};
-ghost use Rattle.x509_match.specs.Constraints.{CanBeCompared, Concerns, Contains, HasBaseAlone, IsBase, IsTally, IsUnclear, IsUsable, form_of};
+ghost use Rattle.x509_match.specs.Constraints.{AreComparable, CanBeCompared, Concerns, Contains, HasBaseAlone, IsBase, IsMailName, IsTally, IsUnclear, IsUsable, form_of, smtp_utf8_mailbox};
 
 use crate::general_name::is_within_base;
-use name_forms::{has_domain_name, has_mailbox, is_address, is_range};
+use crate::name::is_decided;
+use name_forms::{
+    is_address, is_cidr_range, is_host, is_host_constraint, is_host_mailbox, is_host_uri,
+    is_mail_constraint, is_uri_constraint, is_wildcard_above,
+};
 use std::alloc::Global;
 use x509::{GeneralName, GeneralSubtree, GeneralSubtrees};
 
@@ -33,7 +37,7 @@ pub(crate) fn tally_of(
     'subtrees: for subtree in subtrees.items.iter(alloc) {
         concerned = concerned | is_concerned(&subtree, name);
         within = within | is_within_base(alloc, &subtree.base, name);
-        unclear = unclear | is_unclear(&subtree, name);
+        unclear = unclear | is_unclear(alloc, &subtree, name);
     }
     Tally {
         concerned,
@@ -45,19 +49,75 @@ pub(crate) fn tally_of(
 fn is_concerned(subtree: &GeneralSubtree<'_>, name: &GeneralName<'_>) -> bool
     ensures { (result ≡ true) ↔ Concerns name.now subtree.now }
 {
+    has_same_form(subtree, name) || are_mail_names(&subtree.base, name)
+}
+
+fn has_same_form(subtree: &GeneralSubtree<'_>, name: &GeneralName<'_>) -> bool
+    ensures { (result ≡ true) ↔ (form_of subtree.now.base ≡ form_of name.now) }
+{
     form_of(&subtree.base) == form_of(name)
 }
 
-fn is_unclear(subtree: &GeneralSubtree<'_>, name: &GeneralName<'_>) -> bool
-    ensures { (result ≡ true) ↔ IsUnclear name.now subtree.now }
+fn are_mail_names(base: &GeneralName<'_>, name: &GeneralName<'_>) -> bool
+    ensures { (result ≡ true) ↔ (IsMailName base.now × IsMailName name.now) }
 {
-    is_concerned(subtree, name) && !is_usable(subtree, name)
+    is_mail_name(base) && is_mail_name(name)
 }
 
-fn is_usable(subtree: &GeneralSubtree<'_>, name: &GeneralName<'_>) -> bool
+// Whether a name is a mailbox: an rfc822Name, or an otherName with the type of a SmtpUTF8Mailbox.
+fn is_mail_name(name: &GeneralName<'_>) -> bool
+    ensures { (result ≡ true) ↔ IsMailName name.now }
+{
+    match name {
+        GeneralName::Rfc822Name(_) => true,
+        GeneralName::OtherName(name) => is_smtp_utf8_mailbox(name.0.type_id.octets()),
+        _ => false,
+    }
+}
+
+fn is_smtp_utf8_mailbox(type_id: &[u8]) -> bool
+    ensures { (result ≡ true) ↔ (type_id.now ≡ smtp_utf8_mailbox) }
+{
+    type_id == [0x2B, 0x06, 0x01, 0x05, 0x05, 0x07, 0x08, 0x09].as_slice()
+}
+
+fn is_unclear(alloc: Global, subtree: &GeneralSubtree<'_>, name: &GeneralName<'_>) -> bool
+    ensures { (result ≡ true) ↔ IsUnclear name.now subtree.now }
+{
+    is_concerned(subtree, name) && !is_usable(alloc, subtree, name)
+}
+
+fn is_usable(alloc: Global, subtree: &GeneralSubtree<'_>, name: &GeneralName<'_>) -> bool
     ensures { (result ≡ true) ↔ IsUsable name.now subtree.now }
 {
-    has_base_alone(subtree) && is_base(&subtree.base) && can_be_compared(name)
+    has_base_alone(subtree) && has_comparison(alloc, &subtree.base, name)
+}
+
+fn has_comparison(alloc: Global, base: &GeneralName<'_>, name: &GeneralName<'_>) -> bool
+    ensures { (result ≡ true) ↔ ((IsBase base.now × CanBeCompared name.now) × AreComparable base.now name.now) }
+{
+    have_syntax(base, name) && are_comparable(alloc, base, name)
+}
+
+fn have_syntax(base: &GeneralName<'_>, name: &GeneralName<'_>) -> bool
+    ensures { (result ≡ true) ↔ (IsBase base.now × CanBeCompared name.now) }
+{
+    is_base(base) && can_be_compared(name)
+}
+
+// Whether a base and a name can be compared with each other, if both have the syntax of their form.
+fn are_comparable(alloc: Global, base: &GeneralName<'_>, name: &GeneralName<'_>) -> bool
+    ensures { (result ≡ true) ↔ AreComparable base.now name.now }
+{
+    match (base, name) {
+        (GeneralName::DnsName(base), GeneralName::DnsName(name)) => {
+            !is_wildcard_above(base.0.octets(), name.0.octets())
+        }
+        (GeneralName::DirectoryName(base), GeneralName::DirectoryName(name)) => {
+            is_decided(alloc, &base.0, &name.0)
+        }
+        _ => true,
+    }
 }
 
 fn has_base_alone(subtree: &GeneralSubtree<'_>) -> bool
@@ -88,10 +148,10 @@ fn can_be_compared(name: &GeneralName<'_>) -> bool
     ensures { (result ≡ true) ↔ CanBeCompared name.now }
 {
     match name {
-        GeneralName::Rfc822Name(name) => has_mailbox(name.0.octets()),
-        GeneralName::DnsName(_) => true,
+        GeneralName::Rfc822Name(name) => is_host_mailbox(name.0.octets()),
+        GeneralName::DnsName(name) => is_host(name.0.octets()),
         GeneralName::DirectoryName(_) => true,
-        GeneralName::UniformResourceIdentifier(name) => has_domain_name(name.0.octets()),
+        GeneralName::UniformResourceIdentifier(name) => is_host_uri(name.0.octets()),
         GeneralName::IpAddress(name) => is_address(name.0.octets()),
         _ => false,
     }
@@ -102,7 +162,11 @@ fn is_base(base: &GeneralName<'_>) -> bool
     ensures { (result ≡ true) ↔ IsBase base.now }
 {
     match base {
-        GeneralName::IpAddress(base) => is_range(base.0.octets()),
-        _ => true,
+        GeneralName::Rfc822Name(base) => is_mail_constraint(base.0.octets()),
+        GeneralName::DnsName(base) => is_host_constraint(base.0.octets()),
+        GeneralName::DirectoryName(_) => true,
+        GeneralName::UniformResourceIdentifier(base) => is_uri_constraint(base.0.octets()),
+        GeneralName::IpAddress(base) => is_cidr_range(base.0.octets()),
+        _ => false,
     }
 }

@@ -24,10 +24,30 @@ pub enum Verdict {
     /// the name cannot be compared in these cases:
     ///
     /// - The form is otherName, x400Address, ediPartyName or registeredID.
-    /// - The subtree has a minimum or a maximum.
-    /// - The name is an rfc822Name without an @, or a URI without a host name.
+    /// - The name is a SmtpUTF8Mailbox (RFC 9598), an otherName to which the subtrees of rfc822Names
+    ///   apply too. Or the base is one, and the name is an rfc822Name.
+    /// - The subtree has a minimum other than 0, or a maximum.
+    /// - The name is an rfc822Name, but no mailbox at a host: for example, it has two @, text in
+    ///   quotation marks, or an IP address.
+    /// - The name is a dNSName, but no host name: for example, it ends with a dot. Its first label
+    ///   may be an asterisk.
+    /// - The name is no URI (RFC 3986), or its authority has no host name.
     /// - The name is an iPAddress that does not have 4 or 16 octets.
-    /// - The base is an iPAddress that does not have 8 or 32 octets.
+    /// - The base of an rfc822Name is no mailbox at a host, no host name, and no dot with a host name
+    ///   after it. So it is unclear which names are within an empty base.
+    /// - The base of a URI is no host name, and no dot with a host name after it. This includes the
+    ///   empty base, an IP address, and a base with a scheme or an asterisk.
+    /// - The base of a dNSName is no host name, and no dot with a host name after it. All names are
+    ///   within the empty base, which can be compared.
+    /// - The base is an iPAddress that does not have 8 or 32 octets, or whose mask has a one after a
+    ///   zero.
+    /// - The name is a dNSName whose first label is an asterisk, and the base is inside of the domain
+    ///   after the asterisk. An example is `*.example.com`, with the base `foo.example.com`. Then the
+    ///   name stands for some names within the base, and for others.
+    /// - The name is a directoryName, and it is not certain whether its levels match those of the
+    ///   base. Two values match or differ with certainty if both are PrintableStrings, UTF8Strings
+    ///   or IA5Strings of printed ASCII characters and spaces, or if their elements are identical.
+    ///   If two levels differ with certainty, the name is certainly not within the base.
     Unclear,
 }
 

@@ -1,9 +1,10 @@
 //! Characters of attribute values, escaped as in RFC 4514.
 
+use hidden_characters::is_hidden;
 use std::fmt;
 
-// A text, which is printed as RFC 4514, 2.4 escapes it. Control characters of ASCII are written as
-// two hexadecimal digits, too.
+// A text, which is printed as RFC 4514, 2.4 escapes it. A character that a reader would not see as
+// it is, is escaped too.
 #[derive(Drop)]
 pub(crate) struct Escaped<'a>(pub(crate) &'a str);
 
@@ -28,7 +29,17 @@ pub(crate) fn write_character<W: fmt::Write>(
         '"' | '+' | ',' | ';' | '<' | '>' | '\\' => write!(f, "\\{character}"),
         '#' if is_first => f.write_str("\\#"),
         ' ' if is_first || is_last => f.write_str("\\ "),
-        '\0'..='\u{1F}' | '\u{7F}' => write!(f, "\\{:02X}", u32::from(character)),
+        _ if is_hidden(character) => write_pairs(character, f),
         _ => f.write_char(character),
     }
+}
+
+// Writes a backslash and two hexadecimal digits for each octet of the character in UTF-8.
+fn write_pairs<W: fmt::Write>(character: char, f: &mut fmt::Formatter<W>) -> fmt::Result {
+    let mut space = [0u8; 4];
+    let text = character.encode_utf8(&mut space);
+    for octet in text.as_bytes() {
+        write!(f, "\\{octet:02X}")?;
+    }
+    Ok(())
 }

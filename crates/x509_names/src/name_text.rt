@@ -12,6 +12,11 @@ use x509::{Name, RelativeDistinguishedName};
 /// short name for an attribute type, the type is printed as its OBJECT IDENTIFIER and the value in
 /// hexadecimal.
 ///
+/// Characters that a reader would not see as they are, such as control characters and those that
+/// turn the text around them ([`is_hidden`](hidden_characters::is_hidden)), are printed as a
+/// backslash and two hexadecimal digits for each octet in UTF-8, such as `\E2\80\AE` for U+202E.
+/// The text is for people: two names are not the same if their texts are.
+///
 /// Printing takes time and memory in proportion to the size of the name. It fails if an allocation
 /// fails.
 #[derive(Drop)]

@@ -49,8 +49,19 @@ test('two blocks, and text around them', () => {
   assert.deepEqual(found.map(it => [it.label, it.line, [...it.octets]]), [['X', 2, [0, 1, 2]], ['X', 6, [0, 1, 2]]]);
 });
 
-test('a block that is no base64 is refused', () => {
-  assert.throws(() => decodePem('-----BEGIN X-----\nA*EC\n-----END X-----\n'), /line 2/);
+// RFC 7468, section 3: the labels of both lines are the same, and the text between them is base64.
+test('the blocks after a malformed or an encrypted one follow', () => {
+  const good = '-----BEGIN X-----\nAAEC\n-----END X-----\n';
+  const bad = ['-----BEGIN X-----\nA*EC\n-----END X-----\n', '-----BEGIN X-----\nAAEC\n-----END Y-----\n', '-----BEGIN X-----\nAAEC\n',
+    '-----BEGIN X\n', '-----BEGIN X-----\nProc-Type: 4,ENCRYPTED\n\nAAEC\n-----END X-----\n'];
+  const rows = found => found.map(it => [it.label, it.line, it.octets && [...it.octets], it.error]);
+  const wanted = [['X', 2, null, 'malformed'], ['', 3, null, 'malformed'], ['', 3, null, 'malformed'], ['', 1, null, 'malformed'],
+    ['X', 1, null, 'encrypted']];
+  bad.forEach((text, at) => {
+    const line = text.split('\n').length;
+    assert.deepEqual(rows(decodePem(text + good)), [wanted[at], ['X', line, [0, 1, 2], null]]);
+  });
+  assert.deepEqual(rows(decodePem('-----BEGIN X-----')), [['', 1, null, 'malformed']]);
 });
 
 test('octets that are no table are refused as a schema', () => {
@@ -68,4 +79,12 @@ test('64 levels are read, and 65 are a departure', () => {
   }, '');
   assert.equal(read(octets(nested(64))).verdict, 'DER');
   assert.equal(read(octets(nested(65))).verdict, 'neither');
+});
+
+test('a departure of what may be a private key has no octets', () => {
+  // RFC 8410, 10.3; the tag of the OCTET STRING is that of a BIT STRING
+  const key = '302e020100300506032b65700322' + '0420d4ee72dbf913584ad5b6d8f1f769f8ad3afe7c28cbf1d4fbe097a88f44755842';
+  const { departures } = read(octets(key), { label: 'PRIVATE KEY' });
+  assert.notEqual(departures.length, 0);
+  assert.deepEqual(new Set(departures.map(it => it.found)), new Set(['']));
 });

@@ -2,8 +2,8 @@
 use super::{
     Node, RawAccessDescription, RawAttribute, RawAuthorityKey, RawBits, RawCertificate, RawCertificateParts,
     RawConstraints, RawCounter, RawDistributionPoint, RawElement, RawEntry, RawError, RawExtension, RawFound,
-    RawGeneralName, RawHeader, RawMark, RawNames, RawPemBlock, RawPrivateKey, RawPublicKey, RawReader, RawRequest,
-    RawRevocationList, RawRevoked, RawSpan, RawText, RawTime, RawTreeFound, RawUsage, RawWriter,
+    RawGeneralName, RawHeader, RawMark, RawNames, RawPemBlock, RawPemReader, RawPrivateKey, RawPublicKey, RawReader,
+    RawRequest, RawRevocationList, RawRevoked, RawSpan, RawText, RawTime, RawTreeFound, RawUsage, RawWriter,
 };
 
 unsafe extern "C" {
@@ -93,6 +93,7 @@ unsafe extern "C" {
         capacity: usize,
         count: &mut usize,
     ) -> RawError;
+    pub safe fn der_is_hidden(character: u32) -> bool;
     pub safe fn der_next_general_name<'a>(reader: &mut RawReader<'a>, name: &mut RawGeneralName<'a>) -> RawError;
     pub safe fn der_next_revoked<'a>(reader: &mut RawReader<'a>, entry: &mut RawRevoked<'a>) -> RawError;
     pub fn der_key_usage<'a>(extensions: *const u8, length: usize, usage: &mut RawUsage) -> RawError;
@@ -333,8 +334,7 @@ unsafe extern "C" {
         capacity: usize,
     ) -> usize;
     pub fn der_pem_next(
-        text: *const u8,
-        length: usize,
+        reader: &mut RawPemReader<'_>,
         octets: *mut u8,
         capacity: usize,
         block: &mut RawPemBlock,

@@ -18,7 +18,26 @@ pub struct RawPemBlock {
     pub label_length: usize,
     pub line: usize,
     pub length: usize,
-    pub end: usize,
+}
+
+#[repr(C)]
+#[derive(Clone, Copy)]
+pub struct RawPemReader<'a> {
+    pub text: *const u8,
+    pub length: usize,
+    pub position: usize,
+    pub line: usize,
+    pub borrow: PhantomData<&'a [u8]>,
+}
+
+impl RawPemReader<'_> {
+    pub const EMPTY: Self = RawPemReader {
+        text: core::ptr::NonNull::dangling().as_ptr(),
+        length: 0,
+        position: 0,
+        line: 0,
+        borrow: PhantomData,
+    };
 }
 
 #[repr(C)]
@@ -600,11 +619,14 @@ const _: () = {
     assert!(offset_of!(RawTreeFound, lost) == 16);
     assert!(offset_of!(RawTreeFound, listed) == 24);
     assert!(offset_of!(RawTreeFound, verdict) == 32);
-    assert!(size_of::<RawPemBlock>() == 40);
+    assert!(size_of::<RawPemBlock>() == 32);
     assert!(offset_of!(RawPemBlock, label_length) == 8);
     assert!(offset_of!(RawPemBlock, line) == 16);
     assert!(offset_of!(RawPemBlock, length) == 24);
-    assert!(offset_of!(RawPemBlock, end) == 32);
+    assert!(size_of::<RawPemReader>() == 32);
+    assert!(offset_of!(RawPemReader, length) == 8);
+    assert!(offset_of!(RawPemReader, position) == 16);
+    assert!(offset_of!(RawPemReader, line) == 24);
     assert!(size_of::<RawCertificateParts>() == 112);
     assert!(offset_of!(RawCertificateParts, signature_algorithm) == 16);
     assert!(offset_of!(RawCertificateParts, issuer) == 32);

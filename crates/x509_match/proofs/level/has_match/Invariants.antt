@@ -8,4 +8,4 @@ abbrev pub invariant-loop-other : goal.invariant-loop-other
 invariant-loop-other l =
     (goal.iterator-loop-other).can_next l.other-iterator ×
     (goal.iterator-loop-other).is_finite l.other-iterator
-    × (HasMatch (level_octets l.level) l.attribute ↔ HasMatch (rest_of (slice_state l.other-iterator.items.reader)) l.attribute)
+    × (HasMatch l.matching (level_octets l.level) l.attribute ↔ HasMatch l.matching (rest_of (slice_state l.other-iterator.items.reader)) l.attribute)

@@ -9,19 +9,19 @@ use Rattle.x509_match.proofs.level.have_matches.Goals as goal
 
 pub loop-attribute-init : goal.loop-attribute-init
 loop-attribute-init c =
-    (tt, tt, begun (λ o. HaveMatches o (level_octets c.args.second.now)) _ _ (ap (λ s. rest_of (slice_state s.items.reader)) c.into_iter-attribute-iterator.ensures.into_iter_gives ∙ c.iter-attribute-items.ensures))
+    (tt, tt, begun (λ o. HaveMatches c.args.matching o (level_octets c.args.second.now)) _ _ (ap (λ s. rest_of (slice_state s.items.reader)) c.into_iter-attribute-iterator.ensures.into_iter_gives ∙ c.iter-attribute-items.ensures))
 
 pub loop-attribute-preserved : goal.loop-attribute-preserved
 loop-attribute-preserved c = (
   tt,
   tt,
-  passed c.loop-attribute.invariant.2 (each_step IsAttribute attribute_encoding attributes_apart (HasMatch (level_octets c.args.second.now)) (keep_match (level_octets c.args.second.now)) _ c.in-Some.attribute _ (record { is = c.in-Some.ensures.steps.0; split = c.in-Some.ensures.steps.1.split }) (c.has_match.ensures.0 c.if-not-has_match.false)),
+  passed c.loop-attribute.invariant.2 (each_step IsAttribute attribute_encoding attributes_apart (HasMatch c.args.matching (level_octets c.args.second.now)) (keep_match c.args.matching (level_octets c.args.second.now)) _ c.in-Some.attribute _ (record { is = c.in-Some.ensures.steps.0; split = c.in-Some.ensures.steps.1.split }) (c.has_match.ensures.0 c.if-not-has_match.false)),
 )
 
 pub returns-then-not-has_match : goal.returns-then-not-has_match
 returns-then-not-has_match c =
-    refused c.loop-attribute.invariant.2 (each_stop IsAttribute attribute_encoding attributes_apart (HasMatch (level_octets c.args.second.now)) (keep_match (level_octets c.args.second.now)) _ c.in-Some.attribute _ (record { is = c.in-Some.ensures.steps.0; split = c.in-Some.ensures.steps.1.split }) c.next.new.self.items.left
+    refused c.loop-attribute.invariant.2 (each_stop IsAttribute attribute_encoding attributes_apart (HasMatch c.args.matching (level_octets c.args.second.now)) (keep_match c.args.matching (level_octets c.args.second.now)) _ c.in-Some.attribute _ (record { is = c.in-Some.ensures.steps.0; split = c.in-Some.ensures.steps.1.split }) c.next.new.self.items.left
     (λ h. (let yes = c.has_match.ensures.1 h in let wrong = c.if-not-has_match.true in cc)))
 
 pub returns : goal.returns
-returns c = found c.loop-attribute.invariant.2 (each_end IsAttribute attribute_encoding attributes_apart (HasMatch (level_octets c.args.second.now)) (keep_match (level_octets c.args.second.now)) _ c.in-None.ensures.steps.0)
+returns c = found c.loop-attribute.invariant.2 (each_end IsAttribute attribute_encoding attributes_apart (HasMatch c.args.matching (level_octets c.args.second.now)) (keep_match c.args.matching (level_octets c.args.second.now)) _ c.in-None.ensures.steps.0)

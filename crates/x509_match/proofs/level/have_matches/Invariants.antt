@@ -8,4 +8,4 @@ abbrev pub invariant-loop-attribute : goal.invariant-loop-attribute
 invariant-loop-attribute l =
     (goal.iterator-loop-attribute).can_next l.attribute-iterator ×
     (goal.iterator-loop-attribute).is_finite l.attribute-iterator
-    × (HaveMatches (level_octets l.first) (level_octets l.second) ↔ HaveMatches (rest_of (slice_state l.attribute-iterator.items.reader)) (level_octets l.second))
+    × (HaveMatches l.matching (level_octets l.first) (level_octets l.second) ↔ HaveMatches l.matching (rest_of (slice_state l.attribute-iterator.items.reader)) (level_octets l.second))

@@ -7,4 +7,4 @@ abbrev pub invariant-loop-level : goal.invariant-loop-level
 invariant-loop-level l =
     (goal.iterator-loop-level).can_next l.level-iterator ×
     (goal.iterator-loop-level).is_finite l.level-iterator
-    × (LevelsPair l.whole l.first.levels.octets.now l.second.levels.octets.now ↔ LevelsPair l.whole (rest_of (slice_state l.level-iterator.items.reader)) (rest_of (slice_state l.others.items.reader)))
+    × (LevelsPair l.matching l.whole l.first.levels.octets.now l.second.levels.octets.now ↔ LevelsPair l.matching l.whole (rest_of (slice_state l.level-iterator.items.reader)) (rest_of (slice_state l.others.items.reader)))
