@@ -197,6 +197,26 @@ impl<'a> Parser<'a> {
         self.item_at(self.at.saturating_add(1))
     }
 
+    /// Whether the next lexical item is the word or symbol `text`.
+    fn sees(&self, text: &str) -> bool {
+        self.peek().is(text)
+    }
+
+    /// Whether the lexical item after the next one is the word or symbol `text`.
+    fn sees_second(&self, text: &str) -> bool {
+        self.peek_second().is(text)
+    }
+
+    /// Whether the lexical item with this index is the word or symbol `text`.
+    fn has_at(&self, at: usize, text: &str) -> bool {
+        self.item_at(at).is(text)
+    }
+
+    /// The failure which says that the next lexical item was found where `expected` was expected.
+    fn refusal(&self, expected: &'static str) -> Failure<'a> {
+        refused(self.peek(), expected)
+    }
+
     // The item with this number. In the place of a name, it has the offset of that.
     fn item_at(&self, at: usize) -> Item<'a> {
         let Some(item) = self.items.get(at) else {
@@ -225,7 +245,7 @@ impl<'a> Parser<'a> {
 
     /// Moves past the next lexical item if it is the word or symbol `text`. Returns whether it is.
     fn takes(&mut self, text: &str) -> bool {
-        let is_here = self.peek().is(text);
+        let is_here = self.sees(text);
         if is_here {
             self.at = self.at.saturating_add(1);
         }
@@ -237,7 +257,7 @@ impl<'a> Parser<'a> {
         if self.takes(text) {
             return Ok(());
         }
-        Err(refused(self.peek(), text))
+        Err(self.refusal(text))
     }
 
     /// Moves past the next lexical item, and returns it. Fails if the kind of the item is not
