@@ -1,7 +1,7 @@
 //! The command line.
 
 use clap::error::ErrorKind;
-use clap::{Arg, ArgAction, Command, Error};
+use clap::{Arg, ArgAction, ArgMatches, Command, Error};
 use std::alloc::{AllocError, Global};
 
 /// A parsed command line.
@@ -51,8 +51,19 @@ impl<'a> CompileCommand<'a> {
     pub fn parse(alloc: Global, version: &'a str, words: &'a [String]) -> Result<Self, Error> {
         let mut command = command(alloc, version)?;
         let matches = command.try_get_matches_from_mut(words)?;
+        match CompileCommand::of(alloc, &matches)? {
+            Ok(parsed) => Ok(parsed),
+            Err(wrong) => Err(command.error(ErrorKind::ValueValidation, wrong)?),
+        }
+    }
+
+    // The command that these words are, or what is wrong with them.
+    fn of(
+        alloc: Global,
+        matches: &ArgMatches<'a>,
+    ) -> Result<Result<Self, &'static str>, AllocError> {
         let Some(with) = With::list(alloc, matches.get_strs("with").unwrap_or(&[]))? else {
-            return Err(command.error(ErrorKind::ValueValidation, NO_WITH)?);
+            return Ok(Err(NO_WITH));
         };
         let only = list(alloc, matches.get_strs("only").unwrap_or(&[]))?;
         let files = list(alloc, matches.get_strs("file").unwrap_or(&[]))?;
@@ -66,9 +77,9 @@ impl<'a> CompileCommand<'a> {
             modules: matches.get_str("modules"),
         };
         if !parsed.is_whole() {
-            return Err(command.error(ErrorKind::ValueValidation, NOT_WHOLE)?);
+            return Ok(Err(NOT_WHOLE));
         }
-        Ok(parsed)
+        Ok(Ok(parsed))
     }
 
     // Whether the words are for a crate with one module, or for a table.
