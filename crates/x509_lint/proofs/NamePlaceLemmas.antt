@@ -20,11 +20,11 @@ level_fails rule place levels i f =
       split = f.split;
       at = f.at;
       holds = f.holds;
-      stops = λ keeps. some_refutes IsAttribute attribute_encoding (level_octets f.item) (λ _. AttributeKeeps rule) place f.item.attributes.elements.checked f.stops keeps;
+      stops = λ keeps. some_refutes IsAttribute attribute_encoding (level_octets f.item) (λ _. AttributeKeeps rule) place f.stops keeps;
     }
 
 -- so a name with such a level does not keep it
 pub name_fails : (rule : AttributeRule) (place i : ℕ) (v : Name)
     → ((l : AreLevels v) → IsFirstAt (LevelKeeps (Attributes rule)) (IsFirstAttribute rule place) l.items i) → NameKeeps (Attributes rule) v → ⊥
 name_fails rule place i v h =
-    some_refutes IsLevel level_encoding v.levels.octets.now (λ _. LevelKeeps (Attributes rule)) i v.levels.checked (λ l. level_fails rule place l.items i (h l))
+    some_refutes IsLevel level_encoding v.levels.octets.now (λ _. LevelKeeps (Attributes rule)) i (λ l. level_fails rule place l.items i (h l))

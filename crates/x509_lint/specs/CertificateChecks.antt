@@ -69,7 +69,7 @@ ExtensionKeeps (rule.Value r) items v = ValueKeeps r v.extn_id.octets.now v.extn
 
 -- all extensions keep a rule
 abbrev pub ExtensionsKeep : ExtensionRule → Extensions → Type 0
-ExtensionsKeep rule v = (l : AreExtensions v) → All (ExtensionKeeps rule l.items) l.items
+ExtensionsKeep rule v = ∥ ((l : AreExtensions v) × All (ExtensionKeeps rule l.items) l.items) ∥₁
 
 -- all extensions of a certificate keep a rule, if there are extensions
 abbrev pub ExtensionsKeepIfPresent : ExtensionRule → TbsCertificate → Type 0

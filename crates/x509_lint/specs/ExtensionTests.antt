@@ -47,7 +47,7 @@ IsFirstFound t items place = IsFirstAt (λ v. IsFound t v → ⊥) (IsFound t) i
 
 -- one of these extensions is looked for
 abbrev pub HasFound : ExtensionTest → Extensions → Type 0
-HasFound t v = (l : AreExtensions v) → (place : ℕ) × IsFirstFound t l.items place
+HasFound t v = ∥ ((l : AreExtensions v) × (place : ℕ) × IsFirstFound t l.items place) ∥₁
 
 -- the extension with which a certificate must have another, and the other
 abbrev pub given_of : PairRule → ExtensionTest

@@ -2,7 +2,7 @@
 -- `PolicyKeeps`), the fields of distribution points (4.2.1.13; `PointKeeps`), the bases of subtrees
 -- (4.2.1.10; `BasesKeep`).
 use Rattle.std.specs.Prelude.{ℕ, true, List}
-use Rattle.der.specs.Prelude.{BmpString, Sequence, Tag, VisibleString}
+use Rattle.der.specs.Prelude.{Ia5String, Sequence, Tag}
 use Rattle.der_asn1.specs.ContextSpecific.{context_tag}
 use Rattle.x509_lint.specs.Elements.{EachOfSequence}
 use Rattle.x509_lint.specs.Parts.{PartKeeps}
@@ -25,14 +25,14 @@ InnerKeeps P = InsideKeeps (InsideKeeps P Sequence) Sequence
 abbrev pub NoticeKeeps : (Tag → List ℕ → Type 0) → Tag → List ℕ → Type 0
 NoticeKeeps P = GuardKeeps (PartKeeps (part.Other UserNotice)) (InsideKeeps P Sequence)
 
--- the policies of a certificatePolicies keep a rule
+-- the policies of a certificatePolicies keep a rule. Of the text of a notice RFC 6818 says (3):
+-- "Conforming CAs MUST NOT encode explicitText as IA5String"
 abbrev pub PolicyKeeps : PolicyRule → List ℕ → Type 0
 PolicyKeeps policy.Qualifiers v =
     EachOfSequence (GuardKeeps (PartKeeps part.NotAnyPolicy) (InnerKeeps (PartKeeps part.Qualifier)))
     v
 PolicyKeeps policy.TextTypes v =
-    EachOfSequence (InnerKeeps (NoticeKeeps (PartKeeps (part.NeitherTagged VisibleString BmpString))))
-    v
+    EachOfSequence (InnerKeeps (NoticeKeeps (PartKeeps (part.NotTagged Ia5String)))) v
 PolicyKeeps policy.TextLengths v =
     EachOfSequence (InnerKeeps (NoticeKeeps (PartKeeps part.NoticeText))) v
 PolicyKeeps policy.Pointers v =

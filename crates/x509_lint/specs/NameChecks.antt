@@ -22,7 +22,7 @@ AttributeKeeps StringType v = HasTypeOfAttribute v
 abbrev pub LevelOctetsKeep : NameRule → List ℕ → Type 0
 LevelOctetsKeep Levels octets = octets ≢ []
 LevelOctetsKeep (Attributes rule) octets =
-    (l : AreAttributes octets) → All (AttributeKeeps rule) l.items
+    ∥ ((l : AreAttributes octets) × All (AttributeKeeps rule) l.items) ∥₁
 
 abbrev pub LevelKeeps : NameRule → RelativeDistinguishedName → Type 0
 LevelKeeps rule v = LevelOctetsKeep rule (level_octets v)
@@ -42,4 +42,4 @@ FirstFailingAttribute rule levels (Some place) =
 
 -- all levels of a name keep a rule
 abbrev pub NameKeeps : NameRule → Name → Type 0
-NameKeeps rule v = (l : AreLevels v) → All (LevelKeeps rule) l.items
+NameKeeps rule v = ∥ ((l : AreLevels v) × All (LevelKeeps rule) l.items) ∥₁

@@ -1,18 +1,18 @@
 //! Rules for the bases of the subtrees of a nameConstraints. A base is a GeneralName.
-ghost use Rattle.std.specs.Prelude.{◌≡◌, ◌↔◌, drop, true};
-ghost use Rattle.name_forms.specs.Hosts.{begins_with_dot};
-ghost use Rattle.x509_lint.specs.Bases.{BaseKeeps, IsHostOrDomain};
+ghost use Rattle.std.specs.Prelude.{◌≡◌, ◌↔◌, true};
+ghost use Rattle.x509_lint.specs.Bases.{BaseKeeps};
 
 use crate::forms::is_context;
 use der::Tag;
-use name_forms::{is_host, is_range};
+use name_forms::{is_range, is_uri_constraint};
 use std::fmt;
 
 /// A rule for the bases of the subtrees of a nameConstraints (RFC 5280, 4.2.1.10).
 #[derive(Clone, Copy, Debug, PartialEq, Eq)]
 pub enum BaseRule {
     /// The base must be a host name, or a dot and a host name, if it is a URI constraint. A host
-    /// name stands for one host, and a dot and a host name stand for a domain.
+    /// name stands for one host, and a dot and a host name stand for a domain. The host name has
+    /// no asterisk, and it is no IP address.
     Domain,
     /// The base must have 8 or 32 octets, if it is an iPAddress constraint: an address and a mask.
     Range,
@@ -37,36 +37,7 @@ pub fn base_keeps(tag: Tag, contents: &[u8], rule: BaseRule) -> bool
     ensures { (result ≡ true) ↔ BaseKeeps rule tag contents.now }
 {
     match rule {
-        BaseRule::Domain => !is_context(tag, false, 6) || is_host_or_domain(contents),
+        BaseRule::Domain => !is_context(tag, false, 6) || is_uri_constraint(contents),
         BaseRule::Range => !is_context(tag, false, 7) || is_range(contents),
-    }
-}
-
-fn is_host_or_domain(octets: &[u8]) -> bool
-    ensures { (result ≡ true) ↔ IsHostOrDomain octets.now }
-{
-    if begins_with_dot(octets) {
-        return is_host(without_first(octets));
-    }
-    is_host(octets)
-}
-
-// The octets after the first.
-fn without_first<'a>(octets: &'a [u8]) -> &'a [u8]
-    ensures { result.now ≡ drop 1 octets.now }
-{
-    if 1 <= octets.len() {
-        &octets[1..]
-    } else {
-        &octets[octets.len()..]
-    }
-}
-
-fn begins_with_dot(octets: &[u8]) -> bool
-    ensures { result ≡ begins_with_dot octets.now }
-{
-    match octets {
-        [first, ..] => *first == b'.',
-        [] => false,
     }
 }

@@ -49,8 +49,7 @@ fn has_known_qualifiers(alloc: Global, value: &[u8]) -> bool
 fn has_texts_of_type(alloc: Global, value: &[u8]) -> bool
     ensures { (result ≡ true) ↔ PolicyKeeps PolicyRule.TextTypes value.now }
 {
-    let other = PartTest::NeitherTagged(Tag::VisibleString, Tag::BmpString);
-    notices_keep(alloc, value, other)
+    notices_keep(alloc, value, PartTest::NotTagged(Tag::Ia5String))
 }
 
 // Whether each field of a user notice keeps the test.

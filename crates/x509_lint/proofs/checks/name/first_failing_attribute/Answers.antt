@@ -4,9 +4,10 @@ use Rattle.std.proofs.lemmas.List.Elements.{All-append, All-cons, All-nil}
 use Rattle.der.specs.Prelude.{rest_of, slice_state}
 use Rattle.x509.proofs.EncodingLemmas.{levels_apart}
 use Rattle.x509.proofs.ItemLemmas.{finished, stopped_with}
+use Rattle.x509_lint.proofs.FirstLemmas.{all_listed}
 use Rattle.x509_lint.proofs.KeepLemmas.{first_attribute_keep, level_keep}
-use Rattle.x509.specs.CertificateLists.{IsLevel, level_encoding}
-use Rattle.x509_lint.specs.NameChecks.{IsFirstAttribute, LevelKeeps}
+use Rattle.x509.specs.CertificateLists.{IsAttribute, IsLevel, attribute_encoding, level_encoding, level_octets}
+use Rattle.x509_lint.specs.NameChecks.{AttributeKeeps, IsFirstAttribute, LevelKeeps}
 use Rattle.x509_lint.specs.declared.name_rule.NameRule.TheVariants.{Attributes}
 use Rattle.x509_lint.proofs.checks.name.first_failing_attribute.Given as given
 use Rattle.x509_lint.proofs.checks.name.first_failing_attribute.Goals as goal
@@ -21,12 +22,13 @@ returns-in-Some-first_failing_of_level c l =
 pub loop-level-preserved : goal.loop-level-preserved
 loop-level-preserved c =
     let fewer = (c.in-Some.ensures.goes.on c.loop-level.invariant.1).2 in
-    let longer = length_push c.loop-level.yielded c.in-Some.level in (
+    let longer = length_push c.loop-level.yielded c.in-Some.level in
+    let keeps : LevelKeeps (Attributes c.args.rule) c.in-Some.level = all_listed IsAttribute attribute_encoding (level_octets c.in-Some.level) (λ _. AttributeKeeps c.args.rule) c.in-Some.level.attributes.elements.checked c.in_default.ensures in (
       tt,
       tt,
       omega (arith, longer, c.loop-level.invariant.2),
       omega (arith, fewer, c.loop-level.invariant.3),
-      All-append (LevelKeeps (Attributes c.args.rule)) c.loop-level.yielded (c.in-Some.level ∷ []) c.loop-level.invariant.4 (All-cons (LevelKeeps (Attributes c.args.rule)) c.in-Some.level [] c.in_default.ensures (All-nil (LevelKeeps (Attributes c.args.rule)))),
+      All-append (LevelKeeps (Attributes c.args.rule)) c.loop-level.yielded (c.in-Some.level ∷ []) c.loop-level.invariant.4 (All-cons (LevelKeeps (Attributes c.args.rule)) c.in-Some.level [] keeps (All-nil (LevelKeeps (Attributes c.args.rule)))),
     )
 
 pub returns : goal.returns
