@@ -76,7 +76,7 @@ components::step-returns-in_ok-extend_from_slice-in-Some-clause-same t c before 
     let is : IsFieldOf table c.args.node c.in-Some.index f = record { part = found.2.part; row = c.field_of-field.ensures.value } in
     subst (λ q. AreComponents (IsSame table c.args.depth) table c.args.node q known all c.extend_from_slice.new.self.items) (sym c.after.ensures)
     (subst (λ q. AreComponents (IsSame table c.args.depth) table c.args.node (c.in-Some.index + 1) known all q) (sym new)
-    (component are found.1 is (c.in_ok-written-in-Some.ensures.same f c.field_of-field.ensures.value) c.in_ok-known-in-Some.ensures))
+    (component are found.1 found.4 is (c.in_ok-written-in-Some.ensures.same f c.field_of-field.ensures.value) c.in_ok-known-in-Some.ensures))
 
 pub components::step-returns-in_ok-extend_from_slice-in-None-clause-same :
     goal.components::step-returns-in_ok-extend_from_slice-in-None-clause-same
