@@ -4,3 +4,4 @@ mod comparable;
 mod constraints;
 mod openssl;
 mod syntax;
+mod wildcards;

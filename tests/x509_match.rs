@@ -4,4 +4,5 @@ mod constraints;
 mod general_names;
 mod names;
 mod openssl;
+mod subjects;
 mod unclear;

@@ -18,19 +18,15 @@ static void print_name(der_span name)
     putchar('\n');
 }
 
-int main(int argc, char **argv)
+static void print_names(der_span file)
 {
-    static uint8_t space[FILE_SPACE];
     der_certificate certificate = DER_CERTIFICATE_INIT;
     der_names found = DER_NAMES_INIT;
     der_reader names = DER_READER_INIT;
-    if (argc != 2)
-        give_up("usage: names CERTIFICATE");
-    der_span file = read_file(argv[1], space);
     must(der_certificate_read(file.octets, file.length, &certificate));
     must(der_subject_alternative_name(certificate.extensions.octets, certificate.extensions.length, &found));
     if (!found.present)
-        return 0;
+        return;
     must(der_reader_init(found.names.octets, found.names.length, false, &names));
     while (!der_is_finished(&names)) {
         der_general_name name = DER_GENERAL_NAME_INIT;
@@ -38,5 +34,13 @@ int main(int argc, char **argv)
         if (name.kind == DER_DNS_NAME)
             print_name(name.contents);
     }
+}
+
+int main(int argc, char **argv)
+{
+    static uint8_t space[FILE_SPACE];
+    if (argc != 2)
+        give_up("usage: names CERTIFICATE");
+    print_names(read_file(argv[1], space));
     return 0;
 }

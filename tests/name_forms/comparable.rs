@@ -1,8 +1,8 @@
 //! Names and constraints that can be compared. The expected answers follow from RFC 5280, 4.2.1.10, whose examples are among them.
 use crate::checks::same_at;
 use name_forms::{
-    is_cidr_range, is_host_constraint, is_host_mailbox, is_host_uri, is_mail_constraint,
-    is_plain_host, is_plain_text, is_uri_constraint, is_wildcard_above,
+    is_cidr_range, is_host_constraint, is_host_mailbox, is_host_or_domain, is_host_uri,
+    is_mail_constraint, is_plain_host, is_plain_text, is_uri_constraint, is_utf8_host_mailbox,
 };
 
 // Octets, and whether they are the constraint of a dNSName, of an rfc822Name and of a URI: "any DNS name that can be constructed by simply adding
@@ -28,6 +28,10 @@ fn constraints_have_the_syntax_of_their_form(rt: HostRuntime) {
         same_at(&rt, row, is_mail_constraint(octets), *mail);
         same_at(&rt, row, is_uri_constraint(octets), *uri);
     }
+    same_at(&rt, 11, is_plain_host(b"*.example.com"), false);
+    same_at(&rt, 12, is_plain_host(b"www.example.com"), true);
+    same_at(&rt, 13, is_host_or_domain(b"root@example.com"), false);
+    same_at(&rt, 14, is_host_or_domain(b".example.com"), true);
 }
 
 // "Local-part @ ( Domain / address-literal )", whose local part is a Dot-string or a Quoted-string (RFC 5321, 4.1.2).
@@ -44,6 +48,26 @@ static MAILBOXES: [(&[u8], bool); 6] = [
 fn mailboxes_have_one_at_and_a_host(rt: HostRuntime) {
     for (row, (octets, expected)) in MAILBOXES.iter().enumerate() {
         same_at(&rt, row, is_host_mailbox(octets), *expected);
+    }
+}
+
+// "Mailbox" of RFC 6531, 3.3, whose atoms have characters beyond ASCII, with "all domain labels .. encoded as LDH-labels" (RFC 9598, 3).
+static UTF8_MAILBOXES: [(&[u8], bool); 9] = [
+    (&[0xC3, 0xA4, 0x40, 0x61, 0x2E, 0x65, 0x78], true), // an a with two dots, @a.ex
+    (&[0x62, 0x2E, 0xE8, 0x80, 0x81, 0x40, 0x61, 0x2E, 0x65, 0x78], true), // b, a dot, U+8001, @a.ex
+    (b"a@a.ex", true),
+    (&[0xC3, 0x40, 0x61, 0x2E, 0x65, 0x78], false), // half a character
+    (&[0xC1, 0x80, 0x40, 0x61, 0x2E, 0x65, 0x78], false), // an @ in two octets
+    (&[0xC3, 0xA4, 0x40, 0xC3, 0xA4, 0x2E, 0x65, 0x78], false), // a U-label
+    (&[0xC3, 0xA4, 0x40, 0x62, 0x40, 0x61, 0x2E, 0x65, 0x78], false), // two @
+    (&[0x2E, 0xC3, 0xA4, 0x40, 0x61, 0x2E, 0x65, 0x78], false), // a dot at the front
+    (&[0x40, 0x61, 0x2E, 0x65, 0x78], false), // no local part
+];
+
+#[test]
+fn mailboxes_in_utf8_have_one_at_and_a_host(rt: HostRuntime) {
+    for (row, (octets, expected)) in UTF8_MAILBOXES.iter().enumerate() {
+        same_at(&rt, row, is_utf8_host_mailbox(octets), *expected);
     }
 }
 
@@ -81,24 +105,6 @@ fn masks_have_no_one_after_a_zero(rt: HostRuntime) {
     for (row, (octets, expected)) in RANGES.iter().enumerate() {
         same_at(&rt, row, is_cidr_range(octets), *expected);
     }
-}
-
-// A constraint, and a name whose asterisk stands for any label (RFC 6125, 6.4.3).
-static WILDCARDS: [(&[u8], &[u8], bool); 5] = [
-    (b"foo.example.com", b"*.EXAMPLE.com", true),
-    (b"example.com", b"*.com", true),
-    (b"example.com", b"*.example.com", false),
-    (b"badexample.com", b"*.example.com", false),
-    (b"foo.example.com", b"bar.example.com", false),
-];
-
-#[test]
-fn an_asterisk_stands_for_names_inside_and_outside(rt: HostRuntime) {
-    for (row, (base, name, expected)) in WILDCARDS.iter().enumerate() {
-        same_at(&rt, row, is_wildcard_above(base, name), *expected);
-    }
-    same_at(&rt, 5, is_plain_host(b"*.example.com"), false);
-    same_at(&rt, 6, is_plain_host(b"www.example.com"), true);
 }
 
 // RFC 4518, 2.2: the controls 9 to 13 are mapped to a space, and other controls to nothing.

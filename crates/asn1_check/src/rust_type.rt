@@ -4,7 +4,7 @@ use std::alloc::{AllocError, Global};
 use std::fmt::Write;
 
 /// How the field of a Rust type is decoded, if the field is of a given type.
-#[derive(Clone, Copy, Debug, PartialEq, Eq)]
+#[derive(Clone, Copy, PartialEq, Eq)]
 pub enum RustKind {
     /// The field is decoded as an element with the one tag that its type has.
     Element,

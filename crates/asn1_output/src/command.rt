@@ -1,7 +1,7 @@
 //! The command line.
 
 use clap::error::ErrorKind;
-use clap::{Arg, ArgAction, Command, Error};
+use clap::{Arg, ArgAction, ArgMatches, Command, Error};
 use std::alloc::{AllocError, Global};
 
 /// A parsed command line.
@@ -51,21 +51,22 @@ impl<'a> CompileCommand<'a> {
     pub fn parse(alloc: Global, version: &'a str, words: &'a [String]) -> Result<Self, Error> {
         let mut command = command(alloc, version)?;
         let matches = command.try_get_matches_from_mut(words)?;
-        let mut only = Vec::new(alloc);
-        for word in matches.get_strs("only").unwrap_or(&[]) {
-            only.push(*word)?;
+        match CompileCommand::of(alloc, &matches)? {
+            Ok(parsed) => Ok(parsed),
+            Err(wrong) => Err(command.error(ErrorKind::ValueValidation, wrong)?),
         }
-        let mut with = Vec::new(alloc);
-        for word in matches.get_strs("with").unwrap_or(&[]) {
-            match With::parse(word) {
-                Some(one) => with.push(one)?,
-                None => return Err(command.error(ErrorKind::ValueValidation, NO_WITH)?),
-            }
-        }
-        let mut files = Vec::new(alloc);
-        for word in matches.get_strs("file").unwrap_or(&[]) {
-            files.push(*word)?;
-        }
+    }
+
+    // The command that these words are, or what is wrong with them.
+    fn of(
+        alloc: Global,
+        matches: &ArgMatches<'a>,
+    ) -> Result<Result<Self, &'static str>, AllocError> {
+        let Some(with) = With::list(alloc, matches.get_strs("with").unwrap_or(&[]))? else {
+            return Ok(Err(NO_WITH));
+        };
+        let only = list(alloc, matches.get_strs("only").unwrap_or(&[]))?;
+        let files = list(alloc, matches.get_strs("file").unwrap_or(&[]))?;
         let parsed = CompileCommand {
             out: matches.get_str("out").unwrap_or(""),
             schema: matches.get_str("schema").unwrap_or(""),
@@ -76,9 +77,9 @@ impl<'a> CompileCommand<'a> {
             modules: matches.get_str("modules"),
         };
         if !parsed.is_whole() {
-            return Err(command.error(ErrorKind::ValueValidation, NOT_WHOLE)?);
+            return Ok(Err(NOT_WHOLE));
         }
-        Ok(parsed)
+        Ok(Ok(parsed))
     }
 
     // Whether the words are for a crate with one module, or for a table.
@@ -100,54 +101,93 @@ impl<'a> CompileCommand<'a> {
     }
 }
 
+// The words as a list of their own.
+fn list<'a>(alloc: Global, words: &[&'a str]) -> Result<Vec<&'a str>, AllocError> {
+    let mut list = Vec::new(alloc);
+    for word in words {
+        list.push(*word)?;
+    }
+    Ok(list)
+}
+
 // What the program takes.
 fn command<'a>(alloc: Global, version: &'a str) -> Result<Command<'a>, AllocError> {
-    let out = Arg::new(alloc, "out")
+    Command::new(alloc, "asn1_compile")
+        .version(version)
+        .about(ABOUT)
+        .arg(out_of(alloc))?
+        .arg(schema_of(alloc))?
+        .arg(file_of(alloc))?
+        .arg(with_of(alloc))?
+        .arg(modules_of(alloc))?
+        .arg(only_of(alloc))
+}
+
+fn out_of<'a>(alloc: Global) -> Arg<'a> {
+    Arg::new(alloc, "out")
         .long("out")
         .value_name("FOLDER")
-        .help("The folder of the crate");
-    let schema = Arg::new(alloc, "schema")
+        .help("The folder of the crate")
+}
+
+fn schema_of<'a>(alloc: Global) -> Arg<'a> {
+    Arg::new(alloc, "schema")
         .long("schema")
         .value_name("FILE")
         .help(
             "The file of a table of the types of all modules, which is written in place of a crate",
-        );
-    let file = Arg::new(alloc, "file")
+        )
+}
+
+fn file_of<'a>(alloc: Global) -> Arg<'a> {
+    Arg::new(alloc, "file")
         .value_name("FILE")
         .required(true)
         .action(ArgAction::Append)
         .num_args(1..)
         .help(
             "The file that holds the module; for a table several, which may import from each other",
-        );
-    let with = Arg::new(alloc, "with")
+        )
+}
+
+fn with_of<'a>(alloc: Global) -> Arg<'a> {
+    Arg::new(alloc, "with")
         .long("with")
         .value_name("CRATE=FILE")
         .action(ArgAction::Append)
-        .help("A module that another crate holds, from which FILE imports");
-    let only = Arg::new(alloc, "only")
+        .help("A module that another crate holds, from which FILE imports")
+}
+
+fn only_of<'a>(alloc: Global) -> Arg<'a> {
+    Arg::new(alloc, "only")
         .long("only")
         .value_name("TYPE")
         .action(ArgAction::Append)
         .help(
             "A type that is compiled, with those that it names; without it all are. For a table it may be MODULE.TYPE",
-        );
-    let modules = Arg::new(alloc, "modules")
+        )
+}
+
+fn modules_of<'a>(alloc: Global) -> Arg<'a> {
+    Arg::new(alloc, "modules")
         .long("modules")
         .value_name("FOLDER")
-        .help("The folder beneath which the files *.asn and *.asn1 are from which FILE imports");
-    Command::new(alloc, "asn1_compile")
-        .version(version)
-        .about(ABOUT)
-        .arg(out)?
-        .arg(schema)?
-        .arg(file)?
-        .arg(with)?
-        .arg(modules)?
-        .arg(only)
+        .help("The folder beneath which the files *.asn and *.asn1 are from which FILE imports")
 }
 
 impl<'a> With<'a> {
+    // Parses these words; `None` if one of them is not the name of a crate, `=`, and a file.
+    fn list(alloc: Global, words: &[&'a str]) -> Result<Option<Vec<Self>>, AllocError> {
+        let mut list = Vec::new(alloc);
+        for word in words {
+            let Some(with) = With::parse(word) else {
+                return Ok(None);
+            };
+            list.push(with)?;
+        }
+        Ok(Some(list))
+    }
+
     // Parses the name of a crate with a file after `=`.
     fn parse(word: &'a str) -> Option<Self> {
         match word.split_once('=') {

@@ -121,11 +121,12 @@ impl Joined {
 
     /// The index of the file that contains the octet at this offset of the joined text.
     pub fn part_at(&self, offset: usize) -> usize {
-        let after = self
-            .parts
-            .iter()
-            .filter(|part| part.start <= offset)
-            .count();
+        let mut after = 0usize;
+        for part in self.parts.iter() {
+            if part.start <= offset {
+                after = after.saturating_add(1);
+            }
+        }
         after.saturating_sub(1)
     }
 
@@ -185,9 +186,7 @@ fn needed<'l>(
     for text in given.iter() {
         add_modules(&modules_in(alloc, text.as_str())?, &mut present)?;
     }
-    let modules = modules_in(alloc, main)?;
-    add_modules(&modules, &mut present)?;
-    add_wanted(&modules, &mut wanted)?;
+    add_text(alloc, main, &mut present, &mut wanted)?;
     let mut found = Vec::new(alloc);
     for at in 0..MOST_FOLDERS as usize {
         let Some(name) = wanted.names.get(at) else {
@@ -198,9 +197,7 @@ fn needed<'l>(
             && let Some(number) = places.find(name)
             && let Some(text) = texts.get(number)
         {
-            let modules = modules_in(alloc, text.as_str())?;
-            add_modules(&modules, &mut present)?;
-            add_wanted(&modules, &mut wanted)?;
+            add_text(alloc, text.as_str(), &mut present, &mut wanted)?;
             found.push(number)?;
         }
     }
@@ -216,6 +213,18 @@ fn places_of<'l>(alloc: Global, texts: &'l Vec<String>) -> Result<NameIndex<'l>,
         }
     }
     Ok(places)
+}
+
+// Adds the names of the modules of a text, and of those from which they import.
+fn add_text<'l>(
+    alloc: Global,
+    text: &'l str,
+    present: &mut NameIndex<'l>,
+    wanted: &mut NameIndex<'l>,
+) -> Result<(), AllocError> {
+    let modules = modules_in(alloc, text)?;
+    add_modules(&modules, present)?;
+    add_wanted(&modules, wanted)
 }
 
 // Adds the names of modules.

@@ -4,7 +4,7 @@ use crate::item::Item;
 use crate::range::Range;
 
 /// A restriction of the values of a type.
-#[derive(Clone, Copy, Debug)]
+#[derive(Clone, Copy)]
 pub enum Constraint<'a> {
     /// The type has only the numbers in this range. A single value is a range with equal ends.
     Range(Range<'a>),

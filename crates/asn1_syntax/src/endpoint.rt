@@ -3,7 +3,7 @@
 use crate::item::Item;
 
 /// A number, or one end of a range.
-#[derive(Clone, Copy, Debug)]
+#[derive(Clone, Copy)]
 pub enum Endpoint<'a> {
     /// `MIN`: the least value of the type.
     Min,

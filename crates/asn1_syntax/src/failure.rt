@@ -4,7 +4,7 @@ use crate::refusal::Refusal;
 use std::alloc::{AllocError, AllocFailed};
 
 /// Why the compiler returns no result.
-#[derive(Debug, Drop)]
+#[derive(Clone, Copy, Debug)]
 pub enum Failure<'a> {
     /// The module is not valid ASN.1.
     Refused(Refusal<'a>),

@@ -3,7 +3,7 @@
 use crate::item_kind::ItemKind;
 
 /// A lexical item (X.680, 12) with its offset in the text of the module.
-#[derive(Clone, Copy, Debug)]
+#[derive(Clone, Copy)]
 pub struct Item<'a> {
     /// The kind of the item.
     pub kind: ItemKind,
@@ -31,5 +31,15 @@ impl<'a> Item<'a> {
             ItemKind::UpperName | ItemKind::Symbol => self.text == text,
             _ => false,
         }
+    }
+
+    /// Whether this item is one of these reserved words and symbols.
+    pub fn is_one_of(&self, texts: &[&str]) -> bool {
+        for text in texts {
+            if self.is(text) {
+                return true;
+            }
+        }
+        false
     }
 }

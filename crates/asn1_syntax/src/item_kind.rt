@@ -1,7 +1,7 @@
 //! Kinds of lexical items.
 
 /// The kind of a lexical item (X.680, 12).
-#[derive(Clone, Copy, Debug, PartialEq, Eq)]
+#[derive(Clone, Copy, PartialEq, Eq)]
 pub enum ItemKind {
     /// A word that begins with an upper-case letter: a type reference, a module reference or a
     /// reserved word.

@@ -4,7 +4,7 @@ use crate::item::Item;
 use crate::refusal::Refusal;
 
 /// An assignment that is not compiled, and why.
-#[derive(Clone, Copy, Debug)]
+#[derive(Clone, Copy)]
 pub struct LeftOut<'a> {
     /// The name of the type, value, class, object or set that is assigned.
     pub name: Item<'a>,

@@ -69,7 +69,7 @@ impl<'a> ParsedModule<'a> {
 }
 
 /// A name that is imported.
-#[derive(Clone, Copy, Debug)]
+#[derive(Clone, Copy)]
 pub struct Import<'a> {
     /// The imported name.
     pub name: Item<'a>,
@@ -78,7 +78,7 @@ pub struct Import<'a> {
 }
 
 /// A type assignment: a name and its type.
-#[derive(Clone, Copy, Debug)]
+#[derive(Clone, Copy)]
 pub struct TypeAssignment<'a> {
     /// The name that is assigned. Its field `comments` holds the comments in front of the
     /// assignment.

@@ -4,7 +4,7 @@ use crate::endpoint::Endpoint;
 use crate::item::Item;
 
 /// A named number, a named bit or an item of an ENUMERATED.
-#[derive(Clone, Copy, Debug)]
+#[derive(Clone, Copy)]
 pub struct NamedNumber<'a> {
     /// The name.
     pub name: Item<'a>,

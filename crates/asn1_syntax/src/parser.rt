@@ -82,15 +82,8 @@ struct Parser<'a> {
 /// The first fault of the first module. An invalid assignment of a later module is left out
 /// instead.
 pub fn parse_module<'a>(alloc: Global, text: &'a str) -> Result<ParsedModule<'a>, Failure<'a>> {
-    let mut parser = parser_of(alloc, text)?;
-    parser.outline()?;
-    let mut module = parser.first_module()?;
-    for import in module.imports.iter() {
-        parser.imports.push(*import)?;
-    }
-    for number in 0..parser.modules.len() {
-        parser.assignments_of(number, &mut module)?;
-    }
+    let mut parser = outlined(alloc, text)?;
+    let mut module = parser.module_with_assignments()?;
     let Parser {
         nodes,
         warnings,
@@ -110,8 +103,7 @@ pub fn parse_module<'a>(alloc: Global, text: &'a str) -> Result<ParsedModule<'a>
 
 /// Finds the modules of a text. It parses their headers, but not their assignments.
 pub fn outline_of<'a>(alloc: Global, text: &'a str) -> Result<Vec<ModuleOutline<'a>>, Failure<'a>> {
-    let mut parser = parser_of(alloc, text)?;
-    parser.outline()?;
+    let parser = outlined(alloc, text)?;
     Ok(parser.modules)
 }
 
@@ -122,8 +114,7 @@ pub fn outline_of<'a>(alloc: Global, text: &'a str) -> Result<Vec<ModuleOutline<
 /// Each new name is an ASN.1 comment on a line of its own. Before a call of [`parse_module`], the
 /// caller must append these lines to the text, after the last module.
 pub fn own_names<'a>(alloc: Global, text: &'a str) -> Result<String, Failure<'a>> {
-    let mut parser = parser_of(alloc, text)?;
-    parser.outline()?;
+    let parser = outlined(alloc, text)?;
     let mut lines = String::new(alloc);
     for (number, outline) in parser.modules.iter().enumerate() {
         add_own_names(alloc, &parser.owners, number, outline, &mut lines)?;
@@ -146,6 +137,13 @@ fn add_own_names(
         }
     }
     Ok(())
+}
+
+// The parser of a text, whose modules it has found.
+fn outlined<'a>(alloc: Global, text: &'a str) -> Result<Parser<'a>, Failure<'a>> {
+    let mut parser = parser_of(alloc, text)?;
+    parser.outline()?;
+    Ok(parser)
 }
 
 fn parser_of<'a>(alloc: Global, text: &'a str) -> Result<Parser<'a>, Failure<'a>> {
@@ -187,6 +185,18 @@ fn unsupported<'a>(item: Item<'a>, expected: &'static str) -> Failure<'a> {
 }
 
 impl<'a> Parser<'a> {
+    // The first module, with the assignments of all modules. What they hold is in the parser.
+    fn module_with_assignments(&mut self) -> Result<ParsedModule<'a>, Failure<'a>> {
+        let mut module = self.first_module()?;
+        for import in module.imports.iter() {
+            self.imports.push(*import)?;
+        }
+        for number in 0..self.modules.len() {
+            self.assignments_of(number, &mut module)?;
+        }
+        Ok(module)
+    }
+
     /// The next lexical item.
     fn peek(&self) -> Item<'a> {
         self.item_at(self.at)
@@ -195,6 +205,26 @@ impl<'a> Parser<'a> {
     /// The lexical item after the next one.
     fn peek_second(&self) -> Item<'a> {
         self.item_at(self.at.saturating_add(1))
+    }
+
+    /// Whether the next lexical item is the word or symbol `text`.
+    fn sees(&self, text: &str) -> bool {
+        self.peek().is(text)
+    }
+
+    /// Whether the lexical item after the next one is the word or symbol `text`.
+    fn sees_second(&self, text: &str) -> bool {
+        self.peek_second().is(text)
+    }
+
+    /// Whether the lexical item with this index is the word or symbol `text`.
+    fn has_at(&self, at: usize, text: &str) -> bool {
+        self.item_at(at).is(text)
+    }
+
+    /// The failure which says that the next lexical item was found where `expected` was expected.
+    fn refusal(&self, expected: &'static str) -> Failure<'a> {
+        refused(self.peek(), expected)
     }
 
     // The item with this number. In the place of a name, it has the offset of that.
@@ -225,7 +255,7 @@ impl<'a> Parser<'a> {
 
     /// Moves past the next lexical item if it is the word or symbol `text`. Returns whether it is.
     fn takes(&mut self, text: &str) -> bool {
-        let is_here = self.peek().is(text);
+        let is_here = self.sees(text);
         if is_here {
             self.at = self.at.saturating_add(1);
         }
@@ -237,7 +267,7 @@ impl<'a> Parser<'a> {
         if self.takes(text) {
             return Ok(());
         }
-        Err(refused(self.peek(), text))
+        Err(self.refusal(text))
     }
 
     /// Moves past the next lexical item, and returns it. Fails if the kind of the item is not

@@ -5,7 +5,7 @@ ghost use Rattle.asn1_syntax.specs.Position.{line_after, column_after, last_line
 use std::fmt;
 
 /// A position in a text. Lines and columns count from 1, and columns count octets.
-#[derive(Clone, Copy, Debug, PartialEq, Eq)]
+#[derive(Clone, Copy, PartialEq, Eq)]
 pub struct Position {
     /// One more than the number of line ends before the position.
     pub line: usize,

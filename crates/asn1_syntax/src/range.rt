@@ -4,7 +4,7 @@ use crate::endpoint::Endpoint;
 use crate::item::Item;
 
 /// A range of numbers: from one end to the other, both included.
-#[derive(Clone, Copy, Debug)]
+#[derive(Clone, Copy)]
 pub struct Range<'a> {
     /// The first lexical item of the range.
     pub item: Item<'a>,

@@ -1,7 +1,7 @@
 //! Built-in types that are not made of other types.
 
 /// A built-in type that is not made of other types, such as `BOOLEAN` or `OCTET STRING`.
-#[derive(Clone, Copy, Debug, PartialEq, Eq)]
+#[derive(Clone, Copy, PartialEq, Eq)]
 pub enum SimpleType {
     Boolean,
     OctetString,

@@ -4,7 +4,7 @@ use crate::tag_class::TagClass;
 use crate::tagging::Tagging;
 
 /// A tag, as `[1]` or `[APPLICATION 7]`.
-#[derive(Clone, Copy, Debug, PartialEq, Eq)]
+#[derive(Clone, Copy, PartialEq, Eq)]
 pub struct Tag {
     /// The class.
     pub class: TagClass,
@@ -13,7 +13,7 @@ pub struct Tag {
 }
 
 /// A tag that is written in front of a type, and whether it is explicit or implicit.
-#[derive(Clone, Copy, Debug)]
+#[derive(Clone, Copy)]
 pub struct TagPrefix {
     /// The tag.
     pub tag: Tag,

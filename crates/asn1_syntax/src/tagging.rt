@@ -1,7 +1,7 @@
 //! Explicit, implicit and automatic tags.
 
 /// How a tag is put in front of a type (X.680, 31.2).
-#[derive(Clone, Copy, Debug, PartialEq, Eq)]
+#[derive(Clone, Copy, PartialEq, Eq)]
 pub enum Tagging {
     /// The encoding begins with this tag. Its contents are the whole encoding of the type, with the
     /// type's own tag.
@@ -11,7 +11,7 @@ pub enum Tagging {
 }
 
 /// Which tags a module has where neither EXPLICIT nor IMPLICIT is written (X.680, 13.2).
-#[derive(Clone, Copy, Debug, PartialEq, Eq)]
+#[derive(Clone, Copy, PartialEq, Eq)]
 pub enum TagDefault {
     /// `EXPLICIT TAGS`, or no word: tags are explicit.
     Explicit,

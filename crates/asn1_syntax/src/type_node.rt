@@ -23,7 +23,7 @@ pub struct TypeNode<'a> {
 }
 
 /// An extension marker (`...`).
-#[derive(Clone, Copy, Debug)]
+#[derive(Clone, Copy)]
 pub struct Mark<'a> {
     /// The lexical item `...`.
     pub item: Item<'a>,

@@ -16,7 +16,7 @@ pub struct CompiledTable<'a> {
 }
 
 /// A type that the caller asked for, with its node in the table.
-#[derive(Clone, Copy, Debug)]
+#[derive(Clone, Copy)]
 pub struct Root<'a> {
     /// The name of the module in which the type is.
     pub module: &'a str,

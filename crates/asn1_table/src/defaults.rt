@@ -24,7 +24,7 @@ pub fn default_of<'a>(
     value: &Value<'a>,
 ) -> Result<Option<Vec<u8>>, Wrong<'a>> {
     let words = Words::of_value(alloc, value)?;
-    encoding(alloc, library, *wanted, &words, MAX_DEPTH)
+    encoding(alloc, library, wanted, &words, MAX_DEPTH)
 }
 
 // The encoding of a value of this node.
@@ -32,7 +32,7 @@ pub fn default_of<'a>(
 fn encoding<'a>(
     alloc: Global,
     library: &Library<'a>,
-    wanted: Wanted<'a>,
+    wanted: &Wanted<'a>,
     words: &Words<'a>,
     depth: u32,
 ) -> Result<Option<Vec<u8>>, Wrong<'a>> {
@@ -46,15 +46,15 @@ fn encoding<'a>(
         let inside = Wanted {
             tag: None,
             is_around: false,
-            ..wanted
+            ..*wanted
         };
-        let contents = encoding(alloc, library, inside, words, depth - 1)?;
+        let contents = encoding(alloc, library, &inside, words, depth - 1)?;
         return Ok(element(alloc, wanted.tag_or(0), true, contents)?);
     }
     match &node.form {
         TypeForm::Tagged(prefix, of) => {
             let inside = reach(library, *of, None, Opener::NONE)?;
-            let contents = encoding(alloc, library, inside, words, depth - 1)?;
+            let contents = encoding(alloc, library, &inside, words, depth - 1)?;
             let tag = numbers_of(wanted.tag.unwrap_or(prefix.tag));
             Ok(element(alloc, tag, true, contents)?)
         }
@@ -75,7 +75,7 @@ fn encoding<'a>(
 fn named<'a>(
     alloc: Global,
     library: &Library<'a>,
-    wanted: Wanted<'a>,
+    wanted: &Wanted<'a>,
     words: &Words<'a>,
     depth: u32,
 ) -> Result<Option<Vec<u8>>, Wrong<'a>> {
@@ -117,7 +117,7 @@ fn open_value<'a>(
     match library.find_anywhere(of.text) {
         Some(index) => {
             let wanted = reach(library, index, None, Opener::NONE)?;
-            encoding(alloc, library, wanted, &words, depth - 1)
+            encoding(alloc, library, &wanted, &words, depth - 1)
         }
         None => Ok(None),
     }
@@ -188,7 +188,7 @@ fn components_of<'a>(
             continue;
         };
         let wanted = wanted_of(library, components, index, 0, None)?;
-        let Some(octets) = component_value(alloc, library, wanted, items, depth - 1)? else {
+        let Some(octets) = component_value(alloc, library, &wanted, items, depth - 1)? else {
             return Ok(None);
         };
         contents.extend_from_slice(octets.as_slice())?;
@@ -201,7 +201,7 @@ fn components_of<'a>(
 fn component_value<'a>(
     alloc: Global,
     library: &Library<'a>,
-    wanted: Wanted<'a>,
+    wanted: &Wanted<'a>,
     items: &[Item<'a>],
     depth: u32,
 ) -> Result<Option<Vec<u8>>, Wrong<'a>> {

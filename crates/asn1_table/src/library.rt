@@ -173,10 +173,12 @@ fn objects_of<'a>(alloc: Global, parsed: &mut ParsedModule<'a>) -> Vec<Informati
 
 // The number of the module with the item at this offset.
 fn number_at(outlines: &Vec<ModuleOutline<'_>>, offset: usize) -> usize {
-    let after = outlines
-        .iter()
-        .filter(|outline| outline.name.offset <= offset)
-        .count();
+    let mut after = 0usize;
+    for outline in outlines.iter() {
+        if outline.name.offset <= offset {
+            after = after.saturating_add(1);
+        }
+    }
     after.saturating_sub(1)
 }
 

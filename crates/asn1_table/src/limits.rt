@@ -3,7 +3,7 @@
 use asn1_syntax::{Constraint, Endpoint, NamedNumber, Range, TypeNode};
 
 /// The limits that constraints set for the values of a type.
-#[derive(Clone, Copy, Debug)]
+#[derive(Clone, Copy)]
 pub struct Limits<'a> {
     /// The range of numbers that are allowed; `None` if no constraint limits them.
     pub value: Option<Range<'a>>,

@@ -1,7 +1,7 @@
 //! How the types of open types are chosen.
 
 /// How the types of the open types in a component are chosen.
-#[derive(Clone, Copy, Debug)]
+#[derive(Clone, Copy)]
 pub struct Opener<'a> {
     /// The index in the table of the field whose value chooses the type. `None` if there is no such
     /// field.

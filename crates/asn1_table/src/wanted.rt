@@ -8,7 +8,7 @@ use asn1_syntax::{Tag, TagClass, TypeNode};
 /// The description of a type that needs a node in the table. It is the type to which references
 /// (names of types) and implicit tags lead, with the name, the tag and the limits that they give
 /// the type.
-#[derive(Clone, Copy, Debug)]
+#[derive(Clone, Copy)]
 pub struct Wanted<'a> {
     /// The index of the type among the `nodes` of the module; `usize::MAX` for `ANY`.
     pub index: usize,

@@ -2,3 +2,4 @@ mod CheckLemmas
 mod HostLemmas
 mod LabelLemmas
 mod PlaceLemmas
+mod WildcardLemmas

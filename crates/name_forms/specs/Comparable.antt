@@ -1,8 +1,10 @@
 -- The names and the constraints that can be compared (RFC 5280, 4.2.1.10): the syntax of each form
 -- that gives both one meaning.
-use Rattle.std.specs.Prelude.{◌≡◌, ◌≢◌, ◌⊎◌, ◌+◌, ℕ, true, List, [], slice_index, take, drop}
-use Rattle.name_forms.specs.Hosts.{HasBefore, IsDomainName, begins_with_dot}
-use Rattle.name_forms.specs.Mailboxes.{IsDotString, IsLastAt}
+use Rattle.std.specs.Prelude.{◌≡◌, ◌≢◌, ◌⊎◌, ◌||◌, ◌+◌, ℕ, Bool, true, List, [], nat_lt, slice_index, take}
+use Rattle.std.specs.Prelude.{drop, EachIndex, IsUtf8}
+use Rattle.name_forms.specs.HostNames.{IsBetween}
+use Rattle.name_forms.specs.Hosts.{IsDomainName, begins_with_dot}
+use Rattle.name_forms.specs.Mailboxes.{IsDotString, IsLastAt, is_atom_octet}
 use Rattle.name_forms.specs.Uris.{HasDomainName, host_of}
 use Rattle.name_forms.specs.UriSyntax.{IsHost, IsUri}
 
@@ -48,7 +50,25 @@ HasPlainHost uri = HasDomainName uri × IsPlainHost (host_of uri)
 abbrev pub IsHostUri : List ℕ → Type 0
 IsHostUri uri = IsUri uri × HasPlainHost uri
 
--- a name with an asterisk stands for the names inside of its domain, and the base is inside too. So
--- some of these names may be within the base, and others not
-abbrev pub IsWildcardAbove : List ℕ → List ℕ → Type 0
-IsWildcardAbove base name = (slice_index name 0 ≡ 42) × HasBefore (drop 1 name) base
+-- a letter, a digit or a sign of an atom, or an octet of a character beyond ASCII (RFC 6531, 3.3)
+abbrev pub is_utf8_atom_octet : ℕ → Bool
+is_utf8_atom_octet o = is_atom_octet o || nat_lt 127 o
+
+-- a dot stands between atoms
+abbrev pub FitsUtf8Local : List ℕ → ℕ → Type 0
+FitsUtf8Local octets k =
+    (is_utf8_atom_octet (slice_index octets k) ≡ true)
+    ⊎ ((slice_index octets k ≡ 46) × IsBetween octets k)
+
+-- atoms with dots between them, in UTF-8
+abbrev pub IsUtf8Local : List ℕ → Type 0
+IsUtf8Local octets =
+    (octets ≢ []) × (IsUtf8 octets × EachIndex octets (λ k. FitsUtf8Local octets k))
+
+abbrev pub HasUtf8AtomsAt : List ℕ → ℕ → Type 0
+HasUtf8AtomsAt octets at = IsUtf8Local (take at octets) × IsPlainHost (drop (at + 1) octets)
+
+-- a mailbox in UTF-8 at a host, which is of ASCII: "all domain labels .. are encoded as LDH-labels"
+-- (RFC 9598, 3)
+abbrev pub IsUtf8HostMailbox : List ℕ → Type 0
+IsUtf8HostMailbox octets = (at : ℕ) × IsLastAt octets at × HasUtf8AtomsAt octets at

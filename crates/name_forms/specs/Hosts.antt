@@ -18,12 +18,18 @@ abbrev pub begins_with_dot : List ℕ → Bool
 begins_with_dot [] = false
 begins_with_dot (o ∷ os) = o == 46
 
--- zero or more labels are added on the left of a host name. A constraint that begins with a dot is
--- left open by the RFC: one label or more is added on the left of it
+-- a base with a dot before it, which it may have already
+abbrev pub with_dot : List ℕ → List ℕ
+with_dot base = if begins_with_dot base then base else 46 ∷ base
+
+-- one label or more is added on the left of a base. Of a base that begins with a dot the RFC says
+-- nothing: here a label is added before the dot. All names are no octets with labels added
+abbrev pub HasMoreLabels : List ℕ → List ℕ → Type 0
+HasMoreLabels base name = (base ≡ []) ⊎ HasBefore (with_dot base) name
+
+-- zero or more labels are added on the left of a host name
 abbrev pub IsBelowHost : List ℕ → List ℕ → Type 0
-IsBelowHost base name =
-    (base ≡ []) ⊎ IsSameHost name base
-    ⊎ HasBefore (if begins_with_dot base then base else 46 ∷ base) name
+IsBelowHost base name = IsSameHost name base ⊎ HasMoreLabels base name
 
 -- the host of a URI or a mailbox: a domain, which begins with a dot, or one host
 abbrev pub IsHostWithin : List ℕ → List ℕ → Type 0

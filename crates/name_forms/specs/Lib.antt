@@ -6,3 +6,4 @@ pub mod Uris
 pub mod UriSyntax
 pub mod Addresses
 pub mod Comparable
+pub mod Wildcards

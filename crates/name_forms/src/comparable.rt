@@ -1,8 +1,8 @@
 //! The names and the constraints that can be compared.
 ghost use Rattle.std.specs.Prelude.{◌≡◌, ◌↔◌, ◌<◌, true, length, slice_index};
-ghost use Rattle.name_forms.specs.Comparable.{HasAtomsAt, HasPlainHost, IsDomain, IsHostConstraint, IsHostMailbox, IsHostOrDomain, IsHostUri, IsMailConstraint, IsPlainHost, IsUriConstraint, IsWildcardAbove};
+ghost use Rattle.name_forms.specs.Comparable.{HasAtomsAt, HasPlainHost, IsDomain, IsHostConstraint, IsHostMailbox, IsHostOrDomain, IsHostUri, IsMailConstraint, IsPlainHost, IsUriConstraint};
 
-use crate::host::{begins_with_dot, has_before, is_domain_name};
+use crate::host::{begins_with_dot, is_domain_name};
 use crate::host_name::is_host;
 use crate::mailbox::last_at;
 use crate::mailbox_syntax::is_dot_string;
@@ -31,7 +31,9 @@ fn is_domain(octets: &[u8]) -> bool
     begins_with_dot(octets) && is_plain_host(rest(octets, 1))
 }
 
-fn is_host_or_domain(octets: &[u8]) -> bool
+/// Whether the octets are a host name without an asterisk, or a dot and such a host name after it.
+/// With the dot, a constraint has all hosts in the domain (RFC 5280, 4.2.1.10).
+pub fn is_host_or_domain(octets: &[u8]) -> bool
     ensures { (result ≡ true) ↔ IsHostOrDomain octets.now }
 {
     is_plain_host(octets) || is_domain(octets)
@@ -95,13 +97,4 @@ fn has_plain_host(uri: &[u8]) -> bool
     ensures { (result ≡ true) ↔ HasPlainHost uri.now }
 {
     has_domain_name(uri) && is_plain_host(host_of(uri))
-}
-
-/// Whether `name` is a host name with an asterisk as its first label, and `base` is inside of the
-/// domain after the asterisk. Then some names for which the asterisk stands may be within the
-/// constraint `base`, and others not.
-pub fn is_wildcard_above(base: &[u8], name: &[u8]) -> bool
-    ensures { (result ≡ true) ↔ IsWildcardAbove base.now name.now }
-{
-    begins_with_asterisk(name) && has_before(rest(name, 1), base)
 }

@@ -1,6 +1,6 @@
 //! Comparison of host names. The case of ASCII letters is ignored.
 ghost use Rattle.std.specs.Prelude.{◌≡◌, ◌↔◌, ◌<◌, ◌∷◌, true, EachIndex, SomeIndex, length, slice_index};
-ghost use Rattle.name_forms.specs.Hosts.{begins_with_dot, HasBefore, IsBelowHost, IsDomainName, IsHostWithin, IsSameHost, is_host_octet, is_letter};
+ghost use Rattle.name_forms.specs.Hosts.{begins_with_dot, HasBefore, HasMoreLabels, IsBelowHost, IsDomainName, IsHostWithin, IsSameHost, is_host_octet, is_letter};
 
 use crate::rest::rest;
 
@@ -23,7 +23,15 @@ pub fn is_same_host(first: &[u8], second: &[u8]) -> bool
 pub fn is_below_host(base: &[u8], name: &[u8]) -> bool
     ensures { (result ≡ true) ↔ IsBelowHost base.now name.now }
 {
-    if base.is_empty() || is_same_host(name, base) {
+    is_same_host(name, base) || has_more_labels(base, name)
+}
+
+// Whether a name ends with a base, has a dot before it, and more octets before the dot. Each name
+// does so with a base without octets.
+pub(crate) fn has_more_labels(base: &[u8], name: &[u8]) -> bool
+    ensures { (result ≡ true) ↔ HasMoreLabels base.now name.now }
+{
+    if base.is_empty() {
         return true;
     }
     if begins_with_dot(base) {

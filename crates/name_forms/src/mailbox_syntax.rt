@@ -108,7 +108,7 @@ fn is_mail_domain(octets: &[u8]) -> bool
 }
 
 // An octet of an atom (RFC 5322, 3.2.3).
-fn is_atom_octet(octet: u8) -> bool
+pub(crate) fn is_atom_octet(octet: u8) -> bool
     ensures { result ≡ is_atom_octet octet }
 {
     is_alphanumeric(octet)

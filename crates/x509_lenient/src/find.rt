@@ -1,4 +1,4 @@
-//! Lookup of extensions whose contents may be encoded under BER.
+//! Lookup of extensions whose contents need not be DER.
 ghost use Rattle.x509_lenient.specs.Lenient.{BerRead, FindsLenient, IsDerOf, LenientAnswer, SaysDerOf};
 
 use crate::extension::LenientExtension;
@@ -8,14 +8,15 @@ use der_asn1::{Item, lawful_from_der};
 use std::alloc::Global;
 use x509::{Extension, Extensions, FindError, Occurrence};
 
-/// The extension of type `K` in a list, whose contents may be encoded under BER; `None` if no
-/// extension has this type.
+/// The extension of type `K` in a list; `None` if no extension has this type. Its contents are DER,
+/// or differ from DER in one or more of three ways: a keyUsage ends with zero bits; a
+/// basicConstraints writes `cA FALSE`; the length of a basicConstraints is indefinite.
 ///
 /// # Errors
 ///
 /// - `Repeated`, if more than one extension has this type.
-/// - `Contents`, if the contents of the extension are not the BER encoding of a value. It holds the
-///   error of `from_ber`. Positions count from the start of these contents.
+/// - `Contents`, if the contents of the extension differ from DER in any other way, also if they are
+///   BER. It holds the error of `from_ber`. Positions count from the start of these contents.
 pub fn find_lenient<'a, K: LenientExtension<'a>>(
     alloc: Global,
     extensions: &Extensions<'a>,
@@ -37,7 +38,7 @@ where
     }
 }
 
-// Decodes the contents of an extension as a value under BER.
+// Decodes the contents of an extension as a value, by `from_ber`.
 fn read_lenient<'a, K: LenientExtension<'a>>(
     alloc: Global,
     extension: &Extension<'a>,

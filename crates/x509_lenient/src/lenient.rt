@@ -1,9 +1,9 @@
-//! Extensions whose contents may be encoded under BER.
+//! Extensions whose contents need not be DER.
 
 use der_asn1::BitStringRef;
 
-/// An extension whose contents may be encoded under BER. [`find_lenient`](crate::find_lenient)
-/// returns it.
+/// An extension whose contents need not be DER. [`find_lenient`](crate::find_lenient) returns it,
+/// and says in which ways they may differ from DER.
 #[derive(Clone, Copy, Debug, Drop)]
 pub struct Lenient<V> {
     /// Whether an application that does not process the extension must reject the certificate.

@@ -1,13 +1,18 @@
-//! Extensions of certificates whose contents are encoded under BER and not under DER.
+//! Extensions of certificates whose contents are not DER, but have one of three forms that only BER
+//! allows.
 //!
 //! [`Extensions::find`](x509::Extensions::find) accepts only DER: other contents are an error. But
-//! some certificates that programs trust have contents that are only BER. Examples are a keyUsage
-//! with trailing zero bits, and a basicConstraints that writes `cA FALSE`. [`find_lenient`] returns
-//! their values, and says whether the contents are DER. It allocates nothing.
+//! some certificates that programs trust have contents that are not DER. [`find_lenient`] returns
+//! the value of a keyUsage or a basicConstraints, and says whether its contents are DER. It allocates
+//! nothing. It forgives three forms of the Basic Encoding Rules:
 //!
-//! It reads the part of the Basic Encoding Rules that the crate `der` reads. It does not accept
-//! lengths with more octets than necessary, BOOLEANs other than 00 and FF, unused bits that are
-//! one, and BIT STRINGs in segments.
+//! - zero bits at the end of a keyUsage (X.690, 11.2.2);
+//! - a basicConstraints that writes `cA FALSE`, which is the default (11.5);
+//! - a basicConstraints whose own length is indefinite (10.1).
+//!
+//! All other contents that are not DER are an error, also if they are BER. Examples are lengths with
+//! more octets than necessary, BOOLEANs other than 00 and FF, unused bits that are one, and BIT
+//! STRINGs in segments.
 #![tactic(auto)]
 
 mod extension;

@@ -1,7 +1,7 @@
 -- Lemmas on names: attributes and levels with the same encoding match the same ones.
 use Rattle.std.proofs.Common.{◌≡◌, ◌⊎◌, ◌&&◌, ℕ, false, true, List, [], ◌∷◌, inl, inr, sym, subst, ◌∙◌}
+use Rattle.std.proofs.Math.Logic.{∥∥₁_map}
 use Rattle.der.specs.Prelude.{Tag}
-use Rattle.der_asn1.specs.AnyRef.{any_contents}
 use Rattle.name_forms.specs.PreparedText.{IsPlainText, TextsMatch}
 use Rattle.x509.proofs.EncodingLemmas.{attribute_same, level_same}
 use Rattle.x509.specs.CertificateLists.{IsAttribute, IsLevel, attribute_encoding, level_encoding, level_octets}
@@ -53,7 +53,7 @@ some_kept m v w e (x ∷ items) (inl one) = inl (first_same m x v w e one)
 some_kept m v w e (x ∷ items) (inr more) = inr (some_kept m v w e items more)
 
 pub keep_match : (m : Matching) (octets : List ℕ) (v w : AttributeTypeAndValue) → IsAttribute v → IsAttribute w → attribute_encoding v ≡ attribute_encoding w → HasMatch m octets v → HasMatch m octets w
-keep_match m octets v w is are e h l = some_kept m v w e l.items (h l)
+keep_match m octets v w is are e h = ∥∥₁_map h (λ l. (l.0, some_kept m v w e l.0.items l.1))
 
 pub keep_none : (v w x y : AttributeTypeAndValue) → IsAttribute v → IsAttribute w → IsAttribute x → IsAttribute y → attribute_encoding v ≡ attribute_encoding w → attribute_encoding x ≡ attribute_encoding y → Unit {0} → Unit {0}
 keep_none v w x y a b c d e f h = tt

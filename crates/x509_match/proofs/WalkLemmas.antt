@@ -1,10 +1,11 @@
 -- Lemmas on walks over lists: what is left of a list after an item.
 use Rattle.std.proofs.Common.{◌≡◌, ◌↔◌, ℕ, Bool, true, false, List, [], ◌∷◌, ◌++◌, All, inl, inr, not, refl, sym, ap, subst, ◌∙◌}
+use Rattle.std.proofs.Math.Logic.{∥∥₁_map}
 use Rattle.std.proofs.lemmas.Grind.{not_there}
 use Rattle.std.proofs.lemmas.List.Elements.{All-head, All-tail, All-cons, All-nil}
 use Rattle.der_asn1.specs.SequenceOf.{AllValid, IsListOf, joined_encodings}
 use Rattle.x509.proofs.ItemLemmas.{AreApartItems}
-use Rattle.x509_match.specs.Lists.{Pairwise, SomeItem}
+use Rattle.x509_match.specs.Lists.{AreListsWith, IsListWith, Pairwise, SomeItem}
 
 module _ {A : Type 0} (valid : A → Type 0) (encoding : A → List ℕ) (apart : AreApartItems valid encoding) where
   -- the octets of an item and of those after it
@@ -47,76 +48,114 @@ module _ {A : Type 0} (valid : A → Type 0) (encoding : A → List ℕ) (apart 
   abbrev Keeps : (A → Type 0) → Type 0
   Keeps P = (v w : A) → valid v → valid w → encoding v ≡ encoding w → P v → P w
 
+  abbrev pub Lists : List ℕ → Type 0
+  Lists octets = IsListOf valid encoding octets
+
   -- each item of a list has the property, or one has
   module _ (P : A → Type 0) (keep : Keeps P) where
     abbrev pub Each : List ℕ → Type 0
-    Each octets = (l : IsListOf valid encoding octets) → All P l.items
+    Each octets = IsListWith valid encoding (All P) octets
 
     abbrev pub Some : List ℕ → Type 0
-    Some octets = (l : IsListOf valid encoding octets) → SomeItem P l.items
+    Some octets = IsListWith valid encoding (SomeItem P) octets
 
     pub each_end : (octets : List ℕ) → octets ≡ [] → Each octets
-    each_end octets none l = subst (All P) (sym (empty octets none l)) (All-nil P)
+    each_end octets none = ∣ (no_items octets none, All-nil P) ∣₁
+
+    each_after : (octets : List ℕ) (v : A) (others : List ℕ) → IsNext octets v others → (l : Lists octets) → All P l.items → (m : Lists others) × All P m.items
+    each_after octets v others n l all =
+        let o = opened octets v others n l in
+        (o.list, subst (All P) (sym o.items_are) (All-tail P o.first o.rest (subst (All P) o.whole all)))
 
     pub each_step : (octets : List ℕ) (v : A) (others : List ℕ) → IsNext octets v others → P v → Each octets ↔ Each others
     each_step octets v others n h = (
-      λ all l. All-tail P v l.items (all (closed octets v others n l)),
-      λ all l. (let o = opened octets v others n l in subst (All P) (sym o.whole) (All-cons P o.first o.rest (keep v o.first n.is o.is o.same h) (subst (All P) o.items_are (all o.list)))),
+      λ all. ∥∥₁_map all (λ x. each_after octets v others n x.0 x.1),
+      λ all. ∥∥₁_map all (λ x. (closed octets v others n x.0, All-cons P v x.0.items h x.1)),
     )
 
-    pub each_stop : (octets : List ℕ) (v : A) (others : List ℕ) → IsNext octets v others → ∥ IsListOf valid encoding others ∥₁ → (P v → ⊥) → Each octets → ⊥
-    each_stop octets v others n there fails all = not_there there (λ l. fails (All-head P v l.items (all (closed octets v others n l))))
+    first_of : (octets : List ℕ) (v : A) (others : List ℕ) → IsNext octets v others → (l : Lists octets) → All P l.items → P v
+    first_of octets v others n l all =
+        let o = opened octets v others n l in
+        keep o.first v o.is n.is (sym o.same) (All-head P o.first o.rest (subst (All P) o.whole all))
+
+    pub each_stop : (octets : List ℕ) (v : A) (others : List ℕ) → IsNext octets v others → (P v → ⊥) → Each octets → ⊥
+    each_stop octets v others n fails all = not_there all (λ x. fails (first_of octets v others n x.0 x.1))
+
+    none_of_empty : (octets : List ℕ) → octets ≡ [] → (l : Lists octets) → SomeItem P l.items → ⊥
+    none_of_empty octets none l some = subst (SomeItem P) (empty octets none l) some
 
     pub some_end : (octets : List ℕ) → octets ≡ [] → Some octets → ⊥
-    some_end octets none some = some (no_items octets none)
+    some_end octets none some = not_there some (λ x. none_of_empty octets none x.0 x.1)
 
-    pub some_found : (octets : List ℕ) (v : A) (others : List ℕ) → IsNext octets v others → P v → Some octets
-    some_found octets v others n h l =
-        let o = opened octets v others n l in subst (SomeItem P) (sym o.whole) (inl (keep v o.first n.is o.is o.same h))
+    pub some_found : (octets : List ℕ) (v : A) (others : List ℕ) → IsNext octets v others → ∥ Lists others ∥₁ → P v → Some octets
+    some_found octets v others n there h = ∥∥₁_map there (λ l. (closed octets v others n l, inl h))
+
+    some_after : (octets : List ℕ) (v : A) (others : List ℕ) → IsNext octets v others → (P v → ⊥) → (l : Lists octets) → SomeItem P l.items → (m : Lists others) × SomeItem P m.items
+    some_after octets v others n fails l some =
+        let o = opened octets v others n l in
+        elim (subst (SomeItem P) o.whole some) [
+          | inl h ↦ absurd (fails (keep o.first v o.is n.is (sym o.same) h))
+          | inr more ↦ (o.list, subst (SomeItem P) (sym o.items_are) more)
+        ]
 
     pub some_step : (octets : List ℕ) (v : A) (others : List ℕ) → IsNext octets v others → (P v → ⊥) → Some octets ↔ Some others
     some_step octets v others n fails = (
-      λ some l. elim (some (closed octets v others n l)) [ inl h ↦ absurd (fails h) | inr more ↦ more ],
-      λ some l. (let o = opened octets v others n l in subst (SomeItem P) (sym o.whole) (inr (subst (SomeItem P) o.items_are (some o.list)))),
+      λ some. ∥∥₁_map some (λ x. some_after octets v others n fails x.0 x.1),
+      λ some. ∥∥₁_map some (λ x. (closed octets v others n x.0, inr x.1)),
     )
 
   -- the items of two lists match in pairs
   module _ (R : A → A → Type 0) (keep : (v w x y : A) → valid v → valid w → valid x → valid y → encoding v ≡ encoding w → encoding x ≡ encoding y → R v x → R w y) (whole : Bool) where
     abbrev pub Pairs : List ℕ → List ℕ → Type 0
-    Pairs first second = (l : IsListOf valid encoding first) (m : IsListOf valid encoding second) → Pairwise R whole l.items m.items
+    Pairs first second = AreListsWith valid encoding (Pairwise R whole) first second
+
+    abbrev Paired : List ℕ → List ℕ → Type 0
+    Paired first second = (l : Lists first) × (m : Lists second) × Pairwise R whole l.items m.items
 
     pub pairs_end : (first second : List ℕ) → first ≡ [] → second ≡ [] → Pairs first second
-    pairs_end first second none nothing l m =
-        subst (λ x. Pairwise R whole x m.items) (sym (empty first none l)) (subst (Pairwise R whole []) (sym (empty second nothing m)) tt)
+    pairs_end first second none nothing = ∣ (no_items first none, no_items second nothing, tt) ∣₁
+
+    -- the lists after their first items, and the relation of these
+    opened_both : (first second : List ℕ) (v w : A) (x y : List ℕ) → IsNext first v x → IsNext second w y → Paired first second → R v w × Paired x y
+    opened_both first second v w x y n k both =
+        let o = opened first v x n both.0 in
+        let p = opened second w y k both.1 in
+        let pairs : Pairwise R whole (o.first ∷ o.rest) (p.first ∷ p.rest) =
+        subst (λ z. Pairwise R whole z (p.first ∷ p.rest)) o.whole (subst (Pairwise R whole both.0.items) p.whole both.2) in (
+          keep o.first v p.first w o.is n.is p.is k.is (sym o.same) (sym p.same) pairs.0,
+          (o.list, p.list, subst (λ z. Pairwise R whole z p.list.items) (sym o.items_are) (subst (Pairwise R whole o.rest) (sym p.items_are) pairs.1)),
+        )
 
     pub pairs_step : (first second : List ℕ) (v w : A) (x y : List ℕ) → IsNext first v x → IsNext second w y → R v w → Pairs first second ↔ Pairs x y
     pairs_step first second v w x y n k h = (
-      λ all l m. (all (closed first v x n l) (closed second w y k m)).1,
-      λ all l m. (
-          let o = opened first v x n l in
-          let p = opened second w y k m in
-          subst (λ z. Pairwise R whole z m.items) (sym o.whole) (subst (Pairwise R whole (o.first ∷ o.rest)) (sym p.whole)
-          (keep v o.first w p.first n.is o.is k.is p.is o.same p.same h, subst (λ z. Pairwise R whole z p.rest) o.items_are (subst (Pairwise R whole o.list.items) p.items_are (all o.list p.list))))),
+      λ all. ∥∥₁_map all (λ both. (opened_both first second v w x y n k both).1),
+      λ all. ∥∥₁_map all (λ both. (closed first v x n both.0, closed second w y k both.1, (h, both.2))),
     )
 
-    pub pairs_stop : (first second : List ℕ) (v w : A) (x y : List ℕ) → IsNext first v x → IsNext second w y → ∥ IsListOf valid encoding x ∥₁ → ∥ IsListOf valid encoding y ∥₁
-        → (R v w → ⊥) → Pairs first second → ⊥
-    pairs_stop first second v w x y n k there here fails all =
-        not_there there (λ l. not_there here (λ m. fails (all (closed first v x n l) (closed second w y k m)).0))
+    pub pairs_stop : (first second : List ℕ) (v w : A) (x y : List ℕ) → IsNext first v x → IsNext second w y → (R v w → ⊥) → Pairs first second → ⊥
+    pairs_stop first second v w x y n k fails all = not_there all (λ both. fails (opened_both first second v w x y n k both).0)
 
     -- the first list has an item more
-    pub pairs_short : (first second : List ℕ) (v : A) (x : List ℕ) → IsNext first v x → ∥ IsListOf valid encoding x ∥₁ → second ≡ [] → Pairs first second → ⊥
-    pairs_short first second v x n there none all = not_there there (λ l. all (closed first v x n l) (no_items second none))
+    too_short : (first second : List ℕ) (v : A) (x : List ℕ) → IsNext first v x → second ≡ [] → Paired first second → ⊥
+    too_short first second v x n none both =
+        let o = opened first v x n both.0 in
+        subst (λ z. Pairwise R whole z []) o.whole (subst (Pairwise R whole both.0.items) (empty second none both.1) both.2)
+
+    pub pairs_short : (first second : List ℕ) (v : A) (x : List ℕ) → IsNext first v x → second ≡ [] → Pairs first second → ⊥
+    pairs_short first second v x n none all = not_there all (λ both. too_short first second v x n none both)
 
     -- the second list has an item more
-    pub pairs_more : (first second : List ℕ) (w : A) (y : List ℕ) → first ≡ [] → IsNext second w y → whole ≡ false → Pairs first second
-    pairs_more first second w y none k part l m =
-        let p = opened second w y k m in
-        subst (λ z. Pairwise R whole z m.items) (sym (empty first none l)) (subst (Pairwise R whole []) (sym p.whole) part)
+    pub pairs_more : (first second : List ℕ) (w : A) (y : List ℕ) → first ≡ [] → IsNext second w y → ∥ Lists y ∥₁ → whole ≡ false → Pairs first second
+    pairs_more first second w y none k here part = ∥∥₁_map here (λ m. (no_items first none, closed second w y k m, part))
 
-    pub pairs_long : (first second : List ℕ) (w : A) (y : List ℕ) → first ≡ [] → IsNext second w y → ∥ IsListOf valid encoding y ∥₁ → whole ≡ true → Pairs first second → ⊥
-    pairs_long first second w y none k here all_of all =
-        not_there here (λ m. (let part : whole ≡ false = all (no_items first none) (closed second w y k m) in let wrong : true ≡ false = sym all_of ∙ part in cc))
+    only_part : (first second : List ℕ) (w : A) (y : List ℕ) → first ≡ [] → IsNext second w y → Paired first second → whole ≡ false
+    only_part first second w y none k both =
+        let p = opened second w y k both.1 in
+        subst (λ z. Pairwise R whole z (p.first ∷ p.rest)) (empty first none both.0) (subst (Pairwise R whole both.0.items) p.whole both.2)
+
+    pub pairs_long : (first second : List ℕ) (w : A) (y : List ℕ) → first ≡ [] → IsNext second w y → whole ≡ true → Pairs first second → ⊥
+    pairs_long first second w y none k all_of all =
+        not_there all (λ both. (let part : whole ≡ false = only_part first second w y none k both in let wrong : true ≡ false = sym all_of ∙ part in cc))
 
 -- what a walk shows of all octets, it shows of those that are left
 pub passed : {A B C : Type 0} → A ↔ B → B ↔ C → A ↔ C

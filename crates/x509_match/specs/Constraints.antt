@@ -1,16 +1,19 @@
 -- Names and the lists of subtrees of a nameConstraints (RFC 5280, 4.2.1.10): `IsTally` is what one
 -- list says of a name, and `HasVerdict` what both lists say.
-use Rattle.std.specs.Prelude.{◌≡◌, ◌⊎◌, ◌↔◌, ℕ, true, List, [], ◌∷◌, IsNone}
+use Rattle.std.specs.Prelude.{◌≡◌, ◌⊎◌, ◌↔◌, ℕ, true, List, IsNone}
+use Rattle.der_asn1.specs.AnyRef.{any_contents}
 use Rattle.der_asn1.specs.SequenceOf.{IsListOf}
 use Rattle.name_forms.specs.Addresses.{IsAddress, IsCidrRange}
-use Rattle.name_forms.specs.Comparable.{IsHostConstraint, IsHostMailbox, IsHostUri}
-use Rattle.name_forms.specs.Comparable.{IsMailConstraint, IsUriConstraint, IsWildcardAbove}
+use Rattle.name_forms.specs.Comparable.{IsHostConstraint, IsHostMailbox, IsHostOrDomain, IsHostUri}
+use Rattle.name_forms.specs.Comparable.{IsMailConstraint, IsUriConstraint, IsUtf8HostMailbox}
 use Rattle.name_forms.specs.UriSyntax.{IsHost}
 use Rattle.x509.specs.contracts.asn1.general_subtree.GeneralSubtreeItem.TheImpl as subtree
 use Rattle.x509.specs.declared.asn1.general_name.GeneralName.{GeneralName}
 use Rattle.x509.specs.declared.asn1.general_name.GeneralName.TheVariants as name
 use Rattle.x509.specs.declared.asn1.general_subtree.GeneralSubtree.{GeneralSubtree}
-use Rattle.x509_match.specs.GeneralNames.{IsWithinBase}
+use Rattle.x509.specs.declared.asn1.other_name.OtherName.{OtherName}
+use Rattle.x509_match.specs.GeneralNames.{IsPartlyWithinBase, IsUtf8Mailbox, IsWithinBase}
+use Rattle.x509_match.specs.GeneralNames.{smtp_utf8_mailbox}
 use Rattle.x509_match.specs.Lists.{SomeItem}
 use Rattle.x509_match.specs.NameMatching.{IsDecided}
 use Rattle.x509_match.specs.declared.tally.Tally.{Tally}
@@ -27,20 +30,21 @@ form_of (name.UniformResourceIdentifier _) = 6
 form_of (name.IpAddress _) = 7
 form_of (name.RegisteredId _) = 8
 
--- the type of a SmtpUTF8Mailbox, 1.3.6.1.5.5.7.8.9 (RFC 9598, 3)
-abbrev pub smtp_utf8_mailbox : List ℕ
-smtp_utf8_mailbox = 43 ∷ 6 ∷ 1 ∷ 5 ∷ 5 ∷ 7 ∷ 8 ∷ 9 ∷ []
-
 -- a mailbox is an rfc822Name, or a SmtpUTF8Mailbox, an otherName with this type
 abbrev pub IsMailName : GeneralName → Type 0
 IsMailName (name.Rfc822Name n) = Unit {0}
 IsMailName (name.OtherName n) = n.0.type_id.octets.now ≡ smtp_utf8_mailbox
 IsMailName _ = ⊥
 
+-- a SmtpUTF8Mailbox can be compared if it is at a host
+abbrev pub IsComparableMailbox : OtherName → Type 0
+IsComparableMailbox v = IsUtf8Mailbox v × IsUtf8HostMailbox (any_contents v.value.0)
+
 -- a name can be compared with constraints of its form: a mailbox at a host, a host name (whose first
 -- label may be an asterisk), a URI with a host name, and an address of 4 or 16 octets. The RFC has
 -- no constraints for the other forms
 abbrev pub CanBeCompared : GeneralName → Type 0
+CanBeCompared (name.OtherName n) = IsComparableMailbox n.0
 CanBeCompared (name.Rfc822Name n) = IsHostMailbox n.0.octets.now
 CanBeCompared (name.DnsName n) = IsHost n.0.octets.now
 CanBeCompared (name.DirectoryName n) = Unit {0}
@@ -57,11 +61,11 @@ IsBase (name.UniformResourceIdentifier b) = IsUriConstraint b.0.octets.now
 IsBase (name.IpAddress b) = IsCidrRange b.0.octets.now
 IsBase _ = ⊥
 
--- a base and a name can be compared with each other: all names for which an asterisk stands are
--- within the base, or none is; the comparison of the levels of two names is decided
+-- a base and a name can be compared with each other. RFC 9598 strips the local part of the base (6)
+-- before it is compared with a SmtpUTF8Mailbox: so a base that is one mailbox would have all mailboxes
+-- of its host, and says nothing here. The comparison of the levels of two names is decided
 abbrev pub AreComparable : GeneralName → GeneralName → Type 0
-AreComparable (name.DnsName b) (name.DnsName n) =
-    IsWildcardAbove b.0.octets.now n.0.octets.now → ⊥
+AreComparable (name.Rfc822Name b) (name.OtherName n) = IsHostOrDomain b.0.octets.now
 AreComparable (name.DirectoryName b) (name.DirectoryName n) = IsDecided b.0 n.0
 AreComparable _ _ = Unit {0}
 
@@ -73,9 +77,12 @@ AreSubtrees octets = IsListOf subtree.ghosts.item.valid subtree.ghosts.item.octe
 abbrev pub Concerns : GeneralName → GeneralSubtree → Type 0
 Concerns n s = (form_of s.base ≡ form_of n) ⊎ (IsMailName s.base × IsMailName n)
 
--- the name is within the subtree
+-- the name is within the subtree: all names for which it stands, or at least one of them
 abbrev pub Contains : GeneralName → GeneralSubtree → Type 0
 Contains n s = IsWithinBase s.base n
+
+abbrev pub ContainsPart : GeneralName → GeneralSubtree → Type 0
+ContainsPart n s = IsPartlyWithinBase s.base n
 
 -- minimum is 0, and maximum is absent
 abbrev pub HasBaseAlone : GeneralSubtree → Type 0
@@ -94,6 +101,7 @@ IsUnclear n s = Concerns n s × (IsUsable n s → ⊥)
 pub record Answers (n : GeneralName) (items : List GeneralSubtree) (t : Tally) : Type 0 where
   pub concerned : (t.concerned ≡ true) ↔ SomeItem (Concerns n) items
   pub within : (t.within ≡ true) ↔ SomeItem (Contains n) items
+  pub partly : (t.partly ≡ true) ↔ SomeItem (ContainsPart n) items
   pub unclear : (t.unclear ≡ true) ↔ SomeItem (IsUnclear n) items
 
 -- what a list of subtrees says of a name

@@ -3,14 +3,14 @@
 use Rattle.std.specs.Prelude.{◌≡◌, ◌⊎◌, ◌&&◌, ℕ, Bool, false, true, List, All}
 use Rattle.der.specs.Prelude.{Ia5String, PrintableString, Tag, Utf8String}
 use Rattle.der_asn1.specs.AnyRef.{any_contents}
-use Rattle.der_asn1.specs.SequenceOf.{IsListOf}
 use Rattle.der_asn1.specs.declared.elements.any.AnyRef.{AnyRef}
 use Rattle.name_forms.specs.PreparedText.{IsPlainText, TextsMatch}
-use Rattle.x509.specs.CertificateLists.{AreAttributes, IsLevel, level_encoding, level_octets}
+use Rattle.x509.specs.CertificateLists.{IsAttribute, IsLevel, attribute_encoding, level_encoding}
+use Rattle.x509.specs.CertificateLists.{level_octets}
 use Rattle.x509.specs.declared.asn1.attribute_type_and_value.AttributeTypeAndValue.{AttributeTypeAndValue}
 use Rattle.x509.specs.declared.asn1.name.Name.{Name}
 use Rattle.x509.specs.declared.asn1.relative_distinguished_name.RelativeDistinguishedName.{RelativeDistinguishedName}
-use Rattle.x509_match.specs.Lists.{Pairwise, SomeItem}
+use Rattle.x509_match.specs.Lists.{AreListsWith, IsListWith, Pairwise, SomeItem}
 use Rattle.x509_match.specs.declared.matching.Matching.{Matching}
 use Rattle.x509_match.specs.declared.matching.Matching.TheVariants.{Certain, Possible, Prepared}
 
@@ -57,18 +57,21 @@ AttributesAgree m v w = (v.oid.octets.now ≡ w.oid.octets.now) × ValuesAgree m
 abbrev pub AttributesMatch : AttributeTypeAndValue → AttributeTypeAndValue → Type 0
 AttributesMatch v w = AttributesAgree Prepared v w
 
+-- octets are a list of attributes, with a property
+abbrev pub AreAttributesWith : (List AttributeTypeAndValue → Type 0) → List ℕ → Type 0
+AreAttributesWith P octets = IsListWith IsAttribute attribute_encoding P octets
+
 -- an attribute matches one of those with these octets
 abbrev pub HasMatch : Matching → List ℕ → AttributeTypeAndValue → Type 0
-HasMatch m octets v = (l : AreAttributes octets) → SomeItem (AttributesAgree m v) l.items
+HasMatch m octets v = AreAttributesWith (SomeItem (AttributesAgree m v)) octets
 
 -- as many attributes, and a match for each in the other level
 abbrev pub AreAsMany : List ℕ → List ℕ → Type 0
 AreAsMany first second =
-    (l : AreAttributes first) (m : AreAttributes second)
-    → Pairwise (λ _ _. Unit {0}) true l.items m.items
+    AreListsWith IsAttribute attribute_encoding (Pairwise (λ _ _. Unit {0}) true) first second
 
 abbrev pub HaveMatches : Matching → List ℕ → List ℕ → Type 0
-HaveMatches m first second = (l : AreAttributes first) → All (HasMatch m second) l.items
+HaveMatches m first second = AreAttributesWith (All (HasMatch m second)) first
 
 abbrev pub LevelsAgree
     : Matching → RelativeDistinguishedName → RelativeDistinguishedName → Type 0
@@ -82,8 +85,7 @@ LevelsMatch v w = LevelsAgree Prepared v w
 -- alone counts
 abbrev pub LevelsPair : Matching → Bool → List ℕ → List ℕ → Type 0
 LevelsPair m whole first second =
-    (l : IsListOf IsLevel level_encoding first) (k : IsListOf IsLevel level_encoding second)
-    → Pairwise (LevelsAgree m) whole l.items k.items
+    AreListsWith IsLevel level_encoding (Pairwise (LevelsAgree m) whole) first second
 
 abbrev pub HasLevelsOf : Matching → Bool → Name → Name → Type 0
 HasLevelsOf m whole v w = LevelsPair m whole v.levels.octets.now w.levels.octets.now

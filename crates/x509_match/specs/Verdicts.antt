@@ -1,7 +1,6 @@
 -- What a nameConstraints says of a name (RFC 5280, 4.2.1.10; 6.1.3 (b) and (c)): `HasVerdict`; and of
 -- the names of a list: `HaveVerdict`.
-use Rattle.std.specs.Prelude.{◌≡◌, ◌⊎◌, ◌&&◌, ◌||◌, ◌++◌, ℕ, not, List, [], ◌∷◌, All, Option, Some, None}
-use Rattle.std.specs.Prelude.{if◌then◌else◌}
+use Rattle.std.specs.Prelude.{◌&&◌, ◌||◌, ◌⊎◌, ℕ, not, List, [], Option, Some, None, if◌then◌else◌}
 use Rattle.der_asn1.specs.SequenceOf.{IsListOf}
 use Rattle.der_asn1.specs.declared.fields.implicit.Implicit.{Implicit}
 use Rattle.x509.specs.contracts.asn1.general_name.GeneralNameItem.TheImpl as general
@@ -9,7 +8,8 @@ use Rattle.x509.specs.declared.asn1.general_name.GeneralName.{GeneralName}
 use Rattle.x509.specs.declared.asn1.general_subtree.GeneralSubtree.{GeneralSubtree}
 use Rattle.x509.specs.declared.asn1.general_subtrees.GeneralSubtrees.{GeneralSubtrees}
 use Rattle.x509.specs.declared.asn1.name_constraints.NameConstraints.{NameConstraints}
-use Rattle.x509_match.specs.Constraints.{AreSubtrees, Concerns, Contains, IsUnclear}
+use Rattle.x509_match.specs.Constraints.{AreSubtrees, Concerns, Contains, ContainsPart, IsUnclear}
+use Rattle.x509_match.specs.Judgements.{AreJudged}
 use Rattle.x509_match.specs.Lists.{SomeItem}
 use Rattle.x509_match.specs.declared.tally.Tally.{Tally}
 use Rattle.x509_match.specs.declared.verdict.Verdict.{Verdict}
@@ -31,7 +31,8 @@ abbrev pub AreClear : List GeneralSubtree → List GeneralSubtree → GeneralNam
 AreClear permitted excluded n =
     (SomeItem (IsUnclear n) permitted → ⊥) × (SomeItem (IsUnclear n) excluded → ⊥)
 
--- what permitted and excluded subtrees say of a name
+-- what permitted and excluded subtrees say of a name: a permitted subtree has to contain all names
+-- for which it stands, and an excluded one none of them
 abbrev pub IsVerdict : List GeneralSubtree → List GeneralSubtree → GeneralName → Verdict → Type 0
 IsVerdict permitted excluded n Unclear =
     SomeItem (IsUnclear n) permitted ⊎ SomeItem (IsUnclear n) excluded
@@ -41,11 +42,11 @@ IsVerdict permitted excluded n Outside =
 IsVerdict permitted excluded n Excluded =
     AreClear permitted excluded n
     × (SomeItem (Concerns n) permitted → SomeItem (Contains n) permitted)
-    × SomeItem (Contains n) excluded
+    × SomeItem (ContainsPart n) excluded
 IsVerdict permitted excluded n Permitted =
     AreClear permitted excluded n
     × (SomeItem (Concerns n) permitted → SomeItem (Contains n) permitted)
-    × (SomeItem (Contains n) excluded → ⊥)
+    × (SomeItem (ContainsPart n) excluded → ⊥)
 
 -- what a nameConstraints says of a name
 pub record HasVerdict (c : NameConstraints) (n : GeneralName) (v : Verdict) : Type 0 where
@@ -58,38 +59,14 @@ abbrev pub verdict_of : Tally → Tally → Verdict
 verdict_of permitted excluded =
     if permitted.unclear || excluded.unclear then Unclear
     else if permitted.concerned && not permitted.within then Outside
-    else if excluded.within then Excluded
+    else if excluded.partly then Excluded
     else Permitted
 
 -- the names of a list with these octets
 abbrev pub AreNames : List ℕ → Type 0
 AreNames octets = IsListOf general.ghosts.item.valid general.ghosts.item.octets octets
 
--- a nameConstraints permits a name
-abbrev pub Permits : NameConstraints → GeneralName → Type 0
-Permits c n = HasVerdict c n Permitted
-
--- the first name that is not permitted has this verdict
-pub record IsFirstRefused (c : NameConstraints) (names : List GeneralName) (v : Verdict)
-    : Type 0 where
-  pub before : List GeneralName
-  pub name : GeneralName
-  pub after : List GeneralName
-  pub split : names ≡ before ++ name ∷ after
-  pub permitted : All (Permits c) before
-  pub verdict : HasVerdict c name v
-
--- all names are permitted, or the first other one has this verdict
-abbrev pub AreJudged : NameConstraints → List GeneralName → Verdict → Type 0
-AreJudged c names Permitted = All (Permits c) names
-AreJudged c names v = IsFirstRefused c names v
-
 -- what a nameConstraints says of the names of a list
 pub record HaveVerdict (c : NameConstraints) (octets : List ℕ) (v : Verdict) : Type 0 where
   pub names : AreNames octets
-  pub are : AreJudged c names.items v
-
--- the first verdict that is not that a name is permitted
-abbrev pub first_refusal : Verdict → Verdict → Verdict
-first_refusal Permitted w = w
-first_refusal v w = v
+  pub are : AreJudged (HasVerdict c) names.items v

@@ -1,11 +1,13 @@
 //! Comparison of general names.
 ghost use Rattle.std.specs.Prelude.{◌≡◌, ◌↔◌, true};
-ghost use Rattle.x509_match.specs.GeneralNames.{GeneralNamesMatch, IsWithinBase, OtherNamesMatch};
+ghost use Rattle.x509_match.specs.GeneralNames.{GeneralNamesMatch, IsPartlyWithinBase, IsWithinBase, OtherNamesMatch};
 
 use crate::attribute::elements_match;
 use crate::name::{is_name_within, names_match};
+use crate::utf8_mailbox::is_utf8_mail_within;
 use name_forms::{
-    is_address_within, is_below_host, is_mail_within, is_same_host, is_uri_within, mailboxes_match,
+    are_all_below_host, is_address_within, is_mail_within, is_same_host, is_some_below_host,
+    is_uri_within, mailboxes_match,
 };
 use std::alloc::Global;
 use x509::{GeneralName, OtherName};
@@ -54,9 +56,13 @@ fn other_names_match(first: &OtherName<'_>, second: &OtherName<'_>) -> bool
         && elements_match(&first.value.0, &second.value.0)
 }
 
-/// Whether `name` is within the subtree with the base `base` (RFC 5280, 4.2.1.10). False if `base`
-/// and `name` have different forms. Also false for otherNames, x400Addresses, ediPartyNames and
-/// registeredIDs, for which the RFC has no constraints. The function does not use `alloc`.
+/// Whether `name` is within the subtree with the base `base` (RFC 5280, 4.2.1.10). A dNSName with an
+/// asterisk as its first label is within it if all names for which it stands are (RFC 9525, 6.3). A
+/// SmtpUTF8Mailbox, which is an otherName, is compared with the base of an rfc822Name (RFC 9598, 6).
+///
+/// False if `base` and `name` have different forms otherwise. Also false for other otherNames,
+/// x400Addresses, ediPartyNames and registeredIDs, for which the RFCs have no constraints. The
+/// function does not use `alloc`.
 pub fn is_within_base(alloc: Global, base: &GeneralName<'_>, name: &GeneralName<'_>) -> bool
     ensures { (result ≡ true) ↔ IsWithinBase base.now name.now }
 {
@@ -64,8 +70,11 @@ pub fn is_within_base(alloc: Global, base: &GeneralName<'_>, name: &GeneralName<
         (GeneralName::Rfc822Name(base), GeneralName::Rfc822Name(name)) => {
             is_mail_within(base.0.octets(), name.0.octets())
         }
+        (GeneralName::Rfc822Name(base), GeneralName::OtherName(name)) => {
+            is_utf8_mail_within(base.0.octets(), &name.0)
+        }
         (GeneralName::DnsName(base), GeneralName::DnsName(name)) => {
-            is_below_host(base.0.octets(), name.0.octets())
+            are_all_below_host(base.0.octets(), name.0.octets())
         }
         (GeneralName::DirectoryName(base), GeneralName::DirectoryName(name)) => {
             is_name_within(alloc, &base.0, &name.0)
@@ -78,5 +87,19 @@ pub fn is_within_base(alloc: Global, base: &GeneralName<'_>, name: &GeneralName<
             is_address_within(base.0.octets(), name.0.octets())
         }
         _ => false,
+    }
+}
+
+/// Whether `name` is within the subtree with the base `base`, or, if it is a dNSName with an
+/// asterisk as its first label, whether one of the names for which it stands is (RFC 9525, 6.3).
+/// See [`is_within_base`]. The function does not use `alloc`.
+pub fn is_partly_within_base(alloc: Global, base: &GeneralName<'_>, name: &GeneralName<'_>) -> bool
+    ensures { (result ≡ true) ↔ IsPartlyWithinBase base.now name.now }
+{
+    match (base, name) {
+        (GeneralName::DnsName(base), GeneralName::DnsName(name)) => {
+            is_some_below_host(base.0.octets(), name.0.octets())
+        }
+        _ => is_within_base(alloc, base, name),
     }
 }

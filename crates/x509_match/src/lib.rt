@@ -3,9 +3,11 @@
 //! [`names_match`] says whether two names are the same. An example is the issuer of a certificate
 //! and the subject of the certificate of its authority. [`is_name_within`] says whether a name is
 //! within the subtree of another name, which is how constraints of names are given (4.2.1.10).
-//! [`general_names_match`] and [`is_within_base`] say the same of general names of all forms.
+//! [`general_names_match`] and [`is_within_base`] say the same of general names of all forms, and
+//! [`is_partly_within_base`] whether this holds of some of the names for which an asterisk stands.
 //! [`name_verdict`] and [`names_verdict`] compare a general name, and a list of general names, with
-//! a whole nameConstraints. The result is a [`Verdict`].
+//! a whole nameConstraints. [`subject_verdict`] compares the subject of a certificate with it, and
+//! the mailboxes in the subject. The result is a [`Verdict`].
 //!
 //! Each result is proved to be exactly what its specification says. Values that are
 //! PrintableStrings, UTF8Strings or IA5Strings are compared by `name_forms::texts_match`. It
@@ -27,12 +29,15 @@ mod level;
 mod matching;
 mod name;
 mod names;
+mod subject;
 mod tally;
+mod utf8_mailbox;
 mod verdict;
 
 pub use attribute::attributes_match;
-pub use general_name::{general_names_match, is_within_base};
+pub use general_name::{general_names_match, is_partly_within_base, is_within_base};
 pub use level::levels_match;
 pub use name::{is_name_within, names_match};
 pub use names::names_verdict;
+pub use subject::subject_verdict;
 pub use verdict::{Verdict, name_verdict};

@@ -1,6 +1,7 @@
 //! Comparison of a list of names with a nameConstraints.
 ghost use Rattle.std.specs.Prelude.{◌≡◌};
-ghost use Rattle.x509_match.specs.Verdicts.{HaveVerdict, first_refusal};
+ghost use Rattle.x509_match.specs.Judgements.{first_refusal};
+ghost use Rattle.x509_match.specs.Verdicts.{HaveVerdict};
 
 use crate::verdict::{Verdict, name_verdict};
 use std::alloc::Global;
@@ -10,9 +11,8 @@ use x509::{GeneralNames, NameConstraints};
 /// (RFC 5280, 6.1.3 (b) and (c)). Returns [`Verdict::Permitted`] if all names are permitted, and
 /// otherwise the verdict of the first name that is not permitted.
 ///
-/// The subject of the certificate, and an emailAddress in the subject, are not in the list. The
-/// caller must compare them too, by [`name_verdict`](crate::name_verdict). The function does not
-/// use `alloc`.
+/// The subject of the certificate, and an emailAddress in the subject, are not in the list: call
+/// [`subject_verdict`](crate::subject_verdict) too. The function does not use `alloc`.
 pub fn names_verdict(
     alloc: Global,
     constraints: &NameConstraints<'_>,
@@ -27,7 +27,7 @@ pub fn names_verdict(
     verdict
 }
 
-fn first_refusal(before: Verdict, next: Verdict) -> Verdict
+pub(crate) fn first_refusal(before: Verdict, next: Verdict) -> Verdict
     ensures { result ≡ first_refusal before next }
 {
     match before {

@@ -1,12 +1,13 @@
 //! Comparison of a name with the subtrees of one list.
 ghost use Rattle.std.specs.Prelude.{◌≡◌, ◌↔◌, ◌⊎◌, true, false};
-ghost use Rattle.x509_match.specs.Constraints.{AreComparable, CanBeCompared, Concerns, Contains, HasBaseAlone, IsBase, IsMailName, IsTally, IsUnclear, IsUsable, form_of, smtp_utf8_mailbox};
+ghost use Rattle.x509_match.specs.Constraints.{AreComparable, CanBeCompared, Concerns, Contains, HasBaseAlone, IsBase, IsMailName, IsTally, IsUnclear, IsUsable, form_of};
 
-use crate::general_name::is_within_base;
+use crate::general_name::{is_partly_within_base, is_within_base};
 use crate::name::is_decided;
+use crate::utf8_mailbox::{is_comparable_mailbox, is_smtp_utf8_mailbox};
 use name_forms::{
-    is_address, is_cidr_range, is_host, is_host_constraint, is_host_mailbox, is_host_uri,
-    is_mail_constraint, is_uri_constraint, is_wildcard_above,
+    is_address, is_cidr_range, is_host, is_host_constraint, is_host_mailbox, is_host_or_domain,
+    is_host_uri, is_mail_constraint, is_uri_constraint,
 };
 use std::alloc::Global;
 use x509::{GeneralName, GeneralSubtree, GeneralSubtrees};
@@ -16,8 +17,10 @@ use x509::{GeneralName, GeneralSubtree, GeneralSubtrees};
 pub(crate) struct Tally {
     /// Whether a subtree of the list has a base of the same form as the name.
     pub(crate) concerned: bool,
-    /// Whether the name is within a subtree of the list.
+    /// Whether the name is within a subtree of the list: all names for which it stands.
     pub(crate) within: bool,
+    /// Whether the name is within a subtree of the list, at least for one of these names.
+    pub(crate) partly: bool,
     /// Whether a subtree of the list has a base of the same form as the name, but cannot be
     /// compared with the name.
     pub(crate) unclear: bool,
@@ -33,15 +36,18 @@ pub(crate) fn tally_of(
 {
     let mut concerned = false;
     let mut within = false;
+    let mut partly = false;
     let mut unclear = false;
     'subtrees: for subtree in subtrees.items.iter(alloc) {
         concerned = concerned | is_concerned(&subtree, name);
         within = within | is_within_base(alloc, &subtree.base, name);
+        partly = partly | is_partly_within_base(alloc, &subtree.base, name);
         unclear = unclear | is_unclear(alloc, &subtree, name);
     }
     Tally {
         concerned,
         within,
+        partly,
         unclear,
     }
 }
@@ -75,12 +81,6 @@ fn is_mail_name(name: &GeneralName<'_>) -> bool
     }
 }
 
-fn is_smtp_utf8_mailbox(type_id: &[u8]) -> bool
-    ensures { (result ≡ true) ↔ (type_id.now ≡ smtp_utf8_mailbox) }
-{
-    type_id == [0x2B, 0x06, 0x01, 0x05, 0x05, 0x07, 0x08, 0x09].as_slice()
-}
-
 fn is_unclear(alloc: Global, subtree: &GeneralSubtree<'_>, name: &GeneralName<'_>) -> bool
     ensures { (result ≡ true) ↔ IsUnclear name.now subtree.now }
 {
@@ -94,7 +94,8 @@ fn is_usable(alloc: Global, subtree: &GeneralSubtree<'_>, name: &GeneralName<'_>
 }
 
 fn has_comparison(alloc: Global, base: &GeneralName<'_>, name: &GeneralName<'_>) -> bool
-    ensures { (result ≡ true) ↔ ((IsBase base.now × CanBeCompared name.now) × AreComparable base.now name.now) }
+    ensures { (result ≡ true)
+        ↔ ((IsBase base.now × CanBeCompared name.now) × AreComparable base.now name.now) }
 {
     have_syntax(base, name) && are_comparable(alloc, base, name)
 }
@@ -110,8 +111,8 @@ fn are_comparable(alloc: Global, base: &GeneralName<'_>, name: &GeneralName<'_>)
     ensures { (result ≡ true) ↔ AreComparable base.now name.now }
 {
     match (base, name) {
-        (GeneralName::DnsName(base), GeneralName::DnsName(name)) => {
-            !is_wildcard_above(base.0.octets(), name.0.octets())
+        (GeneralName::Rfc822Name(base), GeneralName::OtherName(_name)) => {
+            is_host_or_domain(base.0.octets())
         }
         (GeneralName::DirectoryName(base), GeneralName::DirectoryName(name)) => {
             is_decided(alloc, &base.0, &name.0)
@@ -148,6 +149,7 @@ fn can_be_compared(name: &GeneralName<'_>) -> bool
     ensures { (result ≡ true) ↔ CanBeCompared name.now }
 {
     match name {
+        GeneralName::OtherName(name) => is_comparable_mailbox(&name.0),
         GeneralName::Rfc822Name(name) => is_host_mailbox(name.0.octets()),
         GeneralName::DnsName(name) => is_host(name.0.octets()),
         GeneralName::DirectoryName(_) => true,

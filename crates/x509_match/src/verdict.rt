@@ -13,22 +13,27 @@ use x509::{GeneralName, NameConstraints};
 #[derive(Clone, Copy, Debug, Drop, PartialEq, Eq)]
 pub enum Verdict {
     /// The name is within a permitted subtree, or no permitted subtree has the form of the name.
-    /// Furthermore, the name is within no excluded subtree.
+    /// Furthermore, the name is within no excluded subtree. If the name is a dNSName whose first
+    /// label is an asterisk, it stands for the names with any one label in its place (RFC 9525,
+    /// 6.3): a permitted subtree has all of these, and no excluded subtree has any.
     Permitted,
-    /// A permitted subtree has the form of the name, but the name is within no permitted subtree.
+    /// A permitted subtree has the form of the name, but no permitted subtree has the name, or all
+    /// names for which it stands.
     Outside,
-    /// The name is within an excluded subtree, and the result is not [`Verdict::Outside`].
+    /// The name, or one of the names for which it stands, is within an excluded subtree, and the
+    /// result is not [`Verdict::Outside`].
     Excluded,
     /// A subtree has the form of the name, but the subtree and the name cannot be compared. RFC
     /// 5280 demands that the certificate is rejected if the extension is critical. The subtree and
     /// the name cannot be compared in these cases:
     ///
-    /// - The form is otherName, x400Address, ediPartyName or registeredID.
-    /// - The name is a SmtpUTF8Mailbox (RFC 9598), an otherName to which the subtrees of rfc822Names
-    ///   apply too. Or the base is one, and the name is an rfc822Name.
+    /// - The form is otherName, x400Address, ediPartyName or registeredID. But a SmtpUTF8Mailbox, an
+    ///   otherName to which the subtrees of rfc822Names apply too (RFC 9598, 6), can be compared
+    ///   with a base that is a host name, or a dot and a host name.
+    /// - The name is an rfc822Name, and the base is a SmtpUTF8Mailbox.
     /// - The subtree has a minimum other than 0, or a maximum.
-    /// - The name is an rfc822Name, but no mailbox at a host: for example, it has two @, text in
-    ///   quotation marks, or an IP address.
+    /// - The name is an rfc822Name or a SmtpUTF8Mailbox, but no mailbox at a host: for example, it
+    ///   has two @, text in quotation marks, or an IP address.
     /// - The name is a dNSName, but no host name: for example, it ends with a dot. Its first label
     ///   may be an asterisk.
     /// - The name is no URI (RFC 3986), or its authority has no host name.
@@ -41,9 +46,6 @@ pub enum Verdict {
     ///   within the empty base, which can be compared.
     /// - The base is an iPAddress that does not have 8 or 32 octets, or whose mask has a one after a
     ///   zero.
-    /// - The name is a dNSName whose first label is an asterisk, and the base is inside of the domain
-    ///   after the asterisk. An example is `*.example.com`, with the base `foo.example.com`. Then the
-    ///   name stands for some names within the base, and for others.
     /// - The name is a directoryName, and it is not certain whether its levels match those of the
     ///   base. Two values match or differ with certainty if both are PrintableStrings, UTF8Strings
     ///   or IA5Strings of printed ASCII characters and spaces, or if their elements are identical.
@@ -96,6 +98,7 @@ fn no_tally() -> Tally
     Tally {
         concerned: false,
         within: false,
+        partly: false,
         unclear: false,
     }
 }
@@ -107,7 +110,7 @@ fn verdict_of(permitted: Tally, excluded: Tally) -> Verdict
         Verdict::Unclear
     } else if permitted.concerned && !permitted.within {
         Verdict::Outside
-    } else if excluded.within {
+    } else if excluded.partly {
         Verdict::Excluded
     } else {
         Verdict::Permitted

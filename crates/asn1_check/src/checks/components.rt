@@ -105,7 +105,10 @@ pub fn automatic_number(components: &Vec<Component<'_>>, index: usize) -> usize 
 
 /// Whether AUTOMATIC TAGS gives these components tags with ascending numbers (X.680, 25.2).
 pub fn are_numbered(components: &Vec<Component<'_>>) -> bool {
-    components
-        .iter()
-        .any(|component| component.number.is_some())
+    for component in components.iter() {
+        if component.number.is_some() {
+            return true;
+        }
+    }
+    false
 }

@@ -4,7 +4,7 @@ use super::rust_names::snake_name;
 use std::alloc::{AllocError, Global};
 
 /// What the file of a definition defines. The imports for the contracts in the file depend on it.
-#[derive(Clone, Copy, Debug, PartialEq, Eq)]
+#[derive(Clone, Copy, PartialEq, Eq)]
 pub enum DefinitionKind {
     Sequence,
     SequencePart,

@@ -93,13 +93,23 @@ fn push_file(
     push_ghost_lines(alloc, out, krate, definition, code.as_str(), &words)?;
     out.push('\n')?;
     sources.push_own(alloc, out, definition, &words)?;
-    push_use(alloc, out, &words, "der", DER)?;
-    push_use(alloc, out, &words, "der_asn1", DER_ASN1)?;
-    push_use(alloc, out, &words, "der_universal", DER_UNIVERSAL)?;
-    sources.push_imported(alloc, out, &words)?;
-    push_use(alloc, out, &words, "std::alloc", "Global")?;
-    out.push('\n')?;
+    push_uses(alloc, out, &words, sources)?;
     push_wrapped(alloc, out, definition.body.as_str())
+}
+
+// Adds the imports from other crates, and an empty line.
+fn push_uses(
+    alloc: Global,
+    out: &mut String,
+    words: &NameIndex<'_>,
+    sources: &Sources<'_>,
+) -> Result<(), AllocError> {
+    push_use(alloc, out, words, "der", DER)?;
+    push_use(alloc, out, words, "der_asn1", DER_ASN1)?;
+    push_use(alloc, out, words, "der_universal", DER_UNIVERSAL)?;
+    sources.push_imported(alloc, out, words)?;
+    push_use(alloc, out, words, "std::alloc", "Global")?;
+    out.push('\n')
 }
 
 // The lines of a text that are no comments.

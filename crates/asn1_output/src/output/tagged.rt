@@ -155,16 +155,18 @@ pub fn is_checked(module: &Module<'_>, index: usize) -> bool {
 // Whether an imported type has a universal tag alone.
 fn is_imported_plain(module: &Module<'_>, name: &str) -> bool {
     match module.imported.find(name) {
-        Some(external) => {
-            !external.tags.is_any
-                && external
-                    .tags
-                    .tags
-                    .iter()
-                    .all(|tag| tag.class == TagClass::Universal)
-        }
+        Some(external) => !external.tags.is_any && are_universal(&external.tags.tags),
         None => false,
     }
+}
+
+fn are_universal(tags: &Vec<Tag>) -> bool {
+    for tag in tags.iter() {
+        if tag.class != TagClass::Universal {
+            return false;
+        }
+    }
+    true
 }
 
 /// The index of the type behind the tags of the type with this index. References to other types are

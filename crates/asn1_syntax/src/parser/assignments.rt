@@ -89,7 +89,7 @@ impl<'a> Parser<'a> {
         if is_type && SimpleType::of(name.text).is_some() {
             return Err(unsupported(name, "a name that no type of the notation has"));
         }
-        if self.peek().is("{") || self.peek().is("MACRO") || is_type && self.is_class() {
+        if self.peek().is_one_of(&["{", "MACRO"]) || is_type && self.is_class() {
             self.to_next_assignment(self.at.saturating_sub(1));
             module.passed.add(name.text, number)?;
             return Ok(());
@@ -99,7 +99,7 @@ impl<'a> Parser<'a> {
             return self.value_or_object(name, module);
         }
         let first = self.nodes.len();
-        let of = if self.peek().is("::=") {
+        let of = if self.sees("::=") {
             self.at = self.at.saturating_add(1);
             let of = self.whole_type()?;
             self.check_macro(number, of)?;
@@ -110,7 +110,7 @@ impl<'a> Parser<'a> {
                 None => return Ok(()),
             }
         } else {
-            return Err(refused(self.peek(), "::="));
+            return Err(self.refusal("::="));
         };
         module.types.push(TypeAssignment { name, of, first })?;
         Ok(())
@@ -134,14 +134,7 @@ impl<'a> Parser<'a> {
     fn is_macro(&self, of: usize) -> bool {
         match self.nodes.get(of) {
             Some(node) => {
-                let is_name = matches!(node.form, TypeForm::Reference);
-                is_name
-                    && !node
-                        .item
-                        .text
-                        .as_bytes()
-                        .iter()
-                        .any(|octet| is_lower(*octet))
+                matches!(node.form, TypeForm::Reference) && is_in_capitals(node.item.text)
             }
             None => false,
         }
@@ -150,7 +143,7 @@ impl<'a> Parser<'a> {
     fn expect_end(&mut self) -> Result<(), Failure<'a>> {
         match self.peek().kind {
             ItemKind::End => Ok(()),
-            _ => Err(refused(self.peek(), "the end of the file")),
+            _ => Err(self.refusal("the end of the file")),
         }
     }
 
@@ -177,7 +170,7 @@ impl<'a> Parser<'a> {
         }
         let first = self.nodes.len();
         let of = self.whole_type()?;
-        if !self.peek().is("::=") && self.is_macro(of) {
+        if !self.sees("::=") && self.is_macro(of) {
             return Err(unsupported(name, NO_MACRO));
         }
         self.expect("::=")?;
@@ -213,4 +206,14 @@ impl<'a> Parser<'a> {
         self.add_constraints(of, vec![in self.alloc; constraint]?)?;
         Ok(Some(of))
     }
+}
+
+// Whether no letter of a name is a small one.
+fn is_in_capitals(name: &str) -> bool {
+    for octet in name.as_bytes() {
+        if is_lower(*octet) {
+            return false;
+        }
+    }
+    true
 }

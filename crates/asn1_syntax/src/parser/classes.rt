@@ -11,7 +11,7 @@ impl<'a> Parser<'a> {
     /// Whether the next lexical items are `::=` and then a class, or the name of a class.
     pub(super) fn is_class(&self) -> bool {
         let of = self.peek_second();
-        self.peek().is("::=") && self.is_class_name(of)
+        self.sees("::=") && self.is_class_name(of)
     }
 
     /// The place of the opening brace of the class that this name stands for. `None` if no module
@@ -24,7 +24,7 @@ impl<'a> Parser<'a> {
         for _ in 0..16u32 {
             let place = found?;
             let at = self.after_assign(place)?;
-            if self.item_at(at).is("CLASS") {
+            if self.has_at(at, "CLASS") {
                 return Some(Place {
                     at: at.saturating_add(1),
                     is_argument: false,
@@ -63,7 +63,7 @@ impl<'a> Parser<'a> {
             return Some(place.at);
         }
         let assign = place.at.saturating_add(1);
-        if self.item_at(assign).is("::=") {
+        if self.has_at(assign, "::=") {
             return Some(assign.saturating_add(1));
         }
         None
@@ -81,7 +81,7 @@ impl<'a> Parser<'a> {
             return Err(unsupported(self.peek(), "& and a field of a class"));
         }
         let field = self.next();
-        if self.peek().is(".") {
+        if self.sees(".") {
             return Err(unsupported(self.peek(), "one field of a class"));
         }
         self.field = Some(field);
@@ -96,7 +96,7 @@ impl<'a> Parser<'a> {
         let Some(place) = after else {
             return Err(unsupported(field, "a field of its class"));
         };
-        if field.kind == ItemKind::UpperName || self.item_at(place.at).is("&") {
+        if field.kind == ItemKind::UpperName || self.has_at(place.at, "&") {
             self.field_type = Some(SimpleType::Any);
             return Ok(None);
         }
@@ -109,7 +109,7 @@ impl<'a> Parser<'a> {
     pub(super) fn after_field(&self, class: Place, field: Item<'a>) -> Option<Place> {
         let end = self.end_of_group(class.at);
         for at in class.at..end {
-            if self.item_at(at).is("&")
+            if self.has_at(at, "&")
                 && self.item_at(at.saturating_add(1)).text == field.text
                 && self.begins_field(at)
             {
@@ -125,13 +125,13 @@ impl<'a> Parser<'a> {
     // Whether a field of a class, and no use of one, begins at this item.
     fn begins_field(&self, at: usize) -> bool {
         let before = self.item_at(at.saturating_sub(1));
-        before.is("{") || before.is(",")
+        before.is_one_of(&["{", ","])
     }
 }
 
 // Whether this is the name of a class that is built in (X.681, annexes A and B).
 fn is_builtin_class(name: Item<'_>) -> bool {
-    name.is("TYPE-IDENTIFIER") || name.is("ABSTRACT-SYNTAX")
+    name.is_one_of(&["TYPE-IDENTIFIER", "ABSTRACT-SYNTAX"])
 }
 
 // The type of a field of a class that is built in.

@@ -10,6 +10,20 @@ use crate::item_kind::ItemKind;
 use crate::object_set::TableUse;
 use crate::range::Range;
 
+/// What combines the constraint in front of it with another one, or goes on in a way that is not
+/// read.
+const SET_OPERATORS: [&str; 9] = [
+    "|",
+    "^",
+    "UNION",
+    "INTERSECTION",
+    "EXCEPT",
+    "<",
+    ".",
+    ":",
+    "!",
+];
+
 impl<'a> Parser<'a> {
     /// Parses a range or a size constraint, without the parenthesis that closes it. Any other
     /// constraint is skipped, and returned as [`Constraint::Unread`]. The caller must handle
@@ -57,13 +71,13 @@ impl<'a> Parser<'a> {
         &mut self,
         field: Option<Item<'a>>,
     ) -> Result<Option<Constraint<'a>>, Failure<'a>> {
-        let (Some(field), true) = (field, self.peek().is("{")) else {
+        let (Some(field), true) = (field, self.sees("{")) else {
             return Ok(None);
         };
         let members = self.set_members()?;
         self.braces()?;
         let mut by = None;
-        if self.peek().is("{") {
+        if self.sees("{") {
             for item in self.braces()?.iter() {
                 if item.kind == ItemKind::LowerName {
                     by = Some(*item);
@@ -84,7 +98,7 @@ impl<'a> Parser<'a> {
             is_argument: true,
         };
         for _ in 0..=self.frames.len() {
-            if self.item_at(place.at).is("{") {
+            if self.has_at(place.at, "{") {
                 place.at = place.at.saturating_add(1);
             }
             match self.find_at(place.frame, self.item_at(place.at).text) {
@@ -97,7 +111,7 @@ impl<'a> Parser<'a> {
             let item = self.item_at(at);
             if item.kind == ItemKind::LowerName || Parser::is_reference(item) {
                 members.push(self.own_name_at(place.frame, item)?)?;
-            } else if !item.is("|") && !item.is("...") && !item.is("UNION") {
+            } else if !item.is_one_of(&["|", "...", "UNION"]) {
                 break;
             }
         }
@@ -135,41 +149,32 @@ impl<'a> Parser<'a> {
     // Whether a range, a single number or name, or a size begins here.
     fn begins_range(&self) -> bool {
         let item = self.peek();
-        if self.peek_second().is("..") && self.item_at(self.at.saturating_add(2)).is("<") {
+        if self.sees_second("..") && self.has_at(self.at.saturating_add(2), "<") {
             return false;
         }
         match item.kind {
-            ItemKind::UpperName => item.is("SIZE") || item.is("MIN") || item.is("MAX"),
+            ItemKind::UpperName => item.is_one_of(&["SIZE", "MIN", "MAX"]),
             ItemKind::LowerName => true,
             ItemKind::BinaryString | ItemKind::HexString | ItemKind::CharacterString => false,
-            ItemKind::Number => !self.peek_second().is("."),
-            _ => !item.is("{") && !item.is("(") && !item.is("-") || self.is_negative(),
+            ItemKind::Number => !self.sees_second("."),
+            _ => !item.is_one_of(&["{", "(", "-"]) || self.is_negative(),
         }
     }
 
     // Whether a whole number below 0 begins here.
     fn is_negative(&self) -> bool {
-        self.peek().is("-") && !self.item_at(self.at.saturating_add(2)).is(".")
+        self.sees("-") && !self.has_at(self.at.saturating_add(2), ".")
     }
 
     // Whether what is here combines the constraint in front with another one (X.680, 50.1).
     fn is_set_operator(&self) -> bool {
         let item = self.peek();
-        item.is("|")
-            || item.is("^")
-            || item.is("UNION")
-            || item.is("INTERSECTION")
-            || item.is("EXCEPT")
-            || item.is("<")
-            || item.is(".")
-            || item.is(":")
-            || (item.is(",") && self.is_open_end())
-            || item.is("!")
+        item.is_one_of(&SET_OPERATORS) || (item.is(",") && self.is_open_end())
     }
 
     // Whether more than the end is after a comma and an extension mark.
     fn is_open_end(&self) -> bool {
-        self.peek_second().is("...") && !self.item_at(self.at.saturating_add(2)).is(")")
+        self.sees_second("...") && !self.has_at(self.at.saturating_add(2), ")")
     }
 
     // Moves to the parenthesis after the constraint that begins with an item.
@@ -186,9 +191,9 @@ impl<'a> Parser<'a> {
             if item.kind == ItemKind::End {
                 break;
             }
-            if item.is("(") || item.is("{") {
+            if item.is_one_of(&["(", "{"]) {
                 depth = depth.saturating_add(1);
-            } else if item.is(")") || item.is("}") {
+            } else if item.is_one_of(&[")", "}"]) {
                 if depth == 0 {
                     return Ok(());
                 }
@@ -196,7 +201,7 @@ impl<'a> Parser<'a> {
             }
             self.at = self.at.saturating_add(1);
         }
-        Err(refused(self.peek(), ")"))
+        Err(self.refusal(")"))
     }
 
     // Parses a range, or a single value, and an extension mark after it.
@@ -208,9 +213,7 @@ impl<'a> Parser<'a> {
         } else {
             low
         };
-        let is_extensible = self.peek().is(",")
-            && self.peek_second().is("...")
-            && !self.is_open_end();
+        let is_extensible = self.sees(",") && self.sees_second("...") && !self.is_open_end();
         if is_extensible {
             self.at = self.at.saturating_add(2);
         }

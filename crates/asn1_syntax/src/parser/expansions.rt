@@ -29,7 +29,7 @@ impl<'a> Parser<'a> {
         if !Parser::is_reference(item) {
             return Ok(None);
         }
-        if self.peek().is(".") {
+        if self.sees(".") {
             return self.class_field(item);
         }
         let Some(place) = self.find(item.text) else {
@@ -38,7 +38,7 @@ impl<'a> Parser<'a> {
         if place.is_argument {
             return Ok(Some(self.go(place, item, Vec::new(self.alloc))?));
         }
-        if !self.item_at(place.at.saturating_add(1)).is("{") {
+        if !self.has_at(place.at.saturating_add(1), "{") {
             return Ok(None);
         }
         self.count_expansion(item)?;
@@ -103,7 +103,7 @@ impl<'a> Parser<'a> {
         let mut names = Vec::new(self.alloc);
         for at in formal..self.end_of_group(formal) {
             let after = self.item_at(at.saturating_add(1));
-            if after.is(",") || after.is("}") {
+            if after.is_one_of(&[",", "}"]) {
                 names.push(self.item_at(at).text)?;
             }
         }
@@ -153,9 +153,9 @@ impl<'a> Parser<'a> {
         for _ in 0..16u32 {
             let at = self.after_tags(self.after_assign(place)?);
             let item = self.item_at(at);
-            if item.is("SEQUENCE") || item.is("SET") || item.is("CHOICE") {
+            if item.is_one_of(&["SEQUENCE", "SET", "CHOICE"]) {
                 let at = at.saturating_add(1);
-                let is_brace = self.item_at(at).is("{");
+                let is_brace = self.has_at(at, "{");
                 return if is_brace {
                     Some(Place {
                         at,
@@ -175,9 +175,9 @@ impl<'a> Parser<'a> {
     fn after_tags(&self, at: usize) -> usize {
         let mut at = at;
         for _ in 0..16u32 {
-            if self.item_at(at).is("[") {
+            if self.has_at(at, "[") {
                 at = self.end_of_group(at);
-            } else if self.item_at(at).is("IMPLICIT") || self.item_at(at).is("EXPLICIT") {
+            } else if self.item_at(at).is_one_of(&["IMPLICIT", "EXPLICIT"]) {
                 at = at.saturating_add(1);
             } else {
                 break;

@@ -16,7 +16,7 @@ impl<'a> Parser<'a> {
         let name = self.module_name()?;
         self.expect("DEFINITIONS")?;
         let tags = self.tag_default()?;
-        if self.peek().is("EXTENSIBILITY") {
+        if self.sees("EXTENSIBILITY") {
             self.mark(NO_MARKS)?;
             self.expect("IMPLIED")?;
         }
@@ -59,7 +59,7 @@ impl<'a> Parser<'a> {
                 _ => return Err(refused(item, "a name, a comma or ;")),
             }
         }
-        Err(refused(self.peek(), ";"))
+        Err(self.refusal(";"))
     }
 
     /// Parses `IMPORTS`, and returns the imported names. Returns no names if the next lexical item
@@ -75,7 +75,7 @@ impl<'a> Parser<'a> {
             }
             self.imports_of_module(&mut imports)?;
         }
-        Err(refused(self.peek(), ";"))
+        Err(self.refusal(";"))
     }
 
     fn imported_names(&mut self) -> Result<Vec<Item<'a>>, Failure<'a>> {
@@ -105,7 +105,7 @@ impl<'a> Parser<'a> {
     // Parses the name of a module, and moves past the OBJECT IDENTIFIER after it.
     fn module_name(&mut self) -> Result<Item<'a>, Failure<'a>> {
         let name = self.expect_kind(ItemKind::UpperName, "the name of a module")?;
-        if self.peek().is("{") {
+        if self.sees("{") {
             self.braces()?;
         }
         Ok(name)
@@ -114,9 +114,8 @@ impl<'a> Parser<'a> {
     // Whether the name at this place is one that is imported from the next module.
     fn begins_import(&self) -> bool {
         let after = self.peek_second();
-        after.is(",")
-            || after.is("FROM")
-            || (after.is("{") && self.item_at(self.at.saturating_add(2)).is("}"))
+        after.is_one_of(&[",", "FROM"])
+            || (after.is("{") && self.has_at(self.at.saturating_add(2), "}"))
     }
 
     // Parses the names that one module defines, and its name.

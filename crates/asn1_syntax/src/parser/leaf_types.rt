@@ -24,35 +24,16 @@ impl<'a> Parser<'a> {
             return Err(refused(item, "a type"));
         }
         match item.text {
-            "INTEGER" if self.peek().is("{") => Ok(TypeForm::Integer(self.named_numbers()?)),
+            "INTEGER" if self.sees("{") => Ok(TypeForm::Integer(self.named_numbers()?)),
             "INTEGER" => Ok(TypeForm::Integer(Vec::new(self.alloc))),
             "ENUMERATED" => Ok(TypeForm::Enumerated(self.enumeration_items(mark)?)),
-            "BIT" => {
-                self.expect("STRING")?;
-                self.bit_string()
-            }
-            "OCTET" => {
-                self.expect("STRING")?;
-                Ok(TypeForm::Simple(SimpleType::OctetString))
-            }
-            "OBJECT" => {
-                self.expect("IDENTIFIER")?;
-                Ok(TypeForm::Simple(SimpleType::ObjectIdentifier))
-            }
+            "BIT" => self.bit_string(),
+            "OCTET" => self.after_word("STRING", SimpleType::OctetString),
+            "OBJECT" => self.after_word("IDENTIFIER", SimpleType::ObjectIdentifier),
             "ANY" => self.any(),
-            "EMBEDDED" => {
-                self.expect("PDV")?;
-                Ok(TypeForm::Simple(SimpleType::Unknown(11)))
-            }
-            "CHARACTER" => {
-                self.expect("STRING")?;
-                Ok(TypeForm::Simple(SimpleType::Unknown(29)))
-            }
-            "INSTANCE" => {
-                self.expect("OF")?;
-                self.at = self.at.saturating_add(1);
-                Ok(TypeForm::Simple(SimpleType::Unknown(8)))
-            }
+            "EMBEDDED" => self.after_word("PDV", SimpleType::Unknown(11)),
+            "CHARACTER" => self.after_word("STRING", SimpleType::Unknown(29)),
+            "INSTANCE" => self.instance(),
             word => match SimpleType::of(word) {
                 Some(simple) => Ok(TypeForm::Simple(simple)),
                 None => self.reference(item),
@@ -60,8 +41,26 @@ impl<'a> Parser<'a> {
         }
     }
 
+    // Moves past the second word of a type of two words.
+    fn after_word(
+        &mut self,
+        word: &'static str,
+        simple: SimpleType,
+    ) -> Result<TypeForm<'a>, Failure<'a>> {
+        self.expect(word)?;
+        Ok(TypeForm::Simple(simple))
+    }
+
+    // Moves past the `OF` of an INSTANCE OF, and the class after it.
+    fn instance(&mut self) -> Result<TypeForm<'a>, Failure<'a>> {
+        let form = self.after_word("OF", SimpleType::Unknown(8))?;
+        self.at = self.at.saturating_add(1);
+        Ok(form)
+    }
+
     fn bit_string(&mut self) -> Result<TypeForm<'a>, Failure<'a>> {
-        if self.peek().is("{") {
+        self.expect("STRING")?;
+        if self.sees("{") {
             return Ok(TypeForm::BitString(self.named_numbers()?));
         }
         Ok(TypeForm::BitString(Vec::new(self.alloc)))
@@ -82,7 +81,7 @@ impl<'a> Parser<'a> {
                 Err(unsupported(item, "no class, which stands for no type"))
             }
             word if is_reserved(word) => Err(refused(item, "a type")),
-            _ if self.peek().is("{") => {
+            _ if self.sees("{") => {
                 Err(unsupported(item, "a type with parameters of a module that is given"))
             }
             _ => Ok(TypeForm::Reference),

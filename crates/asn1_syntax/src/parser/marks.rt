@@ -18,8 +18,7 @@ impl<'a> Parser<'a> {
         is_first: bool,
     ) -> Result<Item<'a>, Failure<'a>> {
         match (marks, is_choice) {
-            (0, true) if is_first => Err(refused(
-                self.peek(),
+            (0, true) if is_first => Err(self.refusal(
                 "an alternative in front of the extension mark",
             )),
             (0 | 1, _) => {
@@ -29,7 +28,7 @@ impl<'a> Parser<'a> {
                 }
                 Ok(mark)
             }
-            _ => Err(refused(self.peek(), "at most two extension marks")),
+            _ => Err(self.refusal("at most two extension marks")),
         }
     }
 
@@ -40,12 +39,12 @@ impl<'a> Parser<'a> {
         if self.ends_version() {
             return match self.versions {
                 0 => Ok(()),
-                _ => Err(refused(self.peek(), "]]")),
+                _ => Err(self.refusal("]]")),
             };
         }
         self.expect(",")?;
-        if self.peek().is("}") {
-            return Err(refused(self.peek(), "a component after the comma"));
+        if self.sees("}") {
+            return Err(self.refusal("a component after the comma"));
         }
         Ok(())
     }
@@ -55,11 +54,11 @@ impl<'a> Parser<'a> {
     /// is false), or while other brackets `[[` are open. The components between `[[` and `]]` are
     /// read like all other additions.
     pub(super) fn takes_version(&mut self, are_additions: bool) -> Result<bool, Failure<'a>> {
-        if !self.peek().is("[[") || !are_additions || self.versions > 0 {
+        if !self.sees("[[") || !are_additions || self.versions > 0 {
             return Ok(false);
         }
         self.mark(VERSION)?;
-        if self.peek().kind == ItemKind::Number && self.peek_second().is(":") {
+        if self.peek().kind == ItemKind::Number && self.sees_second(":") {
             self.at = self.at.saturating_add(2);
         }
         self.versions = 1;
@@ -71,6 +70,6 @@ impl<'a> Parser<'a> {
         if self.versions > 0 && self.takes("]]") {
             self.versions = 0;
         }
-        self.peek().is("}")
+        self.sees("}")
     }
 }

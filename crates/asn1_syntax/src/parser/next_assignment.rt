@@ -11,13 +11,13 @@ impl<'a> Parser<'a> {
     /// module. `start` is the index of the first item of the assignment among the lexical items.
     pub(super) fn to_next_assignment(&mut self, start: usize) {
         let own = self.assign_from(start.saturating_add(1));
-        let from = if self.item_at(own.saturating_sub(1)).is("MACRO") {
+        let from = if self.has_at(own.saturating_sub(1), "MACRO") {
             self.end_of_macro(own)
         } else {
             own.saturating_add(1)
         };
         let next = self.assign_from(from);
-        self.at = if self.item_at(next).is("::=") {
+        self.at = if self.has_at(next, "::=") {
             self.name_before(next, from)
         } else {
             next
@@ -28,15 +28,15 @@ impl<'a> Parser<'a> {
     /// items are a type or a class, then `::=`, then an opening brace.
     pub(super) fn is_set_assignment(&self) -> bool {
         let assign = self.assign_from(self.at);
-        !self.peek().is("::=")
-            && self.item_at(assign.saturating_add(1)).is("{")
+        !self.sees("::=")
+            && self.has_at(assign.saturating_add(1), "{")
             && self.name_before(assign, self.at.saturating_sub(1)) < self.at
     }
 
     // The index after the END of a macro whose `::=` has this index.
     fn end_of_macro(&self, assign: usize) -> usize {
         for at in assign..self.items.len() {
-            if self.item_at(at).is("END") {
+            if self.has_at(at, "END") {
                 return at.saturating_add(1);
             }
         }
@@ -53,7 +53,7 @@ impl<'a> Parser<'a> {
                 depth = depth.saturating_add(weight(item));
             } else if closes(item) {
                 depth = depth.saturating_sub(weight(item));
-            } else if depth == 0 && (item.is("::=") || item.is("END")) {
+            } else if depth == 0 && item.is_one_of(&["::=", "END"]) {
                 return at;
             }
         }
@@ -73,7 +73,7 @@ impl<'a> Parser<'a> {
             if self.is_name(at) && (is_type || self.is_after_name(at, least)) {
                 return if is_type { at } else { at.saturating_sub(1) };
             }
-            if self.is_name(at) && self.item_at(at.saturating_add(1)).is("{") && has_governor {
+            if self.is_name(at) && self.has_at(at.saturating_add(1), "{") && has_governor {
                 return at;
             }
             has_governor = has_governor || self.is_name(at);
@@ -107,7 +107,7 @@ impl<'a> Parser<'a> {
     fn begins_type(&self, at: usize) -> bool {
         let item = self.item_at(at);
         match item.kind {
-            ItemKind::UpperName => !item.is("TRUE") && !item.is("FALSE"),
+            ItemKind::UpperName => !item.is_one_of(&["TRUE", "FALSE"]),
             _ => item.is("["),
         }
     }
@@ -129,21 +129,21 @@ impl<'a> Parser<'a> {
     // Whether the item with this index is the name of a field of a class.
     fn is_field(&self, at: usize) -> bool {
         let before = self.item_at(at.saturating_sub(1));
-        at > 0 && (before.is("&") || before.is("."))
+        at > 0 && before.is_one_of(&["&", "."])
     }
 }
 
 /// Whether this item is an opening bracket, brace or parenthesis.
 pub fn opens(item: Item<'_>) -> bool {
-    item.is("{") || item.is("(") || item.is("[") || item.is("[[")
+    item.is_one_of(&["{", "(", "[", "[["])
 }
 
 /// Whether this item is a closing bracket, brace or parenthesis.
 pub fn closes(item: Item<'_>) -> bool {
-    item.is("}") || item.is(")") || item.is("]") || item.is("]]")
+    item.is_one_of(&["}", ")", "]", "]]"])
 }
 
 /// How many brackets an opening or closing bracket counts as: 2 for `[[` and `]]`, otherwise 1.
 pub fn weight(item: Item<'_>) -> u64 {
-    if item.is("[[") || item.is("]]") { 2 } else { 1 }
+    if item.is_one_of(&["[[", "]]"]) { 2 } else { 1 }
 }

@@ -107,7 +107,7 @@ impl<'a> Parser<'a> {
         self.expect("{")?;
         let mut items = Vec::new(self.alloc);
         for _ in 0..self.items.len() {
-            if self.peek().is("...") && mark.is_none() && !items.is_empty() {
+            if self.sees("...") && mark.is_none() && !items.is_empty() {
                 *mark = Some(Mark {
                     item: self.next(),
                     insertion: 0,

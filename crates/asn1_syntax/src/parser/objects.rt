@@ -15,7 +15,7 @@ impl<'a> Parser<'a> {
     pub(super) fn object(&mut self, name: Item<'a>, class: Place) -> Result<(), Failure<'a>> {
         let first = self.nodes.len();
         let syntax = self.end_of_group(class.at);
-        let fields = if self.item_at(syntax).is("WITH") {
+        let fields = if self.has_at(syntax, "WITH") {
             self.by_syntax(class, syntax.saturating_add(3))
         } else {
             self.by_names(class)
@@ -74,7 +74,7 @@ impl<'a> Parser<'a> {
         }
         if first.is("&") {
             let after = self.item_at(self.end_of_group(at));
-            return self.peek().is("}") || self.peek().text == after.text;
+            return self.sees("}") || self.peek().text == after.text;
         }
         self.peek().text != first.text
     }
@@ -108,7 +108,7 @@ impl<'a> Parser<'a> {
         } else if self.is_type_field(class, name) {
             Setting::Type(self.type_at(MAX_DEPTH)?)
         } else {
-            if self.peek().is("{") {
+            if self.sees("{") {
                 self.braces()?;
             } else {
                 self.at = self.at.saturating_add(1);
@@ -124,7 +124,7 @@ impl<'a> Parser<'a> {
             return false;
         };
         let after = self.item_at(place.at);
-        after.is(",") || after.is("}") || after.is("OPTIONAL") || after.is("DEFAULT")
+        after.is_one_of(&[",", "}", "OPTIONAL", "DEFAULT"])
     }
 
     /// Parses a set of information objects. `class` is the place of the opening brace of their
@@ -148,10 +148,10 @@ impl<'a> Parser<'a> {
             } else if item.kind == ItemKind::LowerName || Parser::is_reference(item) {
                 self.at = self.at.saturating_add(1);
                 members.push(self.own_name(item)?)?;
-                if self.peek().is("{") {
+                if self.sees("{") {
                     self.braces()?;
                 }
-            } else if item.is("|") || item.is(",") || item.is("...") || item.is("UNION") {
+            } else if item.is_one_of(&["|", ",", "...", "UNION"]) {
                 self.at = self.at.saturating_add(1);
             } else {
                 break;

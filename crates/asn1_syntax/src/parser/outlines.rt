@@ -37,7 +37,7 @@ impl<'a> Parser<'a> {
     /// Whether the next lexical items begin a module.
     pub(super) fn begins_module(&self) -> bool {
         self.peek().kind == ItemKind::UpperName
-            && (self.peek_second().is("DEFINITIONS") || self.peek_second().is("{"))
+            && self.peek_second().is_one_of(&["DEFINITIONS", "{"])
     }
 
     // The outline of the module that begins here, after which this moves.
@@ -90,7 +90,7 @@ impl<'a> Parser<'a> {
                 owners.add(*name, 0)?;
             }
             for name in first.imported.names.iter() {
-                owners.add(*name, self.find_at(0, name).map_or(0, |place| place.frame))?;
+                owners.add(*name, self.definer_of(name))?;
             }
         }
         for (number, outline) in self.modules.iter().enumerate() {
@@ -100,6 +100,15 @@ impl<'a> Parser<'a> {
         }
         self.owners = owners;
         Ok(())
+    }
+
+    // The number of the module that defines what a name means in the first module; that of the first
+    // module if none of the text does.
+    fn definer_of(&self, name: &str) -> usize {
+        match self.find_at(0, name) {
+            Some(place) => place.frame,
+            None => 0,
+        }
     }
 
     // Finds the names after the last module that are those of no other module.
@@ -144,11 +153,7 @@ impl<'a> Parser<'a> {
                 module.exports.push(*name)?;
             }
             for import in first.imports.iter() {
-                if self
-                    .find_at(0, import.name.text)
-                    .map_or(0, |place| place.frame)
-                    == 0
-                {
+                if self.definer_of(import.name.text) == 0 {
                     module.imports.push(*import)?;
                 }
             }

@@ -25,7 +25,7 @@ pub struct Frame<'a> {
 }
 
 /// A parameter of a type, with the argument that is given for it.
-#[derive(Clone, Copy, Debug)]
+#[derive(Clone, Copy)]
 pub struct Parameter<'a> {
     /// The name of the parameter.
     pub name: &'a str,
@@ -34,7 +34,7 @@ pub struct Parameter<'a> {
 }
 
 /// Where a name is defined: at its assignment, or, for a parameter, where its argument is written.
-#[derive(Clone, Copy, Debug)]
+#[derive(Clone, Copy)]
 pub struct Place {
     /// An index among the lexical items: that of the assigned name, or that of the first item of
     /// the argument.
@@ -47,7 +47,7 @@ pub struct Place {
 }
 
 /// The place to which the parser comes back after it has read a type elsewhere.
-#[derive(Clone, Copy, Debug)]
+#[derive(Clone, Copy)]
 pub struct Back {
     at: usize,
     frame: usize,

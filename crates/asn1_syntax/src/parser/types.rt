@@ -77,37 +77,29 @@ impl<'a> Parser<'a> {
         mark: &mut Option<Mark<'a>>,
         depth: u32,
     ) -> Result<TypeForm<'a>, Failure<'a>> {
-        if item.is("[") {
-            let prefix = self.tag_prefix()?;
-            return Ok(TypeForm::Tagged(prefix, self.type_at(depth)?));
+        match item.text {
+            "[" => {
+                let prefix = self.tag_prefix()?;
+                Ok(TypeForm::Tagged(prefix, self.type_at(depth)?))
+            }
+            "CHOICE" => Ok(TypeForm::Choice(self.components(true, mark, depth)?)),
+            "SET" if self.sees("{") => Ok(TypeForm::Set(self.components(false, mark, depth)?)),
+            "SET" => Ok(TypeForm::SetOf(self.list_of(constraints, depth)?)),
+            "SEQUENCE" if self.takes_unread() => Ok(TypeForm::Simple(SimpleType::Unread)),
+            "SEQUENCE" if self.sees("{") => {
+                Ok(TypeForm::Sequence(self.components(false, mark, depth)?))
+            }
+            "SEQUENCE" => Ok(TypeForm::SequenceOf(self.list_of(constraints, depth)?)),
+            _ => self.leaf(item, mark),
         }
-        if item.is("CHOICE") {
-            return Ok(TypeForm::Choice(self.components(true, mark, depth)?));
-        }
-        if item.is("SET") && self.peek().is("{") {
-            return Ok(TypeForm::Set(self.components(false, mark, depth)?));
-        }
-        if item.is("SET") {
-            return Ok(TypeForm::SetOf(self.list_of(constraints, depth)?));
-        }
-        if !item.is("SEQUENCE") {
-            return self.leaf(item, mark);
-        }
-        if self.takes_unread() {
-            return Ok(TypeForm::Simple(SimpleType::Unread));
-        }
-        if self.peek().is("{") {
-            return Ok(TypeForm::Sequence(self.components(false, mark, depth)?));
-        }
-        Ok(TypeForm::SequenceOf(self.list_of(constraints, depth)?))
     }
 
     // Whether `{ ... }` is here: a SEQUENCE of which no component is known. If so, moves past it.
     fn takes_unread(&mut self) -> bool {
         let at = self.at;
-        let is_unread = self.item_at(at).is("{")
-            && self.item_at(at.saturating_add(1)).is("...")
-            && self.item_at(at.saturating_add(2)).is("}");
+        let is_unread = self.has_at(at, "{")
+            && self.has_at(at.saturating_add(1), "...")
+            && self.has_at(at.saturating_add(2), "}");
         if is_unread {
             self.at = at.saturating_add(3);
         }
@@ -125,7 +117,7 @@ impl<'a> Parser<'a> {
             constraints.push(size)?;
         }
         self.expect("OF")?;
-        if self.peek().kind == ItemKind::LowerName && !self.peek_second().is("<") {
+        if self.peek().kind == ItemKind::LowerName && !self.sees_second("<") {
             self.at = self.at.saturating_add(1);
         }
         self.type_at(depth)
@@ -133,7 +125,7 @@ impl<'a> Parser<'a> {
 
     // Parses the size of a list, if there is one.
     fn list_size(&mut self) -> Result<Option<Constraint<'a>>, Failure<'a>> {
-        if self.peek().is("SIZE") {
+        if self.sees("SIZE") {
             return Ok(Some(self.constraint()?));
         }
         if !self.takes("(") {
@@ -165,14 +157,14 @@ impl<'a> Parser<'a> {
             if self.takes_version(marks.len() == 1)? {
                 continue;
             }
-            if self.peek().is("COMPONENTS") && !is_choice {
+            if self.sees("COMPONENTS") && !is_choice {
                 self.components_of(&mut components, depth)?;
-            } else if self.peek().is("...") {
+            } else if self.sees("...") {
                 let insertion = components.len();
                 let item = self.component_mark(marks.len(), is_choice, insertion == 0)?;
                 marks.push(Mark { item, insertion })?;
             } else if is_choice && marks.len() == 2 {
-                return Err(refused(self.peek(), "}"));
+                return Err(self.refusal("}"));
             } else {
                 components.push(self.component(is_choice, marks.len() == 1, depth)?)?;
             }
@@ -210,7 +202,7 @@ impl<'a> Parser<'a> {
         depth: u32,
     ) -> Result<Component<'a>, Failure<'a>> {
         let name = self.expect_kind(ItemKind::LowerName, "the name of a component")?;
-        let is_tagged = self.peek().is("[");
+        let is_tagged = self.sees("[");
         let of = self.type_at(depth)?;
         let presence = if is_choice {
             Presence::Required
@@ -244,7 +236,7 @@ impl<'a> Parser<'a> {
         unnumber(&mut more);
         self.come_back(back);
         let at = self.at;
-        if self.peek().is("(") {
+        if self.sees("(") {
             self.at = self.end_of_group(at);
         }
         Ok(add_roots(components, more)?)

@@ -34,9 +34,8 @@ impl<'a> Parser<'a> {
     fn is_unread_value(&self, item: Item<'a>) -> bool {
         let after = self.peek_second();
         let is_open = after.is("{") || after.kind == ItemKind::Number;
-        after.is(":")
-            || after.is(".")
-            || (item.is("-") && self.item_at(self.at.saturating_add(2)).is("."))
+        after.is_one_of(&[":", "."])
+            || (item.is("-") && self.has_at(self.at.saturating_add(2), "."))
             || (item.kind == ItemKind::LowerName && is_open)
     }
 
@@ -71,17 +70,17 @@ impl<'a> Parser<'a> {
         let form = ValueForm::Unread;
         for _ in 0..self.items.len() {
             let after = self.peek_second();
-            if self.peek().is("-")
-                || self.is_unread_value(self.peek()) && !after.is(":") && !after.is(".")
+            if self.sees("-")
+                || self.is_unread_value(self.peek()) && !after.is_one_of(&[":", "."])
             {
                 self.at = self.at.saturating_add(1);
-            } else if after.is(":") || after.is(".") {
+            } else if after.is_one_of(&[":", "."]) {
                 self.at = self.at.saturating_add(2);
             } else {
                 break;
             }
         }
-        if self.peek().is("{") {
+        if self.sees("{") {
             self.braces()?;
         } else if self.peek().kind == ItemKind::Symbol || self.peek().kind == ItemKind::End {
             return Err(unsupported(self.peek(), "a value"));
@@ -127,6 +126,6 @@ impl<'a> Parser<'a> {
             }
             between.push(item)?;
         }
-        Err(refused(self.peek(), "}"))
+        Err(self.refusal("}"))
     }
 }

@@ -20,11 +20,11 @@ loop-attribute-preserved c = (
 
 pub returns-in-None-next : goal.returns-in-None-next
 returns-in-None-next c =
-    refused c.loop-attribute.invariant.2 (pairs_short IsAttribute attribute_encoding attributes_apart (λ _ _. Unit {0}) keep_none true _ _ c.in-Some.attribute _ (record { is = c.in-Some.ensures.steps.0; split = c.in-Some.ensures.steps.1.split }) c.next.new.self.items.left c.in-None-next.ensures.steps.0)
+    refused c.loop-attribute.invariant.2 (pairs_short IsAttribute attribute_encoding attributes_apart (λ _ _. Unit {0}) keep_none true _ _ c.in-Some.attribute _ (record { is = c.in-Some.ensures.steps.0; split = c.in-Some.ensures.steps.1.split }) c.in-None-next.ensures.steps.0)
 
 pub returns-in-Some-next-2 : goal.returns-in-Some-next-2
 returns-in-Some-next-2 c =
-    refused c.loop-attribute.invariant.2 (pairs_long IsAttribute attribute_encoding attributes_apart (λ _ _. Unit {0}) keep_none true _ _ c.in-Some-next-2._other _ c.in-None.ensures.steps.0 (record { is = c.in-Some-next-2.ensures.steps.0; split = c.in-Some-next-2.ensures.steps.1.split }) c.next-2.new.self.items.left refl)
+    refused c.loop-attribute.invariant.2 (pairs_long IsAttribute attribute_encoding attributes_apart (λ _ _. Unit {0}) keep_none true _ _ c.in-Some-next-2._other _ c.in-None.ensures.steps.0 (record { is = c.in-Some-next-2.ensures.steps.0; split = c.in-Some-next-2.ensures.steps.1.split }) refl)
 
 pub returns : goal.returns
 returns c = found c.loop-attribute.invariant.2 (pairs_end IsAttribute attribute_encoding attributes_apart (λ _ _. Unit {0}) keep_none true _ _ c.in-None.ensures.steps.0 c.in-None-next-2.ensures.steps.0)

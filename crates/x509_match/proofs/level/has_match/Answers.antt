@@ -20,7 +20,7 @@ loop-other-preserved c = (
 
 pub returns-then-attributes_agree : goal.returns-then-attributes_agree
 returns-then-attributes_agree c =
-    found c.loop-other.invariant.2 (some_found IsAttribute attribute_encoding attributes_apart (AttributesAgree c.args.matching c.args.attribute.now) (keep_second c.args.matching c.args.attribute.now) _ c.in-Some.other _ (record { is = c.in-Some.ensures.steps.0; split = c.in-Some.ensures.steps.1.split }) (c.attributes_agree.ensures.0 c.if-attributes_agree.true))
+    found c.loop-other.invariant.2 (some_found IsAttribute attribute_encoding attributes_apart (AttributesAgree c.args.matching c.args.attribute.now) (keep_second c.args.matching c.args.attribute.now) _ c.in-Some.other _ (record { is = c.in-Some.ensures.steps.0; split = c.in-Some.ensures.steps.1.split }) c.next.new.self.items.left (c.attributes_agree.ensures.0 c.if-attributes_agree.true))
 
 pub returns : goal.returns
 returns c = refused c.loop-other.invariant.2 (some_end IsAttribute attribute_encoding attributes_apart (AttributesAgree c.args.matching c.args.attribute.now) (keep_second c.args.matching c.args.attribute.now) _ c.in-None.ensures.steps.0)

@@ -20,7 +20,7 @@ loop-attribute-preserved c = (
 
 pub returns-then-not-has_match : goal.returns-then-not-has_match
 returns-then-not-has_match c =
-    refused c.loop-attribute.invariant.2 (each_stop IsAttribute attribute_encoding attributes_apart (HasMatch c.args.matching (level_octets c.args.second.now)) (keep_match c.args.matching (level_octets c.args.second.now)) _ c.in-Some.attribute _ (record { is = c.in-Some.ensures.steps.0; split = c.in-Some.ensures.steps.1.split }) c.next.new.self.items.left
+    refused c.loop-attribute.invariant.2 (each_stop IsAttribute attribute_encoding attributes_apart (HasMatch c.args.matching (level_octets c.args.second.now)) (keep_match c.args.matching (level_octets c.args.second.now)) _ c.in-Some.attribute _ (record { is = c.in-Some.ensures.steps.0; split = c.in-Some.ensures.steps.1.split })
     (λ h. (let yes = c.has_match.ensures.1 h in let wrong = c.if-not-has_match.true in cc)))
 
 pub returns : goal.returns

@@ -22,16 +22,16 @@ loop-level-preserved c = (
 pub returns-then-not-levels_agree : goal.returns-then-not-levels_agree
 returns-then-not-levels_agree c =
     refused c.loop-level.invariant.2 (pairs_stop IsLevel level_encoding levels_apart (LevelsAgree c.args.matching) (keep_levels c.args.matching) c.args.whole _ _ c.in-Some.level c.in-Some-next.other _ _ (record { is = c.in-Some.ensures.steps.0; split = c.in-Some.ensures.steps.1.split }) (record { is = c.in-Some-next.ensures.steps.0; split = c.in-Some-next.ensures.steps.1.split })
-    c.next.new.self.items.left c.next-in-loop-level.new.self.items.left (λ h. (let yes = c.levels_agree.ensures.1 h in let wrong = c.if-not-levels_agree.true in cc)))
+    (λ h. (let yes = c.levels_agree.ensures.1 h in let wrong = c.if-not-levels_agree.true in cc)))
 
 pub returns-in-None-next : goal.returns-in-None-next
 returns-in-None-next c =
-    refused c.loop-level.invariant.2 (pairs_short IsLevel level_encoding levels_apart (LevelsAgree c.args.matching) (keep_levels c.args.matching) c.args.whole _ _ c.in-Some.level _ (record { is = c.in-Some.ensures.steps.0; split = c.in-Some.ensures.steps.1.split }) c.next.new.self.items.left c.in-None-next.ensures.steps.0)
+    refused c.loop-level.invariant.2 (pairs_short IsLevel level_encoding levels_apart (LevelsAgree c.args.matching) (keep_levels c.args.matching) c.args.whole _ _ c.in-Some.level _ (record { is = c.in-Some.ensures.steps.0; split = c.in-Some.ensures.steps.1.split }) c.in-None-next.ensures.steps.0)
 
 pub returns-in-Some-next-2 : goal.returns-in-Some-next-2
 returns-in-Some-next-2 c =
-    left_over c.args.whole c.loop-level.invariant.2 (pairs_more IsLevel level_encoding levels_apart (LevelsAgree c.args.matching) (keep_levels c.args.matching) c.args.whole _ _ c.in-Some-next-2._other _ c.in-None.ensures.steps.0 (record { is = c.in-Some-next-2.ensures.steps.0; split = c.in-Some-next-2.ensures.steps.1.split }))
-    (pairs_long IsLevel level_encoding levels_apart (LevelsAgree c.args.matching) (keep_levels c.args.matching) c.args.whole _ _ c.in-Some-next-2._other _ c.in-None.ensures.steps.0 (record { is = c.in-Some-next-2.ensures.steps.0; split = c.in-Some-next-2.ensures.steps.1.split }) c.next-2.new.self.items.left)
+    left_over c.args.whole c.loop-level.invariant.2 (pairs_more IsLevel level_encoding levels_apart (LevelsAgree c.args.matching) (keep_levels c.args.matching) c.args.whole _ _ c.in-Some-next-2._other _ c.in-None.ensures.steps.0 (record { is = c.in-Some-next-2.ensures.steps.0; split = c.in-Some-next-2.ensures.steps.1.split }) c.next-2.new.self.items.left)
+    (pairs_long IsLevel level_encoding levels_apart (LevelsAgree c.args.matching) (keep_levels c.args.matching) c.args.whole _ _ c.in-Some-next-2._other _ c.in-None.ensures.steps.0 (record { is = c.in-Some-next-2.ensures.steps.0; split = c.in-Some-next-2.ensures.steps.1.split }))
 
 pub returns : goal.returns
 returns c = found c.loop-level.invariant.2 (pairs_end IsLevel level_encoding levels_apart (LevelsAgree c.args.matching) (keep_levels c.args.matching) c.args.whole _ _ c.in-None.ensures.steps.0 c.in-None-next-2.ensures.steps.0)

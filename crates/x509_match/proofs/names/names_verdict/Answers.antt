@@ -4,12 +4,13 @@ use Rattle.der.specs.Prelude.{slice_state}
 use Rattle.x509.specs.contracts.asn1.general_name.GeneralNameItem.TheImpl.{ghosts}
 use Rattle.x509.proofs.FindLemmas.{gives, octets_drained}
 use Rattle.x509_match.proofs.JudgedLemmas.{judged_on}
-use Rattle.x509_match.specs.Verdicts.{AreJudged}
+use Rattle.x509_match.specs.Judgements.{AreJudged}
+use Rattle.x509_match.specs.Verdicts.{HasVerdict}
 use Rattle.x509_match.proofs.names.names_verdict.Goals as goal
 
 pub names-preserved : goal.names-preserved
 names-preserved c =
-    subst (AreJudged c.args.constraints.now _) (sym c.first_refusal-verdict.ensures) (judged_on c.args.constraints.now c.names.yielded c.in-Some.name c.names.verdict c.name_verdict.result c.names.invariant c.name_verdict.ensures)
+    subst (AreJudged (HasVerdict c.args.constraints.now) _) (sym c.first_refusal-verdict.ensures) (judged_on (HasVerdict c.args.constraints.now) c.names.yielded c.in-Some.name c.names.verdict c.name_verdict.result c.names.invariant c.name_verdict.ensures)
 
 pub returns : goal.returns
 returns c =

@@ -1,5 +1,6 @@
-use Rattle.x509_match.specs.Verdicts.{AreJudged}
+use Rattle.x509_match.specs.Judgements.{AreJudged}
+use Rattle.x509_match.specs.Verdicts.{HasVerdict}
 use Rattle.x509_match.proofs.names.names_verdict.Given as goal
 
 abbrev pub invariant-names : goal.invariant-names
-invariant-names l = AreJudged l.constraints l.yielded l.verdict
+invariant-names l = AreJudged (HasVerdict l.constraints) l.yielded l.verdict

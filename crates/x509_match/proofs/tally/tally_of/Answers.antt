@@ -4,7 +4,7 @@ use Rattle.der.specs.Prelude.{slice_state}
 use Rattle.x509.specs.contracts.asn1.general_subtree.GeneralSubtreeItem.TheImpl.{ghosts}
 use Rattle.x509.proofs.FindLemmas.{gives, octets_drained}
 use Rattle.x509_match.proofs.TallyLemmas.{some_on}
-use Rattle.x509_match.specs.Constraints.{Concerns, Contains, IsUnclear}
+use Rattle.x509_match.specs.Constraints.{Concerns, Contains, ContainsPart, IsUnclear}
 use Rattle.x509_match.proofs.tally.tally_of.Goals as goal
 
 pub subtrees-preserved : goal.subtrees-preserved
@@ -14,6 +14,7 @@ subtrees-preserved c =
     record {
       concerned = some_on (Concerns name) c.subtrees.concerned c.is_concerned-concerned.result c.subtrees.yielded s c.subtrees.invariant.concerned c.is_concerned-concerned.ensures;
       within = some_on (Contains name) c.subtrees.within c.is_within_base-within.result c.subtrees.yielded s c.subtrees.invariant.within c.is_within_base-within.ensures;
+      partly = some_on (ContainsPart name) c.subtrees.partly c.is_partly_within_base-partly.result c.subtrees.yielded s c.subtrees.invariant.partly c.is_partly_within_base-partly.ensures;
       unclear = some_on (IsUnclear name) c.subtrees.unclear c.is_unclear-unclear.result c.subtrees.yielded s c.subtrees.invariant.unclear c.is_unclear-unclear.ensures;
     }
 
