@@ -8,7 +8,7 @@ use std::alloc::AllocError;
 // A type, a value under BER, and the same in DER. Times are those of `date -u -d '2024-02-29 23:59:00 -0130'` and its
 // kin; bits are those of `openssl asn1parse -genstr FORMAT:BITLIST,BITSTRING:0,2`; a SEQUENCE is that of
 // `openssl asn1parse -genconf` with `asn1=SEQUENCE:s`, `[s]` and `a=BOOLEAN:TRUE`.
-const ROWS: [(&str, &[u8], &[u8]); 10] = [
+const ROWS: [(&str, &[u8], &[u8]); 12] = [
     (
         "Time",
         b"\x17\x11240229235900-0130",
@@ -16,6 +16,12 @@ const ROWS: [(&str, &[u8], &[u8]); 10] = [
     ),
     ("Time", b"\x17\x0f9912312359+0001", b"\x17\x0d991231235800Z"),
     ("Time", b"\x17\x0f0001010000+0100", b"\x17\x0d991231230000Z"),
+    (
+        "Time",
+        b"\x17\x11500101060000+0600",
+        b"\x17\x0d500101000000Z",
+    ),
+    ("Time", b"\x17\x0f4912312259-0100", b"\x17\x0d491231235900Z"),
     ("Time", b"\x18\x0d2024022912+14", b"\x18\x0f20240228220000Z"),
     ("Time", b"\x18\x0e2024022912.25Z", b"\x18\x0f20240229121500Z"),
     (

@@ -6,3 +6,7 @@ pub mod SizeLemmas
 pub mod FormLemmas
 pub mod TimeFormLemmas
 pub mod TimeLawLemmas
+pub mod WrittenZoneLemmas
+pub mod WrittenUtcLemmas
+pub mod WrittenTailLemmas
+pub mod WrittenGeneralizedLemmas

@@ -1,10 +1,10 @@
 -- The characters of strings, as codes, and the sizes of values (X.680 51.5, 51.7).
-use Rattle.std.specs.Prelude.{ℕ, ◌+◌, ◌*◌, ◌&&◌, Bool, true, false, nat_le, List, [], ◌∷◌, length}
+use Rattle.std.specs.Prelude.{◌≡◌, ℕ, ◌+◌, ◌*◌, ◌<◌, ◌≤◌, ◌&&◌, Bool, true, false, nat_le, List, [], ◌∷◌, length}
 use Rattle.std.specs.Prelude.{if◌then◌else◌}
 use Rattle.std.specs.Str.{is_utf8, chars}
 use Rattle.ber.specs.declared.universal.Universal.{Universal}
 use Rattle.ber.specs.declared.universal.Universal.TheVariants.{BitString, Utf8String, UniversalString, BmpString}
-use Rattle.der_asn1.specs.NamedBits.{bit_count}
+use Rattle.der_asn1.specs.NamedBits.{bit_count, has_bit}
 use Rattle.asn1_contents.specs.declared.codes.Codes.{Codes}
 use Rattle.asn1_contents.specs.declared.codes.Codes.TheVariants.{Octets, Pairs, Fours, Text}
 
@@ -42,6 +42,10 @@ codes_left (Text text) = chars text.now
 abbrev pub size_of : Universal → List ℕ → ℕ
 size_of BitString octets = bit_count octets
 size_of universal octets = length (characters_of universal octets)
+
+-- each bit of a BIT STRING from this one on is zero; bit 0 is the first (X.690 8.6.2)
+abbrev pub AreZeroFrom : ℕ → List ℕ → Type 0
+AreZeroFrom first octets = (n : ℕ) → first ≤ n → n < bit_count octets → has_bit n octets ≡ false
 
 -- a code is in one of the ranges, both ends included
 abbrev pub is_in_ranges : List (ℕ × ℕ) → ℕ → Bool

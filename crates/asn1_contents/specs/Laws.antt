@@ -1,5 +1,5 @@
 -- Laws of contents octets.
-use Rattle.std.specs.Prelude.{◌≡◌, ◌↔◌, Bool, true, false, ℕ, List}
+use Rattle.std.specs.Prelude.{◌≡◌, ◌↔◌, Bool, true, false, ℕ, ℤ, List, Option}
 use Rattle.std.specs.Str.{is_utf8}
 use Rattle.ber.specs.declared.universal.Universal.{Universal}
 use Rattle.ber.specs.declared.universal.Universal.TheVariants as type
@@ -8,7 +8,9 @@ use Rattle.der_asn1.specs.Alphabets.{visible_form, numeric_form, bmp_form}
 use Rattle.der_asn1.specs.Forms.{boolean_form, integer_form, bits_form, octets_form, null_form, oid_form, ia5_form, printable_form}
 use Rattle.der_asn1.specs.NamedBits.{named_bits_form}
 use Rattle.der_asn1.specs.Times.{utc_form, generalized_form}
+use Rattle.der_asn1.specs.declared.times.date_time.DateTime.{DateTime}
 use Rattle.asn1_contents.specs.GeneralizedTime.{has_fraction}
+use Rattle.asn1_contents.specs.WrittenTime.{IsUtcTime, IsGeneralizedTime}
 use Rattle.asn1_contents.specs.Contents.{IsContents, IsNamedBits, Breaks}
 use Rattle.asn1_contents.specs.Rules.{is_of_der}
 use Rattle.asn1_contents.specs.declared.contents_rule.ContentsRule.{ContentsRule}
@@ -62,3 +64,15 @@ abbrev pub TimesWithoutFractionHaveForm : Type 0
 TimesWithoutFractionHaveForm =
     (octets : List ℕ) → (IsContents Der type.GeneralizedTime octets × (has_fraction octets ≡ false))
     ↔ (generalized_form octets ≡ true)
+
+-- the UTCTimes under the Basic Encoding Rules are those that are written as X.680 says
+abbrev pub UtcTimesAreWritten : Type 0
+UtcTimesAreWritten =
+    (octets : List ℕ) → IsContents Ber type.UtcTime octets
+    ↔ ((t : DateTime) × (difference : ℤ) × IsUtcTime octets t difference)
+
+abbrev pub GeneralizedTimesAreWritten : Type 0
+GeneralizedTimesAreWritten =
+    (octets : List ℕ) → IsContents Ber type.GeneralizedTime octets
+    ↔ ((t : DateTime) × (unit : ℕ) × (fraction : List ℕ) × (difference : Option ℤ)
+    × IsGeneralizedTime octets t unit fraction difference)

@@ -7,6 +7,7 @@ pub mod Zone
 pub mod UtcTime
 pub mod GeneralizedTime
 pub mod UsefulTimes
+pub mod WrittenTime
 pub mod Rules
 pub mod Words
 pub mod Contents

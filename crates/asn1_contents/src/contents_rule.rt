@@ -195,7 +195,7 @@ impl ContentsRule {
             ContentsRule::GeneralizedTimeSeconds => "X.690 11.7.2",
             ContentsRule::GeneralizedTimeFraction => "X.690 11.7.3",
             ContentsRule::GeneralizedTimePoint => "X.690 11.7.4",
-            ContentsRule::TimeCharacters => "X.690 8.25",
+            ContentsRule::TimeCharacters => "X.690 8.26.1",
             ContentsRule::DateForm
             | ContentsRule::DateExists
             | ContentsRule::TimeOfDayForm

@@ -2,6 +2,7 @@
 //! defines. Nothing calls the functions of this module.
 ghost use Rattle.asn1_contents.specs.Laws.{WhatDerAllowsBerAllows, BrokenIsNotDer, FirstBrokenOfDerIsBer};
 ghost use Rattle.asn1_contents.specs.Laws.{ContentsHaveForms, NamedBitsHaveForm, TimesWithoutFractionHaveForm};
+ghost use Rattle.asn1_contents.specs.Laws.{UtcTimesAreWritten, GeneralizedTimesAreWritten};
 
 fn what_der_allows_ber_allows()
     ensures { WhatDerAllowsBerAllows }
@@ -25,4 +26,12 @@ fn named_bits_have_form()
 
 fn times_without_fraction_have_form()
     ensures { TimesWithoutFractionHaveForm }
+{}
+
+fn utc_times_are_written()
+    ensures { UtcTimesAreWritten }
+{}
+
+fn generalized_times_are_written()
+    ensures { GeneralizedTimesAreWritten }
 {}

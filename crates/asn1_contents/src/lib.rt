@@ -9,6 +9,7 @@
 //!
 //! - [`is_in_range`] checks the bounds of a number.
 //! - [`size_of`] returns the size of a value.
+//! - [`are_zero_from`] finds out whether a BIT STRING has only trailing zero bits from a bit on.
 //! - [`are_characters_in`] checks a permitted alphabet.
 //! - [`Codes`] has the characters of a string.
 //!
@@ -39,6 +40,7 @@ mod size;
 mod small;
 mod useful_times;
 mod utc_time;
+mod zero_bits;
 mod zone;
 
 pub use alphabet::are_characters_in;
@@ -48,3 +50,4 @@ pub use contents_rule::ContentsRule;
 pub use range::is_in_range;
 pub use rules::{named_bits_rules, rules_of};
 pub use size::size_of;
+pub use zero_bits::{are_zero_from, bit_count, has_bit};

@@ -4,6 +4,7 @@ ghost use Rattle.std.specs.Str.{is_utf8, chars};
 ghost use Rattle.asn1_contents.specs.Characters.{size_of};
 ghost use Rattle.der_asn1.specs.NamedBits.{bit_count};
 
+use crate::zero_bits::bit_count;
 use ber::Universal;
 
 /// The size of a value, as a size constraint counts it (X.680 51.5). `contents` are the contents
@@ -20,7 +21,7 @@ pub fn size_of(universal: Universal, contents: &[u8]) -> usize
     ensures { result ≡ min (size_of universal contents.now) (2 ^ 64 - 1) }
 {
     match universal {
-        Universal::BitString => bit_count(contents),
+        Universal::BitString => counted_bits(contents),
         Universal::Utf8String => character_count(contents),
         Universal::BmpString => contents.len() / 2,
         Universal::UniversalString => contents.len() / 4,
@@ -29,19 +30,14 @@ pub fn size_of(universal: Universal, contents: &[u8]) -> usize
 }
 
 // The number of bits of a BIT STRING, or the greatest `usize`.
-fn bit_count(contents: &[u8]) -> usize
+fn counted_bits(contents: &[u8]) -> usize
     ensures { result ≡ min (bit_count contents.now) (2 ^ 64 - 1) }
 {
-    match contents {
-        [] => 0,
-        [unused, bits @ ..] => {
-            let count = (8 * bits.len() as u128).saturating_sub(*unused as u128);
-            if count < 0xFFFF_FFFF_FFFF_FFFF {
-                count as usize
-            } else {
-                usize::MAX
-            }
-        }
+    let count = bit_count(contents);
+    if count < 0xFFFF_FFFF_FFFF_FFFF {
+        count as usize
+    } else {
+        usize::MAX
     }
 }
 

@@ -6,6 +6,7 @@ use Rattle.asn1_schema.specs.Tags.{IsFieldOf}
 use Rattle.asn1_schema.specs.declared.field.Field.{Field}
 use Rattle.asn1_schema.specs.declared.node.Node.{Node}
 use Rattle.asn1_schema.specs.declared.presence.Presence.TheVariants.{Default}
+use Rattle.asn1_tree.specs.Components.{MayBePassed}
 use Rattle.asn1_tree.specs.Known.{Known, Follows}
 use Rattle.asn1_tree.specs.Tags.{NoneBegins}
 
@@ -21,16 +22,21 @@ pub data IsLeft (t : Table) (f : Field) (x : List ℕ) : List ℕ → Type 0 whe
 abbrev pub IsComponent : Pairs → Table → Known → Field → List ℕ → List ℕ → Type 0
 IsComponent Child t known f x w = (y : List ℕ) × Child known f.node x y × IsLeft t f y w
 
--- no field from an index on takes an element
+-- no field that may be next, from an index on, takes an element: all fields before it may be absent
 abbrev pub IsUntaken : Table → Node → ℕ → List ℕ → Type 0
-IsUntaken t n k x = (j : ℕ) (f : Field) → k ≤ j → IsFieldOf t n j f → NoneBegins t f.node x
+IsUntaken t n k x =
+    (j : ℕ) (f : Field) → k ≤ j → IsFieldOf t n j f → MayBePassed t n k j → NoneBegins t f.node x
 
--- the components of a SEQUENCE, of fields before an index, and extension additions, which are copied (X.690
--- 8.9); and the OBJECT IDENTIFIER that is known after them
+-- no field of a node takes an element
+abbrev pub NoneTakes : Table → Node → List ℕ → Type 0
+NoneTakes t n x = (j : ℕ) (f : Field) → IsFieldOf t n j f → NoneBegins t f.node x
+
+-- the components of a SEQUENCE, of fields before an index, of which those may be absent that are passed; and
+-- extension additions, which are copied (X.690 8.9); and the OBJECT IDENTIFIER that is known after them
 pub data AreComponents (Child : Pairs) (t : Table) (n : Node) : ℕ → Known → List ℕ → List ℕ → Type 0 where
   none : AreComponents Child t n n.parts.start None [] []
   component : {k j : ℕ} {f : Field} {known after : Known} {before x v w : List ℕ}
-      → AreComponents Child t n k known before v → k ≤ j → IsFieldOf t n j f
+      → AreComponents Child t n k known before v → k ≤ j → MayBePassed t n k j → IsFieldOf t n j f
       → IsComponent Child t known f x w → Follows (slice_get t.nodes f.node) j x known after
       → AreComponents Child t n (j + 1) after (before ++ x) (v ++ w)
   addition : {k : ℕ} {known : Known} {before x v : List ℕ}
@@ -41,4 +47,4 @@ pub data AreComponents (Child : Pairs) (t : Table) (n : Node) : ℕ → Known �
 abbrev pub IsMember : Pairs → Table → Node → List ℕ → List ℕ → Type 0
 IsMember Child t n x w =
     ((j : ℕ) × (f : Field) × IsFieldOf t n j f × IsComponent Child t None f x w)
-    ⊎ (IsUntaken t n n.parts.start x × (w ≡ x))
+    ⊎ (NoneTakes t n x × (w ≡ x))

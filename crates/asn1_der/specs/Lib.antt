@@ -1,3 +1,5 @@
+pub mod SameBits
+pub mod Instants
 pub mod Rewriting
 pub mod Lists
 pub mod Components

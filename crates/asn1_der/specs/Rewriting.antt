@@ -2,6 +2,8 @@
 use Rattle.std.specs.Prelude.{◌≡◌, ◌≢◌, ℕ, List, [], ◌∷◌}
 use Rattle.ber.specs.declared.universal.Universal.{Universal}
 use Rattle.ber.specs.declared.universal.Universal.TheVariants as types
+use Rattle.asn1_der.specs.Instants.{IsUtcTimeInDer}
+use Rattle.asn1_der.specs.SameBits.{AreSameBits}
 use Rattle.asn1_der.specs.declared.rewriting.Rewriting.{Rewriting}
 use Rattle.asn1_der.specs.declared.rewriting.Rewriting.TheVariants.{Boolean, Bits, UtcTime, GeneralizedTime, Same}
 
@@ -18,10 +20,10 @@ pub record IsTruth (text v : List ℕ) : Type 0 where
   pub no : text ≡ 0 ∷ [] → v ≡ 0 ∷ []
   pub yes : (octet : ℕ) → text ≡ octet ∷ [] → octet ≢ 0 → v ≡ 255 ∷ []
 
--- these contents octets are rewritten as those; nothing is said of bits and of times
-abbrev pub IsRewritten : Rewriting → List ℕ → List ℕ → Type 0
-IsRewritten Boolean text v = IsTruth text v
-IsRewritten Bits text v = Unit {0}
-IsRewritten UtcTime text v = Unit {0}
-IsRewritten GeneralizedTime text v = Unit {0}
-IsRewritten Same text v = v ≡ text
+-- these contents octets are rewritten as those, where so many bits have names; nothing is said of a GeneralizedTime
+abbrev pub IsRewritten : Rewriting → ℕ → List ℕ → List ℕ → Type 0
+IsRewritten Boolean names text v = IsTruth text v
+IsRewritten Bits names text v = AreSameBits names text v
+IsRewritten UtcTime names text v = IsUtcTimeInDer text v
+IsRewritten GeneralizedTime names text v = Unit {0}
+IsRewritten Same names text v = v ≡ text

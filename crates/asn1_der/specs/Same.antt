@@ -58,7 +58,7 @@ pub data IsNodeSame (t : Table) (Child : Pairs) (known : Known) (n : Node) (x : 
       → IsNodeSame t Child known n x w
   primitive : {u : Universal} {h : Header} {inner v w : List ℕ} (text : List ℕ) → shape_of n.kind ≡ Of u
       → IsEnclosed Ber h inner x → IsTextOf (is_joined h.constructed u) u inner text
-      → IsRewritten (rewriting_of u) text v → IsElementOf h false v w
+      → IsRewritten (rewriting_of u) n.parts.count text v → IsElementOf h false v w
       → IsNodeSame t Child known n x w
   whole : {u : Universal} {h : Header} {inner : List ℕ} → shape_of n.kind ≡ Of u
       → IsEnclosed Ber h inner x → h.constructed ≡ true → is_joined h.constructed u ≡ false

@@ -1,53 +1,69 @@
 //! Contents octets of a BIT STRING.
-ghost use Rattle.std.specs.Prelude.{◌<◌};
+ghost use Rattle.std.specs.Prelude.{◌≡◌, ◌≤◌, ◌<◌, ◌+◌, ◌-◌, ◌%◌, ◌^◌, ℕ, true, false, IfOk, length};
+ghost use Rattle.asn1_contents.specs.Characters.{AreZeroFrom};
+ghost use Rattle.der_asn1.specs.NamedBits.{bit_count, has_bit};
+ghost use Rattle.asn1_der.specs.SameBits.{AreSameBits, HasFirstBits};
 
+use asn1_contents::{bit_count, has_bit};
 use std::alloc::{AllocError, Global};
 
 /// Rewrites the contents octets of a BIT STRING from BER to DER. Unused bits are set to 0 (X.690
-/// 11.2.1). If `named` is true, the bits have names, and zero bits at the end are removed (X.690
+/// 11.2.1). If `names` is not 0, the bits have names, and zero bits at the end are removed (X.690
 /// 11.2.2).
-pub(crate) fn put_bits(alloc: Global, named: bool, contents: &[u8]) -> Result<Vec<u8>, AllocError> {
-    let [unused, octets @ ..] = contents else {
-        return contents.to_vec(alloc);
-    };
-    let [whole @ .., last] = octets else {
-        return contents.to_vec(alloc);
-    };
-    let last = *last - *last % unit(*unused);
-    if named {
-        return shortest(alloc, whole, last);
+pub(crate) fn put_bits(alloc: Global, names: u32, contents: &[u8]) -> Result<Vec<u8>, AllocError>
+    ensures { IfOk result (λ v. AreSameBits names contents.now v.items) }
+{
+    if names == 0 {
+        first_bits(alloc, contents, bit_count(contents))
+    } else {
+        first_bits(alloc, contents, count_to_last_one(contents))
     }
-    bits(alloc, *unused, whole, last)
 }
 
-// A BIT STRING with this last octet.
-fn bits(alloc: Global, unused: u8, whole: &[u8], last: u8) -> Result<Vec<u8>, AllocError> {
-    let mut out = Vec::with_capacity(alloc, whole.len().saturating_add(2))?;
+// The number of bits without zero bits at the end.
+fn count_to_last_one(contents: &[u8]) -> u128
+    ensures there { result ≤ bit_count contents.now }
+    ensures zero { AreZeroFrom result contents.now }
+{
+    let mut count = bit_count(contents);
+    while count > 0 && !has_bit(contents, count - 1) {
+        count -= 1;
+    }
+    count
+}
+
+// A BIT STRING of the first bits of another one.
+fn first_bits(alloc: Global, contents: &[u8], count: u128) -> Result<Vec<u8>, AllocError>
+    requires { count ≤ bit_count contents.now }
+    ensures { IfOk result (λ v. HasFirstBits count contents.now v.items) }
+{
+    if count == 0 {
+        return [0u8].to_vec(alloc);
+    }
+    let whole = ((count - 1) / 8) as usize;
+    let unused = (7 - (count - 1) % 8) as u8;
+    let mut out = Vec::with_capacity(alloc, contents.len())?;
     out.push(unused)?;
-    out.extend_from_slice(whole)?;
-    out.push(last)?;
+    out.extend_from_slice(&contents[1..1 + whole])?;
+    out.push(without_low_bits(contents[1 + whole], unused))?;
     Ok(out)
 }
 
-// The same without bits 0 at its end.
-fn shortest(alloc: Global, whole: &[u8], last: u8) -> Result<Vec<u8>, AllocError> {
-    let mut whole = whole;
-    let mut last = last;
-    'octets: while last == 0 {
-        let [before @ .., octet] = whole else {
-            return [0u8].to_vec(alloc);
-        };
-        whole = before;
-        last = *octet;
-    }
-    bits(alloc, last.trailing_zeros() as u8, whole, last)
+// An octet whose last bits, so many of them, are zero.
+fn without_low_bits(octet: u8, count: u8) -> u8
+    requires { count < 8 }
+    ensures { result ≡ octet - octet % 2 ^ count }
+{
+    octet - octet % unit(count)
 }
 
-// The unit of the last bit that is used.
-fn unit(unused: u8) -> u8
-    ensures { 0 < result }
+// The bit with this number, alone.
+fn unit(number: u8) -> u8
+    requires { number < 8 }
+    ensures value { result ≡ 2 ^ number }
+    ensures some { 0 < result }
 {
-    match unused {
+    match number {
         0 => 1,
         1 => 2,
         2 => 4,

@@ -16,7 +16,7 @@ use crate::piece::{Piece, front};
 use crate::refusal::Refusal;
 use crate::value::value;
 use asn1_schema::{Field, Node, Presence, Schema};
-use asn1_tree::walking::{Known, default_of, field_of, find_field};
+use asn1_tree::walking::{Known, default_of, field_of, find_next};
 use std::alloc::Global;
 
 /// What is known after a component was read: the first field that may come next, and the last
@@ -76,7 +76,7 @@ fn step<'a>(
         p.index (known_in p.known) (before ++ piece.entry.octets.now) out.new.items) }
     ensures part { IfOk result (λ p. node.parts.start ≤ p.index) }
 {
-    match find_field(schema, node, passed.index, piece.octets) {
+    match find_next(schema, node, passed.index, piece.octets) {
         Some(index) => {
             let field = field_of(schema, index);
             let written = component(alloc, schema, depth, passed.known, index, piece)?;

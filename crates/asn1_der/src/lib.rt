@@ -41,6 +41,7 @@ mod utc_time;
 mod value;
 mod writing;
 mod written;
+mod zone;
 
 pub use refusal::Refusal;
 pub use writing::to_der;

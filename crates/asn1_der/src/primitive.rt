@@ -34,18 +34,18 @@ pub(crate) fn joined_text(
 }
 
 /// Rewrites the contents octets of a value of a universal type from BER to DER. For a BIT STRING,
-/// `named` says whether its bits have names.
+/// `names` is the number of names of bits.
 pub(crate) fn rewritten(
     alloc: Global,
     universal: Universal,
-    named: bool,
+    names: u32,
     contents: &[u8],
 ) -> Result<Vec<u8>, AllocError>
-    ensures { IfOk result (λ v. IsRewritten (rewriting_of universal) contents.now v.items) }
+    ensures { IfOk result (λ v. IsRewritten (rewriting_of universal) names contents.now v.items) }
 {
     match Rewriting::of(universal) {
         Rewriting::Boolean => boolean(alloc, contents),
-        Rewriting::Bits => put_bits(alloc, named, contents),
+        Rewriting::Bits => put_bits(alloc, names, contents),
         Rewriting::UtcTime => utc_time(alloc, contents),
         Rewriting::GeneralizedTime => generalized_time(alloc, contents),
         Rewriting::Same => contents.to_vec(alloc),

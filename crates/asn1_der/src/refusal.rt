@@ -10,11 +10,8 @@ pub enum Refusal {
     OutOfMemory,
     /// The octets are not a BER encoding of a value of the type.
     NotBer,
-    /// The value cannot be written in DER, for one of these reasons:
-    ///
-    /// - The contents of an element would have more than 4294967295 octets.
-    /// - The value would break a constraint of its type. This happens if DER removes zero bits at
-    ///   the end of a BIT STRING, and the BIT STRING is too short without them.
+    /// The value cannot be written in DER: the contents of an element would have more than
+    /// 4294967295 octets.
     Unwritable,
 }
 

@@ -159,15 +159,15 @@ fn of_type(
     ensures same { IfOk result (λ w. (t : Table) (d : ℕ) (known : AKnown)
         → IsNodeSame t (IsSame t d) known node piece.entry.octets.now w.items) }
 {
-    let named = node.parts.count > 0;
+    let names = node.parts.count;
     if is_joined(piece.header.constructed, universal) {
         let text = joined_text(alloc, universal, piece.contents)?;
-        let contents = rewritten(alloc, universal, named, text.as_slice())?;
+        let contents = rewritten(alloc, universal, names, text.as_slice())?;
         return element(alloc, piece.header, false, contents.as_slice());
     }
     if piece.header.constructed {
         return Ok(piece.octets.to_vec(alloc)?);
     }
-    let contents = rewritten(alloc, universal, named, piece.contents)?;
+    let contents = rewritten(alloc, universal, names, piece.contents)?;
     element(alloc, piece.header, false, contents.as_slice())
 }

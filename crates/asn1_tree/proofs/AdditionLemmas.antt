@@ -1,16 +1,18 @@
 -- Extension additions that a type does not have.
-use Rattle.std.proofs.Common.{◌≡◌, ◌≢◌, ◌↔◌, ◌⊎◌, ℕ, zero, suc, ◌+◌, ◌≤◌, Bool, true, false, List, [], ◌++◌, Some, refl, sym, ap, ◌∙◌, subst, append_assoc, append-nil, arith, inl, inr}
+use Rattle.std.proofs.Common.{◌≡◌, ◌≢◌, ◌↔◌, ◌⊎◌, ℕ, zero, suc, ◌+◌, ◌≤◌, Bool, true, false, List, [], ◌++◌, Some, refl, sym, ap, ◌∙◌, subst, append_assoc, append-nil, arith, inl, inr, ⊎_elim, slice_get}
+use Rattle.std.proofs.lemmas.Bool.{cases_lt}
 use Rattle.der_base.specs.declared.encoding_rules.EncodingRules.{EncodingRules}
 use Rattle.ber.specs.Header.{IsNext, end_header}
 use Rattle.ber.specs.declared.header.Header.{Header}
 use Rattle.asn1_schema.specs.Table.{Table}
+use Rattle.asn1_schema.specs.declared.field.Field.{Field}
 use Rattle.asn1_schema.specs.declared.node.Node.{Node}
 use Rattle.asn1_schema.specs.Tags.{Begins}
 use Rattle.asn1_tree.specs.Verdict.{holds}
 use Rattle.asn1_tree.specs.Enclosed.{IsEnclosed}
 use Rattle.asn1_tree.specs.Known.{Known}
 use Rattle.asn1_tree.specs.Opened.{IsEnded}
-use Rattle.asn1_tree.specs.Components.{Values, Elements, IsInsertion, IsTaken, IsAddition, AfterAdditions, AreComponents}
+use Rattle.asn1_tree.specs.Components.{Values, Elements, MayBeAbsent, MayBePassed, IsInsertion, IsTaken, IsAddition, AfterAdditions, AreComponents}
 use Rattle.asn1_tree.specs.Items.{AreItems}
 use Rattle.asn1_tree.specs.Reading.{Front, IsWithin, Body, Finds, Status}
 use Rattle.asn1_tree.specs.declared.verdict.Verdict.{Verdict}
@@ -138,24 +140,39 @@ one_insertion n (i, is, e) (o, also, f) =
     let same : i ≡ o = cc in
     e ∙ ap (λ q. n.parts.start + q) same ∙ sym f
 
+-- fields up to one that may be absent, and it
+pub pass_one : {t : Table} {n : Node} {j k : ℕ} {f : Field} → MayBePassed t n j k → slice_get t.fields k ≡ Some f → MayBeAbsent f → MayBePassed t n j (suc k)
+pass_one {t} {n} {j} {k} {f} passed row may l g low high is = ⊎_elim (λ less. passed l g low less is) (λ more. here (omega arith)) (cases_lt l k)
+  where
+    here : l ≡ k → MayBeAbsent g
+    here e =
+        let its : slice_get t.fields k ≡ Some g = subst (λ (q : ℕ). slice_get t.fields q ≡ Some g) e is.row in
+        let both : Some f ≡ Some g = sym row ∙ its in
+        let it : f ≡ g = cc in
+        subst MayBeAbsent it may
+
+-- fields up to one, and those from there on
+pub passed_on : {t : Table} {n : Node} {i j k : ℕ} → MayBePassed t n i j → MayBePassed t n j k → MayBePassed t n i k
+passed_on {j = j} first others l g low high is = ⊎_elim (λ less. first l g low less is) (λ more. others l g more high is) (cases_lt l j)
+
 -- where contents go on with an element that no field takes, no component is next
 pub none_taken : {t : Table} {Child : Values} (Item : Elements) → BeginWell t Child → (n : Node) (point : ℕ) → IsInsertion n point
     → (m : Bool) (b octets : List ℕ) → (IsEnded m octets → ⊥) → ((h : Header) → IsNext h octets → h ≢ end_header → IsTaken t n point h → ⊥)
-    → (count k : ℕ) (known : Known) → point ≤ k → k + count ≡ n.parts.start + n.parts.count
+    → (count k : ℕ) (known : Known) → point ≤ k → MayBePassed t n point k → k + count ≡ n.parts.start + n.parts.count
     → (rules : EncodingRules) (r : List ℕ) → Body m b (AreComponents Child Item rules t n count k known) octets r → ⊥
-none_taken Item well n point at m b octets going untaken zero k known after end rules r (inner, within, e) =
+none_taken Item well n point at m b octets going untaken zero k known after passed end rules r (inner, within, e) =
     going (ends_here m b octets r (subst (λ i. IsWithin m b octets i r) e within))
-none_taken {t} Item well n point at m b octets going untaken (suc count) k known after end rules r (inner, within, (g, row, inl (x, left, later, e, comp, fol, comps))) =
+none_taken {t} Item well n point at m b octets going untaken (suc count) k known after passed end rules r (inner, within, (g, row, inl (x, left, later, e, comp, fol, comps))) =
     let front = within_front m b octets x left r (subst (λ i. IsWithin m b octets i r) e within) in
     let there = well rules known g.node x comp.0 in
     untaken there.0 (front_next front.0 there.2 front.1) there.2.real (record {
       index = k;
       by = g;
-      may = record { field = record { part = (omega (arith, at.2), omega (arith, end)); row = row }; absent = λ l f low high is. absurd (omega arith) };
+      may = record { field = record { part = (omega (arith, at.2), omega (arith, end)); row = row }; before = λ l f low high is. absurd (omega arith); after = passed };
       begins = there.3;
     })
-none_taken {t} {Child} Item well n point at m b octets going untaken (suc count) k known after end rules r (inner, within, (g, row, inr (may, comps))) =
-    of (split_additions comps) (λ none. none_taken Item well n point at m b octets going untaken count (suc k) known (omega arith) (omega (arith, end)) rules r (inner, within, none))
+none_taken {t} {Child} Item well n point at m b octets going untaken (suc count) k known after passed end rules r (inner, within, (g, row, inr (may, comps))) =
+    of (split_additions comps) (λ none. none_taken Item well n point at m b octets going untaken count (suc k) known (omega arith) (pass_one passed row may) (omega (arith, end)) rules r (inner, within, none))
   where
     Are : List ℕ → Type 0
     Are = AreComponents Child Item rules t n count (suc k) known

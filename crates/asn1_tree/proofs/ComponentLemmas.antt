@@ -1,5 +1,5 @@
 -- Components of a SEQUENCE in order.
-use Rattle.std.proofs.Common.{◌≡◌, ◌≢◌, ◌↔◌, ◌⊎◌, ℕ, zero, suc, ◌+◌, ◌<◌, ◌≤◌, Bool, true, false, ⊎_elim, length, length-append, List, [], ◌++◌, Some, slice_get, refl, sym, ap, ◌∙◌, subst, arith, inl, inr}
+use Rattle.std.proofs.Common.{◌≡◌, ◌≢◌, ◌↔◌, ◌⊎◌, ℕ, zero, suc, ◌+◌, ◌<◌, ◌≤◌, Bool, true, false, length, length-append, List, [], ◌++◌, Some, slice_get, refl, sym, ap, ◌∙◌, subst, arith, inl, inr}
 use Rattle.der_base.specs.declared.encoding_rules.EncodingRules.{EncodingRules}
 use Rattle.ber.specs.Header.{IsNext, end_header}
 use Rattle.ber.specs.declared.header.Header.{Header}
@@ -14,17 +14,16 @@ use Rattle.asn1_schema.specs.Distinct.{may_be_missing, IsDistinct}
 use Rattle.asn1_tree.specs.Verdict.{holds}
 use Rattle.asn1_tree.specs.Known.{Known, Follows}
 use Rattle.asn1_tree.specs.Opened.{IsEnded}
-use Rattle.asn1_tree.specs.Components.{Values, Elements, IsComponent, MayBeAbsent, IsAddition, AfterAdditions, AreComponents, AreFrom}
+use Rattle.asn1_tree.specs.Components.{Values, Elements, IsComponent, MayBeAbsent, MayBePassed, IsAddition, AfterAdditions, AreComponents, AreFrom}
 use Rattle.asn1_tree.specs.Reading.{Front, IsWithin, Body, Finds, Status}
 use Rattle.asn1_tree.specs.declared.verdict.Verdict.{Verdict}
 use Rattle.asn1_tree.specs.declared.verdict.Verdict.TheVariants.{Der, Neither}
 use Rattle.asn1_tree.proofs.FindsLemmas.{Said, status_same, status_refused}
-use Rattle.asn1_tree.proofs.AdditionLemmas.{BeginWell, AreElements, split_additions, taken_element}
+use Rattle.asn1_tree.proofs.AdditionLemmas.{BeginWell, AreElements, pass_one, split_additions, taken_element}
 use Rattle.asn1_tree.proofs.EnclosedLemmas.{front_next, same_next, within_step, within_front}
 use Rattle.asn1_tree.proofs.ItemLemmas.{ends_here}
 use Rattle.asn1_tree.proofs.KnownLemmas.{one_follows}
 use Rattle.ber.proofs.GrammarLemmas.{one_header, header_two}
-use Rattle.std.proofs.lemmas.Bool.{cases_lt}
 use Rattle.ber.proofs.HeaderLemmas.{end_header_next}
 
 -- octets that begin with no header of a node begin with no value of it
@@ -130,25 +129,11 @@ not_ended m octets next real (inr marked) =
     let end = (end_header_next octets).0 (marked.1.0, marked.1.1) in
     real (one_header next.is end.is next.rest end.rest (sym next.split ∙ end.split)).0
 
--- fields from one on may be absent
-abbrev LackFrom : Table → Node → ℕ → ℕ → Type 0
-LackFrom t node j k = (l : ℕ) (g : Field) → j ≤ l → l < k → IsFieldOf t node l g → MayBeAbsent g
-
-lack_one : {t : Table} {node : Node} (j k : ℕ) (g : Field) → slice_get t.fields k ≡ Some g → MayBeAbsent g → LackFrom t node j k → LackFrom t node j (suc k)
-lack_one {t} {node} j k g row may lack l i low high is = ⊎_elim (λ less. lack l i low less is) (λ over. last (omega (arith, high, over))) (cases_lt l k)
-  where
-    last : l ≡ k → MayBeAbsent i
-    last at =
-        let here : slice_get t.fields k ≡ Some i = subst (λ q. slice_get t.fields q ≡ Some i) at is.row in
-        let both : Some i ≡ Some g = sym here ∙ row in
-        let it : i ≡ g = cc in
-        subst MayBeAbsent (sym it) may
-
 -- after a field with which octets begin, no others can be there, if it may be absent
 pub none_later : {t : Table} {Child : Values} {Item : Elements} → BeginWell t Child → AreElements Item → (node : Node) → node.kind ≡ Universally Sequence → ((k : ℕ) → IsDistinct t node k)
     → (m : Bool) (b octets : List ℕ) (h : Header) → IsNext h octets → h ≢ end_header
     → (j : ℕ) (f : Field) → IsFieldOf t node j f → Begins t f.node h.class h.number
-    → (n k : ℕ) (known : Known) → j < k → k + n ≡ node.parts.start + node.parts.count → LackFrom t node j k
+    → (n k : ℕ) (known : Known) → j < k → k + n ≡ node.parts.start + node.parts.count → MayBePassed t node j k
     → (rules : EncodingRules) (r : List ℕ) → Body m b (AreFrom Child Item rules t node n k known) octets r → ⊥
 none_later {t} {Child} {Item} well elements node kind distinct m b octets h next real j f field begins zero k known before end lack rules r (inner, within, from) =
     of (split_additions from)
@@ -157,9 +142,9 @@ none_later {t} {Child} {Item} well elements node kind distinct m b octets h next
     of (inl e) = not_ended m octets next real (ends_here m b octets r (subst (λ i. IsWithin m b octets i r) e within))
     of (inr (x, left, e, addition, later)) =
         let front = within_front m b octets x left r (subst (λ i. IsWithin m b octets i r) e within) in
-        taken_element elements node k octets next (record { index = j; by = f; may = record { field = field; absent = lack }; begins = begins }) rules x front.0 front.1 addition
+        taken_element elements node k octets next (record { index = j; by = f; may = record { field = field; before = lack; after = λ l g low high is. absurd (omega arith) }; begins = begins }) rules x front.0 front.1 addition
 none_later {t} {Child} {Item} well elements node kind distinct m b octets h next real j f field begins (suc n) k known before end lack rules r (inner, within, from) =
-    of (split_additions from) (λ g row may comps. none_later well elements node kind distinct m b octets h next real j f field begins n (suc k) known (omega arith) (omega (arith, end)) (lack_one j k g row may lack) rules r (inner, within, comps))
+    of (split_additions from) (λ g row may comps. none_later well elements node kind distinct m b octets h next real j f field begins n (suc k) known (omega arith) (omega (arith, end)) (pass_one lack row may) rules r (inner, within, comps))
   where
     Later : List ℕ → Type 0
     Later = AreFrom Child Item rules t node n (suc k) known
@@ -182,7 +167,7 @@ none_later {t} {Child} {Item} well elements node kind distinct m b octets h next
     of (inl (g, row, inr (may, comps))) none = none g row may comps
     of (inr (x, left, e, addition, later)) none =
         let front = within_front m b octets x left r (subst (λ i. IsWithin m b octets i r) e within) in
-        taken_element elements node k octets next (record { index = j; by = f; may = record { field = field; absent = lack }; begins = begins }) rules x front.0 front.1 addition
+        taken_element elements node k octets next (record { index = j; by = f; may = record { field = field; before = lack; after = λ l g low high is. absurd (omega arith) }; begins = begins }) rules x front.0 front.1 addition
 
 -- the same of numbers of components and of indices that are sums
 pub status_next : (t : Table) (Child : Values) (Item : Elements) (node : Node) (m : Bool) (b octets rest : List ℕ) (n k : ℕ) (known after : Known) {v : Verdict}

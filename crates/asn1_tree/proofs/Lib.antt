@@ -15,6 +15,7 @@ pub mod SegmentLemmas
 pub mod ChosenLemmas
 pub mod WholeLemmas
 pub mod SizeLemmas
+pub mod LimitLemmas
 pub mod KindLemmas
 pub mod DepartureLemmas
 pub mod EntryLemmas

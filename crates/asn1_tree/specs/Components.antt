@@ -42,11 +42,17 @@ MayBeAbsent f = may_be_missing (Universally Sequence) f ≡ true
 abbrev pub IsInsertion : Node → ℕ → Type 0
 IsInsertion n k = (i : ℕ) × (insertion_of n ≡ Some i) × (k ≡ n.parts.start + i)
 
--- a field takes an element with its tag at the insertion point: it is after the point, or it may be
--- absent, and so may all fields between it and the point
+-- the fields of a node from an index on, before another, may be absent
+abbrev pub MayBePassed : Table → Node → ℕ → ℕ → Type 0
+MayBePassed t n j k = (l : ℕ) (g : Field) → j ≤ l → l < k → IsFieldOf t n l g → MayBeAbsent g
+
+-- a field takes an element with its tag at the insertion point: it is before the point, and may be absent, as
+-- may all fields between it and the point; or it is after the point, and all fields between them may be absent
+-- (25.6, 25.7)
 pub record MayTake (t : Table) (n : Node) (k j : ℕ) (f : Field) : Type 0 where
   pub field : IsFieldOf t n j f
-  pub absent : (l : ℕ) (g : Field) → j ≤ l → l < k → IsFieldOf t n l g → MayBeAbsent g
+  pub before : MayBePassed t n j k
+  pub after : MayBePassed t n k j
 
 -- an element with this header is taken by a field
 pub record IsTaken (t : Table) (n : Node) (k : ℕ) (h : Header) : Type 0 where

@@ -1,11 +1,11 @@
 -- Constraints on values (X.680 51): value ranges, sizes, permitted alphabets, named bits, and the numbers
 -- of an ENUMERATED.
-use Rattle.std.specs.Prelude.{◌≡◌, ◌-◌, ◌^◌, min, ℕ, ℤ, pos, true, List, slice_get, Some, ◌⊎◌}
+use Rattle.std.specs.Prelude.{◌≡◌, ◌-◌, ◌^◌, min, ℕ, zero, suc, ℤ, pos, true, List, slice_get, Some, ◌⊎◌}
 use Rattle.std.specs.List.{AllByRecursion}
 use Rattle.der_base.specs.declared.encoding_rules.EncodingRules.{EncodingRules}
 use Rattle.ber.specs.declared.universal.Universal.{Universal}
 use Rattle.ber.specs.declared.universal.Universal.TheVariants.{Integer, Enumerated, BitString, Utf8String, NumericString, PrintableString, TeletexString, VideotexString, Ia5String, GraphicString, VisibleString, GeneralString, UniversalString, BmpString}
-use Rattle.asn1_contents.specs.Characters.{size_of, characters_of}
+use Rattle.asn1_contents.specs.Characters.{size_of, characters_of, AreZeroFrom}
 use Rattle.asn1_contents.specs.Contents.{IsNamedBits}
 use Rattle.asn1_contents.specs.Values.{integer_value, IsInRange}
 use Rattle.asn1_schema.specs.Allowed.{IsLimitOf, IsAllowed}
@@ -32,6 +32,11 @@ counted size = min size (2 ^ 63 - 1)
 -- a size is one of the sizes, or there is none (51.5)
 abbrev pub IsAllowedSize : Table → Span → ℕ → Type 0
 IsAllowedSize t limits size = IsAllowed t limits Size (pos (counted size))
+
+-- the size of some string of bits is one of the sizes, or there is none: it differs from the string of
+-- these contents only in the number of zero bits at its end (22.7; X.690 11.2.2, note 1)
+abbrev pub HasAllowedSize : Table → Span → List ℕ → Type 0
+HasAllowedSize t limits inner = (size : ℕ) × AreZeroFrom size inner × IsAllowedSize t limits size
 
 -- the code of a character is in the permitted alphabet, or there is none (51.7)
 abbrev pub IsAllowedCode : Table → Span → ℕ → Type 0
@@ -71,14 +76,18 @@ bound_of UniversalString = Characters
 bound_of BmpString = Characters
 bound_of u = Sizes
 
+-- the contents of a BIT STRING keep constraints, without named bits, and with so many (22.7)
+abbrev pub AreBitsKept : ℕ → EncodingRules → Table → Span → Universal → List ℕ → Type 0
+AreBitsKept zero rules t limits u inner = IsAllowedSize t limits (size_of u inner)
+AreBitsKept (suc names) rules t limits u inner =
+    HasAllowedSize t limits inner × IsNamedBits rules inner
+
 -- contents of a primitive encoding of a node keep constraints
 abbrev pub AreKept : Bound → EncodingRules → Table → Node → Universal → List ℕ → Type 0
 AreKept Numbers rules t n u inner = IsAllowedValue t n.limits (integer_value inner)
 AreKept Items rules t n u inner =
     IsAllowedValue t n.limits (integer_value inner) × IsItem t n (integer_value inner)
-AreKept Bits rules t n u inner =
-    IsAllowedSize t n.limits (size_of u inner)
-    × ((n.parts.count ≡ 0) ⊎ IsNamedBits rules inner)
+AreKept Bits rules t n u inner = AreBitsKept n.parts.count rules t n.limits u inner
 AreKept Characters rules t n u inner =
     IsAllowedSize t n.limits (size_of u inner) × AreAllowedCodes t n.limits (characters_of u inner)
 AreKept Sizes rules t n u inner = IsAllowedSize t n.limits (size_of u inner)

@@ -6,7 +6,7 @@ ghost use Rattle.asn1_schema.specs.declared.field.Field.{Field as AField};
 ghost use Rattle.asn1_tree.specs.Known.{Known};
 ghost use Rattle.asn1_tree.specs.Reading.{Body, Status, Logs};
 ghost use Rattle.asn1_tree.specs.Types.{types_in};
-ghost use Rattle.asn1_tree.specs.Components.{IsInsertion, MayBeAbsent, AreComponents, AreFrom};
+ghost use Rattle.asn1_tree.specs.Components.{IsInsertion, MayBePassed, AreComponents, AreFrom};
 ghost use Rattle.asn1_tree.specs.Value.{IsValue, IsAny};
 
 use crate::full::Full;
@@ -14,7 +14,7 @@ use crate::notes::Notes;
 use crate::opened::Opened;
 use crate::outcome::Outcome;
 use crate::role::Role;
-use crate::select::find_field;
+use crate::select::find_next;
 use crate::tests::may_be_absent;
 use crate::types::field_of;
 use crate::untyped::any;
@@ -56,7 +56,7 @@ pub(crate) fn additions<'a>(
     }
     let first = first_taker(schema, node, index);
     'additions: while !opened.at(rest).is_ended()
-        && find_field(schema, node, first, rest).is_none()
+        && find_next(schema, node, first, rest).is_none()
     {
         let outcome = any(notes, depth, role, opened.inside.at(rest))?;
         verdict = verdict.and(outcome.verdict);
@@ -81,10 +81,9 @@ fn first_taker(schema: &Schema<'_>, node: Node, index: u32) -> u32
     requires there { IsRange node.parts schema.now.counts.fields }
     requires part { (node.parts.start ≤ index) × (index ≤ node.parts.start + node.parts.count) }
     ensures first { node.parts.start ≤ result }
-    ensures absent { (k : ℕ) (f : AField) → result ≤ k → k < index
-        → IsFieldOf (types_in schema.now.octets.now) node k f → MayBeAbsent f }
-    ensures others { (k : ℕ) → ((l : ℕ) (f : AField) → k ≤ l → l < index
-        → IsFieldOf (types_in schema.now.octets.now) node l f → MayBeAbsent f)
+    ensures before { result ≤ index }
+    ensures absent { MayBePassed (types_in schema.now.octets.now) node result index }
+    ensures others { (k : ℕ) → MayBePassed (types_in schema.now.octets.now) node k index
         → node.parts.start ≤ k → result ≤ k }
 {
     let mut first = index;

@@ -2,7 +2,6 @@
 ghost use Rattle.std.specs.Prelude.{◌≡◌, ◌↔◌, ◌⊎◌, ◌+◌, ◌≤◌, true, IsTrue};
 ghost use Rattle.der_base.specs.declared.encoding_rules.EncodingRules.{EncodingRules};
 ghost use Rattle.asn1_contents.specs.Characters.{size_of};
-ghost use Rattle.asn1_contents.specs.Contents.{IsNamedBits};
 ghost use Rattle.asn1_contents.specs.Values.{integer_value, IsInRange};
 ghost use Rattle.asn1_schema.specs.Node.{IsNode};
 ghost use Rattle.asn1_schema.specs.Span.{IsWithin};
@@ -14,10 +13,11 @@ ghost use Rattle.asn1_tree.specs.Types.{types_in};
 ghost use Rattle.asn1_tree.specs.Verdict.{holds};
 
 use crate::alphabet::text_rule;
+use crate::bits::bits_rule;
 use crate::bound::Bound;
 use crate::rule::Rule;
 use crate::types::{is_size_allowed, limit_of, name_of};
-use asn1_contents::{is_in_range, named_bits_rule, size_of};
+use asn1_contents::{is_in_range, size_of};
 use asn1_schema::{Limit, LimitKind, Node, Schema, Span};
 use ber::Universal;
 
@@ -107,13 +107,7 @@ pub(crate) fn constraint_rule(
                 Some(Rule::ValueRange)
             }
         }
-        Bound::Bits => {
-            if has_allowed_size(schema, node.limits, universal, contents) {
-                names_rule(node.parts.count, contents)
-            } else {
-                Some(Rule::Size)
-            }
-        }
+        Bound::Bits => bits_rule(schema, node, universal, contents),
         Bound::Characters => text_rule(schema, node.limits, universal, contents),
         Bound::Sizes => size_rule(schema, node.limits, universal, contents),
     }
@@ -131,7 +125,8 @@ fn value_rule(schema: &Schema<'_>, limits: Span, contents: &[u8]) -> Option<Rule
     }
 }
 
-fn size_rule(
+/// Returns the size constraint if contents octets break it; otherwise `None`.
+pub(crate) fn size_rule(
     schema: &Schema<'_>,
     limits: Span,
     universal: Universal,
@@ -172,19 +167,6 @@ fn item_rule(schema: &Schema<'_>, node: Node, contents: &[u8]) -> Option<Rule>
         None
     } else {
         Some(Rule::Unlisted)
-    }
-}
-
-fn names_rule(names: u32, contents: &[u8]) -> Option<Rule>
-    ensures { (rules : EncodingRules) → (holds rules (verdict_of_option result) ≡ true)
-        ↔ ((names ≡ 0) ⊎ IsNamedBits rules contents.now) }
-{
-    if names == 0 {
-        return None;
-    }
-    match named_bits_rule(contents) {
-        Some(rule) => Some(Rule::Contents(rule)),
-        None => None,
     }
 }
 

@@ -50,6 +50,7 @@
 
 mod additions;
 mod alphabet;
+mod bits;
 mod bound;
 mod chosen;
 mod components;

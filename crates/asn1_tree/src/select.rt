@@ -4,9 +4,11 @@ ghost use Rattle.asn1_schema.specs.Span.{IsWithin as IsRange};
 ghost use Rattle.asn1_schema.specs.Tags.{IsFieldOf};
 ghost use Rattle.asn1_schema.specs.declared.field.Field.{Field as AField};
 ghost use Rattle.asn1_tree.specs.Types.{types_in};
+ghost use Rattle.asn1_tree.specs.Components.{MayBePassed};
 ghost use Rattle.asn1_tree.specs.Tags.{IsBegun, NoneBegins};
 
 use crate::constraints::end_of;
+use crate::tests::may_be_absent;
 use crate::types::{field_of, select};
 use asn1_schema::{Node, Schema};
 use ber::{is_end_of_contents, read_header};
@@ -46,6 +48,34 @@ pub fn find_field(schema: &Schema<'_>, node: Node, first: u32, octets: &[u8]) ->
     for k in first..end_of(node.parts, schema.counts().fields) {
         if begins(schema, field_of(schema, k).node, octets) {
             return Some(k);
+        }
+    }
+    None
+}
+
+/// Returns the index of the field of a SEQUENCE that takes the element at the front of `octets`, if
+/// the fields before the field `first` are passed. That is the first field from there on whose type
+/// may have its tag. `None` if a field that must be present comes before such a field, or if there is
+/// no such field.
+pub fn find_next(schema: &Schema<'_>, node: Node, first: u32, octets: &[u8]) -> Option<u32>
+    requires there { IsRange node.parts schema.now.counts.fields }
+    requires part { node.parts.start ≤ first }
+    ensures found { IfSome result (λ k. (f : AField) × (first ≤ k)
+        × IsFieldOf (types_in schema.now.octets.now) node k f
+        × IsBegun (types_in schema.now.octets.now) f.node octets.now
+        × MayBePassed (types_in schema.now.octets.now) node first k) }
+    ensures none { IfNone result ((k : ℕ) (f : AField) → first ≤ k
+        → IsFieldOf (types_in schema.now.octets.now) node k f
+        → MayBePassed (types_in schema.now.octets.now) node first k
+        → NoneBegins (types_in schema.now.octets.now) f.node octets.now) }
+{
+    for k in first..end_of(node.parts, schema.counts().fields) {
+        let field = field_of(schema, k);
+        if begins(schema, field.node, octets) {
+            return Some(k);
+        }
+        if !may_be_absent(field) {
+            return None;
         }
     }
     None

@@ -10,7 +10,7 @@ pub use crate::chosen::chosen;
 pub use crate::front::front_header;
 pub use crate::known::Known;
 pub use crate::role::LEVELS;
-pub use crate::select::find_field;
+pub use crate::select::{find_field, find_next};
 pub use crate::shape::Shape;
 pub use crate::texts::is_joined;
 pub use crate::types::{default_of, field_of, node_of, select};

@@ -1,4 +1,4 @@
-use Rattle.std.proofs.Common.{rules, ◌≡◌, ◌∙◌, ◌+◌, [], ◌++◌, true, None, Some, map, refl, sym, ap, subst, append_assoc, arith}
+use Rattle.std.proofs.Common.{rules, ◌≡◌, ◌∙◌, ◌+◌, [], ◌++◌, true, None, Some, map, refl, sym, ap, subst, append_assoc, arith, inr}
 use Rattle.std.specs.List.{concat}
 use Rattle.std.proofs.lemmas.List.Sorted.{IsPermutation-map}
 use Rattle.asn1_schema.specs.Tags.{IsFieldOf}
@@ -76,7 +76,7 @@ components::step-returns-in_ok-extend_from_slice-in-Some-clause-same t c before 
     let is : IsFieldOf table c.args.node c.in-Some.index f = record { part = found.2.part; row = c.field_of-field.ensures.value } in
     subst (λ q. AreComponents (IsSame table c.args.depth) table c.args.node q known all c.extend_from_slice.new.self.items) (sym c.after.ensures)
     (subst (λ q. AreComponents (IsSame table c.args.depth) table c.args.node (c.in-Some.index + 1) known all q) (sym new)
-    (component are found.1 is (c.in_ok-written-in-Some.ensures.same f c.field_of-field.ensures.value) c.in_ok-known-in-Some.ensures))
+    (component are found.1 found.4 is (c.in_ok-written-in-Some.ensures.same f c.field_of-field.ensures.value) c.in_ok-known-in-Some.ensures))
 
 pub components::step-returns-in_ok-extend_from_slice-in-None-clause-same :
     goal.components::step-returns-in_ok-extend_from_slice-in-None-clause-same
@@ -100,6 +100,11 @@ items::each_member-members-init t c =
 pub items::each_member-members-preserved : goal.items::each_member-members-preserved
 items::each_member-members-preserved t c =
     written_more c.in_ok-piece.piece.octets.now c.in_ok-piece.piece.rest.now c.in_ok-element.element.items c.members.invariant c.in_ok-piece.ensures.split c.in_ok-element.ensures.same c.in_ok-keep.ensures
+
+pub items::member-returns-in_ok-to_vec-in-None : goal.items::member-returns-in_ok-to_vec-in-None
+items::member-returns-in_ok-to_vec-in-None t c =
+    let same : c.in_ok-to_vec-in-None.field-0.items ≡ c.args.piece.octets.now = search rules in
+    record { same = inr ((λ j f is. c.in-None.ensures.none j f is.part.0 is), same) }
 
 pub items::members-returns : goal.items::members-returns
 items::members-returns t c = record {

@@ -14,7 +14,7 @@ returns-then-is_joined c =
       same = if_ok c.element.result (λ w e t d known.
           primitive c.in_ok-text.text.items c.requires.kind c.requires.piece
           (subst (λ b. IsTextOf b u piece.contents.now c.in_ok-text.text.items) (sym joined) c.in_ok-text.ensures)
-          (subst (λ q. IsRewritten (rewriting_of u) q c.in_ok-contents.contents.items) c.as_slice.ensures.value c.in_ok-contents.ensures)
+          (subst (λ q. IsRewritten (rewriting_of u) c.args.node.parts.count q c.in_ok-contents.contents.items) c.as_slice.ensures.value c.in_ok-contents.ensures)
           (subst (λ q. IsElementOf piece.header false q w.items) c.as_slice-then-is_joined.ensures.value e)) c.element.ensures;
     }
 

@@ -5,7 +5,7 @@ use Rattle.ber.specs.declared.header.Header.{Header}
 use Rattle.asn1_tree.specs.Components.{IsTaken, IsAddition, AreComponents}
 use Rattle.asn1_tree.specs.Types.{types_in}
 use Rattle.asn1_tree.specs.Value.{IsValue, IsAny}
-use Rattle.asn1_tree.proofs.AdditionLemmas.{addition_found, additions_end, none_taken, taken_element, untaken_element}
+use Rattle.asn1_tree.proofs.AdditionLemmas.{addition_found, additions_end, none_taken, passed_on, taken_element, untaken_element}
 use Rattle.asn1_tree.proofs.FindsLemmas.{finds_at, status_is, status_then}
 use Rattle.asn1_tree.proofs.ItemLemmas.{none_at_end, goes_on, has_ended}
 use Rattle.asn1_tree.proofs.ResultLemmas.{if_none, if_some}
@@ -28,7 +28,7 @@ additions-preserved c =
     record {
       status = λ left known size. status_is c.and-verdict.ensures (status_then (c.additions.invariant.status left known size)
           (addition_found (λ rules. AreComponents (IsValue (types_in c.args.schema.now.octets.now) c.args.depth) (IsAny c.args.depth) rules (types_in c.args.schema.now.octets.now) c.args.node left c.args.index known) c.args.opened.marked c.args.opened.beyond.now now c.in_ok-outcome.outcome.rest.now
-          (λ rules r. none_taken (IsAny c.args.depth) (value_begins (types_in c.args.schema.now.octets.now) c.args.depth) c.args.node c.args.index point c.args.opened.marked c.args.opened.beyond.now now going untaken left c.args.index known (omega arith) size rules r)
+          (λ rules r. none_taken (IsAny c.args.depth) (value_begins (types_in c.args.schema.now.octets.now) c.args.depth) c.args.node c.args.index point c.args.opened.marked c.args.opened.beyond.now now going untaken left c.args.index known (omega arith) (λ l g low high is. absurd (omega arith)) size rules r)
           (untaken_element (any_elements c.args.depth) c.args.node c.args.index point now untaken)
           (finds_at (IsAny c.args.depth) c.at-in-additions.ensures.octets c.in_ok-outcome.ensures.finds)));
       log = logs_is c.and-verdict.ensures (logs_then c.additions.invariant.log c.in_ok-outcome.ensures.log);
@@ -38,8 +38,9 @@ additions-preserved c =
   where
     untaken : (h : Header) → IsNext h c.additions.rest.now → h ≢ end_header → IsTaken (types_in c.args.schema.now.octets.now) c.args.node c.args.index h → ⊥
     untaken h next real taken =
-        if_none c.find_field.result c.find_field.ensures.none (search rules) taken.index taken.by
-        (c.first_taker-first.ensures.others taken.index taken.may.absent taken.may.field.part.0) taken.may.field h next real taken.begins
+        if_none c.find_next.result c.find_next.ensures.none (search rules) taken.index taken.by
+        (c.first_taker-first.ensures.others taken.index taken.may.before taken.may.field.part.0) taken.may.field
+        (passed_on c.first_taker-first.ensures.absent taken.may.after) h next real taken.begins
 
 pub returns-clause-status : goal.returns-clause-status
 returns-clause-status c left known size =
@@ -53,9 +54,19 @@ returns-clause-status c left known size =
     none rules x r e addition =
         elim c.additions-test.branch [
           | then-additions-test+else-is_none w ↦
-              let found = if_some w.find_field.result w.find_field.ensures.found (w.is_none.ensures ∙ ap not w.if-is_none.false) in
+              let some = w.is_none.ensures ∙ ap not w.if-is_none.false in
+              let found = if_some w.find_next.result w.find_next.ensures.found some in
               taken_element (any_elements c.args.depth) c.args.node c.args.index now found.1.3.1
-              (record { index = found.0; by = found.1.0; may = record { field = found.1.2; absent = λ l g low high is. c.first_taker-first.ensures.absent l g (omega (arith, found.1.1, low)) high is }; begins = found.1.3.3 }) rules x r e addition
+              (record {
+                index = found.0;
+                by = found.1.0;
+                may = record {
+                  field = found.1.2;
+                  before = λ l g low high is. c.first_taker-first.ensures.absent l g (omega (arith, found.1.1, low)) high is;
+                  after = λ l g low high is. found.1.4 l g (omega (arith, c.first_taker-first.ensures.before, low)) high is;
+                };
+                begins = found.1.3.3;
+              }) rules x r e addition
           | else-additions-test w ↦
               none_at_end (IsAny c.args.depth rules) (any_elements c.args.depth rules) c.args.opened.marked now x r
               (has_ended c.is_ended.result c.is_ended.ensures c.at.ensures.marked c.at.ensures.octets (search)) e addition.item

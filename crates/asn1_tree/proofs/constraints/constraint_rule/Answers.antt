@@ -22,15 +22,9 @@ pub returns-else-is_allowed_value : goal.returns-else-is_allowed_value
 returns-else-is_allowed_value c =
     broken (λ r p. refuted c.is_allowed_value.ensures c.if-is_allowed_value.false (subst (λ b. AreKept b r (types_in c.args.schema.now.octets.now) c.args.node c.args.universal c.args.contents.now) (sym c.of.ensures ∙ c.in-Items.is) p).0)
 
-pub returns-then-has_allowed_size : goal.returns-then-has_allowed_size
-returns-then-has_allowed_size c =
-    let is = c.has_allowed_size.ensures.0 c.if-has_allowed_size.true in
-    subst (λ b. (r : EncodingRules) → (holds r (verdict_of_option c.names_rule.result) ≡ true) ↔ AreKept b r (types_in c.args.schema.now.octets.now) c.args.node c.args.universal c.args.contents.now) (sym c.in-Bits.is ∙ c.of.ensures)
-    (λ r. let rule = c.names_rule.ensures r in ((λ on. (is, rule.0 on)), (λ p. rule.1 p.1)))
-
-pub returns-else-has_allowed_size : goal.returns-else-has_allowed_size
-returns-else-has_allowed_size c =
-    broken (λ r p. refuted c.has_allowed_size.ensures c.if-has_allowed_size.false (subst (λ b. AreKept b r (types_in c.args.schema.now.octets.now) c.args.node c.args.universal c.args.contents.now) (sym c.of.ensures ∙ c.in-Bits.is) p).0)
+pub returns-in-Bits : goal.returns-in-Bits
+returns-in-Bits c =
+    subst (λ b. (r : EncodingRules) → (holds r (verdict_of_option c.bits_rule.result) ≡ true) ↔ AreKept b r (types_in c.args.schema.now.octets.now) c.args.node c.args.universal c.args.contents.now) (sym c.in-Bits.is ∙ c.of.ensures) c.bits_rule.ensures
 
 pub returns-in-Characters : goal.returns-in-Characters
 returns-in-Characters c =

@@ -1,14 +1,12 @@
-use Rattle.std.proofs.Common.{◌≡◌, ◌∙◌, ◌+◌, ◌<◌, ℕ, ℤ, Bool, true, false, not, slice_get, Some, refl, sym, ap, subst, ⊎_elim, arith}
-use Rattle.std.proofs.lemmas.Bool.{cases_lt}
+use Rattle.std.proofs.Common.{◌≡◌, ◌∙◌, ℕ, ℤ, true, refl, sym, arith}
 use Rattle.asn1_contents.specs.Values.{integer_value, IsInRange}
 use Rattle.asn1_schema.specs.Table.{Table}
 use Rattle.asn1_schema.specs.Allowed.{IsLimitOf}
 use Rattle.asn1_schema.specs.declared.limit.Limit.{Limit}
-use Rattle.asn1_schema.specs.declared.limit_kind.LimitKind.{LimitKind}
 use Rattle.asn1_schema.specs.declared.limit_kind.LimitKind.TheVariants.{Value}
 use Rattle.asn1_schema.specs.declared.span.Span.{Span}
 use Rattle.asn1_schema.proofs.TestLemmas.{refuted}
-use Rattle.asn1_schema.proofs.TagLemmas.{same_row}
+use Rattle.asn1_tree.proofs.LimitLemmas.{isnt_true, isnt_both, looked_at}
 use Rattle.asn1_tree.specs.Constraints.{IsAllowedValue, limited, unlimited}
 use Rattle.asn1_tree.proofs.constraints.is_allowed_value.Goals.{then-is_of_values+else-allows, else-is_of_values}
 use Rattle.asn1_tree.proofs.constraints.is_allowed_value.Goals as goal
@@ -21,13 +19,6 @@ returns-then-allows c = (
   λ _. refl,
 )
 
-isnt_true : (b : Bool) → (b ≡ true → ⊥) → not b ≡ true
-isnt_true true isnt = absurd (isnt refl)
-isnt_true false isnt = refl
-
-isnt_both : {b : Bool} → not b ≡ true → b ≡ true → ⊥
-isnt_both e f = let g : not true ≡ true = ap not (sym f) ∙ e in cc
-
 -- a number is not allowed if there is a range, and it is outside each
 disallowed : {t : Table} {limits : Span} {number : ℤ} → (k : ℕ) × (m : Limit) × IsLimitOf t limits Value k m → ((k : ℕ) (m : Limit) → IsLimitOf t limits Value k m → IsInRange m.low m.high number → ⊥) → IsAllowedValue t limits number → ⊥
 disallowed there outside (limited k m is between) = outside k m is between
@@ -38,18 +29,6 @@ returns c = (
   λ e. unlimited (λ k m is. isnt_both e (c.loop-k.invariant.outside k m (omega (arith, is.part.1)) is).1),
   λ allowed. isnt_true c.loop-k.limited (λ e. disallowed (c.loop-k.invariant.one e) (λ k m is. (c.loop-k.invariant.outside k m (omega (arith, is.part.1)) is).0) allowed),
 )
-
--- what holds of each limit before a row, and of that row, holds of each before the next
-looked_at : {t : Table} {limits : Span} {kind : LimitKind} {j : ℕ} {l : Limit} (Fact : Limit → Type 0) → slice_get t.limits j ≡ Some l → (l.kind ≡ kind → Fact l)
-    → ((k : ℕ) (m : Limit) → k < j → IsLimitOf t limits kind k m → Fact m)
-    → (k : ℕ) (m : Limit) → k < j + 1 → IsLimitOf t limits kind k m → Fact m
-looked_at {t} {limits} {kind} {j} {l} Fact row here before k m lt is =
-    ⊎_elim
-    (λ less. before k m less is)
-    (λ more. let e : j ≡ k = omega arith in
-    let same = same_row t.limits k (subst (λ (x : ℕ). slice_get t.limits x ≡ Some l) e row) is.row in
-    subst Fact same (here (ap (λ (x : Limit). x.kind) same ∙ is.kind_is)))
-    (cases_lt k j)
 
 pub loop-k-preserved : goal.loop-k-preserved
 loop-k-preserved c =
