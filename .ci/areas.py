@@ -8,18 +8,24 @@ from checker import KIT, PROGRAMS, TOP, crates, folder_of, give_up, text_of
 
 TESTS = f"{TOP}/tests"
 # The steps of `.ci/test` beside areas and programs.
-STEPS = ["trees", "vectors", "cursors", "shown", "linted", "secrets", "modules", "bindings", "package"]
+STEPS = ["trees", "vectors", "cursors", "shown", "linted", "secrets", "modules", "paths", "rewritten", "options", "departures", "bindings", "package"]
 # What checks a crate beside the area of tests/ that has its name, if there is one: other areas, programs, and steps of `.ci/test`.
 ALSO = {
-    "der_core": ["der"], "der": ["der_memory"], "der_fixtures": ["der"], "der_tool_lib": ["der_tool"],
-    "ldap": ["protocols"], "snmp": ["protocols"], "kerberos": ["protocols"], "der_universal": ["protocols"],
+    "der_core": ["der"], "der": ["der_memory"], "test_fixtures": ["der"], "der_tool_lib": ["der_tool"],
+    "ldap": ["protocols"], "snmp": ["protocols"], "kerberos": ["protocols"],
     "asn1_syntax": ["asn1_compile"], "asn1_check": ["asn1_compile"], "asn1_output": ["asn1_compile"], "asn1_table": ["asn1_compile", "trees"],
-    "asn1_compile": ["vectors"], "asn1_tree": ["trees"], "asn1_schema": ["trees"], "asn1_cursor": ["cursors"], "asn1_der": ["shown"],
-    "der_show_text": ["der_show"], "der_show_print": ["der_show"], "der_show_tree": ["der_show", "secrets"], "der_show_lib": ["der_show"],
-    "der_show": ["shown", "linted", "secrets", "modules"], "x509_lint": ["linted"],
+    "asn1_compile": ["vectors"], "schema_read": ["departures", "trees"], "schema_types": ["trees"], "schema_cursor": ["cursors"], "schema_write": ["rewritten", "shown"],
+    "der_print": ["der_show"], "schema_kinds": ["der_show", "secrets"], "der_show_lib": ["der_show"],
+    "der_show": ["shown", "linted", "secrets", "modules", "rewritten", "options", "departures"], "x509_lint": ["linted"], "path_rules": ["paths"], "x509_path": ["paths"],
 }
 # Crates whose tests need what proofs build, and the command that runs these.
 BY_PROOF = {"der_page": "tools/web_test", "der_c": "bindings/test"}
+
+
+def rooms():
+    """The crates of each room of crates.txt."""
+    parts = re.split(r"^# (\w+): .*$", text_of(f"{TOP}/crates.txt"), flags=re.M)[3:]
+    return {name: re.findall(r"^(\w+).*:", text, re.M) for name, text in zip(parts[::2], parts[1::2])}
 
 
 def names():
@@ -32,10 +38,17 @@ def programs():
     return [*(it for it in crates() if os.path.exists(f"{folder_of(it)}/stdout")), *PROGRAMS]
 
 
+def room_of(word):
+    """The crates of the room with this name that something checks, or the word itself."""
+    inside = [] if word in crates() else rooms().get(word, [])
+    tested = [it for it in inside if it in names() or it in ALSO or it in programs()]
+    return tested or [it for it in inside if it in BY_PROOF] or [word]
+
+
 def asked(words):
     """What these words ask for: areas of tests/, and programs and steps, in the order in which they are met. A crate asks for what
-    checks it."""
-    found, rest = [], list(words)
+    checks it, and a room for what checks its crates."""
+    found, rest = [], [it for word in words for it in room_of(word)]
     for word in rest:
         name = word.partition(":")[0]
         known = [it for it in [name] if it in names() or it in STEPS or it in programs()]

@@ -1,4 +1,4 @@
-"""Compares what asn1_cursor finds in a certificate with what openssl says of it. tests/programs/cursors has the program, the
+"""Compares what schema_cursor finds in a certificate with what openssl says of it. tests/programs/cursors has the program, the
 output of `openssl asn1parse`, and in `values` what `openssl x509 -text` says of fields, with their paths."""
 import re
 import subprocess
@@ -11,7 +11,7 @@ from checker import TOP, text_of
 NAME = "cursors"
 HERE = f"{TOP}/tests/programs/{NAME}"
 FILE = f"{TOP}/crates/der_show/data/certificate.der"
-USES = ["asn1_cursor", "asn1_tree", "asn1_schema", "ber", "der_asn1", "der", "der_core", "der_base"]
+USES = ["schema_cursor", "schema_read", "schema_types", "ber", "der_asn1", "der", "der_core", "der_base"]
 
 
 def elements():

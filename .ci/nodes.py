@@ -1,4 +1,4 @@
-"""Elements in memory, for tools that change octets which openssl made."""
+"""Elements in memory, for tools that read or change octets which openssl made."""
 
 
 class Node:
@@ -29,6 +29,7 @@ def elements(octets):
 
 
 def oid(text):
+    """The contents octets of an object identifier (X.690 8.19)."""
     arcs = [int(it) for it in text.split(".")]
     octets = bytearray()
     for arc in [arcs[0] * 40 + arcs[1], *arcs[2:]]:

@@ -8,7 +8,7 @@ from checker import TOP
 
 # The modules whose types der_show knows, besides those of its own, which have open types that the compiled crates do not have.
 FORMATS = [f"{TOP}/asn1/{it}.asn1" for it in ("spki", "x509", "pkcs1", "sec1", "pkcs8", "ocsp", "cms", "pkcs12")]
-SHOWN = f"{TOP}/crates/der_show_tree/asn1/more.asn1"
+SHOWN = f"{TOP}/crates/schema_kinds/asn1/more.asn1"
 
 
 def table_of(compiler, paths, only=()):

@@ -14,7 +14,7 @@ from checker import TOP, crates, text_of
 VECTORS = f"{TOP}/tests/vectors"
 # Types of a module of tests/trees that are compiled too. What asn1ct reads and would write otherwise is not compared.
 SETS = ["Plain", "Classes", "Nested", "Wide"]
-USES = ["der_universal", "der_asn1", "der", "der_core"]
+USES = ["der_asn1", "der", "der_core"]
 # Types whose words are no words of small letters.
 NAMES = {"AA": "Aa", "AB": "Ab", "ABC": "Abc"}
 

@@ -20,6 +20,7 @@ mod named_bits;
 mod numbers;
 mod printed;
 mod ranges;
+mod segments;
 mod sets;
 mod tag_classes;
 mod tags;

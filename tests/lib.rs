@@ -5,16 +5,6 @@
 #[cfg(test)]
 mod asn1_compile;
 #[cfg(test)]
-mod asn1_contents;
-#[cfg(test)]
-mod asn1_cursor;
-#[cfg(test)]
-mod asn1_der;
-#[cfg(test)]
-mod asn1_schema;
-#[cfg(test)]
-mod asn1_tree;
-#[cfg(test)]
 mod ber;
 #[cfg(test)]
 mod checks;
@@ -33,15 +23,17 @@ mod der_show;
 #[cfg(test)]
 mod der_tool;
 #[cfg(test)]
-mod der_uses;
+mod example_calls;
+#[cfg(test)]
+mod example_parcels;
 #[cfg(test)]
 mod fixtures;
 #[cfg(test)]
-mod name_forms;
-#[cfg(test)]
 mod ocsp;
 #[cfg(test)]
-mod parcels;
+mod path_rules;
+#[cfg(test)]
+mod path_search;
 #[cfg(test)]
 mod pem;
 #[cfg(test)]
@@ -53,18 +45,24 @@ mod pkcs8;
 #[cfg(test)]
 mod protocols;
 #[cfg(test)]
+mod schema_cursor;
+#[cfg(test)]
+mod schema_read;
+#[cfg(test)]
+mod schema_rules;
+#[cfg(test)]
+mod schema_types;
+#[cfg(test)]
+mod schema_write;
+#[cfg(test)]
 mod sec1;
 #[cfg(test)]
 mod spki;
 #[cfg(test)]
-mod visits;
-#[cfg(test)]
 mod x509;
-#[cfg(test)]
-mod x509_lenient;
 #[cfg(test)]
 mod x509_lint;
 #[cfg(test)]
-mod x509_match;
-#[cfg(test)]
 mod x509_names;
+#[cfg(test)]
+mod x509_path;

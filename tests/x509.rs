@@ -7,6 +7,7 @@ mod extension_octets;
 mod find_extensions;
 mod first_version;
 mod general_names;
+mod lenient;
 mod names;
 mod positions;
 mod requests;

@@ -1,5 +1,5 @@
 //! Tests of the crate `x509_names`.
 
-mod general_names;
-mod hidden;
-mod names;
+mod forms;
+mod matching;
+mod text;

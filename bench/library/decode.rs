@@ -2,7 +2,7 @@
 //! of any type that implements `Counted`.
 use crate::Totals;
 use der::{Decode, EncodingRules, Error, ReaderExt, SliceReader};
-use der_uses::key_info::KeyInfo;
+use example_calls::key_info::KeyInfo;
 use std::alloc::Global;
 
 // A value that is counted in the totals.

@@ -1,6 +1,6 @@
 //! Public keys with the grammar of `spki::SubjectPublicKeyInfoRef`, whose types are written by
 //! hand, to measure what the types of the compiler cost beside them. The functions that read and
-//! write are inlined, as those of `der_uses` that write.
+//! write are inlined, as those of `example_calls` that write.
 ghost use Rattle.std.specs.Prelude.{◌≡◌};
 ghost use Rattle.std.proofs.Common.{refl};
 ghost use Rattle.der.specs.Prelude.{map_ok};

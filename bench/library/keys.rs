@@ -3,9 +3,9 @@ use crate::Totals;
 use crate::writing::last_of;
 use der::example::MyByteMonth;
 use der::{Encode, SliceWriter};
-use der_uses::algorithm_identifier::AlgorithmIdentifier;
-use der_uses::key_info::KeyInfo;
-use der_uses::my_octets::MyOctets;
+use example_calls::algorithm_identifier::AlgorithmIdentifier;
+use example_calls::key_info::KeyInfo;
+use example_calls::my_octets::MyOctets;
 use std::alloc::Global;
 
 /// A key that a benchmark writes. The octets of the key come from the slice `borrowed`, which is a

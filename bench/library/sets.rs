@@ -2,7 +2,7 @@
 use crate::Totals;
 use der::example::BorrowedOctets;
 use der::{ReaderExt, SliceReader};
-use der_uses::set_of::{set_of_contents, set_of_der};
+use example_calls::set_of::{set_of_contents, set_of_der};
 use std::alloc::Global;
 
 /// Decodes the OCTET STRINGs in `bytes`, one after the other, sorts them, and writes them as one

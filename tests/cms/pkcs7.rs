@@ -6,7 +6,7 @@ use crate::fixtures::again::{is_same, refusal};
 use crate::fixtures::errors::unexpected;
 use cms::asn1::values::id_data;
 use cms::{ContentInfo, Pkcs7SignedData, SignedData};
-use der::{DecodeBytes, EncodingRules, Tag};
+use der::{DecodeBytes, EncodingRules, Error, ErrorKind, Length, Tag};
 use std::alloc::Global;
 
 // Where the SignedData begins in ATTACHED, and its content, as `openssl asn1parse` lists them.
@@ -54,15 +54,24 @@ fn a_content_may_have_another_tag(rt: HostRuntime) {
     same(&rt, data.signer_infos.iter(alloc).count(), 1);
 }
 
+// The error of a content in segments, at the last octet of its header. `openssl asn1parse` lists the
+// content at octet 50 of the message, with a header of two octets, and the contents of the SignedData
+// from octet 17.
+fn in_segments() -> Error {
+    let kind = ErrorKind::Noncanonical { tag: Tag::OctetString };
+    kind.at(Length::new(51 - 17))
+}
+
 #[test]
-fn a_message_with_indefinite_lengths_is_read(rt: HostRuntime) {
+fn a_content_in_segments_is_refused_here_and_joined_by_signed_data(rt: HostRuntime) {
     let alloc = rt.alloc();
     let Ok(message) = ContentInfo::from_ber(alloc, &STREAMED) else {
         holds(&rt, false);
         return;
     };
-    let read = message.content.0.decode_as::<Pkcs7SignedData>(alloc, EncodingRules::Ber);
-    match read {
+    let refused = message.content.0.decode_as::<Pkcs7SignedData>(alloc, EncodingRules::Ber).err();
+    holds(&rt, refused == Some(in_segments()));
+    match message.content.0.decode_as::<SignedData>(alloc, EncodingRules::Ber) {
         Ok(data) => same(&rt, data.signer_infos.iter(alloc).count(), 1),
         Err(_) => holds(&rt, false),
     }

@@ -1,6 +1,6 @@
 //! Tags and tag numbers.
 use crate::checks::{holds, same, same_at};
-use der_fixtures::recorder::recorded;
+use test_fixtures::recorder::recorded;
 use der::{Class, ErrorKind, Tag, TagNumber};
 use std::alloc::Global;
 use std::cmp::Ordering;

@@ -1,7 +1,7 @@
 //! Tables of types of the user's modules.
 use crate::checks::holds;
-use asn1_schema::Schema;
-use asn1_tree::read;
+use schema_types::Schema;
+use schema_read::read;
 use der_show_lib::{NoTable, table_of_modules};
 use std::alloc::Global;
 

@@ -1,10 +1,10 @@
 //! Distinguished names as text, by the rules and examples of RFC 4514.
 use crate::checks::{holds, same_octets};
-use asn1_cursor::Cursor;
-use asn1_schema::Schema;
-use der_show_print::{Page, put_name};
-use der_show_text::{Output, Sink};
-use der_show_tree::{read_as, table_octets};
+use schema_cursor::Cursor;
+use schema_types::Schema;
+use der_print::{Page, put_name};
+use der_print::{Output, Sink};
+use schema_kinds::{read_as, table_octets};
 use std::alloc::Global;
 use std::process::Abort;
 

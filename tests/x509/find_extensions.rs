@@ -6,8 +6,8 @@ use der::{DecodeBytes, DecodeValue, Encode, Error, ErrorKind, Length, SliceReade
 use der_asn1::ObjectIdentifierRef;
 use std::alloc::Global;
 use x509::{
-    Certificate, CertReq, CertReqInfo, CertificateList, CrlReason, Extensions, FindError, KeyUsageBit,
-    KnownExtension, Occurrence, attr, ext, values,
+    Certificate, CertReq, CertReqInfo, CertificateList, CrlReason, Extension, Extensions, FindError,
+    KeyUsageBit, KnownExtension, Occurrence, attr, ext, values,
 };
 
 // Whether the extension of this type occurs once, has this flag, and its value is written as the
@@ -354,4 +354,15 @@ fn an_extension_of_any_type_is_found(rt: HostRuntime) {
         Occurrence::Once(extension) => holds(&rt, extension.extn_value.octets().len() == 22),
         _ => holds(&rt, false),
     }
+}
+
+// A keyUsage whose value is in one segment (X.690 8.7.3). In one piece it would be another value.
+#[test]
+fn a_value_in_segments_is_refused(rt: HostRuntime) {
+    let octets = [
+        0x30, 0x0D, 0x06, 0x03, 0x55, 0x1D, 0x0F, 0x24, 0x06, 0x04, 0x04, 0x03, 0x02, 0x05, 0xA0,
+    ];
+    let read: Result<Extension<'_>, Error> = Extension::from_ber(rt.alloc(), &octets);
+    let kind = ErrorKind::Noncanonical { tag: Tag::OctetString };
+    same_at(&rt, 0, read.map(|_| ()), Err(kind.at(Length::new(8))));
 }

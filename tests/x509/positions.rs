@@ -1,9 +1,9 @@
 //! The places of errors in a certificate, each octet of which is changed in turn.
 use crate::checks::holds_at;
 use crate::x509::certificates::SELF_SIGNED;
-use asn1_schema::Schema;
+use schema_types::Schema;
 use der::{DecodeBytes, Error, ErrorKind};
-use der_show_tree::{Kind, read_as, table_octets};
+use schema_kinds::{Kind, read_as, table_octets};
 use std::alloc::Global;
 use x509::Certificate;
 

@@ -5,7 +5,7 @@ use asn1_syntax::Warning;
 /// A table of types, and warnings about what the table leaves out.
 #[derive(Drop)]
 pub struct CompiledTable<'a> {
-    /// The octets of the table, in the form that the crate `asn1_schema` reads.
+    /// The octets of the table, in the form that the crate `schema_types` reads.
     pub octets: Vec<u8>,
     /// The types that the caller asked for, in the order of the request.
     pub roots: Vec<Root<'a>>,

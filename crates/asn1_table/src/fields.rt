@@ -10,10 +10,10 @@ use crate::reach::{has_no_tag, reach};
 use crate::rows::{EMPTY, Rows, count_of};
 use crate::wanted::Wanted;
 use crate::wrong::Wrong;
-use asn1_schema::{Field, Presence, Span};
 use asn1_syntax::{
     Component, Item, Presence as Written, SimpleType, Tag, TagClass, TypeForm, Warning,
 };
+use schema_types::{Field, Presence, Span};
 use std::alloc::Global;
 
 const NOT_COMPUTED: &str =

@@ -2,8 +2,8 @@
 
 use crate::rows::{Rows, count_of};
 use crate::wrong::Wrong;
-use asn1_schema::{Node, NodeKind};
 use asn1_syntax::Refusal;
+use schema_types::{Node, NodeKind};
 use std::alloc::{AllocError, Global};
 
 /// The greatest depth to which CHOICEs may be nested as alternatives.

@@ -1,4 +1,4 @@
-//! Compiles types of ASN.1 modules to a table of types. The crate `asn1_schema` describes the
+//! Compiles types of ASN.1 modules to a table of types. The crate `schema_types` describes the
 //! binary form of the table.
 //!
 //! [`table_of`] makes the table of a text with one or more modules. It looks up the names that a

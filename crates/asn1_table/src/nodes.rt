@@ -11,10 +11,10 @@ use crate::reach::reach;
 use crate::rows::{EMPTY, Rows, count_of};
 use crate::wanted::{Wanted, numbers_of};
 use crate::wrong::Wrong;
-use asn1_schema::{Node, NodeKind, OpenType, Span};
 use asn1_syntax::{SimpleType, Tag, TypeForm, TypeNode};
 use ber::Universal;
 use der_base::Class;
+use schema_types::{Node, NodeKind, OpenType, Span};
 use std::alloc::{AllocError, Global};
 
 /// Returns the index of the node for the type with this index. Adds the node if the table does not

@@ -1,8 +1,8 @@
 //! Writes the octets of a table.
 
 use crate::rows::{Rows, count_of};
-use asn1_schema::{Field, Limit, LimitKind, Name, Node, NodeKind, OpenType, Presence, Span};
 use der_base::Class;
+use schema_types::{Field, Limit, LimitKind, Name, Node, NodeKind, OpenType, Presence, Span};
 use std::alloc::{AllocError, Global};
 
 /// The octets of a table with these rows. The nodes are written in the order `order`. `places` has

@@ -3,8 +3,8 @@
 use crate::limits::{ends_of, known_number};
 use crate::rows::{Rows, span_from};
 use crate::wanted::Wanted;
-use asn1_schema::{LimitKind, Name, Span};
 use asn1_syntax::{NamedNumber, Range, TypeForm, TypeNode};
+use schema_types::{LimitKind, Name, Span};
 use std::alloc::AllocError;
 
 /// The lowest and the highest number or size that the constraints of a type allow. `None` if the

@@ -1,9 +1,9 @@
 //! The rows of a table while it is made.
 
 use crate::wanted::Wanted;
-use asn1_schema::{Field, Limit, LimitKind, Name, Node, NodeKind, OpenType, Presence, Span};
 use asn1_syntax::{Item, NameIndex, Warning};
 use der_base::Class;
+use schema_types::{Field, Limit, LimitKind, Name, Node, NodeKind, OpenType, Presence, Span};
 use std::alloc::{AllocError, Global};
 use std::collections::HashMap;
 

@@ -9,8 +9,8 @@ use crate::octets::{octets_of, place_of};
 use crate::roots::{root_at, types_of};
 use crate::rows::Rows;
 use crate::wrong::Wrong;
-use asn1_schema::{Fault, FaultKind, Schema};
 use asn1_syntax::{LeftOut, Refusal, Warning};
+use schema_types::{Fault, FaultKind, Schema};
 use std::alloc::{AllocError, Global};
 
 /// The greatest number of nodes that a table may have.

@@ -1,7 +1,7 @@
 //! Why no table is made.
 
-use asn1_schema::Fault;
 use asn1_syntax::{Failure, Refusal};
+use schema_types::Fault;
 use std::alloc::{AllocError, AllocFailed};
 
 /// Why the compiler makes no table of modules.

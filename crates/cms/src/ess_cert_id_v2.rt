@@ -2,11 +2,10 @@
 //! field. The second field has another tag and is always present. So the first two fields are read
 //! as a pair: the next tag decides whether the first field is present.
 ghost use Rattle.std.specs.Prelude.{◌≡◌};
-ghost use Rattle.std.proofs.Common.{arith, refl};
+ghost use Rattle.std.proofs.Common.{refl};
 ghost use Rattle.der.specs.Prelude.{map_ok};
-ghost use Rattle.der_asn1.specs.Item.{decodes_same};
 ghost use Rattle.der_asn1.specs.DefaultedTo.{defaulted_to};
-ghost use Rattle.der_asn1.specs.Meaning.{alternative, field, optional, sequence, sequence_is_item, sequence_item, two_fields};
+ghost use Rattle.der_asn1.specs.Meaning.{alternative, field, is_lawful_item, optional, sequence, sequence_item, two_fields};
 
 use crate::asn1::IssuerSerial;
 use crate::sha256_default::Sha256Default;
@@ -14,10 +13,7 @@ use der::{
     Decode, DecodeValue, Encode, Error, FieldsCall, FromFields, HasFields, Header, IsValue, Lends,
     Reader, Sequence, SliceReader, decode_sequence, field_refs,
 };
-use der_asn1::{
-    BorrowedItem, DecodeItem, DefaultOf, DefaultedTo, Described, Item, Nestable, OctetStringRef,
-    Optional,
-};
+use der_asn1::{DefaultOf, DefaultedTo, Described, Item, LawfulItem, OctetStringRef, Optional};
 use spki::AlgorithmIdentifierRef;
 use std::alloc::Global;
 
@@ -118,16 +114,6 @@ impl<'a> Item for EssCertIdV2<'a> {
     ghost item = { sequence_item ⟦<EssCertIdV2<'a> as Described>⟧.element };
 }
 
-impl<'a, R: Lends<Borrowed = &'a [u8]>> DecodeItem<R> for EssCertIdV2<'a> {
-    ghost is_item = { sequence_is_item ⟦<EssCertIdV2<'a> as Described>⟧.element refl };
-
-    ghost decodes_items = { decodes_same (sequence_item ⟦<EssCertIdV2<'a> as Described>⟧.element) };
-}
-
-impl<'a> BorrowedItem for EssCertIdV2<'a> {
-    ghost borrowed = { refl };
-}
-
-impl<'a> Nestable for EssCertIdV2<'a> {
-    ghost nestable = { Prim.omega arith };
+impl<'a> LawfulItem for EssCertIdV2<'a> {
+    ghost is_lawful_item = { is_lawful_item ⟦<EssCertIdV2<'a> as Described>⟧.element refl };
 }

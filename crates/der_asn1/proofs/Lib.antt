@@ -18,3 +18,4 @@ pub mod SetOfLemmas
 pub mod ArcLemmas
 pub mod ListAnswerLemmas
 pub mod DecodesAsLemmas
+pub mod ItemsReadLemmas

@@ -7,6 +7,7 @@ pub mod Default
 pub mod DefaultLemmas
 pub mod AnyElement
 pub mod AnyElementLemmas
+pub mod HeaderForm
 pub mod AnyRef
 pub mod Checked
 pub mod CheckedLemmas
@@ -20,6 +21,7 @@ pub mod Enumeration
 pub mod EqualContents
 pub mod OctetsWith
 pub mod Item
+pub mod LawfulItem
 pub mod Items
 pub mod SequenceOf
 pub mod FieldLaws
@@ -52,3 +54,4 @@ pub mod DefaultedTo
 pub mod ZeroOctet
 pub mod BitStringOf
 pub mod DecodesAs
+pub mod AsSet

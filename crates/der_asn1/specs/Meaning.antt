@@ -19,7 +19,9 @@ use Rattle.der_asn1.specs.Either.{EitherNext, IsEither, either_encoding}
 use Rattle.der_asn1.specs.EitherLaws.{either_begins, either_decided_by_tag}
 use Rattle.der_asn1.specs.FieldLaws.{contents_laws, contents_hold}
 use Rattle.der_asn1.specs.Follow.{Anything, BothPrecede, TagIn, this_tag, any_tag, either_tags}
+use Rattle.der_asn1.specs.HeaderForm.{TakesFormed, formed_lawful}
 use Rattle.der_asn1.specs.Item.{IsItem, ItemSpec, element_is_item, element_item}
+use Rattle.der_asn1.specs.LawfulItem.{IsLawfulItem, lawful_element_item}
 use Rattle.der_asn1.specs.Optional.{OptionNext, IsOptional, option_encoding, OptionPrecedes}
 use Rattle.der_asn1.specs.PairLaws.{pair_set}
 use Rattle.der_asn1.specs.OctetsWith.{AcceptsOctetsWith, HasOctetsWith, octets_with_lawful, octets_with_accepts_valid}
@@ -252,13 +254,13 @@ abbrev pub of_form : {A : Type 0} → Tag → (List ℕ → Bool) → (A → Lis
 of_form tag grammar octets =
     record {
       tag = tag;
-      takes = AcceptsCheckedContents grammar octets;
+      takes = AcceptsCheckedContents tag grammar octets;
       valid = HasCheckedContents grammar octets;
       contents = octets;
       levels = λ _. 0;
       is_compatible = is_small (label tag).number;
       lawful = λ e. checked_contents_lawful tag grammar octets (small (label tag).number e);
-      holds = λ e v rules h octets taken. subst (λ x. grammar x ≡ true) (sym taken.1) taken.0;
+      holds = λ e v rules h octets taken. subst (λ x. grammar x ≡ true) (sym taken.2) taken.1;
     }
 
 -- an element whose contents are octets with a property, such as lists and sets of elements
@@ -286,6 +288,14 @@ pub shallow : (is_compatible : Bool) (levels : EncodingRules → ℕ)
 shallow is_compatible levels e =
     let below = ltb-true (levels Der) 63 (both_true is_compatible (nat_lt (levels Der) 63) e).1 in
     omega (arith, below)
+
+-- an element as an item of a list is one of a lawful type, if another element may contain it
+pub is_lawful_item : {A : Type 0} (one : ElementSpec A)
+    → is_shallow one.is_compatible one.levels ≡ true
+    → IsLawfulItem one.tag one.takes one.contents one.valid one.levels false (sequence_item one)
+is_lawful_item one e =
+    lawful_element_item (one.lawful (both_true one.is_compatible (nat_lt (one.levels Der) 63) e).0)
+    (shallow one.is_compatible one.levels e)
 
 pub seen_lawful : {A B : Type 0} {tag : Tag} {takes : A → EncodingRules → Head → List ℕ → Type 0}
     {valid : A → Type 0} {contents : A → List ℕ} {levels : EncodingRules → ℕ} (f : B → A)
@@ -387,6 +397,20 @@ containing outer one f =
           (is_shallow one.is_compatible one.levels) e in
           explicit_holds f
           (one.holds (both_true one.is_compatible (nat_lt (one.levels Der) 63) p.1).0));
+    }
+
+-- an element whose header must have the form of its tag
+abbrev pub of_own_form : {A : Type 0} → ElementSpec A → ElementSpec A
+of_own_form one =
+    record {
+      tag = one.tag;
+      takes = TakesFormed one.tag one.takes;
+      valid = one.valid;
+      contents = one.contents;
+      levels = one.levels;
+      is_compatible = one.is_compatible;
+      lawful = λ e. formed_lawful (one.lawful e);
+      holds = λ e v rules h octets taken. one.holds e v rules h octets taken.1;
     }
 
 -- an element inside one with a context-specific tag

@@ -5,6 +5,7 @@
 pub(crate) mod checked;
 pub(crate) mod comparisons;
 pub(crate) mod contents_order;
+pub(crate) mod form;
 pub(crate) mod grammar;
 pub(crate) mod hexadecimal;
 pub(crate) mod printed;

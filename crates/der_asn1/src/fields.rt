@@ -1,8 +1,11 @@
-//! Components of SEQUENCEs: tagged components, OPTIONAL components, CHOICEs, and unknown elements.
+//! Components of SEQUENCEs: tagged components, OPTIONAL components, CHOICEs, and unknown elements;
+//! and SETs with components.
 //! A type with an extension mark keeps unknown elements, because a later version of the type may
 //! define them.
 
 pub(crate) mod additions;
+pub(crate) mod as_set;
+pub(crate) mod as_set_printed;
 pub(crate) mod choice;
 pub(crate) mod described;
 pub(crate) mod described_choice;

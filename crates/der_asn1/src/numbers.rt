@@ -1,4 +1,4 @@
-//! BOOLEANs, INTEGERs and ENUMERATEDs.
+//! BOOLEANs, INTEGERs, ENUMERATEDs and REALs.
 
 pub(crate) mod boolean;
 pub(crate) mod enumerated;
@@ -10,3 +10,4 @@ pub(crate) mod integer_number;
 pub(crate) mod integer_octets;
 pub(crate) mod number_of;
 pub(crate) mod open_enumerated;
+pub(crate) mod real;

@@ -3,6 +3,7 @@
 pub(crate) mod bit_string;
 pub(crate) mod bit_string_of;
 pub(crate) mod bmp_string;
+pub(crate) mod general_string;
 pub(crate) mod ia5_string;
 pub(crate) mod named_bits;
 pub(crate) mod no_unused_bits;
@@ -13,4 +14,5 @@ pub(crate) mod printable_string;
 pub(crate) mod teletex_string;
 pub(crate) mod text_grammar;
 pub(crate) mod utf8_string;
+pub(crate) mod videotex_string;
 pub(crate) mod visible_string;

@@ -2,16 +2,16 @@
 //!
 //! Written by tools/c_interface: change the crates that der_c uses instead.
 ghost use Rattle.der_asn1.specs.Forms.{integer_form, oid_form};
-ghost use Rattle.der_c_assembly.specs.Assembly.{algorithm_contents, attribute_octets, certificate_contents, extension_contents, request_contents, signed_contents, string_tag};
-ghost use Rattle.der_c_assembly.specs.Validities.{WritesValidity};
 ghost use Rattle.der_c_core.specs.CWriter.{KeepsOpen, writer_state};
 ghost use Rattle.der_c_core.specs.WriterCalls.{WritesElement};
 ghost use Rattle.der_c_values.specs.StringTypes.{string_form};
 ghost use Rattle.der_c_values.specs.WriteCalls.{WritesValue};
+ghost use Rattle.der_c_x509.specs.Assembly.{algorithm_contents, attribute_octets, certificate_contents, extension_contents, request_contents, signed_contents, string_tag};
+ghost use Rattle.der_c_x509.specs.Validities.{WritesValidity};
 ghost use Rattle.std.specs.Prelude.{◌&&◌};
 
-use der_c_assembly::DerCertificateParts;
 use der_c_core::{DerError, DerWriter};
+use der_c_x509::DerCertificateParts;
 
 /// Writes a RelativeDistinguishedName with one attribute (RFC 5280, 4.1.2.4). It is a SET of one
 /// SEQUENCE, which has the type and the value of the attribute. A Name is a SEQUENCE of
@@ -39,7 +39,7 @@ pub extern "C" fn der_write_name_attribute<'a>(
         (writer_state writer.old) result (writer_state writer.new) }
     ensures keeps_open { KeepsOpen writer.old writer.new }
 {
-    der_c_assembly::der_write_name_attribute(writer, identifier, string_type, text)
+    der_c_x509::der_write_name_attribute(writer, identifier, string_type, text)
 }
 
 /// Writes an extension of a certificate, a request or a revocation list (RFC 5280, 4.1). A list of
@@ -66,7 +66,7 @@ pub extern "C" fn der_write_extension<'a>(
         (writer_state writer.new) }
     ensures keeps_open { KeepsOpen writer.old writer.new }
 {
-    der_c_assembly::der_write_extension(writer, identifier, critical, value)
+    der_c_x509::der_write_extension(writer, identifier, critical, value)
 }
 
 /// Writes an AlgorithmIdentifier (RFC 5280, 4.1.1.2). `identifier` are the contents octets of the
@@ -89,7 +89,7 @@ pub extern "C" fn der_write_algorithm(
         (writer_state writer.new) }
     ensures keeps_open { KeepsOpen writer.old writer.new }
 {
-    der_c_assembly::der_write_algorithm(writer, identifier, null_parameters)
+    der_c_x509::der_write_algorithm(writer, identifier, null_parameters)
 }
 
 /// Writes a CertificationRequestInfo (PKCS #10; RFC 2986, 4.1). It is the part of a request that is
@@ -113,7 +113,7 @@ pub extern "C" fn der_write_request_part<'a>(
         (writer_state writer.new) }
     ensures keeps_open { KeepsOpen writer.old writer.new }
 {
-    der_c_assembly::der_write_request_part(writer, subject, public_key, extensions)
+    der_c_x509::der_write_request_part(writer, subject, public_key, extensions)
 }
 
 /// Writes a Validity (RFC 5280, 4.1.2.5), which is a SEQUENCE of two times. `not_before` and
@@ -136,7 +136,7 @@ pub extern "C" fn der_write_validity(
         (writer_state writer.new) }
     ensures keeps_open { KeepsOpen writer.old writer.new }
 {
-    der_c_assembly::der_write_validity(writer, not_before, not_after)
+    der_c_x509::der_write_validity(writer, not_before, not_after)
 }
 
 /// Writes a TBSCertificate of version 3 without unique identifiers (RFC 5280, 4.1). It is the part
@@ -158,7 +158,7 @@ pub extern "C" fn der_write_certificate_part(
         (writer_state writer.new) }
     ensures keeps_open { KeepsOpen writer.old writer.new }
 {
-    der_c_assembly::der_write_certificate_part(writer, parts)
+    der_c_x509::der_write_certificate_part(writer, parts)
 }
 
 /// Writes a signed value: a Certificate, a CertificateList (RFC 5280, 4.1 and 5.1) or a
@@ -180,5 +180,5 @@ pub extern "C" fn der_write_signed<'a>(
         (writer_state writer.old) result (writer_state writer.new) }
     ensures keeps_open { KeepsOpen writer.old writer.new }
 {
-    der_c_assembly::der_write_signed(writer, part, algorithm, signature)
+    der_c_x509::der_write_signed(writer, part, algorithm, signature)
 }

@@ -15,7 +15,7 @@ ghost use Rattle.der_c_x509.specs.LenientCalls.{ReadsLenientConstraints, ReadsLe
 ghost use Rattle.std.specs.Prelude.{◌<◌, ◌≡◌};
 ghost use Rattle.x509.specs.ExtensionIdentifiers.{id_ce, id_pe};
 ghost use Rattle.x509.specs.Find.{WholeRead};
-ghost use Rattle.x509_lenient.specs.Lenient.{BerRead, FindsLenient, IsDerOf, SaysDerOf};
+ghost use Rattle.x509.specs.Lenient.{BerRead, FindsLenient, IsDerOf, SaysDerOf};
 
 use der::{Decode, DecodeValue, FixedTag, ReadValue, SliceReader, WrittenValue};
 use der_asn1::{BitStringRef, Item, NamedBitsRef, ObjectIdentifierRef, OctetStringRef, SequenceOf};

@@ -50,7 +50,7 @@ pub extern "C" fn der_name_text<'a>(
         ⟦<RelativeDistinguishedName<'a> as Item>⟧.item.octets name.now → ⊥) →
         text.new ≡ text.old }
 {
-    der_c_names::der_name_text(alloc, name, text, count)
+    der_c_x509::der_name_text(alloc, name, text, count)
 }
 
 /// Returns true if a reader of a text would not see `character` as it is: if it is a control
@@ -61,5 +61,5 @@ pub extern "C" fn der_is_hidden(character: u32) -> bool
     ensures known { IsScalar character → result ≡ is_hidden character }
     ensures none { (IsScalar character → ⊥) → result ≡ true }
 {
-    der_c_names::der_is_hidden(character)
+    der_c_x509::der_is_hidden(character)
 }

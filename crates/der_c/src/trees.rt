@@ -1,15 +1,15 @@
 //! Values of any known type as trees, for C.
 //!
 //! Written by tools/c_interface: change the crates that der_c uses instead.
-ghost use Rattle.asn1_schema.specs.Table.{table_in};
-ghost use Rattle.asn1_tree.specs.Encoding.{IsBer, IsDer};
-ghost use Rattle.asn1_tree.specs.Entries.{are_placed};
 ghost use Rattle.der_c_tree.specs.Part.{IsPartOf};
+ghost use Rattle.schema_read.specs.Encoding.{IsBer, IsDer};
+ghost use Rattle.schema_read.specs.Entries.{are_placed};
+ghost use Rattle.schema_types.specs.Table.{table_in};
 ghost use Rattle.std.specs.Prelude.{false, length, take, true, ◌-◌, ◌<◌, ◌^◌, ◌↔◌, ◌≡◌, ◌≤◌, ◌⊎◌};
 
-use asn1_tree::Entry;
 use der_c_core::DerSpan;
 use der_c_tree::DerTreeFound;
+use schema_read::Entry;
 
 /// A size of memory that is enough for the table that `der_known_types` writes.
 #[unsafe(no_mangle)]

@@ -1,1 +1,3 @@
 mod FoundLemmas
+mod FirstBlockLemmas
+mod LineLemmas

@@ -1,1 +1,3 @@
 pub mod Part
+pub mod Reader
+pub mod FirstBlock

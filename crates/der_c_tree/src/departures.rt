@@ -1,12 +1,11 @@
 //! Listing departures: the places at which an encoding breaks a rule of DER.
 
 use crate::output::printed;
-use asn1_cursor::Cursor;
-use asn1_schema::Schema;
-use asn1_tree::{Departure, Entry};
-use der_show_print::put_departure;
-use der_show_text::{Output, Space};
-use der_show_tree::{is_private_type, may_be_private_key};
+use der_print::{Output, Space, put_departure};
+use schema_cursor::Cursor;
+use schema_kinds::{is_private_type, may_be_private_key};
+use schema_read::{Departure, Entry};
+use schema_types::Schema;
 
 /// Prints `departures` into `list` as a JSON array. Each item is an object with these fields:
 ///

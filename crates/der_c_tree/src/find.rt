@@ -1,11 +1,11 @@
 //! Finding elements of a tree, by a path or by their position.
 ghost use Rattle.std.specs.Prelude.{◌≡◌, ◌<◌, ◌-◌, ◌^◌, ◌⊎◌, IfSome, length};
-ghost use Rattle.asn1_cursor.specs.Cursor.{IsOf};
+ghost use Rattle.schema_cursor.specs.Cursor.{IsOf};
 
 use crate::answer::NO_ROOM;
-use asn1_cursor::Cursor;
-use asn1_schema::Schema;
-use asn1_tree::Entry;
+use schema_cursor::Cursor;
+use schema_read::Entry;
+use schema_types::Schema;
 
 /// Follows `path` from the element with the index `from`, and returns the index of the element at
 /// its end. A path consists of names of fields, with full stops between them. A number in brackets

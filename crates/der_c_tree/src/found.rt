@@ -1,9 +1,9 @@
 //! The struct for what `der_tree_read` finds.
 ghost use Rattle.std.specs.Prelude.{◌≡◌, ◌↔◌, ◌≤◌, true};
 ghost use Rattle.der_base.specs.declared.encoding_rules.EncodingRules.TheVariants.{Der, Ber};
-ghost use Rattle.asn1_tree.specs.Verdict.{holds};
+ghost use Rattle.schema_read.specs.Verdict.{holds};
 
-use asn1_tree::Verdict;
+use schema_read::Verdict;
 
 /// What `der_tree_read` found, apart from the elements themselves. A departure is a place at which
 /// the octets break a rule of DER.

@@ -3,10 +3,10 @@
 use crate::answer::{FULL, NONE};
 use crate::ended::ended;
 use crate::output::printed;
-use asn1_schema::Schema;
-use asn1_tree::{Departure, Entry};
-use der_show_text::{Output, Space};
-use der_show_tree::{ANY, KINDS, Kind, Room, TABLE_ROOM, find_kind_in, put_table};
+use der_print::{Output, Space};
+use schema_kinds::{ANY, KINDS, Kind, Room, TABLE_ROOM, find_kind_in, put_table};
+use schema_read::{Departure, Entry};
+use schema_types::Schema;
 
 /// A size of memory that is enough for the table that [`der_known_types`] writes.
 pub fn der_known_types_room() -> usize {

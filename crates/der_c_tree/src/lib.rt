@@ -5,6 +5,8 @@
 //! - its elements, with their types, the names of their fields, and texts for their values;
 //! - the departures: the places at which an encoding breaks a rule of DER.
 //!
+//! It also decodes and encodes PEM blocks and base64.
+//!
 //! The crate `der_c` exports the functions to C, and `der_page` exports functions to WebAssembly
 //! that call them. No function allocates memory. A function that prints returns the number of
 //! octets printed, or `usize::MAX` (`SIZE_MAX` in C) if they do not fit.
@@ -18,12 +20,12 @@ mod found;
 mod kinds;
 mod output;
 mod part;
+mod pem_text;
 mod read;
 mod texts;
 mod value;
 
 pub use answer::{FULL, NO_ROOM, NONE};
-pub use asn1_tree::Entry as DerEntry;
 pub use find::{der_tree_child, der_tree_find};
 pub use found::DerTreeFound;
 pub use kinds::{
@@ -32,6 +34,10 @@ pub use kinds::{
 };
 pub use output::printed;
 pub use part::{der_tree_contents, der_tree_octets};
+pub use pem_text::{
+    DerPemBlock, DerPemReader, der_base64_decode, der_base64_encode, der_pem_next, der_pem_write,
+};
 pub use read::der_tree_read;
+pub use schema_read::Entry as DerEntry;
 pub use texts::{der_tree_name, der_tree_text, der_tree_type};
 pub use value::put_value;

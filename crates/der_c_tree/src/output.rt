@@ -1,7 +1,7 @@
 //! Counting the octets that a call printed.
 
 use crate::answer::NO_ROOM;
-use der_show_text::{Output, Space};
+use der_print::{Output, Space};
 
 /// The number of octets that were printed to `out`, or [`NO_ROOM`] if not all of them fit.
 pub fn printed(out: &Output<Space<'_>>) -> usize {

@@ -2,8 +2,8 @@
 ghost use Rattle.std.specs.Prelude.{◌≡◌, ◌<◌, ◌≤◌, ◌+◌, true, false, length, take, drop};
 ghost use Rattle.der_c_tree.specs.Part.{IsPartOf};
 
-use asn1_tree::Entry;
 use der_c_core::DerSpan;
+use schema_read::Entry;
 
 /// Sets `part` to all octets of the element with the index `index`: its header and its contents.
 /// Returns false, and leaves `part` unchanged, if there is no element with this index.

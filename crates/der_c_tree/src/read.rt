@@ -1,13 +1,13 @@
 //! Reading the elements of a value, and the departures of its encoding from DER.
 ghost use Rattle.std.specs.Prelude.{◌≡◌, ◌↔◌, ◌≤◌, true, false, length, take};
-ghost use Rattle.asn1_schema.specs.Table.{table_in};
-ghost use Rattle.asn1_tree.specs.Encoding.{IsDer, IsBer};
-ghost use Rattle.asn1_tree.specs.Entries.{are_placed};
+ghost use Rattle.schema_types.specs.Table.{table_in};
+ghost use Rattle.schema_read.specs.Encoding.{IsDer, IsBer};
+ghost use Rattle.schema_read.specs.Entries.{are_placed};
 
 use crate::departures::list_departures;
 use crate::found::{DerTreeFound, number_of};
-use asn1_schema::Schema;
-use asn1_tree::{Departure, Entry, read_into};
+use schema_read::{Departure, Entry, read_into};
+use schema_types::Schema;
 
 /// At most this number of departures are listed. The others are only counted.
 const LISTED: usize = 1000;

@@ -5,10 +5,9 @@ use crate::ended::ended;
 use crate::find::element_at;
 use crate::output::printed;
 use crate::value::put_value;
-use asn1_schema::Schema;
-use asn1_tree::Entry;
-use der_show_print::{Form, Printer};
-use der_show_text::{Characters, Output, Space, Style, put_text};
+use der_print::{Characters, Form, Output, Printer, Space, Style, put_text};
+use schema_read::Entry;
+use schema_types::Schema;
 
 /// Writes the name of the element with the index `index`, and a zero octet. It is the name of the
 /// field or of the CHOICE alternative; the name is empty if there is none. Returns the number of

@@ -1,10 +1,9 @@
 //! Printing the text for an element.
 
-use asn1_cursor::Cursor;
-use asn1_schema::NodeKind;
 use ber::Universal;
-use der_show_print::{Printer, put_name, put_plain, put_plain_element};
-use der_show_text::{Space, put_identifier};
+use der_print::{Printer, Space, put_identifier, put_name, put_plain, put_plain_element};
+use schema_cursor::Cursor;
+use schema_types::NodeKind;
 
 /// Prints a text for `element`. The text is:
 ///

@@ -8,7 +8,7 @@ use Rattle.der_c_core.specs.ErrorCode.{no_error, error_code}
 use Rattle.der_c_core.specs.declared.error.DerError.{DerError}
 use Rattle.x509.specs.declared.asn1.basic_constraints.BasicConstraints.{BasicConstraints}
 use Rattle.x509.specs.declared.find.known.Known.{Known}
-use Rattle.x509_lenient.specs.declared.lenient.Lenient.{Lenient}
+use Rattle.x509.specs.declared.find.lenient.lenient.Lenient.{Lenient}
 use Rattle.der_c_x509.specs.Constraints.{HasNoPathLength, IsConstraintsOf}
 use Rattle.der_c_x509.specs.Known.{IsKeyUsageOf}
 use Rattle.der_c_x509.specs.declared.basic_constraints.DerBasicConstraints.{DerBasicConstraints}

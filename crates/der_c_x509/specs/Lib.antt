@@ -13,3 +13,5 @@ pub mod Request
 pub mod RevocationList
 pub mod Revoked
 pub mod Times
+pub mod Assembly
+pub mod Validities

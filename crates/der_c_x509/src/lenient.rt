@@ -1,7 +1,7 @@
 //! The extensions keyUsage and basicConstraints, if their value may also be BER that is not DER.
 ghost use Rattle.std.specs.Prelude.{◌≡◌};
 ghost use Rattle.x509.specs.ExtensionIdentifiers.{id_ce};
-ghost use Rattle.x509_lenient.specs.Lenient.{BerRead, FindsLenient, IsDerOf, SaysDerOf};
+ghost use Rattle.x509.specs.Lenient.{BerRead, FindsLenient, IsDerOf, SaysDerOf};
 ghost use Rattle.der_c_x509.specs.FindCalls.{FindsIn, RefusesList};
 ghost use Rattle.der_c_x509.specs.Known.{IsKeyUsageOf, first_bits};
 ghost use Rattle.der_c_x509.specs.LenientCalls.{ReadsLenientConstraints, ReadsLenientUsage, is_der_of, known_of};
@@ -15,8 +15,9 @@ use der::{
 use der_asn1::{BitStringRef, Item, NamedBitsRef, SequenceOf};
 use der_c_core::{DerError, c_error};
 use std::alloc::Global;
-use x509::{BasicConstraints, Extension, Extensions, Known, ext};
-use x509_lenient::{Lenient, LenientExtension, find_lenient};
+use x509::{
+    BasicConstraints, Extension, Extensions, Known, Lenient, LenientExtension, ext, find_lenient,
+};
 
 // The extension of type `K` in the contents of a list of extensions, whose contents may be BER; `None` if no
 // extension has this type.

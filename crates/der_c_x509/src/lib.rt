@@ -1,5 +1,5 @@
-//! Reading certificates, requests, keys and revocation lists into structs of C. The crate `der_c`
-//! exports the calls.
+//! Certificates, requests, keys and revocation lists for C: reading them into structs, writing them
+//! from parts that are already encoded, and names as text. The crate `der_c` exports the calls.
 //!
 //! Nothing is validated: no signature, no chain of certificates, and no time of validity. No
 //! function allocates memory.
@@ -8,6 +8,7 @@
 mod access;
 mod algorithm;
 mod any;
+mod assembly;
 mod attribute;
 mod authority_key;
 mod basic_constraints;
@@ -21,6 +22,7 @@ mod key_identifier;
 mod key_purposes;
 mod key_usage;
 mod lenient;
+mod names;
 mod next;
 mod private_key;
 mod public_key;
@@ -37,6 +39,10 @@ pub use access::{
 };
 pub use algorithm::DerAlgorithm;
 pub use any::DerAny;
+pub use assembly::{
+    DerCertificateParts, der_write_algorithm, der_write_certificate_part, der_write_extension,
+    der_write_name_attribute, der_write_request_part, der_write_signed, der_write_validity,
+};
 pub use attribute::{DerAttribute, der_next_attribute};
 pub use authority_key::{DerAuthorityKey, der_authority_key_identifier};
 pub use basic_constraints::{DerBasicConstraints, der_basic_constraints};
@@ -51,6 +57,7 @@ pub use key_identifier::der_subject_key_identifier;
 pub use key_purposes::{der_extended_key_usage, der_next_key_purpose};
 pub use key_usage::{DerKeyUsage, der_key_usage};
 pub use lenient::{der_basic_constraints_lenient, der_key_usage_lenient};
+pub use names::{der_is_hidden, der_name_text};
 pub use private_key::{DerPrivateKey, der_private_key_read};
 pub use public_key::{DerPublicKey, der_public_key_read};
 pub use request::{DerRequest, der_request_read};

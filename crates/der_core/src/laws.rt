@@ -1,11 +1,12 @@
 //! Laws that follow from the contracts. Each function does nothing; its contract is the law, and
 //! nothing else uses these functions.
-ghost use Rattle.std.specs.Prelude.{◌^◌, ◌<◌, ◌≡◌, []};
+ghost use Rattle.std.specs.Prelude.{◌^◌, ◌<◌, ◌≡◌, ℕ, List, [], ◌++◌, length};
 ghost use Rattle.der_base.specs.ScanGrammar.{BodyFault};
 ghost use Rattle.der_base.specs.HeaderGrammar.{header_octets, IdentifierNext, TagNext, LengthNext, LengthFault, HeaderFault};
 ghost use Rattle.der_base.specs.Length.{length_octets, number};
 ghost use Rattle.der_base.specs.Tag.{label, tag_octets, IdentifierFault};
 ghost use Rattle.der_base.specs.declared.error.ErrorKind.{ErrorKind};
+ghost use Rattle.der_base.specs.declared.encoding_rules.EncodingRules.TheVariants.{Der};
 ghost use Rattle.der_core.specs.Decode.{Accepts};
 ghost use Rattle.der_core.specs.Element.{ElementNext};
 ghost use Rattle.der_core.specs.DerOrd.{NoElementBeginsAnother, PaddingNeverDecides};
@@ -65,6 +66,20 @@ fn lawful_types_read_encodings<T: Lawful>()
         (λ v. element_octets T.tag_is (T.contents v)) }
     ensures written { ReadsWritten T.tag_is T.takes T.valid T.contents }
 {}
+
+/// Does nothing; the contract states that a value of a [`Lawful`] type is valid, and that, under
+/// DER, octets that begin with its encoding begin with this value, if there are at most 4294967295
+/// of them.
+fn lawful_values_are_read_back<T: Lawful>(value: &T)
+    ensures valid { T.valid value.now }
+    ensures read { (more : List ℕ)
+        → length (element_octets T.tag_is (T.contents value.now) ++ more) < 2 ^ 32
+        → ElementNext T.tag_is T.takes value.now Der
+        (element_octets T.tag_is (T.contents value.now) ++ more)
+        (length (element_octets T.tag_is (T.contents value.now))) }
+{
+    value.is_value()
+}
 
 /// Does nothing; the contract states that no encoded element is a proper prefix of another: two
 /// different encodings differ at a position where both have an octet. To compare two encodings,

@@ -5,15 +5,15 @@ ghost use Rattle.der_base.specs.declared.tag.Tag.TheVariants.{Sequence as Sequen
 ghost use Rattle.der_core.specs.ElementSpec.{ElementSpec, IsSequence};
 ghost use Rattle.der_core.specs.Lawful.{IsLawful};
 
-use crate::decode::{Lawful, ReadValue};
+use crate::decode::{IsValue, Lawful, ReadValue};
 use crate::described::Described;
 use crate::encode::WrittenValue;
 use crate::tag::fixed::FixedTag;
 use der_base::Tag;
 
-/// SEQUENCEs (X.690 8.9). A type that implements this trait has the tag SEQUENCE, is [`Described`]
-/// and is [`Lawful`]. Its fields are decoded and written one after the other:
-/// [`decode_sequence`](crate::decode_sequence) decodes them, and
+/// SEQUENCEs (X.690 8.9). A type that implements this trait has the tag SEQUENCE, is [`Described`],
+/// and is [`Lawful`] if it implements [`IsValue`]. Its fields are decoded and written one after the
+/// other: [`decode_sequence`](crate::decode_sequence) decodes them, and
 /// [`field_refs!`](crate::field_refs) lists them for writing.
 ///
 /// Ghost members (for proofs only):
@@ -71,7 +71,7 @@ impl<T: Sequence> WrittenValue for T {
     ghost writable = { T.meaning.valid };
 }
 
-impl<T: Sequence> Lawful for T {
+impl<T: Sequence + IsValue> Lawful for T {
     ghost lawful = { subst
         (λ tag. IsLawful tag T.meaning.takes T.meaning.valid T.meaning.contents T.meaning.levels)
         T.fits.0 (T.meaning.lawful T.fits.1) };

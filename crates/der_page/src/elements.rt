@@ -1,11 +1,11 @@
 //! Reading the elements of a value, and the departures of its encoding from DER.
 ghost use Rattle.std.specs.Prelude.{◌≡◌, ◌↔◌, ◌≤◌, true, false, length, take};
-ghost use Rattle.asn1_schema.specs.Table.{table_in};
-ghost use Rattle.asn1_tree.specs.Encoding.{IsDer, IsBer};
-ghost use Rattle.asn1_tree.specs.Entries.{are_placed};
+ghost use Rattle.schema_types.specs.Table.{table_in};
+ghost use Rattle.schema_read.specs.Encoding.{IsDer, IsBer};
+ghost use Rattle.schema_read.specs.Entries.{are_placed};
 
-use asn1_tree::Entry;
 use der_c_tree::{DerTreeFound, der_tree_read};
+use schema_read::Entry;
 
 /// Reads `octets` as a value of a type. `node` is the index of the type in `table`, a table of
 /// types. Stores the elements in `entries`, and sets `found`. `marks` and `text` are working

@@ -1,11 +1,11 @@
 //! Tables of ASN.1 types, and the kinds of values that the library knows.
 
-use asn1_schema::Schema;
-use asn1_tree::Entry;
 use der_c_tree::{
     der_kind_find, der_kind_of_label, der_kind_type, der_known_types, der_known_types_room,
     der_type_find, put_kind_word,
 };
+use schema_read::Entry;
+use schema_types::Schema;
 
 /// A size of memory that is enough for the table that [`page_table`] writes.
 #[unsafe(no_mangle)]

@@ -1,11 +1,10 @@
 //! Lines of text that describe elements.
 
-use asn1_cursor::Cursor;
-use asn1_schema::{NodeKind, Schema};
-use asn1_tree::Entry;
 use der_c_tree::{NO_ROOM, printed, put_value};
-use der_show_print::{Form, Printer, put_tag};
-use der_show_text::{Characters, Output, Space, Style, put_text};
+use der_print::{Characters, Form, Output, Printer, Space, Style, put_tag, put_text};
+use schema_cursor::Cursor;
+use schema_read::Entry;
+use schema_types::{NodeKind, Schema};
 
 /// Prints a line for each of `count` elements. The first one has the index `first`. A line has five
 /// columns, with tabs between them:

@@ -5,7 +5,7 @@ use crate::options::Shown;
 use crate::place::Place;
 use crate::show::{Show, put_place, put_plain};
 use crate::values::show_values;
-use der_show_text::{Characters, Style, put_text};
+use der_print::{Characters, Style, put_text};
 use pem::{Block, Blocks};
 use std::fmt::Write;
 

@@ -4,10 +4,12 @@ use crate::json::put_string;
 use crate::options::Shown;
 use crate::place::Place;
 use crate::show::{Show, put_place};
-use asn1_cursor::Cursor;
-use asn1_tree::Departure;
-use der_show_print::{FOUND, found_at, put_departure, put_departure_fields, put_path, put_rule};
-use der_show_text::{Output, Style, put_octets_with};
+use der_print::{
+    FOUND, Output, Style, found_at, put_departure, put_departure_fields, put_octets_with, put_path,
+    put_rule,
+};
+use schema_cursor::Cursor;
+use schema_read::Departure;
 use std::fmt::Write;
 
 /// At most this number of departures of a value are printed. The others are only counted.

@@ -1,14 +1,13 @@
 //! Printing of octets as elements, one line for each element.
 
 use crate::held::held_start;
-use asn1_contents::broken_rule;
-use asn1_tree::{Departure, Rule};
 use ber::{Header, Length, Universal, is_end_of_contents, read_header};
-use der_show_print::{Page, put_header_tag, tag_of_universal};
-use der_show_text::{
-    Characters, Output, Style, is_text, long_name, put_identifier, put_some_octets, put_text,
-    put_value_text,
+use der_print::{
+    Characters, Output, Page, Style, is_text, long_name, put_header_tag, put_identifier,
+    put_some_octets, put_text, put_value_text, tag_of_universal,
 };
+use schema_read::{Departure, Rule};
+use schema_rules::broken_rule;
 use std::alloc::{AllocError, Global};
 
 /// The elements inside an element are printed only if fewer than this number of elements enclose

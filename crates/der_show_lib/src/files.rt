@@ -7,8 +7,8 @@ use crate::options::Shown;
 use crate::place::Place;
 use crate::show::Show;
 use crate::texts::pem_text;
-use der_show_tree::{ANY, is_encoding};
 use pem::Blocks;
+use schema_kinds::{ANY, is_encoding};
 use std::str;
 
 /// Shows a file with the name `file` and the contents `octets`. For an empty file, prints an error.

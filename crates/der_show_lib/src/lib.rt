@@ -22,9 +22,9 @@ mod texts;
 mod value;
 mod values;
 
-pub use der_show_text::{Output, Sink};
-pub use der_show_tree::Kind;
+pub use der_print::{Output, Sink};
 pub use files::show_octets;
 pub use modules::{NoTable, table_of_modules};
 pub use options::{Options, ShowCommand, Shown};
 pub use program::{Finished, run_show, show_in_memory};
+pub use schema_kinds::Kind;

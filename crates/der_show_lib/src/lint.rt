@@ -1,9 +1,8 @@
 //! Prints the rules of RFC 5280 that a certificate or a revocation list breaks.
 
-use asn1_cursor::Cursor;
 use der::DecodeBytes;
-use der_show_print::Page;
-use der_show_text::{Output, long_name};
+use der_print::{Output, Page, long_name};
+use schema_cursor::Cursor;
 use std::alloc::Global;
 use std::fmt::Write;
 use x509::{Certificate, CertificateList};

@@ -4,7 +4,7 @@ use crate::help::{ABOUT, AFTER};
 use clap::error::ErrorKind;
 use clap::{Arg, ArgAction, Command, Error};
 use der_asn1::{GeneralizedTimeFormat, TimeFormat};
-use der_show_tree::Kind;
+use schema_kinds::Kind;
 use std::alloc::{AllocError, Global};
 
 /// What the program prints of a value.

@@ -6,17 +6,16 @@ use crate::place::Place;
 use crate::rewritten::rewritten;
 use crate::show::Show;
 use crate::value::{Target, is_only_ber};
-use asn1_cursor::Cursor;
-use asn1_tree::Departure;
-use der_show_print::{
-    Form, Page, Printer, print_fields, put_certificate, put_dh_parameters, put_dsa_parameters,
-    put_dsa_private_key, put_ec_parameters, put_ec_private_key, put_encrypted_key,
-    put_ocsp_request, put_ocsp_response, put_pfx, put_private_key, put_public_key, put_request,
-    put_revocation_list, put_rsa_private_key, put_rsa_public_key,
+use der_print::{
+    Form, Output, Page, Printer, Sink, print_fields, put_certificate, put_dh_parameters,
+    put_dsa_parameters, put_dsa_private_key, put_ec_parameters, put_ec_private_key,
+    put_encrypted_key, put_ocsp_request, put_ocsp_response, put_pfx, put_private_key,
+    put_public_key, put_request, put_revocation_list, put_rsa_private_key, put_rsa_public_key,
 };
-use der_show_text::{Output, Sink};
-use der_show_tree::Kind;
 use pem::BlockText;
+use schema_cursor::Cursor;
+use schema_kinds::Kind;
+use schema_read::Departure;
 use std::fmt::Write;
 use std::mem;
 

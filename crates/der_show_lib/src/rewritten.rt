@@ -1,7 +1,7 @@
 //! Rewrites values from BER to DER.
 
-use asn1_der::{Refusal, Written, to_der};
-use asn1_schema::Schema;
+use schema_types::Schema;
+use schema_write::{Refusal, Written, to_der};
 use std::alloc::Global;
 
 /// Returns the DER encoding of a value. `octets` are a BER encoding of the value. `node` is the

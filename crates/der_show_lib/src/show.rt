@@ -2,8 +2,7 @@
 
 use crate::options::Options;
 use crate::place::Place;
-use der_show_print::Page;
-use der_show_text::{Characters, Output, Style, put_text};
+use der_print::{Characters, Output, Page, Style, put_text};
 
 /// The outputs of the program, its options, and the results so far.
 #[derive(Drop)]

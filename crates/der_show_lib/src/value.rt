@@ -7,10 +7,10 @@ use crate::options::Shown;
 use crate::place::Place;
 use crate::print::{put_text_value, put_typed};
 use crate::show::{Show, put_place};
-use asn1_cursor::Cursor;
-use asn1_tree::{Departure, Rule};
-use der_show_print::{Page, put_short_line};
-use der_show_tree::{ANY, Kind, is_private_type, read_as};
+use der_print::{Page, put_short_line};
+use schema_cursor::Cursor;
+use schema_kinds::{ANY, Kind, is_private_type, read_as};
+use schema_read::{Departure, Rule};
 
 /// The type by which the octets of a value are read.
 #[derive(Clone, Copy)]

@@ -7,13 +7,13 @@ use crate::place::Place;
 use crate::print::put_form;
 use crate::show::Show;
 use crate::value::{Target, show_value};
-use asn1_cursor::Cursor;
-use asn1_tree::{Departure, Rule};
 use ber::{ElementFault, body_len, read_element};
-use der_show_print::put_trust;
-use der_show_tree::{
+use der_print::put_trust;
+use schema_cursor::Cursor;
+use schema_kinds::{
     Kind, TRUST, find_kind, is_encoding, is_private_label, may_be_private_key, read_as,
 };
+use schema_read::{Departure, Rule};
 use std::alloc::AllocError;
 
 /// Shows the values in `octets`, one after another. A value of a known kind is shown with its

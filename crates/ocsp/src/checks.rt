@@ -1,5 +1,5 @@
 //! Checks of a response that decoding does not make.
-ghost use Rattle.std.specs.Prelude.{◌≡◌, ◌↔◌, true};
+ghost use Rattle.std.specs.Prelude.{◌↔◌, IsTrue};
 ghost use Rattle.ocsp.specs.Responses.{MatchesResponseStatus};
 
 use crate::asn1::{OcspResponse, OcspResponseStatus};
@@ -9,7 +9,7 @@ impl OcspResponse<'_> {
     /// present if the status is `successful`, and absent if the status is another one (RFC 6960,
     /// 4.2.1). Decoding does not check this.
     pub fn has_response_of_status(&self) -> bool
-        ensures { (result ≡ true) ↔ MatchesResponseStatus self.now }
+        ensures { IsTrue result ↔ MatchesResponseStatus self.now }
     {
         match self.response_status.item() {
             OcspResponseStatus::Successful => self.response_bytes.0.is_some(),

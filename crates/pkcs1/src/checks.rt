@@ -1,5 +1,5 @@
 //! Checks of a private key that decoding does not make.
-ghost use Rattle.std.specs.Prelude.{◌≡◌, ◌↔◌, true};
+ghost use Rattle.std.specs.Prelude.{◌↔◌, IsTrue};
 ghost use Rattle.pkcs1.specs.RsaPrivateKey.{MatchesRsaVersion};
 
 use crate::asn1::RsaPrivateKey;
@@ -9,7 +9,7 @@ impl RsaPrivateKey<'_> {
     /// 0 for a key with two primes, and 1 for a key with more than two primes. Decoding does not
     /// check this.
     pub fn has_version_of_primes(&self) -> bool
-        ensures { (result ≡ true) ↔ MatchesRsaVersion self.now }
+        ensures { IsTrue result ↔ MatchesRsaVersion self.now }
     {
         match self.other_prime_infos.0 {
             None => self.version.octets() == [0].as_slice(),

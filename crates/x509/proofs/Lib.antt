@@ -4,3 +4,4 @@ pub mod EncodingLemmas
 pub mod NameLemmas
 mod PartLemmas
 pub mod NameWalkLemmas
+pub mod LenientLemmas

@@ -10,3 +10,4 @@ pub mod Criticality
 pub mod CertificateTimes
 pub mod Firsts
 pub mod ExtensionIdentifiers
+pub mod Lenient

@@ -1,5 +1,5 @@
 //! Whether extensions are critical (RFC 5280, 4.2).
-ghost use Rattle.std.specs.Prelude.{◌≡◌, ◌↔◌, true};
+ghost use Rattle.std.specs.Prelude.{◌↔◌, IsTrue};
 ghost use Rattle.x509.specs.Criticality.{IsCritical};
 
 use crate::asn1::Extension;
@@ -8,7 +8,7 @@ use der_asn1::DefaultValue;
 impl Extension<'_> {
     /// Whether the extension is critical.
     pub fn is_critical(&self) -> bool
-        ensures { (result ≡ true) ↔ IsCritical self.now }
+        ensures { IsTrue result ↔ IsCritical self.now }
     {
         !self.critical.0.has_default()
     }

@@ -2,8 +2,8 @@
 use Rattle.std.specs.Prelude.{◌≡◌, ℕ, false, List}
 use Rattle.der.specs.Prelude.{Tag}
 use Rattle.der_asn1.specs.ContextSpecific.{context_tag}
-use Rattle.name_forms.specs.Addresses.{IsRange}
-use Rattle.name_forms.specs.Comparable.{IsUriConstraint}
+use Rattle.x509_names.specs.Addresses.{IsRange}
+use Rattle.x509_names.specs.Comparable.{IsUriConstraint}
 use Rattle.x509_lint.specs.declared.base_rule.BaseRule.{BaseRule}
 use Rattle.x509_lint.specs.declared.base_rule.BaseRule.TheVariants.{Domain, Range}
 

@@ -2,10 +2,10 @@
 use Rattle.std.specs.Prelude.{◌≡◌, ◌≢◌, false, true, List, ℕ, []}
 use Rattle.der.specs.Prelude.{Sequence, Tag, element_octets}
 use Rattle.der_asn1.specs.ContextSpecific.{context_tag}
-use Rattle.name_forms.specs.Addresses.{IsAddress}
-use Rattle.name_forms.specs.HostNames.{IsHostName}
-use Rattle.name_forms.specs.Mailboxes.{IsMailbox}
-use Rattle.name_forms.specs.UriSyntax.{HasHost, HasScheme, IsUri}
+use Rattle.x509_names.specs.Addresses.{IsAddress}
+use Rattle.x509_names.specs.HostNames.{IsHostName}
+use Rattle.x509_names.specs.Mailboxes.{IsMailbox}
+use Rattle.x509_names.specs.UriSyntax.{HasHost, HasScheme, IsUri}
 use Rattle.x509_lint.specs.declared.form_rule.FormRule.{FormRule}
 use Rattle.x509_lint.specs.declared.form_rule.FormRule.TheVariants.{Mail, Host, Scheme, Uri, Authority, Address, Directory}
 

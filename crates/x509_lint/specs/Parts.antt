@@ -6,7 +6,7 @@ use Rattle.der_asn1.specs.Arcs.{oid_octets}
 use Rattle.der_asn1.specs.Forms.{oid_form}
 use Rattle.der_asn1.specs.Integer.{is_negative}
 use Rattle.x509_lint.specs.Elements.{IsElement}
-use Rattle.name_forms.specs.UriSyntax.{IsUri}
+use Rattle.x509_names.specs.UriSyntax.{IsUri}
 use Rattle.x509_lint.specs.AttributeChecks.{character_count}
 use Rattle.x509_lint.specs.Bases.{BaseKeeps}
 use Rattle.x509_lint.specs.GeneralNameForms.{FormKeeps}

@@ -1,11 +1,11 @@
 //! Rules for the bases of the subtrees of a nameConstraints. A base is a GeneralName.
-ghost use Rattle.std.specs.Prelude.{◌≡◌, ◌↔◌, true};
+ghost use Rattle.std.specs.Prelude.{◌↔◌, IsTrue};
 ghost use Rattle.x509_lint.specs.Bases.{BaseKeeps};
 
 use crate::forms::is_context;
 use der::Tag;
-use name_forms::{is_range, is_uri_constraint};
 use std::fmt;
+use x509_names::{is_range, is_uri_constraint};
 
 /// A rule for the bases of the subtrees of a nameConstraints (RFC 5280, 4.2.1.10).
 #[derive(Clone, Copy, Debug, PartialEq, Eq)]
@@ -34,7 +34,7 @@ impl fmt::Display for BaseRule {
 /// Whether the base of a subtree keeps the rule. The base is a GeneralName with the tag `tag` and
 /// the contents octets `contents`. True if the rule is for names of another form.
 pub fn base_keeps(tag: Tag, contents: &[u8], rule: BaseRule) -> bool
-    ensures { (result ≡ true) ↔ BaseKeeps rule tag contents.now }
+    ensures { IsTrue result ↔ BaseKeeps rule tag contents.now }
 {
     match rule {
         BaseRule::Domain => !is_context(tag, false, 6) || is_uri_constraint(contents),

@@ -1,5 +1,5 @@
 //! Checks of a certificate that decoding does not make.
-ghost use Rattle.std.specs.Prelude.{◌≡◌, ◌↔◌, true, Some};
+ghost use Rattle.std.specs.Prelude.{◌≡◌, ◌↔◌, Some, IsTrue};
 ghost use Rattle.x509_lint.specs.Checks.{MatchesCertificateVersion, HasSameAlgorithms, IsSameAlgorithm};
 ghost use Rattle.x509_lint.specs.Checks.{parameters_of, certificate_version_number};
 
@@ -39,7 +39,7 @@ pub(crate) fn number_of(octets: &[u8]) -> u8
 /// version 1, and the extensions must be absent in versions 1 and 2 (RFC 5280, 4.1.2.1, 4.1.2.8,
 /// 4.1.2.9). Decoding does not check this.
 pub fn has_fields_of_version(signed: &TbsCertificate<'_>) -> bool
-    ensures { (result ≡ true) ↔ MatchesCertificateVersion signed.now }
+    ensures { IsTrue result ↔ MatchesCertificateVersion signed.now }
 {
     let number = number_of(signed.version.0.0.octets());
     if signed.extensions.0.is_some() && number != 2 {
@@ -53,7 +53,7 @@ pub fn has_fields_of_version(signed: &TbsCertificate<'_>) -> bool
 /// (RFC 5280, 4.1.1.2). The identifiers must be the same. The parameters must be the same, or
 /// absent in both fields. Decoding does not check this.
 pub fn has_same_algorithms(certificate: &Certificate<'_>) -> bool
-    ensures { (result ≡ true) ↔ HasSameAlgorithms certificate.now }
+    ensures { IsTrue result ↔ HasSameAlgorithms certificate.now }
 {
     is_same_algorithm(
         &certificate.signature_algorithm,
@@ -66,7 +66,7 @@ pub(crate) fn is_same_algorithm(
     first: &AlgorithmIdentifierRef<'_>,
     second: &AlgorithmIdentifierRef<'_>,
 ) -> bool
-    ensures { (result ≡ true) ↔ IsSameAlgorithm first.now second.now }
+    ensures { IsTrue result ↔ IsSameAlgorithm first.now second.now }
 {
     first.oid.octets() == second.oid.octets()
         && are_same_parameters(&first.parameters.0, &second.parameters.0)
@@ -74,7 +74,7 @@ pub(crate) fn is_same_algorithm(
 
 // Whether both have no parameters, or both have elements with the same tag and contents.
 fn are_same_parameters(first: &Option<AnyRef<'_>>, second: &Option<AnyRef<'_>>) -> bool
-    ensures { (result ≡ true) ↔ (parameters_of first.now ≡ parameters_of second.now) }
+    ensures { IsTrue result ↔ (parameters_of first.now ≡ parameters_of second.now) }
 {
     match (first, second) {
         (Some(first), Some(second)) => is_same_element(first, second),
@@ -84,7 +84,7 @@ fn are_same_parameters(first: &Option<AnyRef<'_>>, second: &Option<AnyRef<'_>>) 
 }
 
 fn is_same_element(first: &AnyRef<'_>, second: &AnyRef<'_>) -> bool
-    ensures { (result ≡ true)
+    ensures { IsTrue result
         ↔ (parameters_of (Some first.now) ≡ parameters_of (Some second.now)) }
 {
     is_same_tag(first.tag, second.tag) && first.contents == second.contents

@@ -1,5 +1,5 @@
 //! Tests of single elements, by their tag and contents.
-ghost use Rattle.std.specs.Prelude.{◌≡◌, ◌↔◌, ℕ, List, true};
+ghost use Rattle.std.specs.Prelude.{◌↔◌, ℕ, List, IsTrue};
 ghost use Rattle.der.specs.Prelude.{Tag as ATag};
 
 use der::Tag;
@@ -13,5 +13,5 @@ pub trait ElementTest {
 
     /// Whether an element with this tag and these contents passes the test.
     fn keeps(&self, alloc: Global, tag: Tag, contents: &[u8]) -> bool
-        ensures { (result ≡ true) ↔ keeps self.now tag contents.now };
+        ensures { IsTrue result ↔ keeps self.now tag contents.now };
 }

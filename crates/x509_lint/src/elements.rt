@@ -1,5 +1,5 @@
 //! The elements of which octets consist (X.690 8.1.1).
-ghost use Rattle.std.specs.Prelude.{◌≡◌, ◌↔◌, ℕ, List, true, IfSome, IfNone};
+ghost use Rattle.std.specs.Prelude.{◌≡◌, ◌↔◌, ℕ, List, IfSome, IfNone, IsTrue};
 ghost use Rattle.der.specs.Prelude.{Tag as ATag};
 ghost use Rattle.der_asn1.specs.AnyRef.{any_contents};
 ghost use Rattle.x509_lint.specs.Elements.{EachElement, EachOfSequence, IsElement};
@@ -12,7 +12,7 @@ use std::alloc::Global;
 /// Whether each element in `octets` passes the test. `octets` are the encodings of elements, one
 /// after the other. Also true if `octets` are not the encodings of elements.
 pub fn each_element<'a, T: ElementTest>(alloc: Global, octets: &'a [u8], test: &T) -> bool
-    ensures { (result ≡ true) ↔ EachElement (T.keeps test.now) octets.now }
+    ensures { IsTrue result ↔ EachElement (T.keeps test.now) octets.now }
 {
     match SequenceOf::<'a, AnyRef<'a>>::new(alloc, octets) {
         Ok(elements) => all_keep(alloc, elements, test),
@@ -26,7 +26,7 @@ fn all_keep<'a, T: ElementTest>(
     elements: SequenceOf<'a, AnyRef<'a>>,
     test: &T,
 ) -> bool
-    ensures { (result ≡ true) ↔ EachElement (T.keeps test.now) elements.entry.octets.now }
+    ensures { IsTrue result ↔ EachElement (T.keeps test.now) elements.entry.octets.now }
 {
     for element in elements.iter(alloc) {
         if !is_kept(alloc, &element, test) {
@@ -37,7 +37,7 @@ fn all_keep<'a, T: ElementTest>(
 }
 
 fn is_kept<T: ElementTest>(alloc: Global, element: &AnyRef<'_>, test: &T) -> bool
-    ensures { (result ≡ true) ↔ T.keeps test.now element.now.tag (any_contents element.now) }
+    ensures { IsTrue result ↔ T.keeps test.now element.now.tag (any_contents element.now) }
 {
     test.keeps(alloc, element.tag, element.contents)
 }
@@ -45,7 +45,7 @@ fn is_kept<T: ElementTest>(alloc: Global, element: &AnyRef<'_>, test: &T) -> boo
 /// Whether each element inside a SEQUENCE passes the test. `octets` are the encoding of the
 /// SEQUENCE. Also true if `octets` are not the encoding of exactly one SEQUENCE of elements.
 pub fn each_of_sequence<'a, T: ElementTest>(alloc: Global, octets: &'a [u8], test: &T) -> bool
-    ensures { (result ≡ true) ↔ EachOfSequence (T.keeps test.now) octets.now }
+    ensures { IsTrue result ↔ EachOfSequence (T.keeps test.now) octets.now }
 {
     match contents_with(alloc, octets, Tag::Sequence) {
         Some(contents) => each_element(alloc, contents, test),
@@ -104,7 +104,7 @@ fn only_of_list<'a>(alloc: Global, elements: &SequenceOf<'a, AnyRef<'a>>) -> Opt
 
 /// Whether two tags are the same.
 pub fn is_same_tag(first: Tag, second: Tag) -> bool
-    ensures { (result ≡ true) ↔ (first ≡ second) }
+    ensures { IsTrue result ↔ (first ≡ second) }
 {
     first == second
 }

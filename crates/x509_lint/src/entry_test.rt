@@ -1,5 +1,5 @@
 //! Tests of the entries of revocation lists.
-ghost use Rattle.std.specs.Prelude.{◌≡◌, ◌↔◌, true};
+ghost use Rattle.std.specs.Prelude.{◌↔◌, IsTrue};
 ghost use Rattle.x509_lint.specs.Elements.{EachElement};
 ghost use Rattle.x509_lint.specs.EntryTests.{EntryKeeps};
 
@@ -31,7 +31,7 @@ pub enum EntryTest {
 /// Whether each entry of a revocation list passes the test. `entries` are the encodings of the
 /// entries, one after the other. The function does not use `alloc`.
 pub fn entries_keep(alloc: Global, entries: &[u8], test: EntryTest) -> bool
-    ensures { (result ≡ true) ↔ EachElement (EntryKeeps test) entries.now }
+    ensures { IsTrue result ↔ EachElement (EntryKeeps test) entries.now }
 {
     match test {
         EntryTest::Times => have_times(alloc, entries),
@@ -44,7 +44,7 @@ pub fn entries_keep(alloc: Global, entries: &[u8], test: EntryTest) -> bool
 }
 
 fn have_times(alloc: Global, entries: &[u8]) -> bool
-    ensures { (result ≡ true) ↔ EachElement (EntryKeeps EntryTest.Times) entries.now }
+    ensures { IsTrue result ↔ EachElement (EntryKeeps EntryTest.Times) entries.now }
 {
     each_element(
         alloc,
@@ -56,7 +56,7 @@ fn have_times(alloc: Global, entries: &[u8]) -> bool
 }
 
 fn have_no_extensions(alloc: Global, entries: &[u8]) -> bool
-    ensures { (result ≡ true) ↔ EachElement (EntryKeeps EntryTest.NoExtensions) entries.now }
+    ensures { IsTrue result ↔ EachElement (EntryKeeps EntryTest.NoExtensions) entries.now }
 {
     each_element(
         alloc,
@@ -68,7 +68,7 @@ fn have_no_extensions(alloc: Global, entries: &[u8]) -> bool
 }
 
 fn are_not_critical(alloc: Global, entries: &[u8], identifier: Identifier) -> bool
-    ensures { (result ≡ true)
+    ensures { IsTrue result
         ↔ EachElement (EntryKeeps (EntryTest.NotCritical identifier)) entries.now }
 {
     let extension = GuardTest {
@@ -86,7 +86,7 @@ fn are_not_critical(alloc: Global, entries: &[u8], identifier: Identifier) -> bo
 }
 
 fn have_critical_issuers(alloc: Global, entries: &[u8]) -> bool
-    ensures { (result ≡ true) ↔ EachElement (EntryKeeps EntryTest.IssuerCritical) entries.now }
+    ensures { IsTrue result ↔ EachElement (EntryKeeps EntryTest.IssuerCritical) entries.now }
 {
     let extension = LackTest {
         guard: PartTest::Other(Identifier::CertificateIssuer),
@@ -103,7 +103,7 @@ fn have_critical_issuers(alloc: Global, entries: &[u8]) -> bool
 }
 
 fn are_not_removed(alloc: Global, entries: &[u8]) -> bool
-    ensures { (result ≡ true) ↔ EachElement (EntryKeeps EntryTest.NotRemoved) entries.now }
+    ensures { IsTrue result ↔ EachElement (EntryKeeps EntryTest.NotRemoved) entries.now }
 {
     let extension = GuardTest {
         guard: PartTest::Other(Identifier::Reason),
@@ -120,7 +120,7 @@ fn are_not_removed(alloc: Global, entries: &[u8]) -> bool
 }
 
 fn have_no_issuers(alloc: Global, entries: &[u8]) -> bool
-    ensures { (result ≡ true) ↔ EachElement (EntryKeeps EntryTest.NoIssuer) entries.now }
+    ensures { IsTrue result ↔ EachElement (EntryKeeps EntryTest.NoIssuer) entries.now }
 {
     let extension = InsideTest {
         tag: Tag::Sequence,

@@ -1,17 +1,17 @@
 //! The forms of general names (RFC 5280, 4.2.1.6).
-ghost use Rattle.std.specs.Prelude.{◌≡◌, ◌↔◌, true};
+ghost use Rattle.std.specs.Prelude.{◌≡◌, ◌↔◌, IsTrue};
 ghost use Rattle.der_asn1.specs.ContextSpecific.{context_tag};
 ghost use Rattle.x509_lint.specs.GeneralNameForms.{FormKeeps};
 
 use crate::elements::is_same_tag;
 use crate::form_rule::FormRule;
 use der::{Tag, TagNumber};
-use name_forms::{has_host, has_scheme, is_address, is_host_name, is_mailbox, is_uri};
+use x509_names::{has_host, has_scheme, is_address, is_host_name, is_mailbox, is_uri};
 
 /// Whether a general name with this tag and these contents keeps the rule. True if the rule is for
 /// names of another form.
 pub fn form_keeps(tag: Tag, contents: &[u8], rule: FormRule) -> bool
-    ensures { (result ≡ true) ↔ FormKeeps rule tag contents.now }
+    ensures { IsTrue result ↔ FormKeeps rule tag contents.now }
 {
     match rule {
         FormRule::Mail => !is_context(tag, false, 1) || is_mailbox(contents),
@@ -27,7 +27,7 @@ pub fn form_keeps(tag: Tag, contents: &[u8], rule: FormRule) -> bool
 /// Whether `tag` is the context-specific tag with the number `number`. The tag must be constructed
 /// if `constructed` is true, and primitive if `constructed` is false.
 pub fn is_context(tag: Tag, constructed: bool, number: u32) -> bool
-    ensures { (result ≡ true) ↔ (tag ≡ context_tag constructed number) }
+    ensures { IsTrue result ↔ (tag ≡ context_tag constructed number) }
 {
     is_same_tag(tag, context(constructed, number))
 }

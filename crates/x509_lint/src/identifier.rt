@@ -1,5 +1,5 @@
 //! Object identifiers that occur inside extensions and entries.
-ghost use Rattle.std.specs.Prelude.{◌≡◌, ◌↔◌, true};
+ghost use Rattle.std.specs.Prelude.{◌≡◌, ◌↔◌, IsTrue};
 ghost use Rattle.x509_lint.specs.Identifiers.{identifier_octets};
 
 use crate::checks::identifiers::is;
@@ -25,7 +25,7 @@ pub enum Identifier {
 
 /// Whether `octets` are the contents octets of the object identifier `identifier`.
 pub fn is_identifier_of(octets: &[u8], identifier: Identifier) -> bool
-    ensures { (result ≡ true) ↔ (octets.now ≡ identifier_octets identifier) }
+    ensures { IsTrue result ↔ (octets.now ≡ identifier_octets identifier) }
 {
     is(octets, &value_of(identifier))
 }

@@ -1,5 +1,5 @@
 //! Whether octets are the encodings of values of a type.
-ghost use Rattle.std.specs.Prelude.{◌≡◌, ◌↔◌, true};
+ghost use Rattle.std.specs.Prelude.{◌↔◌, IsTrue};
 ghost use Rattle.x509_lint.specs.Items.{AreItems, IsListValue, IsStructValue};
 
 use crate::elements::contents_with;
@@ -13,7 +13,7 @@ pub fn is_list_of<'a, T: DecodeItem<SliceReader<'a>> + BorrowedItem>(
     alloc: Global,
     octets: &'a [u8],
 ) -> bool
-    ensures { (result ≡ true) ↔ IsListValue T.item.valid T.item.octets octets.now }
+    ensures { IsTrue result ↔ IsListValue T.item.valid T.item.octets octets.now }
 {
     match contents_with(alloc, octets, Tag::Sequence) {
         Some(contents) => are_items::<T>(alloc, contents),
@@ -26,7 +26,7 @@ pub fn is_one_of<'a, T: DecodeItem<SliceReader<'a>> + BorrowedItem>(
     alloc: Global,
     octets: &'a [u8],
 ) -> bool
-    ensures { (result ≡ true) ↔ IsStructValue T.item.valid T.item.octets octets.now }
+    ensures { IsTrue result ↔ IsStructValue T.item.valid T.item.octets octets.now }
 {
     is_single(alloc, octets) && are_items::<T>(alloc, octets)
 }
@@ -36,7 +36,7 @@ pub fn are_items<'a, T: DecodeItem<SliceReader<'a>> + BorrowedItem>(
     alloc: Global,
     octets: &'a [u8],
 ) -> bool
-    ensures { (result ≡ true) ↔ AreItems T.item.valid T.item.octets octets.now }
+    ensures { IsTrue result ↔ AreItems T.item.valid T.item.octets octets.now }
 {
     SequenceOf::<'a, T>::new(alloc, octets).is_ok()
 }

@@ -1,5 +1,5 @@
 //! All rules that a certificate breaks.
-ghost use Rattle.std.specs.Prelude.{◌≡◌, ◌↔◌, true, All};
+ghost use Rattle.std.specs.Prelude.{◌≡◌, ◌↔◌, All, IsTrue};
 ghost use Rattle.std.specs.Iterator.{item_count};
 ghost use Rattle.x509_lint.specs.CertificateChecks.{Keeps};
 ghost use Rattle.x509_lint.specs.Lint.{GivesFinding};
@@ -36,7 +36,7 @@ pub fn findings<'a, 'c>(alloc: Global, certificate: &'c Certificate<'a>) -> Lint
 
 /// Whether the certificate keeps all [`RULES`]. This does not use `alloc`.
 pub fn keeps_all_rules(alloc: Global, certificate: &Certificate<'_>) -> bool
-    ensures { (result ≡ true) ↔ All (λ r. Keeps r certificate.now) RULES }
+    ensures { IsTrue result ↔ All (λ r. Keeps r certificate.now) RULES }
 {
     findings(alloc, certificate).next().is_none()
 }

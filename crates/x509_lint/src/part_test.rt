@@ -1,5 +1,5 @@
 //! Tests of single elements.
-ghost use Rattle.std.specs.Prelude.{◌≡◌, ◌≢◌, ◌↔◌, ◌≤◌, ◌+◌, ◌*◌, true};
+ghost use Rattle.std.specs.Prelude.{◌≡◌, ◌≢◌, ◌↔◌, ◌≤◌, ◌+◌, ◌*◌, true, IsTrue};
 ghost use Rattle.der.specs.Prelude.{ObjectIdentifier};
 ghost use Rattle.der_asn1.specs.Forms.{oid_form};
 ghost use Rattle.der_asn1.specs.Integer.{is_negative};
@@ -14,8 +14,8 @@ use crate::forms::form_keeps;
 use crate::identifier::{Identifier, is_identifier_of};
 use der::Tag;
 use der_asn1::ObjectIdentifierRef;
-use name_forms::is_uri;
 use std::alloc::Global;
+use x509_names::is_uri;
 
 /// A test that an element passes or fails. Each variant says what an element must be to pass.
 #[derive(Clone, Copy)]
@@ -91,7 +91,7 @@ impl ElementTest for PartTest {
 
 // Whether an OBJECT IDENTIFIER is one of the two known qualifiers.
 fn is_known_qualifier(tag: Tag, contents: &[u8]) -> bool
-    ensures { (result ≡ true) ↔ PartKeeps PartTest.Qualifier tag contents.now }
+    ensures { IsTrue result ↔ PartKeeps PartTest.Qualifier tag contents.now }
 {
     !is_same_tag(tag, Tag::ObjectIdentifier)
         || is_identifier_of(contents, Identifier::CpsPointer)
@@ -100,7 +100,7 @@ fn is_known_qualifier(tag: Tag, contents: &[u8]) -> bool
 
 // Whether a text of a user notice has 1 to 200 characters.
 fn has_length_of_notice(tag: Tag, contents: &[u8]) -> bool
-    ensures { (result ≡ true) ↔ PartKeeps PartTest.NoticeText tag contents.now }
+    ensures { IsTrue result ↔ PartKeeps PartTest.NoticeText tag contents.now }
 {
     if !is_display_tag(tag) {
         return true;
@@ -120,7 +120,7 @@ fn is_display_tag(tag: Tag) -> bool
 
 // Whether a GeneralizedTime begins with a year from 2050 on.
 fn is_late(tag: Tag, contents: &[u8]) -> bool
-    ensures { (result ≡ true) ↔ PartKeeps PartTest.LateTime tag contents.now }
+    ensures { IsTrue result ↔ PartKeeps PartTest.LateTime tag contents.now }
 {
     if !is_same_tag(tag, Tag::GeneralizedTime) {
         return true;
@@ -133,33 +133,33 @@ fn is_late(tag: Tag, contents: &[u8]) -> bool
 
 // Whether four digits are a year from 2050 on.
 fn is_from_2050(a: u8, b: u8, c: u8, d: u8) -> bool
-    ensures { (result ≡ true) ↔ (55378 ≤ a * 1000 + b * 100 + c * 10 + d) }
+    ensures { IsTrue result ↔ (55378 ≤ a * 1000 + b * 100 + c * 10 + d) }
 {
     u32::from(a) * 1000 + u32::from(b) * 100 + u32::from(c) * 10 + u32::from(d) >= 55378
 }
 
 fn is_neither(tag: Tag, first: Tag, second: Tag) -> bool
-    ensures { (result ≡ true) ↔ ((tag ≢ first) × (tag ≢ second)) }
+    ensures { IsTrue result ↔ ((tag ≢ first) × (tag ≢ second)) }
 {
     !is_same_tag(tag, first) && !is_same_tag(tag, second)
 }
 
 fn is_identifier(tag: Tag, contents: &[u8]) -> bool
-    ensures { (result ≡ true)
+    ensures { IsTrue result
         ↔ ((tag ≡ ObjectIdentifier) × (oid_form contents.now ≡ true)) }
 {
     is_same_tag(tag, Tag::ObjectIdentifier) && ObjectIdentifierRef::new(contents).is_some()
 }
 
 fn is_not_any_policy(contents: &[u8]) -> bool
-    ensures { (result ≡ true) ↔ (contents.now ≢ any_policy) }
+    ensures { IsTrue result ↔ (contents.now ≢ any_policy) }
 {
     contents != [0x55, 0x1D, 0x20, 0x00].as_slice()
 }
 
 /// Whether `octets` are the encoding of exactly one element.
 pub fn is_single(alloc: Global, octets: &[u8]) -> bool
-    ensures { (result ≡ true) ↔ IsSingle octets.now }
+    ensures { IsTrue result ↔ IsSingle octets.now }
 {
     match only_element(alloc, octets) {
         Some(_element) => true,

@@ -1,5 +1,5 @@
 //! Properties of the values of extensions.
-ghost use Rattle.std.specs.Prelude.{◌≡◌, ◌∷◌, ◌↔◌, ℕ, List, ◌<◌, EachIndex, false, length, true};
+ghost use Rattle.std.specs.Prelude.{◌≡◌, ◌∷◌, ◌↔◌, ℕ, List, ◌<◌, EachIndex, false, length, true, IsTrue};
 ghost use Rattle.der_asn1.specs.ContextSpecific.{context_tag};
 ghost use Rattle.der_asn1.specs.NamedBits.{has_bit};
 ghost use Rattle.x509_lint.specs.Values.{AreZero, BeginsWithTrue, HasAuthority, HasBoth, HasCertSign, HasMixedKinds, HasPart, HasUsage, IsLongNumber, IsNotNegative};
@@ -12,14 +12,14 @@ use std::alloc::Global;
 
 /// Whether `octets` are the encoding of a SEQUENCE with a component that has the tag `tag`.
 pub fn has_part(alloc: Global, octets: &[u8], tag: Tag) -> bool
-    ensures { (result ≡ true) ↔ HasPart tag octets.now }
+    ensures { IsTrue result ↔ HasPart tag octets.now }
 {
     !each_of_sequence(alloc, octets, &PartTest::NotTagged(tag))
 }
 
 /// Whether `octets` are the value of a basicConstraints whose cA is true (RFC 5280, 4.2.1.9).
 pub fn has_authority(alloc: Global, octets: &[u8]) -> bool
-    ensures { (result ≡ true) ↔ HasAuthority octets.now }
+    ensures { IsTrue result ↔ HasAuthority octets.now }
 {
     match contents_with(alloc, octets, Tag::Sequence) {
         Some(contents) => begins_with_true(contents),
@@ -28,14 +28,14 @@ pub fn has_authority(alloc: Global, octets: &[u8]) -> bool
 }
 
 fn begins_with_true(contents: &[u8]) -> bool
-    ensures { (result ≡ true) ↔ BeginsWithTrue contents.now }
+    ensures { IsTrue result ↔ BeginsWithTrue contents.now }
 {
     matches!(contents, [0x01, 0x01, 0xFF, ..])
 }
 
 /// Whether `octets` are the value of a keyUsage with the bit keyCertSign (RFC 5280, 4.2.1.3).
 pub fn has_cert_sign(alloc: Global, octets: &[u8]) -> bool
-    ensures { (result ≡ true) ↔ HasCertSign octets.now }
+    ensures { IsTrue result ↔ HasCertSign octets.now }
 {
     match contents_with(alloc, octets, Tag::BitString) {
         Some(contents) => has_bit_5(contents),
@@ -56,7 +56,7 @@ fn has_bit_5(contents: &[u8]) -> bool
 /// `octets` are the encoding of the BIT STRING. Also true if `octets` are not the encoding of a BIT
 /// STRING.
 pub fn has_usage(alloc: Global, octets: &[u8]) -> bool
-    ensures { (result ≡ true) ↔ HasUsage octets.now }
+    ensures { IsTrue result ↔ HasUsage octets.now }
 {
     match contents_with(alloc, octets, Tag::BitString) {
         Some(contents) => !are_zero(contents),
@@ -66,7 +66,7 @@ pub fn has_usage(alloc: Global, octets: &[u8]) -> bool
 
 // Whether all octets behind the first are zero.
 fn are_zero(contents: &[u8]) -> bool
-    ensures { (result ≡ true) ↔ AreZero contents.now }
+    ensures { IsTrue result ↔ AreZero contents.now }
 {
     for at in 1..contents.len() {
         if contents[at] != 0 {
@@ -78,7 +78,7 @@ fn are_zero(contents: &[u8]) -> bool
 
 /// False if `octets` are the encoding of a negative INTEGER, otherwise true.
 pub fn is_not_negative(alloc: Global, octets: &[u8]) -> bool
-    ensures { (result ≡ true) ↔ IsNotNegative octets.now }
+    ensures { IsTrue result ↔ IsNotNegative octets.now }
 {
     match contents_with(alloc, octets, Tag::Integer) {
         Some(contents) => !has_minus_sign(contents),
@@ -89,7 +89,7 @@ pub fn is_not_negative(alloc: Global, octets: &[u8]) -> bool
 /// Whether `octets` are the encoding of an INTEGER with more than 20 contents octets (RFC 5280,
 /// 5.2.3).
 pub fn is_long_number(alloc: Global, octets: &[u8]) -> bool
-    ensures { (result ≡ true) ↔ IsLongNumber octets.now }
+    ensures { IsTrue result ↔ IsLongNumber octets.now }
 {
     match contents_with(alloc, octets, Tag::Integer) {
         Some(contents) => is_longer_than_20(contents),
@@ -98,7 +98,7 @@ pub fn is_long_number(alloc: Global, octets: &[u8]) -> bool
 }
 
 fn is_longer_than_20(contents: &[u8]) -> bool
-    ensures { (result ≡ true) ↔ (20 < length contents.now) }
+    ensures { IsTrue result ↔ (20 < length contents.now) }
 {
     contents.len() > 20
 }
@@ -107,20 +107,20 @@ fn is_longer_than_20(contents: &[u8]) -> bool
 /// onlyContainsUserCerts, onlyContainsCACerts and onlyContainsAttributeCerts (RFC 5280, 5.2.5).
 #[tactic(auto, unfolding(crate::specs::Values::HasMixedKinds))]
 pub fn has_mixed_kinds(alloc: Global, octets: &[u8]) -> bool
-    ensures { (result ≡ true) ↔ HasMixedKinds octets.now }
+    ensures { IsTrue result ↔ HasMixedKinds octets.now }
 {
     has_both(alloc, octets, 1, 2) || has_both(alloc, octets, 1, 5) || has_both(alloc, octets, 2, 5)
 }
 
 // Whether a SEQUENCE has elements with both tags.
 fn has_both(alloc: Global, octets: &[u8], first: u32, second: u32) -> bool
-    ensures { (result ≡ true) ↔ HasBoth first second octets.now }
+    ensures { IsTrue result ↔ HasBoth first second octets.now }
 {
     has_field(alloc, octets, first) && has_field(alloc, octets, second)
 }
 
 fn has_field(alloc: Global, octets: &[u8], number: u32) -> bool
-    ensures { (result ≡ true) ↔ HasPart (context_tag false number) octets.now }
+    ensures { IsTrue result ↔ HasPart (context_tag false number) octets.now }
 {
     has_part(alloc, octets, context(false, number))
 }

@@ -6,7 +6,7 @@ use der::{
 };
 use crate::fixtures::errors::{incomplete, trailing};
 use crate::fixtures::readers::{Placed, der_reader, der_not_borrowed, front};
-use der_uses::reader::CopyingReader;
+use example_calls::reader::CopyingReader;
 use std::alloc::Global;
 use std::test::Fail;
 

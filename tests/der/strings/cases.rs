@@ -7,7 +7,7 @@ use der::{
 };
 use crate::fixtures::errors::{incomplete, indefinite, trailing, unexpected, unsupported};
 use crate::fixtures::readers::{Placed, ber_reader, der_reader, der_not_borrowed};
-use der_uses::reader::CopyingReader;
+use example_calls::reader::CopyingReader;
 use std::alloc::Global;
 use std::test::Fail;
 

@@ -11,7 +11,7 @@ use crate::fixtures::errors::{
 use crate::fixtures::readers::{
     Placed, ber_failing, ber_reader, ber_not_borrowed, der_reader, der_not_borrowed, place_of,
 };
-use der_uses::reader::CopyingReader;
+use example_calls::reader::CopyingReader;
 use std::alloc::Global;
 use std::test::Fail;
 

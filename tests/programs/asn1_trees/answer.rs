@@ -1,7 +1,7 @@
 //! Answers of the reader of values.
 
-use asn1_schema::{NodeKind, Schema};
-use asn1_tree::{Departure, Rule, Tree};
+use schema_types::{NodeKind, Schema};
+use schema_read::{Departure, Rule, Tree};
 use std::fmt;
 
 /// What the reader says of octets.

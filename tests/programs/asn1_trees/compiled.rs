@@ -181,7 +181,7 @@ fn answers(alloc: Global, kind: &str, octets: &[u8]) -> Option<Option<Error>> {
 // The error of a type of the module Visits.
 fn visits(alloc: Global, kind: &str, octets: &[u8]) -> Option<Option<Error>> {
     Some(match kind {
-        "Visit" => of::<visits::Visit<'_>>(alloc, octets),
+        "Visit" => of::<example_parcels::visits::Visit<'_>>(alloc, octets),
         _ => return None,
     })
 }
@@ -189,9 +189,9 @@ fn visits(alloc: Global, kind: &str, octets: &[u8]) -> Option<Option<Error>> {
 // The error of a type of the module Parcels.
 fn parcels(alloc: Global, kind: &str, octets: &[u8]) -> Option<Option<Error>> {
     Some(match kind {
-        "Parcel" => of::<parcels::Parcel<'_>>(alloc, octets),
-        "Label" => of::<parcels::Label<'_>>(alloc, octets),
-        "Plan" => of::<parcels::Plan<'_>>(alloc, octets),
+        "Parcel" => of::<example_parcels::Parcel<'_>>(alloc, octets),
+        "Label" => of::<example_parcels::Label<'_>>(alloc, octets),
+        "Plan" => of::<example_parcels::Plan<'_>>(alloc, octets),
         _ => return None,
     })
 }

@@ -9,8 +9,8 @@ mod case;
 mod compiled;
 
 use answer::Answer;
-use asn1_schema::Schema;
-use asn1_tree::{Tree, Verdict, read};
+use schema_types::Schema;
+use schema_read::{Tree, Verdict, read};
 use case::Case;
 use std::alloc::{AllocError, Global};
 use std::{env, fs, io};

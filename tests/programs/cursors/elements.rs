@@ -1,6 +1,6 @@
 //! Elements in the form of `openssl asn1parse`.
 
-use asn1_cursor::Cursor;
+use schema_cursor::Cursor;
 use ber::Universal;
 use std::alloc::Global;
 use std::io;

@@ -5,9 +5,9 @@
 mod elements;
 mod values;
 
-use asn1_cursor::Cursor;
-use asn1_schema::Schema;
-use asn1_tree::read;
+use schema_cursor::Cursor;
+use schema_types::Schema;
+use schema_read::read;
 use elements::print_elements;
 use std::{env, fs, io};
 use values::print_values;

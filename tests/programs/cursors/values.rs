@@ -1,6 +1,6 @@
 //! Values of fields.
 
-use asn1_cursor::Cursor;
+use schema_cursor::Cursor;
 use std::io;
 
 /// Prints the value of each of some fields.

@@ -9,8 +9,8 @@ use der::{
     Header, Length, Reader, SliceReader, StringOwned, StringRef, Tag, read_constructed_vec,
     slice_to_owned,
 };
-use der_uses::reader::CopyingReader;
-use der_uses::set_of::set_of_der;
+use example_calls::reader::CopyingReader;
+use example_calls::set_of::set_of_der;
 use std::alloc::Global;
 use std::boxed::BoxedSlice;
 use std::fmt::Debug;

@@ -5,7 +5,7 @@ use der::{
     BytesRef, Decode, DecodeBytes, DecodeValue, Error, Header, Length, ReaderExt, SliceReader,
     StringRef, Tag, decode_header, decode_length,
 };
-use der_uses::set_of::set_of_contents;
+use example_calls::set_of::set_of_contents;
 use std::alloc::Global;
 use std::io;
 use std::marker::PhantomData;

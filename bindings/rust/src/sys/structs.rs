@@ -42,30 +42,6 @@ impl RawPemReader<'_> {
 
 #[repr(C)]
 #[derive(Clone, Copy)]
-pub struct RawCertificateParts<'a> {
-    pub serial_number: RawSpan<'a>,
-    pub signature_algorithm: RawSpan<'a>,
-    pub issuer: RawSpan<'a>,
-    pub validity: RawSpan<'a>,
-    pub subject: RawSpan<'a>,
-    pub public_key: RawSpan<'a>,
-    pub extensions: RawSpan<'a>,
-}
-
-impl RawCertificateParts<'_> {
-    pub const EMPTY: Self = RawCertificateParts {
-        serial_number: RawSpan::EMPTY,
-        signature_algorithm: RawSpan::EMPTY,
-        issuer: RawSpan::EMPTY,
-        validity: RawSpan::EMPTY,
-        subject: RawSpan::EMPTY,
-        public_key: RawSpan::EMPTY,
-        extensions: RawSpan::EMPTY,
-    };
-}
-
-#[repr(C)]
-#[derive(Clone, Copy)]
 pub struct RawAccessDescription<'a> {
     pub method: RawSpan<'a>,
     pub location: RawGeneralName<'a>,
@@ -103,6 +79,30 @@ impl RawAny<'_> {
     pub const EMPTY: Self = RawAny {
         contents: RawSpan::EMPTY,
         tag: 0,
+    };
+}
+
+#[repr(C)]
+#[derive(Clone, Copy)]
+pub struct RawCertificateParts<'a> {
+    pub serial_number: RawSpan<'a>,
+    pub signature_algorithm: RawSpan<'a>,
+    pub issuer: RawSpan<'a>,
+    pub validity: RawSpan<'a>,
+    pub subject: RawSpan<'a>,
+    pub public_key: RawSpan<'a>,
+    pub extensions: RawSpan<'a>,
+}
+
+impl RawCertificateParts<'_> {
+    pub const EMPTY: Self = RawCertificateParts {
+        serial_number: RawSpan::EMPTY,
+        signature_algorithm: RawSpan::EMPTY,
+        issuer: RawSpan::EMPTY,
+        validity: RawSpan::EMPTY,
+        subject: RawSpan::EMPTY,
+        public_key: RawSpan::EMPTY,
+        extensions: RawSpan::EMPTY,
     };
 }
 
@@ -627,6 +627,12 @@ const _: () = {
     assert!(offset_of!(RawPemReader, length) == 8);
     assert!(offset_of!(RawPemReader, position) == 16);
     assert!(offset_of!(RawPemReader, line) == 24);
+    assert!(size_of::<RawAccessDescription>() == 80);
+    assert!(offset_of!(RawAccessDescription, location) == 16);
+    assert!(size_of::<RawAlgorithm>() == 40);
+    assert!(offset_of!(RawAlgorithm, parameters) == 16);
+    assert!(size_of::<RawAny>() == 24);
+    assert!(offset_of!(RawAny, tag) == 16);
     assert!(size_of::<RawCertificateParts>() == 112);
     assert!(offset_of!(RawCertificateParts, signature_algorithm) == 16);
     assert!(offset_of!(RawCertificateParts, issuer) == 32);
@@ -634,12 +640,6 @@ const _: () = {
     assert!(offset_of!(RawCertificateParts, subject) == 64);
     assert!(offset_of!(RawCertificateParts, public_key) == 80);
     assert!(offset_of!(RawCertificateParts, extensions) == 96);
-    assert!(size_of::<RawAccessDescription>() == 80);
-    assert!(offset_of!(RawAccessDescription, location) == 16);
-    assert!(size_of::<RawAlgorithm>() == 40);
-    assert!(offset_of!(RawAlgorithm, parameters) == 16);
-    assert!(size_of::<RawAny>() == 24);
-    assert!(offset_of!(RawAny, tag) == 16);
     assert!(size_of::<RawAttribute>() == 40);
     assert!(offset_of!(RawAttribute, value) == 16);
     assert!(size_of::<RawAuthorityKey>() == 56);

@@ -3,7 +3,7 @@
 use super::definition::{Definition, DefinitionKind};
 use super::imports::{push_ghost_use, push_use, words_of};
 use super::sources::Sources;
-use super::words::{DER, DER_ASN1, DER_UNIVERSAL};
+use super::words::{DER, DER_ASN1};
 use super::wrap::push_wrapped;
 use asn1_check::Module;
 use asn1_syntax::NameIndex;
@@ -39,11 +39,11 @@ choice_of
 defaulted
 either
 field
+is_lawful_item
 optional
 renamed
 seen
 sequence
-sequence_is_item
 sequence_item
 two_fields";
 
@@ -106,7 +106,6 @@ fn push_uses(
 ) -> Result<(), AllocError> {
     push_use(alloc, out, words, "der", DER)?;
     push_use(alloc, out, words, "der_asn1", DER_ASN1)?;
-    push_use(alloc, out, words, "der_universal", DER_UNIVERSAL)?;
     sources.push_imported(alloc, out, words)?;
     push_use(alloc, out, words, "std::alloc", "Global")?;
     out.push('\n')

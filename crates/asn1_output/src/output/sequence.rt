@@ -83,30 +83,14 @@ impl@L HasFields for @N@L {
 ";
 
 /// A template for the implementations that a struct needs to be the item of a SEQUENCE OF or SET
-/// OF.
+/// OF, and to be tagged EXPLICIT.
 pub const ITEM: &str = "
 impl@L Item for @N@L {
     ghost item = { sequence_item ⟦<@N@L as Described>⟧.element };
 }
 
-impl<'a, R: Lends<Borrowed = &'a [u8]>> DecodeItem<R> for @N@L {
-    ghost is_item = { sequence_is_item ⟦<@N@L as Described>⟧.element refl };
-
-    ghost decodes_items = { decodes_same (sequence_item ⟦<@N@L as Described>⟧.element) };
-}
-
-impl<'a> BorrowedItem for @N@L {
-    ghost borrowed = { refl };
-}
-
-impl@L WrittenItem for @N@L {
-    ghost written = { λ v. refl };
-
-    ghost writes_valid = { λ v is. is };
-}
-
-impl@L Nestable for @N@L {
-    ghost nestable = { Prim.omega arith };
+impl@L LawfulItem for @N@L {
+    ghost is_lawful_item = { is_lawful_item ⟦<@N@L as Described>⟧.element refl };
 }
 ";
 

@@ -33,6 +33,7 @@ field_refs";
 pub const DER_ASN1: &str = "Additions
 AnyRef
 Application
+AsSet
 BitStringOf
 BitStringRef
 BmpStringRef
@@ -58,6 +59,7 @@ EnumeratedRef
 Enumeration
 Explicit
 ExplicitAny
+GeneralStringRef
 GeneralizedTime
 Ia5StringRef
 Implicit
@@ -66,9 +68,9 @@ IntegerIn
 IntegerOf
 Item
 KnownTags
+LawfulItem
 NamedBitsRef
 NamedInteger
-Nestable
 Null
 NumericStringRef
 ObjectIdentifierRef
@@ -77,6 +79,8 @@ OctetStringRef
 Optional
 PrintableStringRef
 Private
+RealRef
+RelativeOidRef
 SequenceOf
 SequenceRef
 SetOf
@@ -84,18 +88,12 @@ TeletexStringRef
 UnknownElement
 UtcTime
 Utf8StringRef
+VideotexStringRef
 VisibleStringRef
 WithDefault
 WrittenItem
 decode_choice
 is_among";
-
-/// The names that the written files may import from the crate `der_universal`, one on each line.
-pub const DER_UNIVERSAL: &str = "AsSet
-GeneralStringRef
-RealRef
-RelativeOidRef
-VideotexStringRef";
 
 // Names that need no import, or that clauses import.
 const OTHERS: &str = "Bool
@@ -124,8 +122,5 @@ Vec";
 /// Whether the written files may use this name for something that is not a type of the module. No
 /// type of the module can then have the name.
 pub fn is_used(name: &str) -> bool {
-    is_line_of(DER, name)
-        || is_line_of(DER_ASN1, name)
-        || is_line_of(DER_UNIVERSAL, name)
-        || is_line_of(OTHERS, name)
+    is_line_of(DER, name) || is_line_of(DER_ASN1, name) || is_line_of(OTHERS, name)
 }

@@ -2,20 +2,16 @@
 //!
 //! Accuracy.
 ghost use Rattle.std.specs.Prelude.{◌≡◌};
-ghost use Rattle.std.proofs.Common.{arith, refl};
+ghost use Rattle.std.proofs.Common.{refl};
 ghost use Rattle.der.specs.Prelude.{map_ok};
-ghost use Rattle.der_asn1.specs.Item.{decodes_same};
-ghost use Rattle.der_asn1.specs.Meaning.{alternative, optional, sequence, sequence_is_item, sequence_item};
+ghost use Rattle.der_asn1.specs.Meaning.{alternative, is_lawful_item, optional, sequence, sequence_item};
 ghost use Rattle.der_asn1.specs.TupleFields.{three_fields};
 
 use der::{
     Decode, DecodeValue, Encode, Error, FieldsCall, FromFields, HasFields, Header, IsValue, Lends,
     Reader, Sequence, SliceReader, decode_sequence, field_refs,
 };
-use der_asn1::{
-    BorrowedItem, DecodeItem, Described, Implicit, IntRef, IntegerIn, Item, Nestable, Optional,
-    WrittenItem,
-};
+use der_asn1::{Described, Implicit, IntRef, IntegerIn, Item, LawfulItem, Optional};
 use std::alloc::Global;
 
 /// How far the time of a timestamp may be off: the sum of the three fields (RFC 3161, 2.4.2),
@@ -112,22 +108,6 @@ impl<'a> Item for Accuracy<'a> {
     ghost item = { sequence_item ⟦<Accuracy<'a> as Described>⟧.element };
 }
 
-impl<'a, R: Lends<Borrowed = &'a [u8]>> DecodeItem<R> for Accuracy<'a> {
-    ghost is_item = { sequence_is_item ⟦<Accuracy<'a> as Described>⟧.element refl };
-
-    ghost decodes_items = { decodes_same (sequence_item ⟦<Accuracy<'a> as Described>⟧.element) };
-}
-
-impl<'a> BorrowedItem for Accuracy<'a> {
-    ghost borrowed = { refl };
-}
-
-impl<'a> WrittenItem for Accuracy<'a> {
-    ghost written = { λ v. refl };
-
-    ghost writes_valid = { λ v is. is };
-}
-
-impl<'a> Nestable for Accuracy<'a> {
-    ghost nestable = { Prim.omega arith };
+impl<'a> LawfulItem for Accuracy<'a> {
+    ghost is_lawful_item = { is_lawful_item ⟦<Accuracy<'a> as Described>⟧.element refl };
 }

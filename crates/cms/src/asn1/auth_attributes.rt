@@ -2,16 +2,15 @@
 //!
 //! AuthAttributes.
 ghost use Rattle.std.specs.Prelude.{◌≡◌, false};
-ghost use Rattle.std.proofs.Common.{arith, refl};
+ghost use Rattle.std.proofs.Common.{refl};
 ghost use Rattle.der.specs.Prelude.{Set, map_ok};
-ghost use Rattle.der_asn1.specs.Item.{decodes_same};
-ghost use Rattle.der_asn1.specs.Meaning.{renamed, sequence_is_item, sequence_item};
+ghost use Rattle.der_asn1.specs.Meaning.{is_lawful_item, renamed, sequence_item};
 
 use der::{
     DecodeValue, EncodeValue, Error, FixedTag, FromFields, Header, IsValue, Lawful, Lends, Length,
     ReadValue, Reader, SliceReader, Tag, Writer, WrittenValue, decode_wrapped,
 };
-use der_asn1::{BorrowedItem, DecodeItem, Described, Item, Nestable, SetOf, WrittenItem};
+use der_asn1::{Described, Item, LawfulItem, SetOf};
 use std::alloc::Global;
 use x509::Attribute;
 
@@ -121,23 +120,6 @@ impl<'a> Item for AuthAttributes<'a> {
     ghost item = { sequence_item ⟦<AuthAttributes<'a> as Described>⟧.element };
 }
 
-impl<'a, R: Lends<Borrowed = &'a [u8]>> DecodeItem<R> for AuthAttributes<'a> {
-    ghost is_item = { sequence_is_item ⟦<AuthAttributes<'a> as Described>⟧.element refl };
-
-    ghost decodes_items = { decodes_same (sequence_item
-        ⟦<AuthAttributes<'a> as Described>⟧.element) };
-}
-
-impl<'a> BorrowedItem for AuthAttributes<'a> {
-    ghost borrowed = { refl };
-}
-
-impl<'a> WrittenItem for AuthAttributes<'a> {
-    ghost written = { λ v. refl };
-
-    ghost writes_valid = { λ v is. is };
-}
-
-impl<'a> Nestable for AuthAttributes<'a> {
-    ghost nestable = { Prim.omega arith };
+impl<'a> LawfulItem for AuthAttributes<'a> {
+    ghost is_lawful_item = { is_lawful_item ⟦<AuthAttributes<'a> as Described>⟧.element refl };
 }

@@ -2,10 +2,9 @@
 //!
 //! AuthEnvelopedData.
 ghost use Rattle.std.specs.Prelude.{◌≡◌};
-ghost use Rattle.std.proofs.Common.{arith, refl};
+ghost use Rattle.std.proofs.Common.{refl};
 ghost use Rattle.der.specs.Prelude.{map_ok};
-ghost use Rattle.der_asn1.specs.Item.{decodes_same};
-ghost use Rattle.der_asn1.specs.Meaning.{alternative, field, optional, sequence, sequence_is_item, sequence_item};
+ghost use Rattle.der_asn1.specs.Meaning.{alternative, field, is_lawful_item, optional, sequence, sequence_item};
 ghost use Rattle.der_asn1.specs.TupleFields.{seven_fields};
 
 use crate::asn1::auth_attributes::AuthAttributes;
@@ -17,10 +16,7 @@ use der::{
     Decode, DecodeValue, Encode, Error, FieldsCall, FromFields, HasFields, Header, IsValue, Lends,
     Reader, Sequence, SliceReader, decode_sequence, field_refs,
 };
-use der_asn1::{
-    BorrowedItem, DecodeItem, Described, Implicit, Item, Nestable, OctetStringRef, Optional,
-    WrittenItem,
-};
+use der_asn1::{Described, Implicit, Item, LawfulItem, OctetStringRef, Optional};
 use std::alloc::Global;
 
 /// A content that is encrypted and authenticated for recipients (RFC 5083, 2.1), borrowed from the
@@ -174,23 +170,6 @@ impl<'a> Item for AuthEnvelopedData<'a> {
     ghost item = { sequence_item ⟦<AuthEnvelopedData<'a> as Described>⟧.element };
 }
 
-impl<'a, R: Lends<Borrowed = &'a [u8]>> DecodeItem<R> for AuthEnvelopedData<'a> {
-    ghost is_item = { sequence_is_item ⟦<AuthEnvelopedData<'a> as Described>⟧.element refl };
-
-    ghost decodes_items = { decodes_same (sequence_item
-        ⟦<AuthEnvelopedData<'a> as Described>⟧.element) };
-}
-
-impl<'a> BorrowedItem for AuthEnvelopedData<'a> {
-    ghost borrowed = { refl };
-}
-
-impl<'a> WrittenItem for AuthEnvelopedData<'a> {
-    ghost written = { λ v. refl };
-
-    ghost writes_valid = { λ v is. is };
-}
-
-impl<'a> Nestable for AuthEnvelopedData<'a> {
-    ghost nestable = { Prim.omega arith };
+impl<'a> LawfulItem for AuthEnvelopedData<'a> {
+    ghost is_lawful_item = { is_lawful_item ⟦<AuthEnvelopedData<'a> as Described>⟧.element refl };
 }

@@ -2,17 +2,16 @@
 //!
 //! CertificateSet.
 ghost use Rattle.std.specs.Prelude.{◌≡◌, false};
-ghost use Rattle.std.proofs.Common.{arith, refl};
+ghost use Rattle.std.proofs.Common.{refl};
 ghost use Rattle.der.specs.Prelude.{Set, map_ok};
-ghost use Rattle.der_asn1.specs.Item.{decodes_same};
-ghost use Rattle.der_asn1.specs.Meaning.{renamed, sequence_is_item, sequence_item};
+ghost use Rattle.der_asn1.specs.Meaning.{is_lawful_item, renamed, sequence_item};
 
 use crate::asn1::certificate_choices::CertificateChoices;
 use der::{
     DecodeValue, EncodeValue, Error, FixedTag, FromFields, Header, IsValue, Lawful, Lends, Length,
     ReadValue, Reader, SliceReader, Tag, Writer, WrittenValue, decode_wrapped,
 };
-use der_asn1::{BorrowedItem, DecodeItem, Described, Item, Nestable, SetOf, WrittenItem};
+use der_asn1::{Described, Item, LawfulItem, SetOf};
 use std::alloc::Global;
 
 /// Certificates (RFC 5652, 10.2.3), in ascending order of their encodings.
@@ -120,23 +119,6 @@ impl<'a> Item for CertificateSet<'a> {
     ghost item = { sequence_item ⟦<CertificateSet<'a> as Described>⟧.element };
 }
 
-impl<'a, R: Lends<Borrowed = &'a [u8]>> DecodeItem<R> for CertificateSet<'a> {
-    ghost is_item = { sequence_is_item ⟦<CertificateSet<'a> as Described>⟧.element refl };
-
-    ghost decodes_items = { decodes_same (sequence_item
-        ⟦<CertificateSet<'a> as Described>⟧.element) };
-}
-
-impl<'a> BorrowedItem for CertificateSet<'a> {
-    ghost borrowed = { refl };
-}
-
-impl<'a> WrittenItem for CertificateSet<'a> {
-    ghost written = { λ v. refl };
-
-    ghost writes_valid = { λ v is. is };
-}
-
-impl<'a> Nestable for CertificateSet<'a> {
-    ghost nestable = { Prim.omega arith };
+impl<'a> LawfulItem for CertificateSet<'a> {
+    ghost is_lawful_item = { is_lawful_item ⟦<CertificateSet<'a> as Described>⟧.element refl };
 }

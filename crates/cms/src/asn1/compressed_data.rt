@@ -2,10 +2,9 @@
 //!
 //! CompressedData.
 ghost use Rattle.std.specs.Prelude.{◌≡◌};
-ghost use Rattle.std.proofs.Common.{arith, refl};
+ghost use Rattle.std.proofs.Common.{refl};
 ghost use Rattle.der.specs.Prelude.{map_ok};
-ghost use Rattle.der_asn1.specs.Item.{decodes_same};
-ghost use Rattle.der_asn1.specs.Meaning.{alternative, field, sequence, sequence_is_item, sequence_item};
+ghost use Rattle.der_asn1.specs.Meaning.{alternative, field, is_lawful_item, sequence, sequence_item};
 ghost use Rattle.der_asn1.specs.TupleFields.{three_fields};
 
 use crate::asn1::cms_version::CmsVersion;
@@ -14,7 +13,7 @@ use der::{
     Decode, DecodeValue, Encode, Error, FieldsCall, FromFields, HasFields, Header, IsValue, Lends,
     Reader, Sequence, SliceReader, decode_sequence, field_refs,
 };
-use der_asn1::{BorrowedItem, DecodeItem, Described, Item, Nestable, WrittenItem};
+use der_asn1::{Described, Item, LawfulItem};
 use spki::AlgorithmIdentifierRef;
 use std::alloc::Global;
 
@@ -109,23 +108,6 @@ impl<'a> Item for CompressedData<'a> {
     ghost item = { sequence_item ⟦<CompressedData<'a> as Described>⟧.element };
 }
 
-impl<'a, R: Lends<Borrowed = &'a [u8]>> DecodeItem<R> for CompressedData<'a> {
-    ghost is_item = { sequence_is_item ⟦<CompressedData<'a> as Described>⟧.element refl };
-
-    ghost decodes_items = { decodes_same (sequence_item
-        ⟦<CompressedData<'a> as Described>⟧.element) };
-}
-
-impl<'a> BorrowedItem for CompressedData<'a> {
-    ghost borrowed = { refl };
-}
-
-impl<'a> WrittenItem for CompressedData<'a> {
-    ghost written = { λ v. refl };
-
-    ghost writes_valid = { λ v is. is };
-}
-
-impl<'a> Nestable for CompressedData<'a> {
-    ghost nestable = { Prim.omega arith };
+impl<'a> LawfulItem for CompressedData<'a> {
+    ghost is_lawful_item = { is_lawful_item ⟦<CompressedData<'a> as Described>⟧.element refl };
 }

@@ -2,17 +2,16 @@
 //!
 //! ContentInfo.
 ghost use Rattle.std.specs.Prelude.{◌≡◌};
-ghost use Rattle.std.proofs.Common.{arith, refl};
+ghost use Rattle.std.proofs.Common.{refl};
 ghost use Rattle.der.specs.Prelude.{map_ok};
-ghost use Rattle.der_asn1.specs.Item.{decodes_same};
-ghost use Rattle.der_asn1.specs.Meaning.{alternative, field, sequence, sequence_is_item, sequence_item, two_fields};
+ghost use Rattle.der_asn1.specs.Meaning.{alternative, field, is_lawful_item, sequence, sequence_item, two_fields};
 
 use crate::asn1::content_type::ContentType;
 use der::{
     Decode, DecodeValue, Encode, Error, FieldsCall, FromFields, HasFields, Header, IsValue, Lends,
     Reader, Sequence, SliceReader, decode_sequence, field_refs,
 };
-use der_asn1::{BorrowedItem, DecodeItem, Described, ExplicitAny, Item, Nestable, WrittenItem};
+use der_asn1::{Described, ExplicitAny, Item, LawfulItem};
 use std::alloc::Global;
 
 /// A message: a content of any type, and the type (RFC 5652, 3), borrowed from the input.
@@ -93,22 +92,6 @@ impl<'a> Item for ContentInfo<'a> {
     ghost item = { sequence_item ⟦<ContentInfo<'a> as Described>⟧.element };
 }
 
-impl<'a, R: Lends<Borrowed = &'a [u8]>> DecodeItem<R> for ContentInfo<'a> {
-    ghost is_item = { sequence_is_item ⟦<ContentInfo<'a> as Described>⟧.element refl };
-
-    ghost decodes_items = { decodes_same (sequence_item ⟦<ContentInfo<'a> as Described>⟧.element) };
-}
-
-impl<'a> BorrowedItem for ContentInfo<'a> {
-    ghost borrowed = { refl };
-}
-
-impl<'a> WrittenItem for ContentInfo<'a> {
-    ghost written = { λ v. refl };
-
-    ghost writes_valid = { λ v is. is };
-}
-
-impl<'a> Nestable for ContentInfo<'a> {
-    ghost nestable = { Prim.omega arith };
+impl<'a> LawfulItem for ContentInfo<'a> {
+    ghost is_lawful_item = { is_lawful_item ⟦<ContentInfo<'a> as Described>⟧.element refl };
 }

@@ -2,10 +2,9 @@
 //!
 //! EncapsulatedContentInfo.
 ghost use Rattle.std.specs.Prelude.{◌≡◌};
-ghost use Rattle.std.proofs.Common.{arith, refl};
+ghost use Rattle.std.proofs.Common.{refl};
 ghost use Rattle.der.specs.Prelude.{map_ok};
-ghost use Rattle.der_asn1.specs.Item.{decodes_same};
-ghost use Rattle.der_asn1.specs.Meaning.{alternative, field, optional, sequence, sequence_is_item, sequence_item, two_fields};
+ghost use Rattle.der_asn1.specs.Meaning.{alternative, field, is_lawful_item, optional, sequence, sequence_item, two_fields};
 
 use crate::Segmented;
 use crate::asn1::content_type::ContentType;
@@ -13,9 +12,7 @@ use der::{
     Decode, DecodeValue, Encode, Error, FieldsCall, FromFields, HasFields, Header, IsValue, Lends,
     Reader, Sequence, SliceReader, decode_sequence, field_refs,
 };
-use der_asn1::{
-    BorrowedItem, DecodeItem, Described, Explicit, Item, Nestable, Optional, WrittenItem,
-};
+use der_asn1::{Described, Explicit, Item, LawfulItem, Optional};
 use std::alloc::Global;
 
 /// A content inside a message (RFC 5652, 5.2), borrowed from the input. In PKCS #7 the content may
@@ -104,23 +101,7 @@ impl<'a> Item for EncapsulatedContentInfo<'a> {
     ghost item = { sequence_item ⟦<EncapsulatedContentInfo<'a> as Described>⟧.element };
 }
 
-impl<'a, R: Lends<Borrowed = &'a [u8]>> DecodeItem<R> for EncapsulatedContentInfo<'a> {
-    ghost is_item = { sequence_is_item ⟦<EncapsulatedContentInfo<'a> as Described>⟧.element refl };
-
-    ghost decodes_items = { decodes_same (sequence_item
-        ⟦<EncapsulatedContentInfo<'a> as Described>⟧.element) };
-}
-
-impl<'a> BorrowedItem for EncapsulatedContentInfo<'a> {
-    ghost borrowed = { refl };
-}
-
-impl<'a> WrittenItem for EncapsulatedContentInfo<'a> {
-    ghost written = { λ v. refl };
-
-    ghost writes_valid = { λ v is. is };
-}
-
-impl<'a> Nestable for EncapsulatedContentInfo<'a> {
-    ghost nestable = { Prim.omega arith };
+impl<'a> LawfulItem for EncapsulatedContentInfo<'a> {
+    ghost is_lawful_item = { is_lawful_item
+        ⟦<EncapsulatedContentInfo<'a> as Described>⟧.element refl };
 }

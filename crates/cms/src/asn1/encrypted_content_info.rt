@@ -2,10 +2,9 @@
 //!
 //! EncryptedContentInfo.
 ghost use Rattle.std.specs.Prelude.{◌≡◌};
-ghost use Rattle.std.proofs.Common.{arith, refl};
+ghost use Rattle.std.proofs.Common.{refl};
 ghost use Rattle.der.specs.Prelude.{map_ok};
-ghost use Rattle.der_asn1.specs.Item.{decodes_same};
-ghost use Rattle.der_asn1.specs.Meaning.{alternative, field, optional, sequence, sequence_is_item, sequence_item};
+ghost use Rattle.der_asn1.specs.Meaning.{alternative, field, is_lawful_item, optional, sequence, sequence_item};
 ghost use Rattle.der_asn1.specs.TupleFields.{three_fields};
 
 use crate::EncryptedOctets;
@@ -14,9 +13,7 @@ use der::{
     Decode, DecodeValue, Encode, Error, FieldsCall, FromFields, HasFields, Header, IsValue, Lends,
     Reader, Sequence, SliceReader, decode_sequence, field_refs,
 };
-use der_asn1::{
-    BorrowedItem, DecodeItem, Described, DescribedChoice, Item, Nestable, Optional, WrittenItem,
-};
+use der_asn1::{Described, DescribedChoice, Item, LawfulItem, Optional};
 use spki::AlgorithmIdentifierRef;
 use std::alloc::Global;
 
@@ -120,23 +117,7 @@ impl<'a> Item for EncryptedContentInfo<'a> {
     ghost item = { sequence_item ⟦<EncryptedContentInfo<'a> as Described>⟧.element };
 }
 
-impl<'a, R: Lends<Borrowed = &'a [u8]>> DecodeItem<R> for EncryptedContentInfo<'a> {
-    ghost is_item = { sequence_is_item ⟦<EncryptedContentInfo<'a> as Described>⟧.element refl };
-
-    ghost decodes_items = { decodes_same (sequence_item
-        ⟦<EncryptedContentInfo<'a> as Described>⟧.element) };
-}
-
-impl<'a> BorrowedItem for EncryptedContentInfo<'a> {
-    ghost borrowed = { refl };
-}
-
-impl<'a> WrittenItem for EncryptedContentInfo<'a> {
-    ghost written = { λ v. refl };
-
-    ghost writes_valid = { λ v is. is };
-}
-
-impl<'a> Nestable for EncryptedContentInfo<'a> {
-    ghost nestable = { Prim.omega arith };
+impl<'a> LawfulItem for EncryptedContentInfo<'a> {
+    ghost is_lawful_item = { is_lawful_item
+        ⟦<EncryptedContentInfo<'a> as Described>⟧.element refl };
 }

@@ -2,10 +2,9 @@
 //!
 //! EnvelopedData.
 ghost use Rattle.std.specs.Prelude.{◌≡◌};
-ghost use Rattle.std.proofs.Common.{arith, refl};
+ghost use Rattle.std.proofs.Common.{refl};
 ghost use Rattle.der.specs.Prelude.{map_ok};
-ghost use Rattle.der_asn1.specs.Item.{decodes_same};
-ghost use Rattle.der_asn1.specs.Meaning.{alternative, field, optional, sequence, sequence_is_item, sequence_item};
+ghost use Rattle.der_asn1.specs.Meaning.{alternative, field, is_lawful_item, optional, sequence, sequence_item};
 ghost use Rattle.der_asn1.specs.TupleFields.{five_fields};
 
 use crate::asn1::cms_version::CmsVersion;
@@ -16,9 +15,7 @@ use der::{
     Decode, DecodeValue, Encode, Error, FieldsCall, FromFields, HasFields, Header, IsValue, Lends,
     Reader, Sequence, SliceReader, decode_sequence, field_refs,
 };
-use der_asn1::{
-    BorrowedItem, DecodeItem, Described, Implicit, Item, Nestable, Optional, WrittenItem,
-};
+use der_asn1::{Described, Implicit, Item, LawfulItem, Optional};
 use std::alloc::Global;
 use x509::Attributes;
 
@@ -147,23 +144,6 @@ impl<'a> Item for EnvelopedData<'a> {
     ghost item = { sequence_item ⟦<EnvelopedData<'a> as Described>⟧.element };
 }
 
-impl<'a, R: Lends<Borrowed = &'a [u8]>> DecodeItem<R> for EnvelopedData<'a> {
-    ghost is_item = { sequence_is_item ⟦<EnvelopedData<'a> as Described>⟧.element refl };
-
-    ghost decodes_items = { decodes_same (sequence_item
-        ⟦<EnvelopedData<'a> as Described>⟧.element) };
-}
-
-impl<'a> BorrowedItem for EnvelopedData<'a> {
-    ghost borrowed = { refl };
-}
-
-impl<'a> WrittenItem for EnvelopedData<'a> {
-    ghost written = { λ v. refl };
-
-    ghost writes_valid = { λ v is. is };
-}
-
-impl<'a> Nestable for EnvelopedData<'a> {
-    ghost nestable = { Prim.omega arith };
+impl<'a> LawfulItem for EnvelopedData<'a> {
+    ghost is_lawful_item = { is_lawful_item ⟦<EnvelopedData<'a> as Described>⟧.element refl };
 }

@@ -2,19 +2,16 @@
 //!
 //! EssCertId.
 ghost use Rattle.std.specs.Prelude.{◌≡◌};
-ghost use Rattle.std.proofs.Common.{arith, refl};
+ghost use Rattle.std.proofs.Common.{refl};
 ghost use Rattle.der.specs.Prelude.{map_ok};
-ghost use Rattle.der_asn1.specs.Item.{decodes_same};
-ghost use Rattle.der_asn1.specs.Meaning.{alternative, field, optional, sequence, sequence_is_item, sequence_item, two_fields};
+ghost use Rattle.der_asn1.specs.Meaning.{alternative, field, is_lawful_item, optional, sequence, sequence_item, two_fields};
 
 use crate::asn1::issuer_serial::IssuerSerial;
 use der::{
     Decode, DecodeValue, Encode, Error, FieldsCall, FromFields, HasFields, Header, IsValue, Lends,
     Reader, Sequence, SliceReader, decode_sequence, field_refs,
 };
-use der_asn1::{
-    BorrowedItem, DecodeItem, Described, Item, Nestable, OctetStringRef, Optional, WrittenItem,
-};
+use der_asn1::{Described, Item, LawfulItem, OctetStringRef, Optional};
 use std::alloc::Global;
 
 /// What identifies a certificate: its SHA-1 hash (RFC 5035, 6), borrowed from the input.
@@ -97,22 +94,6 @@ impl<'a> Item for EssCertId<'a> {
     ghost item = { sequence_item ⟦<EssCertId<'a> as Described>⟧.element };
 }
 
-impl<'a, R: Lends<Borrowed = &'a [u8]>> DecodeItem<R> for EssCertId<'a> {
-    ghost is_item = { sequence_is_item ⟦<EssCertId<'a> as Described>⟧.element refl };
-
-    ghost decodes_items = { decodes_same (sequence_item ⟦<EssCertId<'a> as Described>⟧.element) };
-}
-
-impl<'a> BorrowedItem for EssCertId<'a> {
-    ghost borrowed = { refl };
-}
-
-impl<'a> WrittenItem for EssCertId<'a> {
-    ghost written = { λ v. refl };
-
-    ghost writes_valid = { λ v is. is };
-}
-
-impl<'a> Nestable for EssCertId<'a> {
-    ghost nestable = { Prim.omega arith };
+impl<'a> LawfulItem for EssCertId<'a> {
+    ghost is_lawful_item = { is_lawful_item ⟦<EssCertId<'a> as Described>⟧.element refl };
 }

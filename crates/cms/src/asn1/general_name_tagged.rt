@@ -2,16 +2,15 @@
 //!
 //! GeneralNameTagged.
 ghost use Rattle.std.specs.Prelude.{◌≡◌};
-ghost use Rattle.std.proofs.Common.{arith, refl};
+ghost use Rattle.std.proofs.Common.{refl};
 ghost use Rattle.der.specs.Prelude.{map_ok};
-ghost use Rattle.der_asn1.specs.Item.{decodes_same};
-ghost use Rattle.der_asn1.specs.Meaning.{alternative, field, sequence, sequence_is_item, sequence_item};
+ghost use Rattle.der_asn1.specs.Meaning.{alternative, field, is_lawful_item, sequence, sequence_item};
 
 use der::{
     Decode, DecodeValue, Encode, Error, FieldsCall, FromFields, HasFields, Header, IsValue, Lends,
     Reader, Sequence, SliceReader, decode_sequence, field_refs,
 };
-use der_asn1::{BorrowedItem, DecodeItem, Described, DescribedChoice, Item, Nestable, WrittenItem};
+use der_asn1::{Described, DescribedChoice, Item, LawfulItem};
 use std::alloc::Global;
 use x509::GeneralName;
 
@@ -95,23 +94,6 @@ impl<'a> Item for GeneralNameTagged<'a> {
     ghost item = { sequence_item ⟦<GeneralNameTagged<'a> as Described>⟧.element };
 }
 
-impl<'a, R: Lends<Borrowed = &'a [u8]>> DecodeItem<R> for GeneralNameTagged<'a> {
-    ghost is_item = { sequence_is_item ⟦<GeneralNameTagged<'a> as Described>⟧.element refl };
-
-    ghost decodes_items = { decodes_same (sequence_item
-        ⟦<GeneralNameTagged<'a> as Described>⟧.element) };
-}
-
-impl<'a> BorrowedItem for GeneralNameTagged<'a> {
-    ghost borrowed = { refl };
-}
-
-impl<'a> WrittenItem for GeneralNameTagged<'a> {
-    ghost written = { λ v. refl };
-
-    ghost writes_valid = { λ v is. is };
-}
-
-impl<'a> Nestable for GeneralNameTagged<'a> {
-    ghost nestable = { Prim.omega arith };
+impl<'a> LawfulItem for GeneralNameTagged<'a> {
+    ghost is_lawful_item = { is_lawful_item ⟦<GeneralNameTagged<'a> as Described>⟧.element refl };
 }

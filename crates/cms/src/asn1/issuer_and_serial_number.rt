@@ -2,16 +2,15 @@
 //!
 //! IssuerAndSerialNumber.
 ghost use Rattle.std.specs.Prelude.{◌≡◌};
-ghost use Rattle.std.proofs.Common.{arith, refl};
+ghost use Rattle.std.proofs.Common.{refl};
 ghost use Rattle.der.specs.Prelude.{map_ok};
-ghost use Rattle.der_asn1.specs.Item.{decodes_same};
-ghost use Rattle.der_asn1.specs.Meaning.{alternative, field, sequence, sequence_is_item, sequence_item, two_fields};
+ghost use Rattle.der_asn1.specs.Meaning.{alternative, field, is_lawful_item, sequence, sequence_item, two_fields};
 
 use der::{
     Decode, DecodeValue, Encode, Error, FieldsCall, FromFields, HasFields, Header, IsValue, Lends,
     Reader, Sequence, SliceReader, decode_sequence, field_refs,
 };
-use der_asn1::{BorrowedItem, DecodeItem, Described, Item, Nestable, WrittenItem};
+use der_asn1::{Described, Item, LawfulItem};
 use std::alloc::Global;
 use x509::{CertificateSerialNumber, Name};
 
@@ -92,23 +91,7 @@ impl<'a> Item for IssuerAndSerialNumber<'a> {
     ghost item = { sequence_item ⟦<IssuerAndSerialNumber<'a> as Described>⟧.element };
 }
 
-impl<'a, R: Lends<Borrowed = &'a [u8]>> DecodeItem<R> for IssuerAndSerialNumber<'a> {
-    ghost is_item = { sequence_is_item ⟦<IssuerAndSerialNumber<'a> as Described>⟧.element refl };
-
-    ghost decodes_items = { decodes_same (sequence_item
-        ⟦<IssuerAndSerialNumber<'a> as Described>⟧.element) };
-}
-
-impl<'a> BorrowedItem for IssuerAndSerialNumber<'a> {
-    ghost borrowed = { refl };
-}
-
-impl<'a> WrittenItem for IssuerAndSerialNumber<'a> {
-    ghost written = { λ v. refl };
-
-    ghost writes_valid = { λ v is. is };
-}
-
-impl<'a> Nestable for IssuerAndSerialNumber<'a> {
-    ghost nestable = { Prim.omega arith };
+impl<'a> LawfulItem for IssuerAndSerialNumber<'a> {
+    ghost is_lawful_item = { is_lawful_item
+        ⟦<IssuerAndSerialNumber<'a> as Described>⟧.element refl };
 }

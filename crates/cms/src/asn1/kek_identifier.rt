@@ -2,10 +2,9 @@
 //!
 //! KekIdentifier.
 ghost use Rattle.std.specs.Prelude.{◌≡◌};
-ghost use Rattle.std.proofs.Common.{arith, refl};
+ghost use Rattle.std.proofs.Common.{refl};
 ghost use Rattle.der.specs.Prelude.{map_ok};
-ghost use Rattle.der_asn1.specs.Item.{decodes_same};
-ghost use Rattle.der_asn1.specs.Meaning.{alternative, field, optional, sequence, sequence_is_item, sequence_item};
+ghost use Rattle.der_asn1.specs.Meaning.{alternative, field, is_lawful_item, optional, sequence, sequence_item};
 ghost use Rattle.der_asn1.specs.TupleFields.{three_fields};
 
 use crate::asn1::other_key_attribute::OtherKeyAttribute;
@@ -13,10 +12,7 @@ use der::{
     Decode, DecodeValue, Encode, Error, FieldsCall, FromFields, HasFields, Header, IsValue, Lends,
     Reader, Sequence, SliceReader, decode_sequence, field_refs,
 };
-use der_asn1::{
-    BorrowedItem, DecodeItem, Described, GeneralizedTime, Item, Nestable, OctetStringRef, Optional,
-    WrittenItem,
-};
+use der_asn1::{Described, GeneralizedTime, Item, LawfulItem, OctetStringRef, Optional};
 use std::alloc::Global;
 
 /// What identifies a key that the originator and the recipient share (RFC 5652, 6.2.3), borrowed
@@ -115,23 +111,6 @@ impl<'a> Item for KekIdentifier<'a> {
     ghost item = { sequence_item ⟦<KekIdentifier<'a> as Described>⟧.element };
 }
 
-impl<'a, R: Lends<Borrowed = &'a [u8]>> DecodeItem<R> for KekIdentifier<'a> {
-    ghost is_item = { sequence_is_item ⟦<KekIdentifier<'a> as Described>⟧.element refl };
-
-    ghost decodes_items = { decodes_same (sequence_item
-        ⟦<KekIdentifier<'a> as Described>⟧.element) };
-}
-
-impl<'a> BorrowedItem for KekIdentifier<'a> {
-    ghost borrowed = { refl };
-}
-
-impl<'a> WrittenItem for KekIdentifier<'a> {
-    ghost written = { λ v. refl };
-
-    ghost writes_valid = { λ v is. is };
-}
-
-impl<'a> Nestable for KekIdentifier<'a> {
-    ghost nestable = { Prim.omega arith };
+impl<'a> LawfulItem for KekIdentifier<'a> {
+    ghost is_lawful_item = { is_lawful_item ⟦<KekIdentifier<'a> as Described>⟧.element refl };
 }

@@ -2,10 +2,9 @@
 //!
 //! KeyAgreeRecipientInfo.
 ghost use Rattle.std.specs.Prelude.{◌≡◌};
-ghost use Rattle.std.proofs.Common.{arith, refl};
+ghost use Rattle.std.proofs.Common.{refl};
 ghost use Rattle.der.specs.Prelude.{map_ok};
-ghost use Rattle.der_asn1.specs.Item.{decodes_same};
-ghost use Rattle.der_asn1.specs.Meaning.{alternative, field, optional, sequence, sequence_is_item, sequence_item};
+ghost use Rattle.der_asn1.specs.Meaning.{alternative, field, is_lawful_item, optional, sequence, sequence_item};
 ghost use Rattle.der_asn1.specs.TupleFields.{five_fields};
 
 use crate::asn1::cms_version::CmsVersion;
@@ -16,8 +15,7 @@ use der::{
     Reader, Sequence, SliceReader, decode_sequence, field_refs,
 };
 use der_asn1::{
-    BorrowedItem, DecodeItem, Described, Explicit, Implicit, Item, Nestable, OctetStringRef,
-    Optional, SequenceOf, WrittenItem,
+    Described, Explicit, Implicit, Item, LawfulItem, OctetStringRef, Optional, SequenceOf,
 };
 use spki::AlgorithmIdentifierRef;
 use std::alloc::Global;
@@ -143,23 +141,7 @@ impl<'a> Item for KeyAgreeRecipientInfo<'a> {
     ghost item = { sequence_item ⟦<KeyAgreeRecipientInfo<'a> as Described>⟧.element };
 }
 
-impl<'a, R: Lends<Borrowed = &'a [u8]>> DecodeItem<R> for KeyAgreeRecipientInfo<'a> {
-    ghost is_item = { sequence_is_item ⟦<KeyAgreeRecipientInfo<'a> as Described>⟧.element refl };
-
-    ghost decodes_items = { decodes_same (sequence_item
-        ⟦<KeyAgreeRecipientInfo<'a> as Described>⟧.element) };
-}
-
-impl<'a> BorrowedItem for KeyAgreeRecipientInfo<'a> {
-    ghost borrowed = { refl };
-}
-
-impl<'a> WrittenItem for KeyAgreeRecipientInfo<'a> {
-    ghost written = { λ v. refl };
-
-    ghost writes_valid = { λ v is. is };
-}
-
-impl<'a> Nestable for KeyAgreeRecipientInfo<'a> {
-    ghost nestable = { Prim.omega arith };
+impl<'a> LawfulItem for KeyAgreeRecipientInfo<'a> {
+    ghost is_lawful_item = { is_lawful_item
+        ⟦<KeyAgreeRecipientInfo<'a> as Described>⟧.element refl };
 }

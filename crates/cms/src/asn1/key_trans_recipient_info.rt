@@ -2,10 +2,9 @@
 //!
 //! KeyTransRecipientInfo.
 ghost use Rattle.std.specs.Prelude.{◌≡◌};
-ghost use Rattle.std.proofs.Common.{arith, refl};
+ghost use Rattle.std.proofs.Common.{refl};
 ghost use Rattle.der.specs.Prelude.{map_ok};
-ghost use Rattle.der_asn1.specs.Item.{decodes_same};
-ghost use Rattle.der_asn1.specs.Meaning.{alternative, field, sequence, sequence_is_item, sequence_item};
+ghost use Rattle.der_asn1.specs.Meaning.{alternative, field, is_lawful_item, sequence, sequence_item};
 ghost use Rattle.der_asn1.specs.TupleFields.{four_fields};
 
 use crate::asn1::cms_version::CmsVersion;
@@ -15,10 +14,7 @@ use der::{
     Decode, DecodeValue, Encode, Error, FieldsCall, FromFields, HasFields, Header, IsValue, Lends,
     Reader, Sequence, SliceReader, decode_sequence, field_refs,
 };
-use der_asn1::{
-    BorrowedItem, DecodeItem, Described, DescribedChoice, Item, Nestable, OctetStringRef,
-    WrittenItem,
-};
+use der_asn1::{Described, DescribedChoice, Item, LawfulItem, OctetStringRef};
 use spki::AlgorithmIdentifierRef;
 use std::alloc::Global;
 
@@ -127,23 +123,7 @@ impl<'a> Item for KeyTransRecipientInfo<'a> {
     ghost item = { sequence_item ⟦<KeyTransRecipientInfo<'a> as Described>⟧.element };
 }
 
-impl<'a, R: Lends<Borrowed = &'a [u8]>> DecodeItem<R> for KeyTransRecipientInfo<'a> {
-    ghost is_item = { sequence_is_item ⟦<KeyTransRecipientInfo<'a> as Described>⟧.element refl };
-
-    ghost decodes_items = { decodes_same (sequence_item
-        ⟦<KeyTransRecipientInfo<'a> as Described>⟧.element) };
-}
-
-impl<'a> BorrowedItem for KeyTransRecipientInfo<'a> {
-    ghost borrowed = { refl };
-}
-
-impl<'a> WrittenItem for KeyTransRecipientInfo<'a> {
-    ghost written = { λ v. refl };
-
-    ghost writes_valid = { λ v is. is };
-}
-
-impl<'a> Nestable for KeyTransRecipientInfo<'a> {
-    ghost nestable = { Prim.omega arith };
+impl<'a> LawfulItem for KeyTransRecipientInfo<'a> {
+    ghost is_lawful_item = { is_lawful_item
+        ⟦<KeyTransRecipientInfo<'a> as Described>⟧.element refl };
 }

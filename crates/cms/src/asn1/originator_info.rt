@@ -2,10 +2,9 @@
 //!
 //! OriginatorInfo.
 ghost use Rattle.std.specs.Prelude.{◌≡◌};
-ghost use Rattle.std.proofs.Common.{arith, refl};
+ghost use Rattle.std.proofs.Common.{refl};
 ghost use Rattle.der.specs.Prelude.{map_ok};
-ghost use Rattle.der_asn1.specs.Item.{decodes_same};
-ghost use Rattle.der_asn1.specs.Meaning.{alternative, optional, sequence, sequence_is_item, sequence_item, two_fields};
+ghost use Rattle.der_asn1.specs.Meaning.{alternative, is_lawful_item, optional, sequence, sequence_item, two_fields};
 
 use crate::asn1::certificate_set::CertificateSet;
 use crate::asn1::revocation_info_choices::RevocationInfoChoices;
@@ -13,9 +12,7 @@ use der::{
     Decode, DecodeValue, Encode, Error, FieldsCall, FromFields, HasFields, Header, IsValue, Lends,
     Reader, Sequence, SliceReader, decode_sequence, field_refs,
 };
-use der_asn1::{
-    BorrowedItem, DecodeItem, Described, Implicit, Item, Nestable, Optional, WrittenItem,
-};
+use der_asn1::{Described, Implicit, Item, LawfulItem, Optional};
 use std::alloc::Global;
 
 /// Certificates of the originator of a message, and information about revoked certificates (RFC
@@ -101,23 +98,6 @@ impl<'a> Item for OriginatorInfo<'a> {
     ghost item = { sequence_item ⟦<OriginatorInfo<'a> as Described>⟧.element };
 }
 
-impl<'a, R: Lends<Borrowed = &'a [u8]>> DecodeItem<R> for OriginatorInfo<'a> {
-    ghost is_item = { sequence_is_item ⟦<OriginatorInfo<'a> as Described>⟧.element refl };
-
-    ghost decodes_items = { decodes_same (sequence_item
-        ⟦<OriginatorInfo<'a> as Described>⟧.element) };
-}
-
-impl<'a> BorrowedItem for OriginatorInfo<'a> {
-    ghost borrowed = { refl };
-}
-
-impl<'a> WrittenItem for OriginatorInfo<'a> {
-    ghost written = { λ v. refl };
-
-    ghost writes_valid = { λ v is. is };
-}
-
-impl<'a> Nestable for OriginatorInfo<'a> {
-    ghost nestable = { Prim.omega arith };
+impl<'a> LawfulItem for OriginatorInfo<'a> {
+    ghost is_lawful_item = { is_lawful_item ⟦<OriginatorInfo<'a> as Described>⟧.element refl };
 }

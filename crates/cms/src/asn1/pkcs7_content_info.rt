@@ -2,19 +2,16 @@
 //!
 //! Pkcs7ContentInfo.
 ghost use Rattle.std.specs.Prelude.{◌≡◌};
-ghost use Rattle.std.proofs.Common.{arith, refl};
+ghost use Rattle.std.proofs.Common.{refl};
 ghost use Rattle.der.specs.Prelude.{map_ok};
-ghost use Rattle.der_asn1.specs.Item.{decodes_same};
-ghost use Rattle.der_asn1.specs.Meaning.{alternative, field, optional, sequence, sequence_is_item, sequence_item, two_fields};
+ghost use Rattle.der_asn1.specs.Meaning.{alternative, field, is_lawful_item, optional, sequence, sequence_item, two_fields};
 
 use crate::asn1::content_type::ContentType;
 use der::{
     Decode, DecodeValue, Encode, Error, FieldsCall, FromFields, HasFields, Header, IsValue, Lends,
     Reader, Sequence, SliceReader, decode_sequence, field_refs,
 };
-use der_asn1::{
-    BorrowedItem, DecodeItem, Described, ExplicitAny, Item, Nestable, Optional, WrittenItem,
-};
+use der_asn1::{Described, ExplicitAny, Item, LawfulItem, Optional};
 use std::alloc::Global;
 
 /// A content inside a message of PKCS #7 (RFC 2315, 7), borrowed from the input.
@@ -98,23 +95,6 @@ impl<'a> Item for Pkcs7ContentInfo<'a> {
     ghost item = { sequence_item ⟦<Pkcs7ContentInfo<'a> as Described>⟧.element };
 }
 
-impl<'a, R: Lends<Borrowed = &'a [u8]>> DecodeItem<R> for Pkcs7ContentInfo<'a> {
-    ghost is_item = { sequence_is_item ⟦<Pkcs7ContentInfo<'a> as Described>⟧.element refl };
-
-    ghost decodes_items = { decodes_same (sequence_item
-        ⟦<Pkcs7ContentInfo<'a> as Described>⟧.element) };
-}
-
-impl<'a> BorrowedItem for Pkcs7ContentInfo<'a> {
-    ghost borrowed = { refl };
-}
-
-impl<'a> WrittenItem for Pkcs7ContentInfo<'a> {
-    ghost written = { λ v. refl };
-
-    ghost writes_valid = { λ v is. is };
-}
-
-impl<'a> Nestable for Pkcs7ContentInfo<'a> {
-    ghost nestable = { Prim.omega arith };
+impl<'a> LawfulItem for Pkcs7ContentInfo<'a> {
+    ghost is_lawful_item = { is_lawful_item ⟦<Pkcs7ContentInfo<'a> as Described>⟧.element refl };
 }

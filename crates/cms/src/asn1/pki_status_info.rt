@@ -2,10 +2,9 @@
 //!
 //! PkiStatusInfo.
 ghost use Rattle.std.specs.Prelude.{◌≡◌};
-ghost use Rattle.std.proofs.Common.{arith, refl};
+ghost use Rattle.std.proofs.Common.{refl};
 ghost use Rattle.der.specs.Prelude.{map_ok};
-ghost use Rattle.der_asn1.specs.Item.{decodes_same};
-ghost use Rattle.der_asn1.specs.Meaning.{alternative, field, optional, sequence, sequence_is_item, sequence_item};
+ghost use Rattle.der_asn1.specs.Meaning.{alternative, field, is_lawful_item, optional, sequence, sequence_item};
 ghost use Rattle.der_asn1.specs.TupleFields.{three_fields};
 
 use crate::asn1::pki_failure_info::PkiFailureInfo;
@@ -14,10 +13,7 @@ use der::{
     Decode, DecodeValue, Encode, Error, FieldsCall, FromFields, HasFields, Header, IsValue, Lends,
     Reader, Sequence, SliceReader, decode_sequence, field_refs,
 };
-use der_asn1::{
-    BorrowedItem, DecodeItem, Described, Item, NamedInteger, Nestable, Optional, SequenceOf,
-    Utf8StringRef, WrittenItem,
-};
+use der_asn1::{Described, Item, LawfulItem, NamedInteger, Optional, SequenceOf, Utf8StringRef};
 use std::alloc::Global;
 
 /// Whether a request was granted, or why it was not (RFC 3161, 2.4.2), borrowed from the input.
@@ -115,23 +111,6 @@ impl<'a> Item for PkiStatusInfo<'a> {
     ghost item = { sequence_item ⟦<PkiStatusInfo<'a> as Described>⟧.element };
 }
 
-impl<'a, R: Lends<Borrowed = &'a [u8]>> DecodeItem<R> for PkiStatusInfo<'a> {
-    ghost is_item = { sequence_is_item ⟦<PkiStatusInfo<'a> as Described>⟧.element refl };
-
-    ghost decodes_items = { decodes_same (sequence_item
-        ⟦<PkiStatusInfo<'a> as Described>⟧.element) };
-}
-
-impl<'a> BorrowedItem for PkiStatusInfo<'a> {
-    ghost borrowed = { refl };
-}
-
-impl<'a> WrittenItem for PkiStatusInfo<'a> {
-    ghost written = { λ v. refl };
-
-    ghost writes_valid = { λ v is. is };
-}
-
-impl<'a> Nestable for PkiStatusInfo<'a> {
-    ghost nestable = { Prim.omega arith };
+impl<'a> LawfulItem for PkiStatusInfo<'a> {
+    ghost is_lawful_item = { is_lawful_item ⟦<PkiStatusInfo<'a> as Described>⟧.element refl };
 }

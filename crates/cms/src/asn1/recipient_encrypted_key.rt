@@ -2,20 +2,16 @@
 //!
 //! RecipientEncryptedKey.
 ghost use Rattle.std.specs.Prelude.{◌≡◌};
-ghost use Rattle.std.proofs.Common.{arith, refl};
+ghost use Rattle.std.proofs.Common.{refl};
 ghost use Rattle.der.specs.Prelude.{map_ok};
-ghost use Rattle.der_asn1.specs.Item.{decodes_same};
-ghost use Rattle.der_asn1.specs.Meaning.{alternative, field, sequence, sequence_is_item, sequence_item, two_fields};
+ghost use Rattle.der_asn1.specs.Meaning.{alternative, field, is_lawful_item, sequence, sequence_item, two_fields};
 
 use crate::asn1::key_agree_recipient_identifier::KeyAgreeRecipientIdentifier;
 use der::{
     Decode, DecodeValue, Encode, Error, FieldsCall, FromFields, HasFields, Header, IsValue, Lends,
     Reader, Sequence, SliceReader, decode_sequence, field_refs,
 };
-use der_asn1::{
-    BorrowedItem, DecodeItem, Described, DescribedChoice, Item, Nestable, OctetStringRef,
-    WrittenItem,
-};
+use der_asn1::{Described, DescribedChoice, Item, LawfulItem, OctetStringRef};
 use std::alloc::Global;
 
 /// A key that is encrypted for one recipient (RFC 5652, 6.2.2), borrowed from the input.
@@ -96,23 +92,7 @@ impl<'a> Item for RecipientEncryptedKey<'a> {
     ghost item = { sequence_item ⟦<RecipientEncryptedKey<'a> as Described>⟧.element };
 }
 
-impl<'a, R: Lends<Borrowed = &'a [u8]>> DecodeItem<R> for RecipientEncryptedKey<'a> {
-    ghost is_item = { sequence_is_item ⟦<RecipientEncryptedKey<'a> as Described>⟧.element refl };
-
-    ghost decodes_items = { decodes_same (sequence_item
-        ⟦<RecipientEncryptedKey<'a> as Described>⟧.element) };
-}
-
-impl<'a> BorrowedItem for RecipientEncryptedKey<'a> {
-    ghost borrowed = { refl };
-}
-
-impl<'a> WrittenItem for RecipientEncryptedKey<'a> {
-    ghost written = { λ v. refl };
-
-    ghost writes_valid = { λ v is. is };
-}
-
-impl<'a> Nestable for RecipientEncryptedKey<'a> {
-    ghost nestable = { Prim.omega arith };
+impl<'a> LawfulItem for RecipientEncryptedKey<'a> {
+    ghost is_lawful_item = { is_lawful_item
+        ⟦<RecipientEncryptedKey<'a> as Described>⟧.element refl };
 }

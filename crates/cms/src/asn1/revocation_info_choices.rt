@@ -2,17 +2,16 @@
 //!
 //! RevocationInfoChoices.
 ghost use Rattle.std.specs.Prelude.{◌≡◌, false};
-ghost use Rattle.std.proofs.Common.{arith, refl};
+ghost use Rattle.std.proofs.Common.{refl};
 ghost use Rattle.der.specs.Prelude.{Set, map_ok};
-ghost use Rattle.der_asn1.specs.Item.{decodes_same};
-ghost use Rattle.der_asn1.specs.Meaning.{renamed, sequence_is_item, sequence_item};
+ghost use Rattle.der_asn1.specs.Meaning.{is_lawful_item, renamed, sequence_item};
 
 use crate::asn1::revocation_info_choice::RevocationInfoChoice;
 use der::{
     DecodeValue, EncodeValue, Error, FixedTag, FromFields, Header, IsValue, Lawful, Lends, Length,
     ReadValue, Reader, SliceReader, Tag, Writer, WrittenValue, decode_wrapped,
 };
-use der_asn1::{BorrowedItem, DecodeItem, Described, Item, Nestable, SetOf, WrittenItem};
+use der_asn1::{Described, Item, LawfulItem, SetOf};
 use std::alloc::Global;
 
 /// Information about revoked certificates (RFC 5652, 10.2.1), in ascending order of the encodings.
@@ -120,23 +119,7 @@ impl<'a> Item for RevocationInfoChoices<'a> {
     ghost item = { sequence_item ⟦<RevocationInfoChoices<'a> as Described>⟧.element };
 }
 
-impl<'a, R: Lends<Borrowed = &'a [u8]>> DecodeItem<R> for RevocationInfoChoices<'a> {
-    ghost is_item = { sequence_is_item ⟦<RevocationInfoChoices<'a> as Described>⟧.element refl };
-
-    ghost decodes_items = { decodes_same (sequence_item
-        ⟦<RevocationInfoChoices<'a> as Described>⟧.element) };
-}
-
-impl<'a> BorrowedItem for RevocationInfoChoices<'a> {
-    ghost borrowed = { refl };
-}
-
-impl<'a> WrittenItem for RevocationInfoChoices<'a> {
-    ghost written = { λ v. refl };
-
-    ghost writes_valid = { λ v is. is };
-}
-
-impl<'a> Nestable for RevocationInfoChoices<'a> {
-    ghost nestable = { Prim.omega arith };
+impl<'a> LawfulItem for RevocationInfoChoices<'a> {
+    ghost is_lawful_item = { is_lawful_item
+        ⟦<RevocationInfoChoices<'a> as Described>⟧.element refl };
 }

@@ -2,10 +2,9 @@
 //!
 //! SignedData.
 ghost use Rattle.std.specs.Prelude.{◌≡◌};
-ghost use Rattle.std.proofs.Common.{arith, refl};
+ghost use Rattle.std.proofs.Common.{refl};
 ghost use Rattle.der.specs.Prelude.{map_ok};
-ghost use Rattle.der_asn1.specs.Item.{decodes_same};
-ghost use Rattle.der_asn1.specs.Meaning.{alternative, field, optional, sequence, sequence_is_item, sequence_item};
+ghost use Rattle.der_asn1.specs.Meaning.{alternative, field, is_lawful_item, optional, sequence, sequence_item};
 ghost use Rattle.der_asn1.specs.TupleFields.{six_fields};
 
 use crate::asn1::certificate_set::CertificateSet;
@@ -17,9 +16,7 @@ use der::{
     Decode, DecodeValue, Encode, Error, FieldsCall, FromFields, HasFields, Header, IsValue, Lends,
     Reader, Sequence, SliceReader, decode_sequence, field_refs,
 };
-use der_asn1::{
-    BorrowedItem, DecodeItem, Described, Implicit, Item, Nestable, Optional, SetOf, WrittenItem,
-};
+use der_asn1::{Described, Implicit, Item, LawfulItem, Optional, SetOf};
 use spki::AlgorithmIdentifierRef;
 use std::alloc::Global;
 
@@ -154,22 +151,6 @@ impl<'a> Item for SignedData<'a> {
     ghost item = { sequence_item ⟦<SignedData<'a> as Described>⟧.element };
 }
 
-impl<'a, R: Lends<Borrowed = &'a [u8]>> DecodeItem<R> for SignedData<'a> {
-    ghost is_item = { sequence_is_item ⟦<SignedData<'a> as Described>⟧.element refl };
-
-    ghost decodes_items = { decodes_same (sequence_item ⟦<SignedData<'a> as Described>⟧.element) };
-}
-
-impl<'a> BorrowedItem for SignedData<'a> {
-    ghost borrowed = { refl };
-}
-
-impl<'a> WrittenItem for SignedData<'a> {
-    ghost written = { λ v. refl };
-
-    ghost writes_valid = { λ v is. is };
-}
-
-impl<'a> Nestable for SignedData<'a> {
-    ghost nestable = { Prim.omega arith };
+impl<'a> LawfulItem for SignedData<'a> {
+    ghost is_lawful_item = { is_lawful_item ⟦<SignedData<'a> as Described>⟧.element refl };
 }

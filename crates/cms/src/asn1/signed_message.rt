@@ -2,10 +2,9 @@
 //!
 //! SignedMessage.
 ghost use Rattle.std.specs.Prelude.{◌≡◌};
-ghost use Rattle.std.proofs.Common.{arith, refl};
+ghost use Rattle.std.proofs.Common.{refl};
 ghost use Rattle.der.specs.Prelude.{map_ok};
-ghost use Rattle.der_asn1.specs.Item.{decodes_same};
-ghost use Rattle.der_asn1.specs.Meaning.{alternative, field, sequence, sequence_is_item, sequence_item, two_fields};
+ghost use Rattle.der_asn1.specs.Meaning.{alternative, field, is_lawful_item, sequence, sequence_item, two_fields};
 
 use crate::asn1::content_type::ContentType;
 use crate::asn1::signed_data::SignedData;
@@ -13,7 +12,7 @@ use der::{
     Decode, DecodeValue, Encode, Error, FieldsCall, FromFields, HasFields, Header, IsValue, Lends,
     Reader, Sequence, SliceReader, decode_sequence, field_refs,
 };
-use der_asn1::{BorrowedItem, DecodeItem, Described, Explicit, Item, Nestable, WrittenItem};
+use der_asn1::{Described, Explicit, Item, LawfulItem};
 use std::alloc::Global;
 
 /// A message whose content is a SignedData (RFC 5652, 3), borrowed from the input.
@@ -94,23 +93,6 @@ impl<'a> Item for SignedMessage<'a> {
     ghost item = { sequence_item ⟦<SignedMessage<'a> as Described>⟧.element };
 }
 
-impl<'a, R: Lends<Borrowed = &'a [u8]>> DecodeItem<R> for SignedMessage<'a> {
-    ghost is_item = { sequence_is_item ⟦<SignedMessage<'a> as Described>⟧.element refl };
-
-    ghost decodes_items = { decodes_same (sequence_item
-        ⟦<SignedMessage<'a> as Described>⟧.element) };
-}
-
-impl<'a> BorrowedItem for SignedMessage<'a> {
-    ghost borrowed = { refl };
-}
-
-impl<'a> WrittenItem for SignedMessage<'a> {
-    ghost written = { λ v. refl };
-
-    ghost writes_valid = { λ v is. is };
-}
-
-impl<'a> Nestable for SignedMessage<'a> {
-    ghost nestable = { Prim.omega arith };
+impl<'a> LawfulItem for SignedMessage<'a> {
+    ghost is_lawful_item = { is_lawful_item ⟦<SignedMessage<'a> as Described>⟧.element refl };
 }

@@ -2,10 +2,9 @@
 //!
 //! SignerInfo.
 ghost use Rattle.std.specs.Prelude.{◌≡◌};
-ghost use Rattle.std.proofs.Common.{arith, refl};
+ghost use Rattle.std.proofs.Common.{refl};
 ghost use Rattle.der.specs.Prelude.{map_ok};
-ghost use Rattle.der_asn1.specs.Item.{decodes_same};
-ghost use Rattle.der_asn1.specs.Meaning.{alternative, field, optional, sequence, sequence_is_item, sequence_item};
+ghost use Rattle.der_asn1.specs.Meaning.{alternative, field, is_lawful_item, optional, sequence, sequence_item};
 ghost use Rattle.der_asn1.specs.TupleFields.{seven_fields};
 
 use crate::asn1::cms_version::CmsVersion;
@@ -14,10 +13,7 @@ use der::{
     Decode, DecodeValue, Encode, Error, FieldsCall, FromFields, HasFields, Header, IsValue, Lends,
     Reader, Sequence, SliceReader, decode_sequence, field_refs,
 };
-use der_asn1::{
-    BorrowedItem, DecodeItem, Described, DescribedChoice, Implicit, Item, Nestable, OctetStringRef,
-    Optional, WrittenItem,
-};
+use der_asn1::{Described, DescribedChoice, Implicit, Item, LawfulItem, OctetStringRef, Optional};
 use spki::AlgorithmIdentifierRef;
 use std::alloc::Global;
 use x509::Attributes;
@@ -173,22 +169,6 @@ impl<'a> Item for SignerInfo<'a> {
     ghost item = { sequence_item ⟦<SignerInfo<'a> as Described>⟧.element };
 }
 
-impl<'a, R: Lends<Borrowed = &'a [u8]>> DecodeItem<R> for SignerInfo<'a> {
-    ghost is_item = { sequence_is_item ⟦<SignerInfo<'a> as Described>⟧.element refl };
-
-    ghost decodes_items = { decodes_same (sequence_item ⟦<SignerInfo<'a> as Described>⟧.element) };
-}
-
-impl<'a> BorrowedItem for SignerInfo<'a> {
-    ghost borrowed = { refl };
-}
-
-impl<'a> WrittenItem for SignerInfo<'a> {
-    ghost written = { λ v. refl };
-
-    ghost writes_valid = { λ v is. is };
-}
-
-impl<'a> Nestable for SignerInfo<'a> {
-    ghost nestable = { Prim.omega arith };
+impl<'a> LawfulItem for SignerInfo<'a> {
+    ghost is_lawful_item = { is_lawful_item ⟦<SignerInfo<'a> as Described>⟧.element refl };
 }

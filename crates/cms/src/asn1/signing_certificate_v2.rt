@@ -2,19 +2,16 @@
 //!
 //! SigningCertificateV2.
 ghost use Rattle.std.specs.Prelude.{◌≡◌};
-ghost use Rattle.std.proofs.Common.{arith, refl};
+ghost use Rattle.std.proofs.Common.{refl};
 ghost use Rattle.der.specs.Prelude.{map_ok};
-ghost use Rattle.der_asn1.specs.Item.{decodes_same};
-ghost use Rattle.der_asn1.specs.Meaning.{alternative, field, optional, sequence, sequence_is_item, sequence_item, two_fields};
+ghost use Rattle.der_asn1.specs.Meaning.{alternative, field, is_lawful_item, optional, sequence, sequence_item, two_fields};
 
 use crate::EssCertIdV2;
 use der::{
     Decode, DecodeValue, Encode, Error, FieldsCall, FromFields, HasFields, Header, IsValue, Lends,
     Reader, Sequence, SliceReader, decode_sequence, field_refs,
 };
-use der_asn1::{
-    BorrowedItem, DecodeItem, Described, Item, Nestable, Optional, SequenceOf, WrittenItem,
-};
+use der_asn1::{Described, Item, LawfulItem, Optional, SequenceOf};
 use std::alloc::Global;
 use x509::PolicyInformation;
 
@@ -100,23 +97,7 @@ impl<'a> Item for SigningCertificateV2<'a> {
     ghost item = { sequence_item ⟦<SigningCertificateV2<'a> as Described>⟧.element };
 }
 
-impl<'a, R: Lends<Borrowed = &'a [u8]>> DecodeItem<R> for SigningCertificateV2<'a> {
-    ghost is_item = { sequence_is_item ⟦<SigningCertificateV2<'a> as Described>⟧.element refl };
-
-    ghost decodes_items = { decodes_same (sequence_item
-        ⟦<SigningCertificateV2<'a> as Described>⟧.element) };
-}
-
-impl<'a> BorrowedItem for SigningCertificateV2<'a> {
-    ghost borrowed = { refl };
-}
-
-impl<'a> WrittenItem for SigningCertificateV2<'a> {
-    ghost written = { λ v. refl };
-
-    ghost writes_valid = { λ v is. is };
-}
-
-impl<'a> Nestable for SigningCertificateV2<'a> {
-    ghost nestable = { Prim.omega arith };
+impl<'a> LawfulItem for SigningCertificateV2<'a> {
+    ghost is_lawful_item = { is_lawful_item
+        ⟦<SigningCertificateV2<'a> as Described>⟧.element refl };
 }

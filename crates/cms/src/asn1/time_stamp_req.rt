@@ -2,10 +2,9 @@
 //!
 //! TimeStampReq.
 ghost use Rattle.std.specs.Prelude.{◌≡◌};
-ghost use Rattle.std.proofs.Common.{arith, refl};
+ghost use Rattle.std.proofs.Common.{refl};
 ghost use Rattle.der.specs.Prelude.{map_ok};
-ghost use Rattle.der_asn1.specs.Item.{decodes_same};
-ghost use Rattle.der_asn1.specs.Meaning.{alternative, defaulted, field, optional, sequence, sequence_is_item, sequence_item};
+ghost use Rattle.der_asn1.specs.Meaning.{alternative, defaulted, field, is_lawful_item, optional, sequence, sequence_item};
 ghost use Rattle.der_asn1.specs.TupleFields.{six_fields};
 
 use crate::asn1::message_imprint::MessageImprint;
@@ -15,8 +14,7 @@ use der::{
     Reader, Sequence, SliceReader, decode_sequence, field_refs,
 };
 use der_asn1::{
-    BooleanRef, BorrowedItem, DecodeItem, DefaultValue, Defaulted, Described, Implicit, IntRef,
-    Item, Nestable, Optional, WrittenItem,
+    BooleanRef, DefaultValue, Defaulted, Described, Implicit, IntRef, Item, LawfulItem, Optional,
 };
 use std::alloc::Global;
 use x509::Extensions;
@@ -153,23 +151,6 @@ impl<'a> Item for TimeStampReq<'a> {
     ghost item = { sequence_item ⟦<TimeStampReq<'a> as Described>⟧.element };
 }
 
-impl<'a, R: Lends<Borrowed = &'a [u8]>> DecodeItem<R> for TimeStampReq<'a> {
-    ghost is_item = { sequence_is_item ⟦<TimeStampReq<'a> as Described>⟧.element refl };
-
-    ghost decodes_items = { decodes_same (sequence_item
-        ⟦<TimeStampReq<'a> as Described>⟧.element) };
-}
-
-impl<'a> BorrowedItem for TimeStampReq<'a> {
-    ghost borrowed = { refl };
-}
-
-impl<'a> WrittenItem for TimeStampReq<'a> {
-    ghost written = { λ v. refl };
-
-    ghost writes_valid = { λ v is. is };
-}
-
-impl<'a> Nestable for TimeStampReq<'a> {
-    ghost nestable = { Prim.omega arith };
+impl<'a> LawfulItem for TimeStampReq<'a> {
+    ghost is_lawful_item = { is_lawful_item ⟦<TimeStampReq<'a> as Described>⟧.element refl };
 }

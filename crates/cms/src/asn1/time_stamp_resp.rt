@@ -2,10 +2,9 @@
 //!
 //! TimeStampResp.
 ghost use Rattle.std.specs.Prelude.{◌≡◌};
-ghost use Rattle.std.proofs.Common.{arith, refl};
+ghost use Rattle.std.proofs.Common.{refl};
 ghost use Rattle.der.specs.Prelude.{map_ok};
-ghost use Rattle.der_asn1.specs.Item.{decodes_same};
-ghost use Rattle.der_asn1.specs.Meaning.{alternative, field, optional, sequence, sequence_is_item, sequence_item, two_fields};
+ghost use Rattle.der_asn1.specs.Meaning.{alternative, field, is_lawful_item, optional, sequence, sequence_item, two_fields};
 
 use crate::asn1::pki_status_info::PkiStatusInfo;
 use crate::asn1::time_stamp_token::TimeStampToken;
@@ -13,7 +12,7 @@ use der::{
     Decode, DecodeValue, Encode, Error, FieldsCall, FromFields, HasFields, Header, IsValue, Lends,
     Reader, Sequence, SliceReader, decode_sequence, field_refs,
 };
-use der_asn1::{BorrowedItem, DecodeItem, Described, Item, Nestable, Optional, WrittenItem};
+use der_asn1::{Described, Item, LawfulItem, Optional};
 use std::alloc::Global;
 
 /// A response to a request for a timestamp (RFC 3161, 2.4.2), borrowed from the input.
@@ -97,23 +96,6 @@ impl<'a> Item for TimeStampResp<'a> {
     ghost item = { sequence_item ⟦<TimeStampResp<'a> as Described>⟧.element };
 }
 
-impl<'a, R: Lends<Borrowed = &'a [u8]>> DecodeItem<R> for TimeStampResp<'a> {
-    ghost is_item = { sequence_is_item ⟦<TimeStampResp<'a> as Described>⟧.element refl };
-
-    ghost decodes_items = { decodes_same (sequence_item
-        ⟦<TimeStampResp<'a> as Described>⟧.element) };
-}
-
-impl<'a> BorrowedItem for TimeStampResp<'a> {
-    ghost borrowed = { refl };
-}
-
-impl<'a> WrittenItem for TimeStampResp<'a> {
-    ghost written = { λ v. refl };
-
-    ghost writes_valid = { λ v is. is };
-}
-
-impl<'a> Nestable for TimeStampResp<'a> {
-    ghost nestable = { Prim.omega arith };
+impl<'a> LawfulItem for TimeStampResp<'a> {
+    ghost is_lawful_item = { is_lawful_item ⟦<TimeStampResp<'a> as Described>⟧.element refl };
 }

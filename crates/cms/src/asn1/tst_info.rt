@@ -2,10 +2,9 @@
 //!
 //! TstInfo.
 ghost use Rattle.std.specs.Prelude.{◌≡◌};
-ghost use Rattle.std.proofs.Common.{arith, refl};
+ghost use Rattle.std.proofs.Common.{refl};
 ghost use Rattle.der.specs.Prelude.{map_ok};
-ghost use Rattle.der_asn1.specs.Item.{decodes_same};
-ghost use Rattle.der_asn1.specs.Meaning.{alternative, defaulted, field, optional, sequence, sequence_is_item, sequence_item};
+ghost use Rattle.der_asn1.specs.Meaning.{alternative, defaulted, field, is_lawful_item, optional, sequence, sequence_item};
 ghost use Rattle.der_asn1.specs.TupleFields.{ten_fields};
 
 use crate::FractionalTimeRef;
@@ -18,8 +17,7 @@ use der::{
     Reader, Sequence, SliceReader, decode_sequence, field_refs,
 };
 use der_asn1::{
-    BooleanRef, BorrowedItem, DecodeItem, DefaultValue, Defaulted, Described, Implicit, IntRef,
-    Item, Nestable, Optional, WrittenItem,
+    BooleanRef, DefaultValue, Defaulted, Described, Implicit, IntRef, Item, LawfulItem, Optional,
 };
 use std::alloc::Global;
 use x509::Extensions;
@@ -202,22 +200,6 @@ impl<'a> Item for TstInfo<'a> {
     ghost item = { sequence_item ⟦<TstInfo<'a> as Described>⟧.element };
 }
 
-impl<'a, R: Lends<Borrowed = &'a [u8]>> DecodeItem<R> for TstInfo<'a> {
-    ghost is_item = { sequence_is_item ⟦<TstInfo<'a> as Described>⟧.element refl };
-
-    ghost decodes_items = { decodes_same (sequence_item ⟦<TstInfo<'a> as Described>⟧.element) };
-}
-
-impl<'a> BorrowedItem for TstInfo<'a> {
-    ghost borrowed = { refl };
-}
-
-impl<'a> WrittenItem for TstInfo<'a> {
-    ghost written = { λ v. refl };
-
-    ghost writes_valid = { λ v is. is };
-}
-
-impl<'a> Nestable for TstInfo<'a> {
-    ghost nestable = { Prim.omega arith };
+impl<'a> LawfulItem for TstInfo<'a> {
+    ghost is_lawful_item = { is_lawful_item ⟦<TstInfo<'a> as Described>⟧.element refl };
 }

@@ -5,6 +5,7 @@ ghost use Rattle.der_asn1.specs.Checked.{HasCheckedContents, AcceptsCheckedConte
 ghost use Rattle.der_asn1.specs.Checked.{ContentsWritten, checked_contents_lawful};
 ghost use Rattle.der_asn1.specs.Meaning.{of_form};
 
+use crate::contents::form::check_form;
 use crate::contents::grammar::ContentsGrammar;
 use crate::fields::described::Described;
 use crate::fields::explicit::Nestable;
@@ -92,21 +93,25 @@ impl<'a, F: ContentsGrammar> FixedTag for Checked<'a, F> {
 impl<'a, F: ContentsGrammar> ReadValue for Checked<'a, F> {
     ghost valid = { HasCheckedContents F.grammar (λ v. v.octets.now) };
 
-    ghost takes = { AcceptsCheckedContents F.grammar (λ v. v.octets.now) };
+    ghost takes = { AcceptsCheckedContents F.tag_is F.grammar (λ v. v.octets.now) };
 
     ghost value_levels = { λ _. 0 };
 
     ghost allocates = { false };
 
     ghost takes_valid = { λ v rules h octets taken.
-        subst (λ x. F.grammar x ≡ true) (sym taken.1) taken.0 };
+        subst (λ x. F.grammar x ≡ true) (sym taken.2) taken.1 };
 }
 
 /// Borrows the contents from the input and checks them. The check is as strict under BER as under
-/// DER. Only the length in the header is used; the tag in the header is ignored.
+/// DER. The tag in the header is ignored, but the header must be primitive or constructed as the
+/// tag of the type is: an OCTET STRING in segments is refused, also under BER.
 ///
 /// # Errors
 ///
+/// - `Noncanonical` with the header's tag, at the last octet of the header, if the header is
+///   constructed and the tag of the type is not, or the other way round. The reader is unchanged
+///   then.
 /// - The errors of [`Reader::read_slice`], which reads the contents.
 /// - `Value` with the tag of the type, at the position after the contents, if the contents are not
 ///   valid. The reader has failed then.
@@ -120,10 +125,12 @@ impl<'a, F: ContentsGrammar, R: Lends<Borrowed = &'a [u8]>> DecodeValue<R> for C
     where
         R: Reader,
     {
+        let tag = F::fixed_tag();
+        check_form(reader, &header, tag)?;
         let octets = reader.read_slice(header.length())?;
         match Checked::new(octets) {
             Some(value) => Ok(value),
-            None => Err(reader.error(F::fixed_tag().value_error())),
+            None => Err(reader.error(tag.value_error())),
         }
     }
 }

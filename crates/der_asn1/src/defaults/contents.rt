@@ -39,5 +39,5 @@ impl<'a, F: DefaultContents> DefaultValue for Checked<'a, F> {
 }
 
 impl<'a, F: DefaultContents> DefaultElement for Checked<'a, F> {
-    ghost decided = { λ v w rules h octets one two. ap F.default_contents (one.1 ∙ sym two.1) };
+    ghost decided = { λ v w rules h octets one two. ap F.default_contents (one.2 ∙ sym two.2) };
 }

@@ -5,6 +5,7 @@ ghost use Rattle.der_asn1.specs.AnyRef.{IsAny, TakesAny, AnyRead, any_contents, 
 ghost use Rattle.der_asn1.specs.AnyRef.{AnyWritten};
 ghost use Rattle.der_asn1.specs.AnyElement.{AnyElementNext, AnyElementRead};
 
+use crate::contents::form::check_form;
 use crate::elements::element::decode_element;
 use der::{
     Decode, DecodeValue, EncodeValue, Error, Header, IsValue, Lends, Length, ReadValue, Reader,
@@ -16,7 +17,9 @@ use std::alloc::Global;
 /// ANY in older ASN.1 modules, and for values of an open type.
 ///
 /// Some universal tags, such as the tag of UniversalString, have no variant of [`Tag`]. Decoding an
-/// element with one of these tags fails.
+/// element with one of these tags fails. So does decoding an OCTET STRING in segments, which the
+/// Basic Encoding Rules allow (X.690 8.7.3): as an `AnyRef` it would be written in one piece, with
+/// the headers of the segments in its contents.
 #[derive(Clone, Copy, PartialEq, Eq)]
 pub struct AnyRef<'a> {
     /// The tag of the element.
@@ -49,7 +52,10 @@ impl<'a> ReadValue for AnyRef<'a> {
 ///
 /// # Errors
 ///
-/// The errors of [`Reader::read_slice`].
+/// - `Noncanonical` with the header's tag, at the last octet of the header, if the header is
+///   constructed and its tag is not, as that of an OCTET STRING in segments. The reader is
+///   unchanged then.
+/// - The errors of [`Reader::read_slice`].
 impl<'a, R: Lends<Borrowed = &'a [u8]>> DecodeValue<R> for AnyRef<'a> {
     type Error = Error;
 
@@ -60,11 +66,10 @@ impl<'a, R: Lends<Borrowed = &'a [u8]>> DecodeValue<R> for AnyRef<'a> {
     where
         R: Reader,
     {
+        let tag = header.tag();
+        check_form(reader, &header, tag)?;
         let contents = reader.read_slice(header.length())?;
-        Ok(AnyRef {
-            tag: header.tag(),
-            contents,
-        })
+        Ok(AnyRef { tag, contents })
     }
 }
 

@@ -16,10 +16,6 @@ impl<'a> AnyRef<'a> {
     /// Rules, and that there are at most 4294967295 contents octets. Then decoding succeeds if and
     /// only if the element is an encoding of a valid value of `T`, unless an allocation fails.
     ///
-    /// An `AnyRef` does not record whether an OCTET STRING was encoded in segments. So under the
-    /// Basic Encoding Rules, use this function only for types that are always constructed, such as
-    /// a SEQUENCE.
-    ///
     /// # Errors
     ///
     /// The function returns the first of these errors that applies. Positions count from the start

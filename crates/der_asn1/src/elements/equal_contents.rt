@@ -48,7 +48,7 @@ impl<'a, F: ContentsGrammar> Eq for Checked<'a, F> {
 impl<'a, F: ContentsGrammar> EqualContents for Checked<'a, F> {
     ghost by_contents = { λ v w. refl };
 
-    ghost one_contents = { λ v w rules h octets one two. one.1 ∙ sym two.1 };
+    ghost one_contents = { λ v w rules h octets one two. one.2 ∙ sym two.2 };
 }
 
 /// Two values are equal if and only if their contents octets are the same.
@@ -69,7 +69,7 @@ impl<N: IntegerNumber, const ENUMERATED: bool> Eq for NumberOf<N, ENUMERATED> {
 impl<N: IntegerNumber, const ENUMERATED: bool> EqualContents for NumberOf<N, ENUMERATED> {
     ghost by_contents = { λ v w. refl };
 
-    ghost one_contents = { λ v w rules h octets one two. one.1 ∙ sym two.1 };
+    ghost one_contents = { λ v w rules h octets one two. one.2 ∙ sym two.2 };
 }
 
 /// Two values are equal if and only if their contents octets are the same. Equal values are the
@@ -92,7 +92,7 @@ impl<F: TimeFormat> Eq for TimeOf<F> {
 impl<F: TimeFormat> EqualContents for TimeOf<F> {
     ghost by_contents = { λ v w. refl };
 
-    ghost one_contents = { λ v w rules h octets one two. one.1 ∙ sym two.1 };
+    ghost one_contents = { λ v w rules h octets one two. one.2 ∙ sym two.2 };
 }
 
 /// Two lists are equal if and only if their contents octets are the same. Equal lists have the same

@@ -33,7 +33,7 @@ impl<'a, R: Lends<Borrowed = &'a [u8]>> DecodeItem<R> for AnyRef<'a> {
 }
 
 impl<'a, F: ContentsGrammar> Item for Checked<'a, F> {
-    ghost item = { element_item F.tag_is (AcceptsCheckedContents F.grammar (λ v. v.octets.now))
+    ghost item = { element_item F.tag_is (AcceptsCheckedContents F.tag_is F.grammar (λ v. v.octets.now))
         (HasCheckedContents F.grammar (λ v. v.octets.now)) (λ v. v.octets.now) (λ _. 0) false };
 }
 
@@ -41,13 +41,13 @@ impl<'a, F: ContentsGrammar, R: Lends<Borrowed = &'a [u8]>> DecodeItem<R> for Ch
     ghost is_item = { element_is_item (checked_contents_lawful F.tag_is F.grammar
         (λ v. v.octets.now) F.numbered) false };
 
-    ghost decodes_items = { decodes_same (element_item F.tag_is (AcceptsCheckedContents F.grammar
+    ghost decodes_items = { decodes_same (element_item F.tag_is (AcceptsCheckedContents F.tag_is F.grammar
         (λ v. v.octets.now)) (HasCheckedContents F.grammar (λ v. v.octets.now))
         (λ v. v.octets.now) (λ _. 0) false) };
 }
 
 impl<F: TimeFormat> Item for TimeOf<F> {
-    ghost item = { element_item F.tag_is (AcceptsCheckedContents F.grammar
+    ghost item = { element_item F.tag_is (AcceptsCheckedContents F.tag_is F.grammar
         (λ v. F.contents_of v.time)) (HasCheckedContents F.grammar (λ v. F.contents_of v.time))
         (λ v. F.contents_of v.time) (λ _. 0) false };
 }
@@ -56,7 +56,7 @@ impl<'a, F: TimeFormat, R: Lends<Borrowed = &'a [u8]>> DecodeItem<R> for TimeOf<
     ghost is_item = { element_is_item (checked_contents_lawful F.tag_is F.grammar
         (λ v. F.contents_of v.time) F.numbered) false };
 
-    ghost decodes_items = { decodes_same (element_item F.tag_is (AcceptsCheckedContents F.grammar
+    ghost decodes_items = { decodes_same (element_item F.tag_is (AcceptsCheckedContents F.tag_is F.grammar
         (λ v. F.contents_of v.time)) (HasCheckedContents F.grammar (λ v. F.contents_of v.time))
         (λ v. F.contents_of v.time) (λ _. 0) false) };
 }

@@ -1,5 +1,5 @@
 //! Decoding of items in ascending order of their encodings.
-ghost use Rattle.std.specs.Prelude.{◌≡◌, ◌^◌, ◌<◌, ◌≤◌, ◌↔◌, false, true, [], length, IfOk, OnOk, IsErrAnd};
+ghost use Rattle.std.specs.Prelude.{◌≡◌, ◌^◌, ◌<◌, ◌≤◌, ◌↔◌, false, true, [], length, IfOk, OnOk, IsErrAnd, IsTrue};
 ghost use Rattle.der.specs.Prelude.{rest_of, Reads, slice_state, IsBefore, error_of_kind};
 ghost use Rattle.der.specs.ErrorKinds.{Overflow};
 ghost use Rattle.der.specs.Decode.{SucceedsOrLacks};
@@ -16,7 +16,7 @@ use std::cmp::Ordering;
 // Whether the first octets are smaller than the second (X.690 11.6).
 #[inline(always)]
 fn comes_before(first: &[u8], second: &[u8]) -> bool
-    ensures { (result ≡ true) ↔ IsBefore first.now second.now }
+    ensures { IsTrue result ↔ IsBefore first.now second.now }
 {
     match first.cmp(second) {
         Ordering::Less => true,

@@ -1,5 +1,5 @@
 //! BOOLEAN.
-ghost use Rattle.std.specs.Prelude.{◌≡◌, ◌∷◌, [], true, ◌↔◌};
+ghost use Rattle.std.specs.Prelude.{◌≡◌, ◌∷◌, [], ◌↔◌, IsTrue};
 ghost use Rattle.std.proofs.Common.{arith};
 ghost use Rattle.der.specs.Prelude.{Boolean as BooleanTag};
 ghost use Rattle.der_asn1.specs.Forms.{boolean_form, is_false};
@@ -42,7 +42,7 @@ impl ContentsGrammar for BooleanGrammar {
 impl<'a> Checked<'a, BooleanGrammar> {
     /// Whether the BOOLEAN is true, which means that its contents octet is `0xFF`.
     pub fn is_true(&self) -> bool
-        ensures { (result ≡ true) ↔ (self.now.octets.now ≡ 255 ∷ []) }
+        ensures { IsTrue result ↔ (self.now.octets.now ≡ 255 ∷ []) }
     {
         match self.octets() {
             [octet] => *octet == 0xFF,

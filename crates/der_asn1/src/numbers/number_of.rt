@@ -7,6 +7,7 @@ ghost use Rattle.der_asn1.specs.Item.{decodes_same, element_is_item, element_ite
 ghost use Rattle.der_asn1.specs.Meaning.{of_form};
 ghost use Rattle.der_asn1.specs.NumberTag.{number_tag, number_tag_fits};
 
+use crate::contents::form::check_form;
 use crate::fields::described::Described;
 use crate::fields::explicit::Nestable;
 use crate::lists::item::{DecodeItem, Item};
@@ -72,14 +73,14 @@ impl<N: IntegerNumber, const ENUMERATED: bool> FixedTag for NumberOf<N, ENUMERAT
 impl<N: IntegerNumber, const ENUMERATED: bool> ReadValue for NumberOf<N, ENUMERATED> {
     ghost valid = { HasCheckedContents N.grammar (λ v. N.contents_of v.number) };
 
-    ghost takes = { AcceptsCheckedContents N.grammar (λ v. N.contents_of v.number) };
+    ghost takes = { AcceptsCheckedContents (number_tag ENUMERATED) N.grammar (λ v. N.contents_of v.number) };
 
     ghost value_levels = { λ _. 0 };
 
     ghost allocates = { false };
 
     ghost takes_valid = { λ v rules h octets taken.
-        subst (λ x. N.grammar x ≡ true) (sym taken.1) taken.0 };
+        subst (λ x. N.grammar x ≡ true) (sym taken.2) taken.1 };
 }
 
 /// Reads the number from the contents. Accepts only the shortest contents for a number, also under
@@ -87,6 +88,8 @@ impl<N: IntegerNumber, const ENUMERATED: bool> ReadValue for NumberOf<N, ENUMERA
 ///
 /// # Errors
 ///
+/// - `Noncanonical` with the header's tag, at the last octet of the header, if the header is
+///   constructed. The reader is unchanged then.
 /// - The errors of [`Reader::read_slice`], which reads the contents.
 /// - `Value` with the tag of the type, at the position after the contents, if the contents are
 ///   empty, are not the shortest, or encode a number that is not one of `N`. The reader has failed
@@ -101,10 +104,12 @@ impl<'a, N: IntegerNumber, const ENUMERATED: bool, R: Lends<Borrowed = &'a [u8]>
     where
         R: Reader,
     {
+        let tag = number_tag(ENUMERATED);
+        check_form(reader, &header, tag)?;
         let octets = reader.read_slice(header.length())?;
         match N::from_contents(octets) {
             Some(number) => Ok(NumberOf { number }),
-            None => Err(reader.error(number_tag(ENUMERATED).value_error())),
+            None => Err(reader.error(tag.value_error())),
         }
     }
 }
@@ -162,7 +167,7 @@ impl<N: IntegerNumber, const ENUMERATED: bool> Described for NumberOf<N, ENUMERA
 }
 
 impl<N: IntegerNumber, const ENUMERATED: bool> Item for NumberOf<N, ENUMERATED> {
-    ghost item = { element_item (number_tag ENUMERATED) (AcceptsCheckedContents N.grammar
+    ghost item = { element_item (number_tag ENUMERATED) (AcceptsCheckedContents (number_tag ENUMERATED) N.grammar
         (λ v. N.contents_of v.number)) (HasCheckedContents N.grammar
         (λ v. N.contents_of v.number)) (λ v. N.contents_of v.number) (λ _. 0) false };
 }
@@ -173,7 +178,7 @@ impl<'a, N: IntegerNumber, const ENUMERATED: bool, R: Lends<Borrowed = &'a [u8]>
         (λ v. N.contents_of v.number) (number_tag_fits ENUMERATED)) false };
 
     ghost decodes_items = { decodes_same (element_item (number_tag ENUMERATED) (AcceptsCheckedContents
-        N.grammar (λ v. N.contents_of v.number)) (HasCheckedContents N.grammar
+        (number_tag ENUMERATED) N.grammar (λ v. N.contents_of v.number)) (HasCheckedContents N.grammar
         (λ v. N.contents_of v.number)) (λ v. N.contents_of v.number) (λ _. 0) false) };
 }
 

@@ -5,9 +5,11 @@ ghost use Rattle.der.specs.Prelude.{ElementNext, ElementRead, element_levels, ma
 ghost use Rattle.der.specs.Prelude.{element_octets, element_size, ElementWritten, TakesWhole};
 ghost use Rattle.der.specs.Prelude.{OctetString as OctetTag};
 ghost use Rattle.der_asn1.specs.ContextSpecific.{explicit_lawful, explicit_holds};
+ghost use Rattle.der_asn1.specs.HeaderForm.{FormedRead, TakesFormed, formed_lawful};
 ghost use Rattle.der_asn1.specs.Item.{decodes_same, element_is_item, element_item};
-ghost use Rattle.der_asn1.specs.Meaning.{containing};
+ghost use Rattle.der_asn1.specs.Meaning.{containing, of_own_form};
 
+use crate::contents::form::check_form;
 use crate::fields::described::Described;
 use crate::fields::explicit::Nestable;
 use crate::lists::item::{DecodeItem, Item};
@@ -39,13 +41,14 @@ impl<T> FixedTag for OctetStringOf<T> {
 impl<T: ReadValue + FixedTag> ReadValue for OctetStringOf<T> {
     ghost valid = { λ v. T.valid v.0 };
 
-    ghost takes = { λ v. TakesWhole (ElementNext T.tag_is T.takes) v.0 };
+    ghost takes = { TakesFormed OctetTag (λ v. TakesWhole (ElementNext T.tag_is T.takes) v.0) };
 
     ghost value_levels = { element_levels T.value_levels };
 
     ghost allocates = { T.allocates };
 
-    ghost takes_valid = { explicit_holds (λ v. v.0) T.takes_valid };
+    ghost takes_valid = { λ v rules h octets taken. explicit_holds (λ x. x.0) T.takes_valid v rules
+        h octets taken.1 };
 }
 
 /// Decodes the inner element. If octets are left after it, the function leaves them unread and
@@ -53,13 +56,16 @@ impl<T: ReadValue + FixedTag> ReadValue for OctetStringOf<T> {
 ///
 /// # Errors
 ///
-/// The errors of [`decode_tlv`](der::decode_tlv) for the inner element, which is the element of the
-/// value of type `T`.
+/// - `Noncanonical` with the header's tag, at the last octet of the header, if the header is
+///   constructed, as that of an OCTET STRING in segments. The reader is unchanged then.
+/// - The errors of [`decode_tlv`](der::decode_tlv) for the inner element, which is the element of
+///   the value of type `T`.
 impl<R: Lends, T: DecodeValue<R> + FixedTag> DecodeValue<R> for OctetStringOf<T> {
     type Error = <T as DecodeValue<R>>::Error;
 
-    ghost decode_value_answers = { λ h s result t. ElementRead T.tag_is T.Error.from_gives
-        T.decode_value_answers s (map_ok (λ v. v.0) result) t };
+    ghost decode_value_answers = { FormedRead OctetTag T.Error.from_gives (λ h s result t.
+        ElementRead T.tag_is T.Error.from_gives T.decode_value_answers s
+        (map_ok (λ v. v.0) result) t) };
 
     #[inline(always)]
     fn decode_value(
@@ -70,6 +76,7 @@ impl<R: Lends, T: DecodeValue<R> + FixedTag> DecodeValue<R> for OctetStringOf<T>
     where
         R: Reader,
     {
+        check_form(reader, &header, Tag::OctetString)?;
         let value = decode_contents::<R, T>(alloc, reader, header)?;
         Ok(OctetStringOf(value))
     }
@@ -120,26 +127,27 @@ impl<T: EncodeValue + FixedTag> EncodeValue for OctetStringOf<T> {
 }
 
 impl<T: Lawful + Nestable> Lawful for OctetStringOf<T> {
-    ghost lawful = { explicit_lawful OctetTag (λ v. v.0) (Prim.omega arith) T.lawful
-        T.nestable };
+    ghost lawful = { formed_lawful (explicit_lawful OctetTag (λ v. v.0) (Prim.omega arith) T.lawful
+        T.nestable) };
 }
 
 impl<T: Described> Described for OctetStringOf<T> {
-    ghost element = { containing OctetTag T.element (λ v. v.0) };
+    ghost element = { of_own_form (containing OctetTag T.element (λ v. v.0)) };
 }
 
 impl<T: ReadValue + WrittenValue + FixedTag> Item for OctetStringOf<T> {
-    ghost item = { element_item OctetTag (λ v. TakesWhole (ElementNext T.tag_is T.takes) v.0)
+    ghost item = { element_item OctetTag
+        (TakesFormed OctetTag (λ v. TakesWhole (ElementNext T.tag_is T.takes) v.0))
         (λ v. T.valid v.0) (λ v. element_octets T.tag_is (T.contents v.0))
         (element_levels T.value_levels) T.allocates };
 }
 
 impl<R: Lends, T: Lawful + Nestable + DecodeValue<R>> DecodeItem<R> for OctetStringOf<T> {
-    ghost is_item = { element_is_item (explicit_lawful OctetTag (λ v. v.0) (Prim.omega arith)
-        T.lawful T.nestable) T.allocates };
+    ghost is_item = { element_is_item (formed_lawful (explicit_lawful OctetTag (λ v. v.0)
+        (Prim.omega arith) T.lawful T.nestable)) T.allocates };
 
     ghost decodes_items = { decodes_same (element_item OctetTag
-        (λ v. TakesWhole (ElementNext T.tag_is T.takes) v.0) (λ v. T.valid v.0)
-        (λ v. element_octets T.tag_is (T.contents v.0)) (element_levels T.value_levels)
-        T.allocates) };
+        (TakesFormed OctetTag (λ v. TakesWhole (ElementNext T.tag_is T.takes) v.0))
+        (λ v. T.valid v.0) (λ v. element_octets T.tag_is (T.contents v.0))
+        (element_levels T.value_levels) T.allocates) };
 }

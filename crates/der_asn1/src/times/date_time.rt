@@ -36,8 +36,8 @@ impl DateTime {
     }
 }
 
-// The number of days of the month.
-pub(crate) fn days_in(year: u16, month: u8) -> u8
+/// The number of days of the month with this number, from 1 to 12.
+pub fn days_in(year: u16, month: u8) -> u8
     ensures { result ≡ days_of year month }
 {
     match month {

@@ -5,6 +5,7 @@ ghost use Rattle.der_asn1.specs.Checked.{HasCheckedContents, AcceptsCheckedConte
 ghost use Rattle.der_asn1.specs.Checked.{ContentsWritten, checked_contents_lawful};
 ghost use Rattle.der_asn1.specs.Meaning.{of_form};
 
+use crate::contents::form::check_form;
 use crate::fields::described::Described;
 use crate::fields::explicit::Nestable;
 use crate::times::date_time::DateTime;
@@ -77,14 +78,14 @@ impl<F: TimeFormat> FixedTag for TimeOf<F> {
 impl<F: TimeFormat> ReadValue for TimeOf<F> {
     ghost valid = { HasCheckedContents F.grammar (λ v. F.contents_of v.time) };
 
-    ghost takes = { AcceptsCheckedContents F.grammar (λ v. F.contents_of v.time) };
+    ghost takes = { AcceptsCheckedContents F.tag_is F.grammar (λ v. F.contents_of v.time) };
 
     ghost value_levels = { λ _. 0 };
 
     ghost allocates = { false };
 
     ghost takes_valid = { λ v rules h octets taken.
-        subst (λ x. F.grammar x ≡ true) (sym taken.1) taken.0 };
+        subst (λ x. F.grammar x ≡ true) (sym taken.2) taken.1 };
 }
 
 /// Reads the time from the contents. Accepts only the contents that DER allows, also under BER
@@ -92,6 +93,8 @@ impl<F: TimeFormat> ReadValue for TimeOf<F> {
 ///
 /// # Errors
 ///
+/// - `Noncanonical` with the header's tag, at the last octet of the header, if the header is
+///   constructed. The reader is unchanged then.
 /// - The errors of [`Reader::read_slice`], which reads the contents.
 /// - `Value` with the tag of the type, at the position after the contents, if the contents are not
 ///   a time in the format `F`. The reader has failed then.
@@ -105,13 +108,15 @@ impl<'a, F: TimeFormat, R: Lends<Borrowed = &'a [u8]>> DecodeValue<R> for TimeOf
     where
         R: Reader,
     {
+        let tag = F::fixed_tag();
+        check_form(reader, &header, tag)?;
         let octets = reader.read_slice(header.length())?;
         match F::from_contents(octets) {
             Some(time) => Ok(TimeOf {
                 time,
                 grammar: PhantomData,
             }),
-            None => Err(reader.error(F::fixed_tag().value_error())),
+            None => Err(reader.error(tag.value_error())),
         }
     }
 }

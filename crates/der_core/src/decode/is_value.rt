@@ -2,9 +2,8 @@
 
 use crate::decode::ReadValue;
 
-/// Types of which a program cannot hold an invalid value. A type need not implement this trait if
-/// its values come only from decoding: every decoded value is valid (see the ghost member
-/// `takes_valid` of [`ReadValue`]).
+/// Types of which a program cannot hold an invalid value: whatever makes a value, decoding or a
+/// caller, makes a valid one. Each [`Lawful`](crate::Lawful) type is such a type.
 pub trait IsValue: ReadValue {
     /// Does nothing; the contract states, for use in proofs, that `self` is a valid value.
     fn is_value(&self)

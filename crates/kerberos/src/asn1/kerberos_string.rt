@@ -2,7 +2,7 @@
 //!
 //! KerberosString.
 
-use der_universal::GeneralStringRef;
+use der_asn1::GeneralStringRef;
 
 /// A text in a message of Kerberos (RFC 4120, 5.2.1).
 pub type KerberosString<'a> = GeneralStringRef<'a>;

@@ -2,10 +2,9 @@
 //!
 //! PrincipalName.
 ghost use Rattle.std.specs.Prelude.{◌≡◌};
-ghost use Rattle.std.proofs.Common.{arith, refl};
+ghost use Rattle.std.proofs.Common.{refl};
 ghost use Rattle.der.specs.Prelude.{map_ok};
-ghost use Rattle.der_asn1.specs.Item.{decodes_same};
-ghost use Rattle.der_asn1.specs.Meaning.{alternative, field, sequence, sequence_is_item, sequence_item, two_fields};
+ghost use Rattle.der_asn1.specs.Meaning.{alternative, field, is_lawful_item, sequence, sequence_item, two_fields};
 
 use crate::asn1::int32::Int32;
 use crate::asn1::kerberos_string::KerberosString;
@@ -13,9 +12,7 @@ use der::{
     Decode, DecodeValue, Encode, Error, FieldsCall, FromFields, HasFields, Header, IsValue, Lends,
     Reader, Sequence, SliceReader, decode_sequence, field_refs,
 };
-use der_asn1::{
-    BorrowedItem, DecodeItem, Described, Explicit, Item, Nestable, SequenceOf, WrittenItem,
-};
+use der_asn1::{Described, Explicit, Item, LawfulItem, SequenceOf};
 use std::alloc::Global;
 
 /// The name of a client or of a server (RFC 4120, 5.2.2).
@@ -99,23 +96,6 @@ impl<'a> Item for PrincipalName<'a> {
     ghost item = { sequence_item ⟦<PrincipalName<'a> as Described>⟧.element };
 }
 
-impl<'a, R: Lends<Borrowed = &'a [u8]>> DecodeItem<R> for PrincipalName<'a> {
-    ghost is_item = { sequence_is_item ⟦<PrincipalName<'a> as Described>⟧.element refl };
-
-    ghost decodes_items = { decodes_same (sequence_item
-        ⟦<PrincipalName<'a> as Described>⟧.element) };
-}
-
-impl<'a> BorrowedItem for PrincipalName<'a> {
-    ghost borrowed = { refl };
-}
-
-impl<'a> WrittenItem for PrincipalName<'a> {
-    ghost written = { λ v. refl };
-
-    ghost writes_valid = { λ v is. is };
-}
-
-impl<'a> Nestable for PrincipalName<'a> {
-    ghost nestable = { Prim.omega arith };
+impl<'a> LawfulItem for PrincipalName<'a> {
+    ghost is_lawful_item = { is_lawful_item ⟦<PrincipalName<'a> as Described>⟧.element refl };
 }

@@ -2,10 +2,9 @@
 //!
 //! TicketContents.
 ghost use Rattle.std.specs.Prelude.{◌≡◌};
-ghost use Rattle.std.proofs.Common.{arith, refl};
+ghost use Rattle.std.proofs.Common.{refl};
 ghost use Rattle.der.specs.Prelude.{map_ok};
-ghost use Rattle.der_asn1.specs.Item.{decodes_same};
-ghost use Rattle.der_asn1.specs.Meaning.{alternative, field, sequence, sequence_is_item, sequence_item};
+ghost use Rattle.der_asn1.specs.Meaning.{alternative, field, is_lawful_item, sequence, sequence_item};
 ghost use Rattle.der_asn1.specs.TupleFields.{four_fields};
 
 use crate::asn1::encrypted_data::EncryptedData;
@@ -15,9 +14,7 @@ use der::{
     Decode, DecodeValue, Encode, Error, FieldsCall, FromFields, HasFields, Header, IsValue, Lends,
     Reader, Sequence, SliceReader, decode_sequence, field_refs,
 };
-use der_asn1::{
-    BorrowedItem, DecodeItem, Described, Explicit, IntegerIn, Item, Nestable, WrittenItem,
-};
+use der_asn1::{Described, Explicit, IntegerIn, Item, LawfulItem};
 use std::alloc::Global;
 
 /// A type inside another type, to which the ASN.1 module gives no name. Its name here is made of the
@@ -118,23 +115,6 @@ impl<'a> Item for TicketContents<'a> {
     ghost item = { sequence_item ⟦<TicketContents<'a> as Described>⟧.element };
 }
 
-impl<'a, R: Lends<Borrowed = &'a [u8]>> DecodeItem<R> for TicketContents<'a> {
-    ghost is_item = { sequence_is_item ⟦<TicketContents<'a> as Described>⟧.element refl };
-
-    ghost decodes_items = { decodes_same (sequence_item
-        ⟦<TicketContents<'a> as Described>⟧.element) };
-}
-
-impl<'a> BorrowedItem for TicketContents<'a> {
-    ghost borrowed = { refl };
-}
-
-impl<'a> WrittenItem for TicketContents<'a> {
-    ghost written = { λ v. refl };
-
-    ghost writes_valid = { λ v is. is };
-}
-
-impl<'a> Nestable for TicketContents<'a> {
-    ghost nestable = { Prim.omega arith };
+impl<'a> LawfulItem for TicketContents<'a> {
+    ghost is_lawful_item = { is_lawful_item ⟦<TicketContents<'a> as Described>⟧.element refl };
 }

@@ -2,10 +2,9 @@
 //!
 //! AttributeValueAssertion.
 ghost use Rattle.std.specs.Prelude.{◌≡◌};
-ghost use Rattle.std.proofs.Common.{arith, refl};
+ghost use Rattle.std.proofs.Common.{refl};
 ghost use Rattle.der.specs.Prelude.{map_ok};
-ghost use Rattle.der_asn1.specs.Item.{decodes_same};
-ghost use Rattle.der_asn1.specs.Meaning.{alternative, field, sequence, sequence_is_item, sequence_item, two_fields};
+ghost use Rattle.der_asn1.specs.Meaning.{alternative, field, is_lawful_item, sequence, sequence_item, two_fields};
 
 use crate::asn1::assertion_value::AssertionValue;
 use crate::asn1::attribute_description::AttributeDescription;
@@ -13,7 +12,7 @@ use der::{
     Decode, DecodeValue, Encode, Error, FieldsCall, FromFields, HasFields, Header, IsValue, Lends,
     Reader, Sequence, SliceReader, decode_sequence, field_refs,
 };
-use der_asn1::{BorrowedItem, DecodeItem, Described, Item, Nestable, WrittenItem};
+use der_asn1::{Described, Item, LawfulItem};
 use std::alloc::Global;
 
 /// An attribute, and a value that its values are compared with (RFC 4511, 4.1.6).
@@ -98,23 +97,7 @@ impl<'a> Item for AttributeValueAssertion<'a> {
     ghost item = { sequence_item ⟦<AttributeValueAssertion<'a> as Described>⟧.element };
 }
 
-impl<'a, R: Lends<Borrowed = &'a [u8]>> DecodeItem<R> for AttributeValueAssertion<'a> {
-    ghost is_item = { sequence_is_item ⟦<AttributeValueAssertion<'a> as Described>⟧.element refl };
-
-    ghost decodes_items = { decodes_same (sequence_item
-        ⟦<AttributeValueAssertion<'a> as Described>⟧.element) };
-}
-
-impl<'a> BorrowedItem for AttributeValueAssertion<'a> {
-    ghost borrowed = { refl };
-}
-
-impl<'a> WrittenItem for AttributeValueAssertion<'a> {
-    ghost written = { λ v. refl };
-
-    ghost writes_valid = { λ v is. is };
-}
-
-impl<'a> Nestable for AttributeValueAssertion<'a> {
-    ghost nestable = { Prim.omega arith };
+impl<'a> LawfulItem for AttributeValueAssertion<'a> {
+    ghost is_lawful_item = { is_lawful_item
+        ⟦<AttributeValueAssertion<'a> as Described>⟧.element refl };
 }

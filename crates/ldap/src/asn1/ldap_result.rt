@@ -2,10 +2,9 @@
 //!
 //! LdapResult.
 ghost use Rattle.std.specs.Prelude.{◌≡◌};
-ghost use Rattle.std.proofs.Common.{arith, refl};
+ghost use Rattle.std.proofs.Common.{refl};
 ghost use Rattle.der.specs.Prelude.{map_ok};
-ghost use Rattle.der_asn1.specs.Item.{decodes_same};
-ghost use Rattle.der_asn1.specs.Meaning.{alternative, field, optional, sequence, sequence_is_item, sequence_item};
+ghost use Rattle.der_asn1.specs.Meaning.{alternative, field, is_lawful_item, optional, sequence, sequence_item};
 ghost use Rattle.der_asn1.specs.TupleFields.{four_fields};
 
 use crate::asn1::ldap_string::LdapString;
@@ -15,10 +14,7 @@ use der::{
     Decode, DecodeValue, Encode, Error, FieldsCall, FromFields, HasFields, Header, IsValue, Lends,
     Reader, Sequence, SliceReader, decode_sequence, field_refs,
 };
-use der_asn1::{
-    BorrowedItem, DecodeItem, Described, EnumeratedOf, Implicit, Item, Nestable, Optional,
-    WrittenItem,
-};
+use der_asn1::{Described, EnumeratedOf, Implicit, Item, LawfulItem, Optional};
 use std::alloc::Global;
 
 /// The result of an operation (RFC 4511, 4.1.9).
@@ -123,22 +119,6 @@ impl<'a> Item for LdapResult<'a> {
     ghost item = { sequence_item ⟦<LdapResult<'a> as Described>⟧.element };
 }
 
-impl<'a, R: Lends<Borrowed = &'a [u8]>> DecodeItem<R> for LdapResult<'a> {
-    ghost is_item = { sequence_is_item ⟦<LdapResult<'a> as Described>⟧.element refl };
-
-    ghost decodes_items = { decodes_same (sequence_item ⟦<LdapResult<'a> as Described>⟧.element) };
-}
-
-impl<'a> BorrowedItem for LdapResult<'a> {
-    ghost borrowed = { refl };
-}
-
-impl<'a> WrittenItem for LdapResult<'a> {
-    ghost written = { λ v. refl };
-
-    ghost writes_valid = { λ v is. is };
-}
-
-impl<'a> Nestable for LdapResult<'a> {
-    ghost nestable = { Prim.omega arith };
+impl<'a> LawfulItem for LdapResult<'a> {
+    ghost is_lawful_item = { is_lawful_item ⟦<LdapResult<'a> as Described>⟧.element refl };
 }

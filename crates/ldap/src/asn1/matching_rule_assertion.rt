@@ -2,10 +2,9 @@
 //!
 //! MatchingRuleAssertion.
 ghost use Rattle.std.specs.Prelude.{◌≡◌};
-ghost use Rattle.std.proofs.Common.{arith, refl};
+ghost use Rattle.std.proofs.Common.{refl};
 ghost use Rattle.der.specs.Prelude.{map_ok};
-ghost use Rattle.der_asn1.specs.Item.{decodes_same};
-ghost use Rattle.der_asn1.specs.Meaning.{alternative, defaulted, field, optional, sequence, sequence_is_item, sequence_item};
+ghost use Rattle.der_asn1.specs.Meaning.{alternative, defaulted, field, is_lawful_item, optional, sequence, sequence_item};
 ghost use Rattle.der_asn1.specs.TupleFields.{four_fields};
 
 use crate::asn1::assertion_value::AssertionValue;
@@ -16,8 +15,7 @@ use der::{
     Reader, Sequence, SliceReader, decode_sequence, field_refs,
 };
 use der_asn1::{
-    BooleanRef, BorrowedItem, DecodeItem, DefaultValue, Defaulted, Described, Implicit, Item,
-    Nestable, Optional, WrittenItem,
+    BooleanRef, DefaultValue, Defaulted, Described, Implicit, Item, LawfulItem, Optional,
 };
 use std::alloc::Global;
 
@@ -123,23 +121,7 @@ impl<'a> Item for MatchingRuleAssertion<'a> {
     ghost item = { sequence_item ⟦<MatchingRuleAssertion<'a> as Described>⟧.element };
 }
 
-impl<'a, R: Lends<Borrowed = &'a [u8]>> DecodeItem<R> for MatchingRuleAssertion<'a> {
-    ghost is_item = { sequence_is_item ⟦<MatchingRuleAssertion<'a> as Described>⟧.element refl };
-
-    ghost decodes_items = { decodes_same (sequence_item
-        ⟦<MatchingRuleAssertion<'a> as Described>⟧.element) };
-}
-
-impl<'a> BorrowedItem for MatchingRuleAssertion<'a> {
-    ghost borrowed = { refl };
-}
-
-impl<'a> WrittenItem for MatchingRuleAssertion<'a> {
-    ghost written = { λ v. refl };
-
-    ghost writes_valid = { λ v is. is };
-}
-
-impl<'a> Nestable for MatchingRuleAssertion<'a> {
-    ghost nestable = { Prim.omega arith };
+impl<'a> LawfulItem for MatchingRuleAssertion<'a> {
+    ghost is_lawful_item = { is_lawful_item
+        ⟦<MatchingRuleAssertion<'a> as Described>⟧.element refl };
 }

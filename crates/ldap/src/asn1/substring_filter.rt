@@ -2,10 +2,9 @@
 //!
 //! SubstringFilter.
 ghost use Rattle.std.specs.Prelude.{◌≡◌};
-ghost use Rattle.std.proofs.Common.{arith, refl};
+ghost use Rattle.std.proofs.Common.{refl};
 ghost use Rattle.der.specs.Prelude.{map_ok};
-ghost use Rattle.der_asn1.specs.Item.{decodes_same};
-ghost use Rattle.der_asn1.specs.Meaning.{alternative, field, sequence, sequence_is_item, sequence_item, two_fields};
+ghost use Rattle.der_asn1.specs.Meaning.{alternative, field, is_lawful_item, sequence, sequence_item, two_fields};
 
 use crate::asn1::attribute_description::AttributeDescription;
 use crate::asn1::substring_filter_substrings_item::SubstringFilterSubstringsItem;
@@ -13,7 +12,7 @@ use der::{
     Decode, DecodeValue, Encode, Error, FieldsCall, FromFields, HasFields, Header, IsValue, Lends,
     Reader, Sequence, SliceReader, decode_sequence, field_refs,
 };
-use der_asn1::{BorrowedItem, DecodeItem, Described, Item, Nestable, SequenceOf, WrittenItem};
+use der_asn1::{Described, Item, LawfulItem, SequenceOf};
 use std::alloc::Global;
 
 /// An attribute, and parts that its value must have (RFC 4511, 4.5.1.7.2).
@@ -95,23 +94,6 @@ impl<'a> Item for SubstringFilter<'a> {
     ghost item = { sequence_item ⟦<SubstringFilter<'a> as Described>⟧.element };
 }
 
-impl<'a, R: Lends<Borrowed = &'a [u8]>> DecodeItem<R> for SubstringFilter<'a> {
-    ghost is_item = { sequence_is_item ⟦<SubstringFilter<'a> as Described>⟧.element refl };
-
-    ghost decodes_items = { decodes_same (sequence_item
-        ⟦<SubstringFilter<'a> as Described>⟧.element) };
-}
-
-impl<'a> BorrowedItem for SubstringFilter<'a> {
-    ghost borrowed = { refl };
-}
-
-impl<'a> WrittenItem for SubstringFilter<'a> {
-    ghost written = { λ v. refl };
-
-    ghost writes_valid = { λ v is. is };
-}
-
-impl<'a> Nestable for SubstringFilter<'a> {
-    ghost nestable = { Prim.omega arith };
+impl<'a> LawfulItem for SubstringFilter<'a> {
+    ghost is_lawful_item = { is_lawful_item ⟦<SubstringFilter<'a> as Described>⟧.element refl };
 }

@@ -2,16 +2,15 @@
 //!
 //! Certificates.
 ghost use Rattle.std.specs.Prelude.{◌≡◌, false};
-ghost use Rattle.std.proofs.Common.{arith, refl};
+ghost use Rattle.std.proofs.Common.{refl};
 ghost use Rattle.der.specs.Prelude.{map_ok};
-ghost use Rattle.der_asn1.specs.Item.{decodes_same};
-ghost use Rattle.der_asn1.specs.Meaning.{renamed, sequence_is_item, sequence_item};
+ghost use Rattle.der_asn1.specs.Meaning.{is_lawful_item, renamed, sequence_item};
 
 use der::{
     DecodeValue, EncodeValue, Error, FromFields, Header, IsValue, Lends, Length, Reader, Sequence,
     SliceReader, Writer, decode_wrapped,
 };
-use der_asn1::{BorrowedItem, DecodeItem, Described, Item, Nestable, SequenceOf, WrittenItem};
+use der_asn1::{Described, Item, LawfulItem, SequenceOf};
 use std::alloc::Global;
 use x509::Certificate;
 
@@ -88,23 +87,6 @@ impl<'a> Item for Certificates<'a> {
     ghost item = { sequence_item ⟦<Certificates<'a> as Described>⟧.element };
 }
 
-impl<'a, R: Lends<Borrowed = &'a [u8]>> DecodeItem<R> for Certificates<'a> {
-    ghost is_item = { sequence_is_item ⟦<Certificates<'a> as Described>⟧.element refl };
-
-    ghost decodes_items = { decodes_same (sequence_item
-        ⟦<Certificates<'a> as Described>⟧.element) };
-}
-
-impl<'a> BorrowedItem for Certificates<'a> {
-    ghost borrowed = { refl };
-}
-
-impl<'a> WrittenItem for Certificates<'a> {
-    ghost written = { λ v. refl };
-
-    ghost writes_valid = { λ v is. is };
-}
-
-impl<'a> Nestable for Certificates<'a> {
-    ghost nestable = { Prim.omega arith };
+impl<'a> LawfulItem for Certificates<'a> {
+    ghost is_lawful_item = { is_lawful_item ⟦<Certificates<'a> as Described>⟧.element refl };
 }

@@ -2,10 +2,9 @@
 //!
 //! CrlId.
 ghost use Rattle.std.specs.Prelude.{◌≡◌};
-ghost use Rattle.std.proofs.Common.{arith, refl};
+ghost use Rattle.std.proofs.Common.{refl};
 ghost use Rattle.der.specs.Prelude.{map_ok};
-ghost use Rattle.der_asn1.specs.Item.{decodes_same};
-ghost use Rattle.der_asn1.specs.Meaning.{alternative, optional, sequence, sequence_is_item, sequence_item};
+ghost use Rattle.der_asn1.specs.Meaning.{alternative, is_lawful_item, optional, sequence, sequence_item};
 ghost use Rattle.der_asn1.specs.TupleFields.{three_fields};
 
 use der::{
@@ -13,8 +12,7 @@ use der::{
     Reader, Sequence, SliceReader, decode_sequence, field_refs,
 };
 use der_asn1::{
-    BorrowedItem, DecodeItem, Described, Explicit, GeneralizedTime, Ia5StringRef, IntRef, Item,
-    Nestable, Optional, WrittenItem,
+    Described, Explicit, GeneralizedTime, Ia5StringRef, IntRef, Item, LawfulItem, Optional,
 };
 use std::alloc::Global;
 
@@ -111,22 +109,6 @@ impl<'a> Item for CrlId<'a> {
     ghost item = { sequence_item ⟦<CrlId<'a> as Described>⟧.element };
 }
 
-impl<'a, R: Lends<Borrowed = &'a [u8]>> DecodeItem<R> for CrlId<'a> {
-    ghost is_item = { sequence_is_item ⟦<CrlId<'a> as Described>⟧.element refl };
-
-    ghost decodes_items = { decodes_same (sequence_item ⟦<CrlId<'a> as Described>⟧.element) };
-}
-
-impl<'a> BorrowedItem for CrlId<'a> {
-    ghost borrowed = { refl };
-}
-
-impl<'a> WrittenItem for CrlId<'a> {
-    ghost written = { λ v. refl };
-
-    ghost writes_valid = { λ v is. is };
-}
-
-impl<'a> Nestable for CrlId<'a> {
-    ghost nestable = { Prim.omega arith };
+impl<'a> LawfulItem for CrlId<'a> {
+    ghost is_lawful_item = { is_lawful_item ⟦<CrlId<'a> as Described>⟧.element refl };
 }

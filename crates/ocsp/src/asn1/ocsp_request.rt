@@ -2,10 +2,9 @@
 //!
 //! OcspRequest.
 ghost use Rattle.std.specs.Prelude.{◌≡◌};
-ghost use Rattle.std.proofs.Common.{arith, refl};
+ghost use Rattle.std.proofs.Common.{refl};
 ghost use Rattle.der.specs.Prelude.{map_ok};
-ghost use Rattle.der_asn1.specs.Item.{decodes_same};
-ghost use Rattle.der_asn1.specs.Meaning.{alternative, field, optional, sequence, sequence_is_item, sequence_item, two_fields};
+ghost use Rattle.der_asn1.specs.Meaning.{alternative, field, is_lawful_item, optional, sequence, sequence_item, two_fields};
 
 use crate::asn1::signature::Signature;
 use crate::asn1::tbs_request::TbsRequest;
@@ -13,9 +12,7 @@ use der::{
     Decode, DecodeValue, Encode, Error, FieldsCall, FromFields, HasFields, Header, IsValue, Lends,
     Reader, Sequence, SliceReader, decode_sequence, field_refs,
 };
-use der_asn1::{
-    BorrowedItem, DecodeItem, Described, Explicit, Item, Nestable, Optional, WrittenItem,
-};
+use der_asn1::{Described, Explicit, Item, LawfulItem, Optional};
 use std::alloc::Global;
 
 /// A request for the status of certificates (RFC 6960, 4.1.1), borrowed from the input.
@@ -102,22 +99,6 @@ impl<'a> Item for OcspRequest<'a> {
     ghost item = { sequence_item ⟦<OcspRequest<'a> as Described>⟧.element };
 }
 
-impl<'a, R: Lends<Borrowed = &'a [u8]>> DecodeItem<R> for OcspRequest<'a> {
-    ghost is_item = { sequence_is_item ⟦<OcspRequest<'a> as Described>⟧.element refl };
-
-    ghost decodes_items = { decodes_same (sequence_item ⟦<OcspRequest<'a> as Described>⟧.element) };
-}
-
-impl<'a> BorrowedItem for OcspRequest<'a> {
-    ghost borrowed = { refl };
-}
-
-impl<'a> WrittenItem for OcspRequest<'a> {
-    ghost written = { λ v. refl };
-
-    ghost writes_valid = { λ v is. is };
-}
-
-impl<'a> Nestable for OcspRequest<'a> {
-    ghost nestable = { Prim.omega arith };
+impl<'a> LawfulItem for OcspRequest<'a> {
+    ghost is_lawful_item = { is_lawful_item ⟦<OcspRequest<'a> as Described>⟧.element refl };
 }

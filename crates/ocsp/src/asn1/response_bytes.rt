@@ -2,19 +2,15 @@
 //!
 //! ResponseBytes.
 ghost use Rattle.std.specs.Prelude.{◌≡◌};
-ghost use Rattle.std.proofs.Common.{arith, refl};
+ghost use Rattle.std.proofs.Common.{refl};
 ghost use Rattle.der.specs.Prelude.{map_ok};
-ghost use Rattle.der_asn1.specs.Item.{decodes_same};
-ghost use Rattle.der_asn1.specs.Meaning.{alternative, field, sequence, sequence_is_item, sequence_item, two_fields};
+ghost use Rattle.der_asn1.specs.Meaning.{alternative, field, is_lawful_item, sequence, sequence_item, two_fields};
 
 use der::{
     Decode, DecodeValue, Encode, Error, FieldsCall, FromFields, HasFields, Header, IsValue, Lends,
     Reader, Sequence, SliceReader, decode_sequence, field_refs,
 };
-use der_asn1::{
-    BorrowedItem, DecodeItem, Described, Item, Nestable, ObjectIdentifierRef, OctetStringRef,
-    WrittenItem,
-};
+use der_asn1::{Described, Item, LawfulItem, ObjectIdentifierRef, OctetStringRef};
 use std::alloc::Global;
 
 /// A response as octets, with its type (RFC 6960, 4.2.1), borrowed from the input.
@@ -96,23 +92,6 @@ impl<'a> Item for ResponseBytes<'a> {
     ghost item = { sequence_item ⟦<ResponseBytes<'a> as Described>⟧.element };
 }
 
-impl<'a, R: Lends<Borrowed = &'a [u8]>> DecodeItem<R> for ResponseBytes<'a> {
-    ghost is_item = { sequence_is_item ⟦<ResponseBytes<'a> as Described>⟧.element refl };
-
-    ghost decodes_items = { decodes_same (sequence_item
-        ⟦<ResponseBytes<'a> as Described>⟧.element) };
-}
-
-impl<'a> BorrowedItem for ResponseBytes<'a> {
-    ghost borrowed = { refl };
-}
-
-impl<'a> WrittenItem for ResponseBytes<'a> {
-    ghost written = { λ v. refl };
-
-    ghost writes_valid = { λ v is. is };
-}
-
-impl<'a> Nestable for ResponseBytes<'a> {
-    ghost nestable = { Prim.omega arith };
+impl<'a> LawfulItem for ResponseBytes<'a> {
+    ghost is_lawful_item = { is_lawful_item ⟦<ResponseBytes<'a> as Described>⟧.element refl };
 }

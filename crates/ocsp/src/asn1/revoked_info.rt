@@ -2,19 +2,15 @@
 //!
 //! RevokedInfo.
 ghost use Rattle.std.specs.Prelude.{◌≡◌};
-ghost use Rattle.std.proofs.Common.{arith, refl};
+ghost use Rattle.std.proofs.Common.{refl};
 ghost use Rattle.der.specs.Prelude.{map_ok};
-ghost use Rattle.der_asn1.specs.Item.{decodes_same};
-ghost use Rattle.der_asn1.specs.Meaning.{alternative, field, optional, sequence, sequence_is_item, sequence_item, two_fields};
+ghost use Rattle.der_asn1.specs.Meaning.{alternative, field, is_lawful_item, optional, sequence, sequence_item, two_fields};
 
 use der::{
     Decode, DecodeValue, Encode, Error, FieldsCall, FromFields, HasFields, Header, IsValue, Lends,
     Reader, Sequence, SliceReader, decode_sequence, field_refs,
 };
-use der_asn1::{
-    BorrowedItem, DecodeItem, Described, Enumerated, Explicit, GeneralizedTime, Item, Nestable,
-    Optional, WrittenItem,
-};
+use der_asn1::{Described, Enumerated, Explicit, GeneralizedTime, Item, LawfulItem, Optional};
 use std::alloc::Global;
 use x509::CrlReason;
 
@@ -105,22 +101,6 @@ impl Item for RevokedInfo {
     ghost item = { sequence_item ⟦<RevokedInfo as Described>⟧.element };
 }
 
-impl<'a, R: Lends<Borrowed = &'a [u8]>> DecodeItem<R> for RevokedInfo {
-    ghost is_item = { sequence_is_item ⟦<RevokedInfo as Described>⟧.element refl };
-
-    ghost decodes_items = { decodes_same (sequence_item ⟦<RevokedInfo as Described>⟧.element) };
-}
-
-impl<'a> BorrowedItem for RevokedInfo {
-    ghost borrowed = { refl };
-}
-
-impl WrittenItem for RevokedInfo {
-    ghost written = { λ v. refl };
-
-    ghost writes_valid = { λ v is. is };
-}
-
-impl Nestable for RevokedInfo {
-    ghost nestable = { Prim.omega arith };
+impl LawfulItem for RevokedInfo {
+    ghost is_lawful_item = { is_lawful_item ⟦<RevokedInfo as Described>⟧.element refl };
 }

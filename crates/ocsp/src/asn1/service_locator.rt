@@ -2,16 +2,15 @@
 //!
 //! ServiceLocator.
 ghost use Rattle.std.specs.Prelude.{◌≡◌};
-ghost use Rattle.std.proofs.Common.{arith, refl};
+ghost use Rattle.std.proofs.Common.{refl};
 ghost use Rattle.der.specs.Prelude.{map_ok};
-ghost use Rattle.der_asn1.specs.Item.{decodes_same};
-ghost use Rattle.der_asn1.specs.Meaning.{alternative, field, optional, sequence, sequence_is_item, sequence_item, two_fields};
+ghost use Rattle.der_asn1.specs.Meaning.{alternative, field, is_lawful_item, optional, sequence, sequence_item, two_fields};
 
 use der::{
     Decode, DecodeValue, Encode, Error, FieldsCall, FromFields, HasFields, Header, IsValue, Lends,
     Reader, Sequence, SliceReader, decode_sequence, field_refs,
 };
-use der_asn1::{BorrowedItem, DecodeItem, Described, Item, Nestable, Optional, WrittenItem};
+use der_asn1::{Described, Item, LawfulItem, Optional};
 use std::alloc::Global;
 use x509::{AuthorityInfoAccessSyntax, Name};
 
@@ -92,23 +91,6 @@ impl<'a> Item for ServiceLocator<'a> {
     ghost item = { sequence_item ⟦<ServiceLocator<'a> as Described>⟧.element };
 }
 
-impl<'a, R: Lends<Borrowed = &'a [u8]>> DecodeItem<R> for ServiceLocator<'a> {
-    ghost is_item = { sequence_is_item ⟦<ServiceLocator<'a> as Described>⟧.element refl };
-
-    ghost decodes_items = { decodes_same (sequence_item
-        ⟦<ServiceLocator<'a> as Described>⟧.element) };
-}
-
-impl<'a> BorrowedItem for ServiceLocator<'a> {
-    ghost borrowed = { refl };
-}
-
-impl<'a> WrittenItem for ServiceLocator<'a> {
-    ghost written = { λ v. refl };
-
-    ghost writes_valid = { λ v is. is };
-}
-
-impl<'a> Nestable for ServiceLocator<'a> {
-    ghost nestable = { Prim.omega arith };
+impl<'a> LawfulItem for ServiceLocator<'a> {
+    ghost is_lawful_item = { is_lawful_item ⟦<ServiceLocator<'a> as Described>⟧.element refl };
 }

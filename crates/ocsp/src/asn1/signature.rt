@@ -2,10 +2,9 @@
 //!
 //! Signature.
 ghost use Rattle.std.specs.Prelude.{◌≡◌};
-ghost use Rattle.std.proofs.Common.{arith, refl};
+ghost use Rattle.std.proofs.Common.{refl};
 ghost use Rattle.der.specs.Prelude.{map_ok};
-ghost use Rattle.der_asn1.specs.Item.{decodes_same};
-ghost use Rattle.der_asn1.specs.Meaning.{alternative, field, optional, sequence, sequence_is_item, sequence_item};
+ghost use Rattle.der_asn1.specs.Meaning.{alternative, field, is_lawful_item, optional, sequence, sequence_item};
 ghost use Rattle.der_asn1.specs.TupleFields.{three_fields};
 
 use crate::asn1::certificates::Certificates;
@@ -13,10 +12,7 @@ use der::{
     Decode, DecodeValue, Encode, Error, FieldsCall, FromFields, HasFields, Header, IsValue, Lends,
     Reader, Sequence, SliceReader, decode_sequence, field_refs,
 };
-use der_asn1::{
-    BitStringRef, BorrowedItem, DecodeItem, Described, Explicit, Item, Nestable, Optional,
-    WrittenItem,
-};
+use der_asn1::{BitStringRef, Described, Explicit, Item, LawfulItem, Optional};
 use spki::AlgorithmIdentifierRef;
 use std::alloc::Global;
 
@@ -113,22 +109,6 @@ impl<'a> Item for Signature<'a> {
     ghost item = { sequence_item ⟦<Signature<'a> as Described>⟧.element };
 }
 
-impl<'a, R: Lends<Borrowed = &'a [u8]>> DecodeItem<R> for Signature<'a> {
-    ghost is_item = { sequence_is_item ⟦<Signature<'a> as Described>⟧.element refl };
-
-    ghost decodes_items = { decodes_same (sequence_item ⟦<Signature<'a> as Described>⟧.element) };
-}
-
-impl<'a> BorrowedItem for Signature<'a> {
-    ghost borrowed = { refl };
-}
-
-impl<'a> WrittenItem for Signature<'a> {
-    ghost written = { λ v. refl };
-
-    ghost writes_valid = { λ v is. is };
-}
-
-impl<'a> Nestable for Signature<'a> {
-    ghost nestable = { Prim.omega arith };
+impl<'a> LawfulItem for Signature<'a> {
+    ghost is_lawful_item = { is_lawful_item ⟦<Signature<'a> as Described>⟧.element refl };
 }

@@ -2,10 +2,9 @@
 //!
 //! SingleResponse.
 ghost use Rattle.std.specs.Prelude.{◌≡◌};
-ghost use Rattle.std.proofs.Common.{arith, refl};
+ghost use Rattle.std.proofs.Common.{refl};
 ghost use Rattle.der.specs.Prelude.{map_ok};
-ghost use Rattle.der_asn1.specs.Item.{decodes_same};
-ghost use Rattle.der_asn1.specs.Meaning.{alternative, field, optional, sequence, sequence_is_item, sequence_item};
+ghost use Rattle.der_asn1.specs.Meaning.{alternative, field, is_lawful_item, optional, sequence, sequence_item};
 ghost use Rattle.der_asn1.specs.TupleFields.{five_fields};
 
 use crate::asn1::cert_id::CertId;
@@ -14,10 +13,7 @@ use der::{
     Decode, DecodeValue, Encode, Error, FieldsCall, FromFields, HasFields, Header, IsValue, Lends,
     Reader, Sequence, SliceReader, decode_sequence, field_refs,
 };
-use der_asn1::{
-    BorrowedItem, DecodeItem, Described, DescribedChoice, Explicit, GeneralizedTime, Item,
-    Nestable, Optional, WrittenItem,
-};
+use der_asn1::{Described, DescribedChoice, Explicit, GeneralizedTime, Item, LawfulItem, Optional};
 use std::alloc::Global;
 use x509::Extensions;
 
@@ -147,23 +143,6 @@ impl<'a> Item for SingleResponse<'a> {
     ghost item = { sequence_item ⟦<SingleResponse<'a> as Described>⟧.element };
 }
 
-impl<'a, R: Lends<Borrowed = &'a [u8]>> DecodeItem<R> for SingleResponse<'a> {
-    ghost is_item = { sequence_is_item ⟦<SingleResponse<'a> as Described>⟧.element refl };
-
-    ghost decodes_items = { decodes_same (sequence_item
-        ⟦<SingleResponse<'a> as Described>⟧.element) };
-}
-
-impl<'a> BorrowedItem for SingleResponse<'a> {
-    ghost borrowed = { refl };
-}
-
-impl<'a> WrittenItem for SingleResponse<'a> {
-    ghost written = { λ v. refl };
-
-    ghost writes_valid = { λ v is. is };
-}
-
-impl<'a> Nestable for SingleResponse<'a> {
-    ghost nestable = { Prim.omega arith };
+impl<'a> LawfulItem for SingleResponse<'a> {
+    ghost is_lawful_item = { is_lawful_item ⟦<SingleResponse<'a> as Described>⟧.element refl };
 }

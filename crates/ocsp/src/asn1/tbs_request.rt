@@ -2,10 +2,9 @@
 //!
 //! TbsRequest.
 ghost use Rattle.std.specs.Prelude.{◌≡◌};
-ghost use Rattle.std.proofs.Common.{arith, refl};
+ghost use Rattle.std.proofs.Common.{refl};
 ghost use Rattle.der.specs.Prelude.{map_ok};
-ghost use Rattle.der_asn1.specs.Item.{decodes_same};
-ghost use Rattle.der_asn1.specs.Meaning.{alternative, defaulted, field, optional, sequence, sequence_is_item, sequence_item};
+ghost use Rattle.der_asn1.specs.Meaning.{alternative, defaulted, field, is_lawful_item, optional, sequence, sequence_item};
 ghost use Rattle.der_asn1.specs.TupleFields.{four_fields};
 
 use crate::asn1::general_name_tagged::GeneralNameTagged;
@@ -15,8 +14,8 @@ use der::{
     Reader, Sequence, SliceReader, decode_sequence, field_refs,
 };
 use der_asn1::{
-    BorrowedItem, DecodeItem, DefaultU64, DefaultValue, Defaulted, Described, Explicit, Implicit,
-    IntegerOf, Item, Nestable, Optional, SequenceOf, WithDefault, WrittenItem,
+    DefaultU64, DefaultValue, Defaulted, Described, Explicit, Implicit, IntegerOf, Item,
+    LawfulItem, Optional, SequenceOf, WithDefault,
 };
 use std::alloc::Global;
 use x509::Extensions;
@@ -128,22 +127,6 @@ impl<'a> Item for TbsRequest<'a> {
     ghost item = { sequence_item ⟦<TbsRequest<'a> as Described>⟧.element };
 }
 
-impl<'a, R: Lends<Borrowed = &'a [u8]>> DecodeItem<R> for TbsRequest<'a> {
-    ghost is_item = { sequence_is_item ⟦<TbsRequest<'a> as Described>⟧.element refl };
-
-    ghost decodes_items = { decodes_same (sequence_item ⟦<TbsRequest<'a> as Described>⟧.element) };
-}
-
-impl<'a> BorrowedItem for TbsRequest<'a> {
-    ghost borrowed = { refl };
-}
-
-impl<'a> WrittenItem for TbsRequest<'a> {
-    ghost written = { λ v. refl };
-
-    ghost writes_valid = { λ v is. is };
-}
-
-impl<'a> Nestable for TbsRequest<'a> {
-    ghost nestable = { Prim.omega arith };
+impl<'a> LawfulItem for TbsRequest<'a> {
+    ghost is_lawful_item = { is_lawful_item ⟦<TbsRequest<'a> as Described>⟧.element refl };
 }

@@ -2,17 +2,16 @@
 //!
 //! OtherPrimeInfo.
 ghost use Rattle.std.specs.Prelude.{◌≡◌};
-ghost use Rattle.std.proofs.Common.{arith, refl};
+ghost use Rattle.std.proofs.Common.{refl};
 ghost use Rattle.der.specs.Prelude.{map_ok};
-ghost use Rattle.der_asn1.specs.Item.{decodes_same};
-ghost use Rattle.der_asn1.specs.Meaning.{alternative, field, sequence, sequence_is_item, sequence_item};
+ghost use Rattle.der_asn1.specs.Meaning.{alternative, field, is_lawful_item, sequence, sequence_item};
 ghost use Rattle.der_asn1.specs.TupleFields.{three_fields};
 
 use der::{
     Decode, DecodeValue, Encode, Error, FieldsCall, FromFields, HasFields, Header, IsValue, Lends,
     Reader, Sequence, SliceReader, decode_sequence, field_refs,
 };
-use der_asn1::{BorrowedItem, DecodeItem, Described, IntRef, Item, Nestable, WrittenItem};
+use der_asn1::{Described, IntRef, Item, LawfulItem};
 use std::alloc::Global;
 
 /// A prime of a private key after the first two (RFC 8017, A.1.2), borrowed from the input.
@@ -103,23 +102,6 @@ impl<'a> Item for OtherPrimeInfo<'a> {
     ghost item = { sequence_item ⟦<OtherPrimeInfo<'a> as Described>⟧.element };
 }
 
-impl<'a, R: Lends<Borrowed = &'a [u8]>> DecodeItem<R> for OtherPrimeInfo<'a> {
-    ghost is_item = { sequence_is_item ⟦<OtherPrimeInfo<'a> as Described>⟧.element refl };
-
-    ghost decodes_items = { decodes_same (sequence_item
-        ⟦<OtherPrimeInfo<'a> as Described>⟧.element) };
-}
-
-impl<'a> BorrowedItem for OtherPrimeInfo<'a> {
-    ghost borrowed = { refl };
-}
-
-impl<'a> WrittenItem for OtherPrimeInfo<'a> {
-    ghost written = { λ v. refl };
-
-    ghost writes_valid = { λ v is. is };
-}
-
-impl<'a> Nestable for OtherPrimeInfo<'a> {
-    ghost nestable = { Prim.omega arith };
+impl<'a> LawfulItem for OtherPrimeInfo<'a> {
+    ghost is_lawful_item = { is_lawful_item ⟦<OtherPrimeInfo<'a> as Described>⟧.element refl };
 }

@@ -2,11 +2,10 @@
 //!
 //! RsaOaepParams.
 ghost use Rattle.std.specs.Prelude.{◌≡◌};
-ghost use Rattle.std.proofs.Common.{arith, refl};
+ghost use Rattle.std.proofs.Common.{refl};
 ghost use Rattle.der.specs.Prelude.{map_ok};
-ghost use Rattle.der_asn1.specs.Item.{decodes_same};
 ghost use Rattle.der_asn1.specs.DefaultedTo.{defaulted_to};
-ghost use Rattle.der_asn1.specs.Meaning.{sequence, sequence_is_item, sequence_item};
+ghost use Rattle.der_asn1.specs.Meaning.{is_lawful_item, sequence, sequence_item};
 ghost use Rattle.der_asn1.specs.TupleFields.{three_fields};
 
 use crate::{EmptyLabelDefault, Mgf1Sha1Default, Sha1Default};
@@ -14,10 +13,7 @@ use der::{
     Decode, DecodeValue, Encode, Error, FieldsCall, FromFields, HasFields, Header, IsValue, Lends,
     Reader, Sequence, SliceReader, decode_sequence, field_refs,
 };
-use der_asn1::{
-    BorrowedItem, DecodeItem, DefaultOf, DefaultedTo, Described, Explicit, Item, Nestable,
-    WrittenItem,
-};
+use der_asn1::{DefaultOf, DefaultedTo, Described, Explicit, Item, LawfulItem};
 use spki::AlgorithmIdentifierRef;
 use std::alloc::Global;
 
@@ -112,23 +108,6 @@ impl<'a> Item for RsaOaepParams<'a> {
     ghost item = { sequence_item ⟦<RsaOaepParams<'a> as Described>⟧.element };
 }
 
-impl<'a, R: Lends<Borrowed = &'a [u8]>> DecodeItem<R> for RsaOaepParams<'a> {
-    ghost is_item = { sequence_is_item ⟦<RsaOaepParams<'a> as Described>⟧.element refl };
-
-    ghost decodes_items = { decodes_same (sequence_item
-        ⟦<RsaOaepParams<'a> as Described>⟧.element) };
-}
-
-impl<'a> BorrowedItem for RsaOaepParams<'a> {
-    ghost borrowed = { refl };
-}
-
-impl<'a> WrittenItem for RsaOaepParams<'a> {
-    ghost written = { λ v. refl };
-
-    ghost writes_valid = { λ v is. is };
-}
-
-impl<'a> Nestable for RsaOaepParams<'a> {
-    ghost nestable = { Prim.omega arith };
+impl<'a> LawfulItem for RsaOaepParams<'a> {
+    ghost is_lawful_item = { is_lawful_item ⟦<RsaOaepParams<'a> as Described>⟧.element refl };
 }

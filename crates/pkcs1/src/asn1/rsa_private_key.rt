@@ -2,10 +2,9 @@
 //!
 //! RsaPrivateKey.
 ghost use Rattle.std.specs.Prelude.{◌≡◌};
-ghost use Rattle.std.proofs.Common.{arith, refl};
+ghost use Rattle.std.proofs.Common.{refl};
 ghost use Rattle.der.specs.Prelude.{map_ok};
-ghost use Rattle.der_asn1.specs.Item.{decodes_same};
-ghost use Rattle.der_asn1.specs.Meaning.{alternative, field, optional, sequence, sequence_is_item, sequence_item};
+ghost use Rattle.der_asn1.specs.Meaning.{alternative, field, is_lawful_item, optional, sequence, sequence_item};
 ghost use Rattle.der_asn1.specs.TupleFields.{ten_fields};
 
 use crate::asn1::other_prime_infos::OtherPrimeInfos;
@@ -13,9 +12,7 @@ use der::{
     Decode, DecodeValue, Encode, Error, FieldsCall, FromFields, HasFields, Header, IsValue, Lends,
     Reader, Sequence, SliceReader, decode_sequence, field_refs,
 };
-use der_asn1::{
-    BorrowedItem, DecodeItem, Described, IntRef, Item, Nestable, Optional, WrittenItem,
-};
+use der_asn1::{Described, IntRef, Item, LawfulItem, Optional};
 use std::alloc::Global;
 
 /// A private RSA key (RFC 8017, A.1.2), borrowed from the input. That the numbers belong together
@@ -189,23 +186,6 @@ impl<'a> Item for RsaPrivateKey<'a> {
     ghost item = { sequence_item ⟦<RsaPrivateKey<'a> as Described>⟧.element };
 }
 
-impl<'a, R: Lends<Borrowed = &'a [u8]>> DecodeItem<R> for RsaPrivateKey<'a> {
-    ghost is_item = { sequence_is_item ⟦<RsaPrivateKey<'a> as Described>⟧.element refl };
-
-    ghost decodes_items = { decodes_same (sequence_item
-        ⟦<RsaPrivateKey<'a> as Described>⟧.element) };
-}
-
-impl<'a> BorrowedItem for RsaPrivateKey<'a> {
-    ghost borrowed = { refl };
-}
-
-impl<'a> WrittenItem for RsaPrivateKey<'a> {
-    ghost written = { λ v. refl };
-
-    ghost writes_valid = { λ v is. is };
-}
-
-impl<'a> Nestable for RsaPrivateKey<'a> {
-    ghost nestable = { Prim.omega arith };
+impl<'a> LawfulItem for RsaPrivateKey<'a> {
+    ghost is_lawful_item = { is_lawful_item ⟦<RsaPrivateKey<'a> as Described>⟧.element refl };
 }

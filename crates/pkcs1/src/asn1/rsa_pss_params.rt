@@ -2,11 +2,10 @@
 //!
 //! RsaPssParams.
 ghost use Rattle.std.specs.Prelude.{◌≡◌};
-ghost use Rattle.std.proofs.Common.{arith, refl};
+ghost use Rattle.std.proofs.Common.{refl};
 ghost use Rattle.der.specs.Prelude.{map_ok};
-ghost use Rattle.der_asn1.specs.Item.{decodes_same};
 ghost use Rattle.der_asn1.specs.DefaultedTo.{defaulted_to};
-ghost use Rattle.der_asn1.specs.Meaning.{alternative, defaulted, sequence, sequence_is_item, sequence_item};
+ghost use Rattle.der_asn1.specs.Meaning.{alternative, defaulted, is_lawful_item, sequence, sequence_item};
 ghost use Rattle.der_asn1.specs.TupleFields.{four_fields};
 
 use crate::{Mgf1Sha1Default, Sha1Default};
@@ -15,8 +14,8 @@ use der::{
     Reader, Sequence, SliceReader, decode_sequence, field_refs,
 };
 use der_asn1::{
-    BorrowedItem, DecodeItem, DefaultOf, DefaultU64, DefaultValue, Defaulted, DefaultedTo,
-    Described, Explicit, IntegerOf, Item, Nestable, WithDefault, WrittenItem,
+    DefaultOf, DefaultU64, DefaultValue, Defaulted, DefaultedTo, Described, Explicit, IntegerOf,
+    Item, LawfulItem, WithDefault,
 };
 use spki::AlgorithmIdentifierRef;
 use std::alloc::Global;
@@ -127,23 +126,6 @@ impl<'a> Item for RsaPssParams<'a> {
     ghost item = { sequence_item ⟦<RsaPssParams<'a> as Described>⟧.element };
 }
 
-impl<'a, R: Lends<Borrowed = &'a [u8]>> DecodeItem<R> for RsaPssParams<'a> {
-    ghost is_item = { sequence_is_item ⟦<RsaPssParams<'a> as Described>⟧.element refl };
-
-    ghost decodes_items = { decodes_same (sequence_item
-        ⟦<RsaPssParams<'a> as Described>⟧.element) };
-}
-
-impl<'a> BorrowedItem for RsaPssParams<'a> {
-    ghost borrowed = { refl };
-}
-
-impl<'a> WrittenItem for RsaPssParams<'a> {
-    ghost written = { λ v. refl };
-
-    ghost writes_valid = { λ v is. is };
-}
-
-impl<'a> Nestable for RsaPssParams<'a> {
-    ghost nestable = { Prim.omega arith };
+impl<'a> LawfulItem for RsaPssParams<'a> {
+    ghost is_lawful_item = { is_lawful_item ⟦<RsaPssParams<'a> as Described>⟧.element refl };
 }

@@ -2,16 +2,15 @@
 //!
 //! RsaPublicKey.
 ghost use Rattle.std.specs.Prelude.{◌≡◌};
-ghost use Rattle.std.proofs.Common.{arith, refl};
+ghost use Rattle.std.proofs.Common.{refl};
 ghost use Rattle.der.specs.Prelude.{map_ok};
-ghost use Rattle.der_asn1.specs.Item.{decodes_same};
-ghost use Rattle.der_asn1.specs.Meaning.{alternative, field, sequence, sequence_is_item, sequence_item, two_fields};
+ghost use Rattle.der_asn1.specs.Meaning.{alternative, field, is_lawful_item, sequence, sequence_item, two_fields};
 
 use der::{
     Decode, DecodeValue, Encode, Error, FieldsCall, FromFields, HasFields, Header, IsValue, Lends,
     Reader, Sequence, SliceReader, decode_sequence, field_refs,
 };
-use der_asn1::{BorrowedItem, DecodeItem, Described, IntRef, Item, Nestable, WrittenItem};
+use der_asn1::{Described, IntRef, Item, LawfulItem};
 use std::alloc::Global;
 
 /// A public RSA key (RFC 8017, A.1.1), borrowed from the input.
@@ -91,23 +90,6 @@ impl<'a> Item for RsaPublicKey<'a> {
     ghost item = { sequence_item ⟦<RsaPublicKey<'a> as Described>⟧.element };
 }
 
-impl<'a, R: Lends<Borrowed = &'a [u8]>> DecodeItem<R> for RsaPublicKey<'a> {
-    ghost is_item = { sequence_is_item ⟦<RsaPublicKey<'a> as Described>⟧.element refl };
-
-    ghost decodes_items = { decodes_same (sequence_item
-        ⟦<RsaPublicKey<'a> as Described>⟧.element) };
-}
-
-impl<'a> BorrowedItem for RsaPublicKey<'a> {
-    ghost borrowed = { refl };
-}
-
-impl<'a> WrittenItem for RsaPublicKey<'a> {
-    ghost written = { λ v. refl };
-
-    ghost writes_valid = { λ v is. is };
-}
-
-impl<'a> Nestable for RsaPublicKey<'a> {
-    ghost nestable = { Prim.omega arith };
+impl<'a> LawfulItem for RsaPublicKey<'a> {
+    ghost is_lawful_item = { is_lawful_item ⟦<RsaPublicKey<'a> as Described>⟧.element refl };
 }

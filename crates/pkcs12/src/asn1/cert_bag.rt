@@ -2,19 +2,15 @@
 //!
 //! CertBag.
 ghost use Rattle.std.specs.Prelude.{◌≡◌};
-ghost use Rattle.std.proofs.Common.{arith, refl};
+ghost use Rattle.std.proofs.Common.{refl};
 ghost use Rattle.der.specs.Prelude.{map_ok};
-ghost use Rattle.der_asn1.specs.Item.{decodes_same};
-ghost use Rattle.der_asn1.specs.Meaning.{alternative, field, sequence, sequence_is_item, sequence_item, two_fields};
+ghost use Rattle.der_asn1.specs.Meaning.{alternative, field, is_lawful_item, sequence, sequence_item, two_fields};
 
 use der::{
     Decode, DecodeValue, Encode, Error, FieldsCall, FromFields, HasFields, Header, IsValue, Lends,
     Reader, Sequence, SliceReader, decode_sequence, field_refs,
 };
-use der_asn1::{
-    BorrowedItem, DecodeItem, Described, ExplicitAny, Item, Nestable, ObjectIdentifierRef,
-    WrittenItem,
-};
+use der_asn1::{Described, ExplicitAny, Item, LawfulItem, ObjectIdentifierRef};
 use std::alloc::Global;
 
 /// A certificate of any type (RFC 7292, 4.2.3), borrowed from the input.
@@ -92,22 +88,6 @@ impl<'a> Item for CertBag<'a> {
     ghost item = { sequence_item ⟦<CertBag<'a> as Described>⟧.element };
 }
 
-impl<'a, R: Lends<Borrowed = &'a [u8]>> DecodeItem<R> for CertBag<'a> {
-    ghost is_item = { sequence_is_item ⟦<CertBag<'a> as Described>⟧.element refl };
-
-    ghost decodes_items = { decodes_same (sequence_item ⟦<CertBag<'a> as Described>⟧.element) };
-}
-
-impl<'a> BorrowedItem for CertBag<'a> {
-    ghost borrowed = { refl };
-}
-
-impl<'a> WrittenItem for CertBag<'a> {
-    ghost written = { λ v. refl };
-
-    ghost writes_valid = { λ v is. is };
-}
-
-impl<'a> Nestable for CertBag<'a> {
-    ghost nestable = { Prim.omega arith };
+impl<'a> LawfulItem for CertBag<'a> {
+    ghost is_lawful_item = { is_lawful_item ⟦<CertBag<'a> as Described>⟧.element refl };
 }

@@ -2,10 +2,9 @@
 //!
 //! MacData.
 ghost use Rattle.std.specs.Prelude.{◌≡◌};
-ghost use Rattle.std.proofs.Common.{arith, refl};
+ghost use Rattle.std.proofs.Common.{refl};
 ghost use Rattle.der.specs.Prelude.{map_ok};
-ghost use Rattle.der_asn1.specs.Item.{decodes_same};
-ghost use Rattle.der_asn1.specs.Meaning.{alternative, defaulted, field, sequence, sequence_is_item, sequence_item};
+ghost use Rattle.der_asn1.specs.Meaning.{alternative, defaulted, field, is_lawful_item, sequence, sequence_item};
 ghost use Rattle.der_asn1.specs.TupleFields.{three_fields};
 
 use der::{
@@ -13,8 +12,8 @@ use der::{
     Reader, Sequence, SliceReader, decode_sequence, field_refs,
 };
 use der_asn1::{
-    BorrowedItem, DecodeItem, DefaultU64, DefaultValue, Defaulted, Described, IntegerOf, Item,
-    Nestable, OctetStringRef, WithDefault, WrittenItem,
+    DefaultU64, DefaultValue, Defaulted, Described, IntegerOf, Item, LawfulItem, OctetStringRef,
+    WithDefault,
 };
 use pkcs1::DigestInfo;
 use std::alloc::Global;
@@ -109,22 +108,6 @@ impl<'a> Item for MacData<'a> {
     ghost item = { sequence_item ⟦<MacData<'a> as Described>⟧.element };
 }
 
-impl<'a, R: Lends<Borrowed = &'a [u8]>> DecodeItem<R> for MacData<'a> {
-    ghost is_item = { sequence_is_item ⟦<MacData<'a> as Described>⟧.element refl };
-
-    ghost decodes_items = { decodes_same (sequence_item ⟦<MacData<'a> as Described>⟧.element) };
-}
-
-impl<'a> BorrowedItem for MacData<'a> {
-    ghost borrowed = { refl };
-}
-
-impl<'a> WrittenItem for MacData<'a> {
-    ghost written = { λ v. refl };
-
-    ghost writes_valid = { λ v is. is };
-}
-
-impl<'a> Nestable for MacData<'a> {
-    ghost nestable = { Prim.omega arith };
+impl<'a> LawfulItem for MacData<'a> {
+    ghost is_lawful_item = { is_lawful_item ⟦<MacData<'a> as Described>⟧.element refl };
 }

@@ -2,10 +2,9 @@
 //!
 //! Pfx.
 ghost use Rattle.std.specs.Prelude.{◌≡◌};
-ghost use Rattle.std.proofs.Common.{arith, refl};
+ghost use Rattle.std.proofs.Common.{refl};
 ghost use Rattle.der.specs.Prelude.{map_ok};
-ghost use Rattle.der_asn1.specs.Item.{decodes_same};
-ghost use Rattle.der_asn1.specs.Meaning.{alternative, field, optional, sequence, sequence_is_item, sequence_item};
+ghost use Rattle.der_asn1.specs.Meaning.{alternative, field, is_lawful_item, optional, sequence, sequence_item};
 ghost use Rattle.der_asn1.specs.TupleFields.{three_fields};
 
 use crate::asn1::mac_data::MacData;
@@ -14,9 +13,7 @@ use der::{
     Decode, DecodeValue, Encode, Error, FieldsCall, FromFields, HasFields, Header, IsValue, Lends,
     Reader, Sequence, SliceReader, decode_sequence, field_refs,
 };
-use der_asn1::{
-    BorrowedItem, DecodeItem, Described, IntRef, Item, Nestable, Optional, WrittenItem,
-};
+use der_asn1::{Described, IntRef, Item, LawfulItem, Optional};
 use std::alloc::Global;
 
 /// A file with private keys and certificates (RFC 7292, 4), borrowed from the input. Nothing is
@@ -111,22 +108,6 @@ impl<'a> Item for Pfx<'a> {
     ghost item = { sequence_item ⟦<Pfx<'a> as Described>⟧.element };
 }
 
-impl<'a, R: Lends<Borrowed = &'a [u8]>> DecodeItem<R> for Pfx<'a> {
-    ghost is_item = { sequence_is_item ⟦<Pfx<'a> as Described>⟧.element refl };
-
-    ghost decodes_items = { decodes_same (sequence_item ⟦<Pfx<'a> as Described>⟧.element) };
-}
-
-impl<'a> BorrowedItem for Pfx<'a> {
-    ghost borrowed = { refl };
-}
-
-impl<'a> WrittenItem for Pfx<'a> {
-    ghost written = { λ v. refl };
-
-    ghost writes_valid = { λ v is. is };
-}
-
-impl<'a> Nestable for Pfx<'a> {
-    ghost nestable = { Prim.omega arith };
+impl<'a> LawfulItem for Pfx<'a> {
+    ghost is_lawful_item = { is_lawful_item ⟦<Pfx<'a> as Described>⟧.element refl };
 }

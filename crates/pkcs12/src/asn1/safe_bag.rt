@@ -2,20 +2,16 @@
 //!
 //! SafeBag.
 ghost use Rattle.std.specs.Prelude.{◌≡◌};
-ghost use Rattle.std.proofs.Common.{arith, refl};
+ghost use Rattle.std.proofs.Common.{refl};
 ghost use Rattle.der.specs.Prelude.{map_ok};
-ghost use Rattle.der_asn1.specs.Item.{decodes_same};
-ghost use Rattle.der_asn1.specs.Meaning.{alternative, field, optional, sequence, sequence_is_item, sequence_item};
+ghost use Rattle.der_asn1.specs.Meaning.{alternative, field, is_lawful_item, optional, sequence, sequence_item};
 ghost use Rattle.der_asn1.specs.TupleFields.{three_fields};
 
 use der::{
     Decode, DecodeValue, Encode, Error, FieldsCall, FromFields, HasFields, Header, IsValue, Lends,
     Reader, Sequence, SliceReader, decode_sequence, field_refs,
 };
-use der_asn1::{
-    BorrowedItem, DecodeItem, Described, ExplicitAny, Item, Nestable, ObjectIdentifierRef,
-    Optional, WrittenItem,
-};
+use der_asn1::{Described, ExplicitAny, Item, LawfulItem, ObjectIdentifierRef, Optional};
 use std::alloc::Global;
 use x509::Attributes;
 
@@ -112,22 +108,6 @@ impl<'a> Item for SafeBag<'a> {
     ghost item = { sequence_item ⟦<SafeBag<'a> as Described>⟧.element };
 }
 
-impl<'a, R: Lends<Borrowed = &'a [u8]>> DecodeItem<R> for SafeBag<'a> {
-    ghost is_item = { sequence_is_item ⟦<SafeBag<'a> as Described>⟧.element refl };
-
-    ghost decodes_items = { decodes_same (sequence_item ⟦<SafeBag<'a> as Described>⟧.element) };
-}
-
-impl<'a> BorrowedItem for SafeBag<'a> {
-    ghost borrowed = { refl };
-}
-
-impl<'a> WrittenItem for SafeBag<'a> {
-    ghost written = { λ v. refl };
-
-    ghost writes_valid = { λ v is. is };
-}
-
-impl<'a> Nestable for SafeBag<'a> {
-    ghost nestable = { Prim.omega arith };
+impl<'a> LawfulItem for SafeBag<'a> {
+    ghost is_lawful_item = { is_lawful_item ⟦<SafeBag<'a> as Described>⟧.element refl };
 }

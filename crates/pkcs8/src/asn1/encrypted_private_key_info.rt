@@ -2,16 +2,15 @@
 //!
 //! EncryptedPrivateKeyInfo.
 ghost use Rattle.std.specs.Prelude.{◌≡◌};
-ghost use Rattle.std.proofs.Common.{arith, refl};
+ghost use Rattle.std.proofs.Common.{refl};
 ghost use Rattle.der.specs.Prelude.{map_ok};
-ghost use Rattle.der_asn1.specs.Item.{decodes_same};
-ghost use Rattle.der_asn1.specs.Meaning.{alternative, field, sequence, sequence_is_item, sequence_item, two_fields};
+ghost use Rattle.der_asn1.specs.Meaning.{alternative, field, is_lawful_item, sequence, sequence_item, two_fields};
 
 use der::{
     Decode, DecodeValue, Encode, Error, FieldsCall, FromFields, HasFields, Header, IsValue, Lends,
     Reader, Sequence, SliceReader, decode_sequence, field_refs,
 };
-use der_asn1::{BorrowedItem, DecodeItem, Described, Item, Nestable, OctetStringRef, WrittenItem};
+use der_asn1::{Described, Item, LawfulItem, OctetStringRef};
 use spki::AlgorithmIdentifierRef;
 use std::alloc::Global;
 
@@ -98,23 +97,7 @@ impl<'a> Item for EncryptedPrivateKeyInfo<'a> {
     ghost item = { sequence_item ⟦<EncryptedPrivateKeyInfo<'a> as Described>⟧.element };
 }
 
-impl<'a, R: Lends<Borrowed = &'a [u8]>> DecodeItem<R> for EncryptedPrivateKeyInfo<'a> {
-    ghost is_item = { sequence_is_item ⟦<EncryptedPrivateKeyInfo<'a> as Described>⟧.element refl };
-
-    ghost decodes_items = { decodes_same (sequence_item
-        ⟦<EncryptedPrivateKeyInfo<'a> as Described>⟧.element) };
-}
-
-impl<'a> BorrowedItem for EncryptedPrivateKeyInfo<'a> {
-    ghost borrowed = { refl };
-}
-
-impl<'a> WrittenItem for EncryptedPrivateKeyInfo<'a> {
-    ghost written = { λ v. refl };
-
-    ghost writes_valid = { λ v is. is };
-}
-
-impl<'a> Nestable for EncryptedPrivateKeyInfo<'a> {
-    ghost nestable = { Prim.omega arith };
+impl<'a> LawfulItem for EncryptedPrivateKeyInfo<'a> {
+    ghost is_lawful_item = { is_lawful_item
+        ⟦<EncryptedPrivateKeyInfo<'a> as Described>⟧.element refl };
 }

@@ -2,18 +2,15 @@
 //!
 //! PbeParameter.
 ghost use Rattle.std.specs.Prelude.{◌≡◌};
-ghost use Rattle.std.proofs.Common.{arith, refl};
+ghost use Rattle.std.proofs.Common.{refl};
 ghost use Rattle.der.specs.Prelude.{map_ok};
-ghost use Rattle.der_asn1.specs.Item.{decodes_same};
-ghost use Rattle.der_asn1.specs.Meaning.{alternative, field, sequence, sequence_is_item, sequence_item, two_fields};
+ghost use Rattle.der_asn1.specs.Meaning.{alternative, field, is_lawful_item, sequence, sequence_item, two_fields};
 
 use der::{
     Decode, DecodeValue, Encode, Error, FieldsCall, FromFields, HasFields, Header, IsValue, Lends,
     Reader, Sequence, SliceReader, decode_sequence, field_refs,
 };
-use der_asn1::{
-    BorrowedItem, DecodeItem, Described, IntRef, Item, Nestable, OctetStringRef, WrittenItem,
-};
+use der_asn1::{Described, IntRef, Item, LawfulItem, OctetStringRef};
 use std::alloc::Global;
 
 /// The parameters of encryption with a password by PBES1 (RFC 8018, A.3), borrowed from the input.
@@ -94,23 +91,6 @@ impl<'a> Item for PbeParameter<'a> {
     ghost item = { sequence_item ⟦<PbeParameter<'a> as Described>⟧.element };
 }
 
-impl<'a, R: Lends<Borrowed = &'a [u8]>> DecodeItem<R> for PbeParameter<'a> {
-    ghost is_item = { sequence_is_item ⟦<PbeParameter<'a> as Described>⟧.element refl };
-
-    ghost decodes_items = { decodes_same (sequence_item
-        ⟦<PbeParameter<'a> as Described>⟧.element) };
-}
-
-impl<'a> BorrowedItem for PbeParameter<'a> {
-    ghost borrowed = { refl };
-}
-
-impl<'a> WrittenItem for PbeParameter<'a> {
-    ghost written = { λ v. refl };
-
-    ghost writes_valid = { λ v is. is };
-}
-
-impl<'a> Nestable for PbeParameter<'a> {
-    ghost nestable = { Prim.omega arith };
+impl<'a> LawfulItem for PbeParameter<'a> {
+    ghost is_lawful_item = { is_lawful_item ⟦<PbeParameter<'a> as Described>⟧.element refl };
 }

@@ -2,16 +2,15 @@
 //!
 //! Pbes2Params.
 ghost use Rattle.std.specs.Prelude.{◌≡◌};
-ghost use Rattle.std.proofs.Common.{arith, refl};
+ghost use Rattle.std.proofs.Common.{refl};
 ghost use Rattle.der.specs.Prelude.{map_ok};
-ghost use Rattle.der_asn1.specs.Item.{decodes_same};
-ghost use Rattle.der_asn1.specs.Meaning.{alternative, field, sequence, sequence_is_item, sequence_item, two_fields};
+ghost use Rattle.der_asn1.specs.Meaning.{alternative, field, is_lawful_item, sequence, sequence_item, two_fields};
 
 use der::{
     Decode, DecodeValue, Encode, Error, FieldsCall, FromFields, HasFields, Header, IsValue, Lends,
     Reader, Sequence, SliceReader, decode_sequence, field_refs,
 };
-use der_asn1::{BorrowedItem, DecodeItem, Described, Item, Nestable, WrittenItem};
+use der_asn1::{Described, Item, LawfulItem};
 use spki::AlgorithmIdentifierRef;
 use std::alloc::Global;
 
@@ -97,22 +96,6 @@ impl<'a> Item for Pbes2Params<'a> {
     ghost item = { sequence_item ⟦<Pbes2Params<'a> as Described>⟧.element };
 }
 
-impl<'a, R: Lends<Borrowed = &'a [u8]>> DecodeItem<R> for Pbes2Params<'a> {
-    ghost is_item = { sequence_is_item ⟦<Pbes2Params<'a> as Described>⟧.element refl };
-
-    ghost decodes_items = { decodes_same (sequence_item ⟦<Pbes2Params<'a> as Described>⟧.element) };
-}
-
-impl<'a> BorrowedItem for Pbes2Params<'a> {
-    ghost borrowed = { refl };
-}
-
-impl<'a> WrittenItem for Pbes2Params<'a> {
-    ghost written = { λ v. refl };
-
-    ghost writes_valid = { λ v is. is };
-}
-
-impl<'a> Nestable for Pbes2Params<'a> {
-    ghost nestable = { Prim.omega arith };
+impl<'a> LawfulItem for Pbes2Params<'a> {
+    ghost is_lawful_item = { is_lawful_item ⟦<Pbes2Params<'a> as Described>⟧.element refl };
 }

@@ -2,11 +2,10 @@
 //!
 //! Pbkdf2Params.
 ghost use Rattle.std.specs.Prelude.{◌≡◌};
-ghost use Rattle.std.proofs.Common.{arith, refl};
+ghost use Rattle.std.proofs.Common.{refl};
 ghost use Rattle.der.specs.Prelude.{map_ok};
-ghost use Rattle.der_asn1.specs.Item.{decodes_same};
 ghost use Rattle.der_asn1.specs.DefaultedTo.{defaulted_to};
-ghost use Rattle.der_asn1.specs.Meaning.{alternative, field, optional, sequence, sequence_is_item, sequence_item};
+ghost use Rattle.der_asn1.specs.Meaning.{alternative, field, is_lawful_item, optional, sequence, sequence_item};
 ghost use Rattle.der_asn1.specs.TupleFields.{four_fields};
 
 use crate::HmacWithSha1Default;
@@ -16,8 +15,7 @@ use der::{
     Reader, Sequence, SliceReader, decode_sequence, field_refs,
 };
 use der_asn1::{
-    BorrowedItem, DecodeItem, DefaultOf, DefaultedTo, Described, DescribedChoice, IntRef, Item,
-    Nestable, Optional, WrittenItem,
+    DefaultOf, DefaultedTo, Described, DescribedChoice, IntRef, Item, LawfulItem, Optional,
 };
 use spki::AlgorithmIdentifierRef;
 use std::alloc::Global;
@@ -126,23 +124,6 @@ impl<'a> Item for Pbkdf2Params<'a> {
     ghost item = { sequence_item ⟦<Pbkdf2Params<'a> as Described>⟧.element };
 }
 
-impl<'a, R: Lends<Borrowed = &'a [u8]>> DecodeItem<R> for Pbkdf2Params<'a> {
-    ghost is_item = { sequence_is_item ⟦<Pbkdf2Params<'a> as Described>⟧.element refl };
-
-    ghost decodes_items = { decodes_same (sequence_item
-        ⟦<Pbkdf2Params<'a> as Described>⟧.element) };
-}
-
-impl<'a> BorrowedItem for Pbkdf2Params<'a> {
-    ghost borrowed = { refl };
-}
-
-impl<'a> WrittenItem for Pbkdf2Params<'a> {
-    ghost written = { λ v. refl };
-
-    ghost writes_valid = { λ v is. is };
-}
-
-impl<'a> Nestable for Pbkdf2Params<'a> {
-    ghost nestable = { Prim.omega arith };
+impl<'a> LawfulItem for Pbkdf2Params<'a> {
+    ghost is_lawful_item = { is_lawful_item ⟦<Pbkdf2Params<'a> as Described>⟧.element refl };
 }

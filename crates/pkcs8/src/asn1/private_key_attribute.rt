@@ -2,19 +2,15 @@
 //!
 //! PrivateKeyAttribute.
 ghost use Rattle.std.specs.Prelude.{◌≡◌};
-ghost use Rattle.std.proofs.Common.{arith, refl};
+ghost use Rattle.std.proofs.Common.{refl};
 ghost use Rattle.der.specs.Prelude.{map_ok};
-ghost use Rattle.der_asn1.specs.Item.{decodes_same};
-ghost use Rattle.der_asn1.specs.Meaning.{alternative, field, sequence, sequence_is_item, sequence_item, two_fields};
+ghost use Rattle.der_asn1.specs.Meaning.{alternative, field, is_lawful_item, sequence, sequence_item, two_fields};
 
 use der::{
     Decode, DecodeValue, Encode, Error, FieldsCall, FromFields, HasFields, Header, IsValue, Lends,
     Reader, Sequence, SliceReader, decode_sequence, field_refs,
 };
-use der_asn1::{
-    AnyRef, BorrowedItem, DecodeItem, Described, Item, Nestable, ObjectIdentifierRef, SetOf,
-    WrittenItem,
-};
+use der_asn1::{AnyRef, Described, Item, LawfulItem, ObjectIdentifierRef, SetOf};
 use std::alloc::Global;
 
 /// An attribute of a private key (RFC 5652, 5.3), borrowed from the input.
@@ -93,23 +89,6 @@ impl<'a> Item for PrivateKeyAttribute<'a> {
     ghost item = { sequence_item ⟦<PrivateKeyAttribute<'a> as Described>⟧.element };
 }
 
-impl<'a, R: Lends<Borrowed = &'a [u8]>> DecodeItem<R> for PrivateKeyAttribute<'a> {
-    ghost is_item = { sequence_is_item ⟦<PrivateKeyAttribute<'a> as Described>⟧.element refl };
-
-    ghost decodes_items = { decodes_same (sequence_item
-        ⟦<PrivateKeyAttribute<'a> as Described>⟧.element) };
-}
-
-impl<'a> BorrowedItem for PrivateKeyAttribute<'a> {
-    ghost borrowed = { refl };
-}
-
-impl<'a> WrittenItem for PrivateKeyAttribute<'a> {
-    ghost written = { λ v. refl };
-
-    ghost writes_valid = { λ v is. is };
-}
-
-impl<'a> Nestable for PrivateKeyAttribute<'a> {
-    ghost nestable = { Prim.omega arith };
+impl<'a> LawfulItem for PrivateKeyAttribute<'a> {
+    ghost is_lawful_item = { is_lawful_item ⟦<PrivateKeyAttribute<'a> as Described>⟧.element refl };
 }

@@ -2,10 +2,9 @@
 //!
 //! PrivateKeyInfo.
 ghost use Rattle.std.specs.Prelude.{◌≡◌};
-ghost use Rattle.std.proofs.Common.{arith, refl};
+ghost use Rattle.std.proofs.Common.{refl};
 ghost use Rattle.der.specs.Prelude.{map_ok};
-ghost use Rattle.der_asn1.specs.Item.{decodes_same};
-ghost use Rattle.der_asn1.specs.Meaning.{alternative, field, optional, sequence, sequence_is_item, sequence_item};
+ghost use Rattle.der_asn1.specs.Meaning.{alternative, field, is_lawful_item, optional, sequence, sequence_item};
 ghost use Rattle.der_asn1.specs.TupleFields.{five_fields};
 
 use crate::asn1::private_key_attributes::PrivateKeyAttributes;
@@ -15,8 +14,7 @@ use der::{
     Reader, Sequence, SliceReader, decode_sequence, field_refs,
 };
 use der_asn1::{
-    BitStringRef, BorrowedItem, DecodeItem, Described, Implicit, Item, NamedInteger, Nestable,
-    OctetStringRef, Optional, WrittenItem,
+    BitStringRef, Described, Implicit, Item, LawfulItem, NamedInteger, OctetStringRef, Optional,
 };
 use spki::AlgorithmIdentifierRef;
 use std::alloc::Global;
@@ -146,23 +144,6 @@ impl<'a> Item for PrivateKeyInfo<'a> {
     ghost item = { sequence_item ⟦<PrivateKeyInfo<'a> as Described>⟧.element };
 }
 
-impl<'a, R: Lends<Borrowed = &'a [u8]>> DecodeItem<R> for PrivateKeyInfo<'a> {
-    ghost is_item = { sequence_is_item ⟦<PrivateKeyInfo<'a> as Described>⟧.element refl };
-
-    ghost decodes_items = { decodes_same (sequence_item
-        ⟦<PrivateKeyInfo<'a> as Described>⟧.element) };
-}
-
-impl<'a> BorrowedItem for PrivateKeyInfo<'a> {
-    ghost borrowed = { refl };
-}
-
-impl<'a> WrittenItem for PrivateKeyInfo<'a> {
-    ghost written = { λ v. refl };
-
-    ghost writes_valid = { λ v is. is };
-}
-
-impl<'a> Nestable for PrivateKeyInfo<'a> {
-    ghost nestable = { Prim.omega arith };
+impl<'a> LawfulItem for PrivateKeyInfo<'a> {
+    ghost is_lawful_item = { is_lawful_item ⟦<PrivateKeyInfo<'a> as Described>⟧.element refl };
 }

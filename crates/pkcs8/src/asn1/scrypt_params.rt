@@ -2,20 +2,16 @@
 //!
 //! ScryptParams.
 ghost use Rattle.std.specs.Prelude.{◌≡◌};
-ghost use Rattle.std.proofs.Common.{arith, refl};
+ghost use Rattle.std.proofs.Common.{refl};
 ghost use Rattle.der.specs.Prelude.{map_ok};
-ghost use Rattle.der_asn1.specs.Item.{decodes_same};
-ghost use Rattle.der_asn1.specs.Meaning.{alternative, field, optional, sequence, sequence_is_item, sequence_item};
+ghost use Rattle.der_asn1.specs.Meaning.{alternative, field, is_lawful_item, optional, sequence, sequence_item};
 ghost use Rattle.der_asn1.specs.TupleFields.{five_fields};
 
 use der::{
     Decode, DecodeValue, Encode, Error, FieldsCall, FromFields, HasFields, Header, IsValue, Lends,
     Reader, Sequence, SliceReader, decode_sequence, field_refs,
 };
-use der_asn1::{
-    BorrowedItem, DecodeItem, Described, IntRef, Item, Nestable, OctetStringRef, Optional,
-    WrittenItem,
-};
+use der_asn1::{Described, IntRef, Item, LawfulItem, OctetStringRef, Optional};
 use std::alloc::Global;
 
 /// The parameters of scrypt (RFC 7914, 7), borrowed from the input. The RFC requires that the
@@ -139,23 +135,6 @@ impl<'a> Item for ScryptParams<'a> {
     ghost item = { sequence_item ⟦<ScryptParams<'a> as Described>⟧.element };
 }
 
-impl<'a, R: Lends<Borrowed = &'a [u8]>> DecodeItem<R> for ScryptParams<'a> {
-    ghost is_item = { sequence_is_item ⟦<ScryptParams<'a> as Described>⟧.element refl };
-
-    ghost decodes_items = { decodes_same (sequence_item
-        ⟦<ScryptParams<'a> as Described>⟧.element) };
-}
-
-impl<'a> BorrowedItem for ScryptParams<'a> {
-    ghost borrowed = { refl };
-}
-
-impl<'a> WrittenItem for ScryptParams<'a> {
-    ghost written = { λ v. refl };
-
-    ghost writes_valid = { λ v is. is };
-}
-
-impl<'a> Nestable for ScryptParams<'a> {
-    ghost nestable = { Prim.omega arith };
+impl<'a> LawfulItem for ScryptParams<'a> {
+    ghost is_lawful_item = { is_lawful_item ⟦<ScryptParams<'a> as Described>⟧.element refl };
 }

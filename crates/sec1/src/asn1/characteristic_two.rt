@@ -2,20 +2,16 @@
 //!
 //! CharacteristicTwo.
 ghost use Rattle.std.specs.Prelude.{◌≡◌};
-ghost use Rattle.std.proofs.Common.{arith, refl};
+ghost use Rattle.std.proofs.Common.{refl};
 ghost use Rattle.der.specs.Prelude.{map_ok};
-ghost use Rattle.der_asn1.specs.Item.{decodes_same};
-ghost use Rattle.der_asn1.specs.Meaning.{alternative, any_element, field, sequence, sequence_is_item, sequence_item};
+ghost use Rattle.der_asn1.specs.Meaning.{alternative, any_element, field, is_lawful_item, sequence, sequence_item};
 ghost use Rattle.der_asn1.specs.TupleFields.{three_fields};
 
 use der::{
     Decode, DecodeValue, Encode, Error, FieldsCall, FromFields, HasFields, Header, IsValue, Lends,
     Reader, Sequence, SliceReader, decode_sequence, field_refs,
 };
-use der_asn1::{
-    AnyRef, BorrowedItem, DecodeItem, Described, IntRef, Item, Nestable, ObjectIdentifierRef,
-    WrittenItem,
-};
+use der_asn1::{AnyRef, Described, IntRef, Item, LawfulItem, ObjectIdentifierRef};
 use std::alloc::Global;
 
 /// The parameters of a field with 2^m elements (SEC 1, C.1), borrowed from the input.
@@ -101,23 +97,6 @@ impl<'a> Item for CharacteristicTwo<'a> {
     ghost item = { sequence_item ⟦<CharacteristicTwo<'a> as Described>⟧.element };
 }
 
-impl<'a, R: Lends<Borrowed = &'a [u8]>> DecodeItem<R> for CharacteristicTwo<'a> {
-    ghost is_item = { sequence_is_item ⟦<CharacteristicTwo<'a> as Described>⟧.element refl };
-
-    ghost decodes_items = { decodes_same (sequence_item
-        ⟦<CharacteristicTwo<'a> as Described>⟧.element) };
-}
-
-impl<'a> BorrowedItem for CharacteristicTwo<'a> {
-    ghost borrowed = { refl };
-}
-
-impl<'a> WrittenItem for CharacteristicTwo<'a> {
-    ghost written = { λ v. refl };
-
-    ghost writes_valid = { λ v is. is };
-}
-
-impl<'a> Nestable for CharacteristicTwo<'a> {
-    ghost nestable = { Prim.omega arith };
+impl<'a> LawfulItem for CharacteristicTwo<'a> {
+    ghost is_lawful_item = { is_lawful_item ⟦<CharacteristicTwo<'a> as Described>⟧.element refl };
 }

@@ -2,10 +2,9 @@
 //!
 //! Curve.
 ghost use Rattle.std.specs.Prelude.{◌≡◌};
-ghost use Rattle.std.proofs.Common.{arith, refl};
+ghost use Rattle.std.proofs.Common.{refl};
 ghost use Rattle.der.specs.Prelude.{map_ok};
-ghost use Rattle.der_asn1.specs.Item.{decodes_same};
-ghost use Rattle.der_asn1.specs.Meaning.{alternative, field, optional, sequence, sequence_is_item, sequence_item};
+ghost use Rattle.der_asn1.specs.Meaning.{alternative, field, is_lawful_item, optional, sequence, sequence_item};
 ghost use Rattle.der_asn1.specs.TupleFields.{three_fields};
 
 use crate::asn1::field_element::FieldElement;
@@ -13,9 +12,7 @@ use der::{
     Decode, DecodeValue, Encode, Error, FieldsCall, FromFields, HasFields, Header, IsValue, Lends,
     Reader, Sequence, SliceReader, decode_sequence, field_refs,
 };
-use der_asn1::{
-    BitStringRef, BorrowedItem, DecodeItem, Described, Item, Nestable, Optional, WrittenItem,
-};
+use der_asn1::{BitStringRef, Described, Item, LawfulItem, Optional};
 use std::alloc::Global;
 
 /// The coefficients of an elliptic curve (SEC 1, C.2; RFC 3279, 2.3.5), borrowed from the input.
@@ -103,22 +100,6 @@ impl<'a> Item for Curve<'a> {
     ghost item = { sequence_item ⟦<Curve<'a> as Described>⟧.element };
 }
 
-impl<'a, R: Lends<Borrowed = &'a [u8]>> DecodeItem<R> for Curve<'a> {
-    ghost is_item = { sequence_is_item ⟦<Curve<'a> as Described>⟧.element refl };
-
-    ghost decodes_items = { decodes_same (sequence_item ⟦<Curve<'a> as Described>⟧.element) };
-}
-
-impl<'a> BorrowedItem for Curve<'a> {
-    ghost borrowed = { refl };
-}
-
-impl<'a> WrittenItem for Curve<'a> {
-    ghost written = { λ v. refl };
-
-    ghost writes_valid = { λ v is. is };
-}
-
-impl<'a> Nestable for Curve<'a> {
-    ghost nestable = { Prim.omega arith };
+impl<'a> LawfulItem for Curve<'a> {
+    ghost is_lawful_item = { is_lawful_item ⟦<Curve<'a> as Described>⟧.element refl };
 }

@@ -2,17 +2,16 @@
 //!
 //! EcParametersTagged.
 ghost use Rattle.std.specs.Prelude.{◌≡◌};
-ghost use Rattle.std.proofs.Common.{arith, refl};
+ghost use Rattle.std.proofs.Common.{refl};
 ghost use Rattle.der.specs.Prelude.{map_ok};
-ghost use Rattle.der_asn1.specs.Item.{decodes_same};
-ghost use Rattle.der_asn1.specs.Meaning.{alternative, field, sequence, sequence_is_item, sequence_item};
+ghost use Rattle.der_asn1.specs.Meaning.{alternative, field, is_lawful_item, sequence, sequence_item};
 
 use crate::asn1::ec_parameters::EcParameters;
 use der::{
     Decode, DecodeValue, Encode, Error, FieldsCall, FromFields, HasFields, Header, IsValue, Lends,
     Reader, Sequence, SliceReader, decode_sequence, field_refs,
 };
-use der_asn1::{BorrowedItem, DecodeItem, Described, DescribedChoice, Item, Nestable, WrittenItem};
+use der_asn1::{Described, DescribedChoice, Item, LawfulItem};
 use std::alloc::Global;
 
 /// The contents of an element with an explicit tag: a [`EcParameters`].
@@ -89,23 +88,6 @@ impl<'a> Item for EcParametersTagged<'a> {
     ghost item = { sequence_item ⟦<EcParametersTagged<'a> as Described>⟧.element };
 }
 
-impl<'a, R: Lends<Borrowed = &'a [u8]>> DecodeItem<R> for EcParametersTagged<'a> {
-    ghost is_item = { sequence_is_item ⟦<EcParametersTagged<'a> as Described>⟧.element refl };
-
-    ghost decodes_items = { decodes_same (sequence_item
-        ⟦<EcParametersTagged<'a> as Described>⟧.element) };
-}
-
-impl<'a> BorrowedItem for EcParametersTagged<'a> {
-    ghost borrowed = { refl };
-}
-
-impl<'a> WrittenItem for EcParametersTagged<'a> {
-    ghost written = { λ v. refl };
-
-    ghost writes_valid = { λ v is. is };
-}
-
-impl<'a> Nestable for EcParametersTagged<'a> {
-    ghost nestable = { Prim.omega arith };
+impl<'a> LawfulItem for EcParametersTagged<'a> {
+    ghost is_lawful_item = { is_lawful_item ⟦<EcParametersTagged<'a> as Described>⟧.element refl };
 }

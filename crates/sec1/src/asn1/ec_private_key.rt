@@ -2,10 +2,9 @@
 //!
 //! EcPrivateKey.
 ghost use Rattle.std.specs.Prelude.{◌≡◌};
-ghost use Rattle.std.proofs.Common.{arith, refl};
+ghost use Rattle.std.proofs.Common.{refl};
 ghost use Rattle.der.specs.Prelude.{map_ok};
-ghost use Rattle.der_asn1.specs.Item.{decodes_same};
-ghost use Rattle.der_asn1.specs.Meaning.{alternative, field, optional, sequence, sequence_is_item, sequence_item};
+ghost use Rattle.der_asn1.specs.Meaning.{alternative, field, is_lawful_item, optional, sequence, sequence_item};
 ghost use Rattle.der_asn1.specs.TupleFields.{four_fields};
 
 use crate::asn1::ec_parameters_tagged::EcParametersTagged;
@@ -14,8 +13,7 @@ use der::{
     Reader, Sequence, SliceReader, decode_sequence, field_refs,
 };
 use der_asn1::{
-    BitStringRef, BorrowedItem, DecodeItem, Described, Explicit, Implicit, IntRef, Item, Nestable,
-    OctetStringRef, Optional, WrittenItem,
+    BitStringRef, Described, Explicit, Implicit, IntRef, Item, LawfulItem, OctetStringRef, Optional,
 };
 use std::alloc::Global;
 
@@ -120,23 +118,6 @@ impl<'a> Item for EcPrivateKey<'a> {
     ghost item = { sequence_item ⟦<EcPrivateKey<'a> as Described>⟧.element };
 }
 
-impl<'a, R: Lends<Borrowed = &'a [u8]>> DecodeItem<R> for EcPrivateKey<'a> {
-    ghost is_item = { sequence_is_item ⟦<EcPrivateKey<'a> as Described>⟧.element refl };
-
-    ghost decodes_items = { decodes_same (sequence_item
-        ⟦<EcPrivateKey<'a> as Described>⟧.element) };
-}
-
-impl<'a> BorrowedItem for EcPrivateKey<'a> {
-    ghost borrowed = { refl };
-}
-
-impl<'a> WrittenItem for EcPrivateKey<'a> {
-    ghost written = { λ v. refl };
-
-    ghost writes_valid = { λ v is. is };
-}
-
-impl<'a> Nestable for EcPrivateKey<'a> {
-    ghost nestable = { Prim.omega arith };
+impl<'a> LawfulItem for EcPrivateKey<'a> {
+    ghost is_lawful_item = { is_lawful_item ⟦<EcPrivateKey<'a> as Described>⟧.element refl };
 }

@@ -2,18 +2,15 @@
 //!
 //! FieldId.
 ghost use Rattle.std.specs.Prelude.{◌≡◌};
-ghost use Rattle.std.proofs.Common.{arith, refl};
+ghost use Rattle.std.proofs.Common.{refl};
 ghost use Rattle.der.specs.Prelude.{map_ok};
-ghost use Rattle.der_asn1.specs.Item.{decodes_same};
-ghost use Rattle.der_asn1.specs.Meaning.{alternative, any_element, field, sequence, sequence_is_item, sequence_item, two_fields};
+ghost use Rattle.der_asn1.specs.Meaning.{alternative, any_element, field, is_lawful_item, sequence, sequence_item, two_fields};
 
 use der::{
     Decode, DecodeValue, Encode, Error, FieldsCall, FromFields, HasFields, Header, IsValue, Lends,
     Reader, Sequence, SliceReader, decode_sequence, field_refs,
 };
-use der_asn1::{
-    AnyRef, BorrowedItem, DecodeItem, Described, Item, Nestable, ObjectIdentifierRef, WrittenItem,
-};
+use der_asn1::{AnyRef, Described, Item, LawfulItem, ObjectIdentifierRef};
 use std::alloc::Global;
 
 /// A finite field (SEC 1, C.1; RFC 3279, 2.3.5), borrowed from the input.
@@ -94,22 +91,6 @@ impl<'a> Item for FieldId<'a> {
     ghost item = { sequence_item ⟦<FieldId<'a> as Described>⟧.element };
 }
 
-impl<'a, R: Lends<Borrowed = &'a [u8]>> DecodeItem<R> for FieldId<'a> {
-    ghost is_item = { sequence_is_item ⟦<FieldId<'a> as Described>⟧.element refl };
-
-    ghost decodes_items = { decodes_same (sequence_item ⟦<FieldId<'a> as Described>⟧.element) };
-}
-
-impl<'a> BorrowedItem for FieldId<'a> {
-    ghost borrowed = { refl };
-}
-
-impl<'a> WrittenItem for FieldId<'a> {
-    ghost written = { λ v. refl };
-
-    ghost writes_valid = { λ v is. is };
-}
-
-impl<'a> Nestable for FieldId<'a> {
-    ghost nestable = { Prim.omega arith };
+impl<'a> LawfulItem for FieldId<'a> {
+    ghost is_lawful_item = { is_lawful_item ⟦<FieldId<'a> as Described>⟧.element refl };
 }

@@ -2,17 +2,16 @@
 //!
 //! Pentanomial.
 ghost use Rattle.std.specs.Prelude.{◌≡◌};
-ghost use Rattle.std.proofs.Common.{arith, refl};
+ghost use Rattle.std.proofs.Common.{refl};
 ghost use Rattle.der.specs.Prelude.{map_ok};
-ghost use Rattle.der_asn1.specs.Item.{decodes_same};
-ghost use Rattle.der_asn1.specs.Meaning.{alternative, field, sequence, sequence_is_item, sequence_item};
+ghost use Rattle.der_asn1.specs.Meaning.{alternative, field, is_lawful_item, sequence, sequence_item};
 ghost use Rattle.der_asn1.specs.TupleFields.{three_fields};
 
 use der::{
     Decode, DecodeValue, Encode, Error, FieldsCall, FromFields, HasFields, Header, IsValue, Lends,
     Reader, Sequence, SliceReader, decode_sequence, field_refs,
 };
-use der_asn1::{BorrowedItem, DecodeItem, Described, IntRef, Item, Nestable, WrittenItem};
+use der_asn1::{Described, IntRef, Item, LawfulItem};
 use std::alloc::Global;
 
 /// The exponents of the pentanomial x^m + x^k3 + x^k2 + x^k1 + 1 (SEC 1, C.1), borrowed from the
@@ -95,22 +94,6 @@ impl<'a> Item for Pentanomial<'a> {
     ghost item = { sequence_item ⟦<Pentanomial<'a> as Described>⟧.element };
 }
 
-impl<'a, R: Lends<Borrowed = &'a [u8]>> DecodeItem<R> for Pentanomial<'a> {
-    ghost is_item = { sequence_is_item ⟦<Pentanomial<'a> as Described>⟧.element refl };
-
-    ghost decodes_items = { decodes_same (sequence_item ⟦<Pentanomial<'a> as Described>⟧.element) };
-}
-
-impl<'a> BorrowedItem for Pentanomial<'a> {
-    ghost borrowed = { refl };
-}
-
-impl<'a> WrittenItem for Pentanomial<'a> {
-    ghost written = { λ v. refl };
-
-    ghost writes_valid = { λ v is. is };
-}
-
-impl<'a> Nestable for Pentanomial<'a> {
-    ghost nestable = { Prim.omega arith };
+impl<'a> LawfulItem for Pentanomial<'a> {
+    ghost is_lawful_item = { is_lawful_item ⟦<Pentanomial<'a> as Described>⟧.element refl };
 }

@@ -2,10 +2,9 @@
 //!
 //! SpecifiedEcDomain.
 ghost use Rattle.std.specs.Prelude.{◌≡◌};
-ghost use Rattle.std.proofs.Common.{arith, refl};
+ghost use Rattle.std.proofs.Common.{refl};
 ghost use Rattle.der.specs.Prelude.{map_ok};
-ghost use Rattle.der_asn1.specs.Item.{decodes_same};
-ghost use Rattle.der_asn1.specs.Meaning.{alternative, field, optional, sequence, sequence_is_item, sequence_item};
+ghost use Rattle.der_asn1.specs.Meaning.{alternative, field, is_lawful_item, optional, sequence, sequence_item};
 ghost use Rattle.der_asn1.specs.TupleFields.{seven_fields};
 
 use crate::asn1::curve::Curve;
@@ -15,9 +14,7 @@ use der::{
     Decode, DecodeValue, Encode, Error, FieldsCall, FromFields, HasFields, Header, IsValue, Lends,
     Reader, Sequence, SliceReader, decode_sequence, field_refs,
 };
-use der_asn1::{
-    BorrowedItem, DecodeItem, Described, IntRef, Item, Nestable, Optional, WrittenItem,
-};
+use der_asn1::{Described, IntRef, Item, LawfulItem, Optional};
 use spki::AlgorithmIdentifierRef;
 use std::alloc::Global;
 
@@ -144,23 +141,6 @@ impl<'a> Item for SpecifiedEcDomain<'a> {
     ghost item = { sequence_item ⟦<SpecifiedEcDomain<'a> as Described>⟧.element };
 }
 
-impl<'a, R: Lends<Borrowed = &'a [u8]>> DecodeItem<R> for SpecifiedEcDomain<'a> {
-    ghost is_item = { sequence_is_item ⟦<SpecifiedEcDomain<'a> as Described>⟧.element refl };
-
-    ghost decodes_items = { decodes_same (sequence_item
-        ⟦<SpecifiedEcDomain<'a> as Described>⟧.element) };
-}
-
-impl<'a> BorrowedItem for SpecifiedEcDomain<'a> {
-    ghost borrowed = { refl };
-}
-
-impl<'a> WrittenItem for SpecifiedEcDomain<'a> {
-    ghost written = { λ v. refl };
-
-    ghost writes_valid = { λ v is. is };
-}
-
-impl<'a> Nestable for SpecifiedEcDomain<'a> {
-    ghost nestable = { Prim.omega arith };
+impl<'a> LawfulItem for SpecifiedEcDomain<'a> {
+    ghost is_lawful_item = { is_lawful_item ⟦<SpecifiedEcDomain<'a> as Described>⟧.element refl };
 }

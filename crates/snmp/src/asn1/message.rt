@@ -2,20 +2,16 @@
 //!
 //! Message.
 ghost use Rattle.std.specs.Prelude.{◌≡◌};
-ghost use Rattle.std.proofs.Common.{arith, refl};
+ghost use Rattle.std.proofs.Common.{refl};
 ghost use Rattle.der.specs.Prelude.{map_ok};
-ghost use Rattle.der_asn1.specs.Item.{decodes_same};
-ghost use Rattle.der_asn1.specs.Meaning.{alternative, any_element, field, sequence, sequence_is_item, sequence_item};
+ghost use Rattle.der_asn1.specs.Meaning.{alternative, any_element, field, is_lawful_item, sequence, sequence_item};
 ghost use Rattle.der_asn1.specs.TupleFields.{three_fields};
 
 use der::{
     Decode, DecodeValue, Encode, Error, FieldsCall, FromFields, HasFields, Header, IsValue, Lends,
     Reader, Sequence, SliceReader, decode_sequence, field_refs,
 };
-use der_asn1::{
-    AnyRef, BorrowedItem, DecodeItem, Described, IntRef, Item, Nestable, OctetStringRef,
-    WrittenItem,
-};
+use der_asn1::{AnyRef, Described, IntRef, Item, LawfulItem, OctetStringRef};
 use std::alloc::Global;
 
 /// A message of SNMPv1 or SNMPv2c (RFC 1157, 4).
@@ -100,22 +96,6 @@ impl<'a> Item for Message<'a> {
     ghost item = { sequence_item ⟦<Message<'a> as Described>⟧.element };
 }
 
-impl<'a, R: Lends<Borrowed = &'a [u8]>> DecodeItem<R> for Message<'a> {
-    ghost is_item = { sequence_is_item ⟦<Message<'a> as Described>⟧.element refl };
-
-    ghost decodes_items = { decodes_same (sequence_item ⟦<Message<'a> as Described>⟧.element) };
-}
-
-impl<'a> BorrowedItem for Message<'a> {
-    ghost borrowed = { refl };
-}
-
-impl<'a> WrittenItem for Message<'a> {
-    ghost written = { λ v. refl };
-
-    ghost writes_valid = { λ v is. is };
-}
-
-impl<'a> Nestable for Message<'a> {
-    ghost nestable = { Prim.omega arith };
+impl<'a> LawfulItem for Message<'a> {
+    ghost is_lawful_item = { is_lawful_item ⟦<Message<'a> as Described>⟧.element refl };
 }

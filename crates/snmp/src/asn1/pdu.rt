@@ -2,10 +2,9 @@
 //!
 //! Pdu.
 ghost use Rattle.std.specs.Prelude.{◌≡◌};
-ghost use Rattle.std.proofs.Common.{arith, refl};
+ghost use Rattle.std.proofs.Common.{refl};
 ghost use Rattle.der.specs.Prelude.{map_ok};
-ghost use Rattle.der_asn1.specs.Item.{decodes_same};
-ghost use Rattle.der_asn1.specs.Meaning.{alternative, field, sequence, sequence_is_item, sequence_item};
+ghost use Rattle.der_asn1.specs.Meaning.{alternative, field, is_lawful_item, sequence, sequence_item};
 ghost use Rattle.der_asn1.specs.TupleFields.{four_fields};
 
 use crate::asn1::var_bind_list::VarBindList;
@@ -13,9 +12,7 @@ use der::{
     Decode, DecodeValue, Encode, Error, FieldsCall, FromFields, HasFields, Header, IsValue, Lends,
     Reader, Sequence, SliceReader, decode_sequence, field_refs,
 };
-use der_asn1::{
-    BorrowedItem, DecodeItem, Described, IntRef, IntegerIn, Item, Nestable, WrittenItem,
-};
+use der_asn1::{Described, IntRef, IntegerIn, Item, LawfulItem};
 use std::alloc::Global;
 
 /// The contents of a request or a response (RFC 3416, 3).
@@ -118,22 +115,6 @@ impl<'a> Item for Pdu<'a> {
     ghost item = { sequence_item ⟦<Pdu<'a> as Described>⟧.element };
 }
 
-impl<'a, R: Lends<Borrowed = &'a [u8]>> DecodeItem<R> for Pdu<'a> {
-    ghost is_item = { sequence_is_item ⟦<Pdu<'a> as Described>⟧.element refl };
-
-    ghost decodes_items = { decodes_same (sequence_item ⟦<Pdu<'a> as Described>⟧.element) };
-}
-
-impl<'a> BorrowedItem for Pdu<'a> {
-    ghost borrowed = { refl };
-}
-
-impl<'a> WrittenItem for Pdu<'a> {
-    ghost written = { λ v. refl };
-
-    ghost writes_valid = { λ v is. is };
-}
-
-impl<'a> Nestable for Pdu<'a> {
-    ghost nestable = { Prim.omega arith };
+impl<'a> LawfulItem for Pdu<'a> {
+    ghost is_lawful_item = { is_lawful_item ⟦<Pdu<'a> as Described>⟧.element refl };
 }

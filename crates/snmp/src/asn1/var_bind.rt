@@ -2,10 +2,9 @@
 //!
 //! VarBind.
 ghost use Rattle.std.specs.Prelude.{◌≡◌};
-ghost use Rattle.std.proofs.Common.{arith, refl};
+ghost use Rattle.std.proofs.Common.{refl};
 ghost use Rattle.der.specs.Prelude.{map_ok};
-ghost use Rattle.der_asn1.specs.Item.{decodes_same};
-ghost use Rattle.der_asn1.specs.Meaning.{alternative, field, sequence, sequence_is_item, sequence_item, two_fields};
+ghost use Rattle.der_asn1.specs.Meaning.{alternative, field, is_lawful_item, sequence, sequence_item, two_fields};
 
 use crate::asn1::application_syntax::ApplicationSyntax;
 use crate::asn1::object_name::ObjectName;
@@ -16,7 +15,7 @@ use der::{
     Decode, DecodeValue, Encode, Error, FieldsCall, FromFields, HasFields, Header, IsValue, Lends,
     Reader, Sequence, SliceReader, decode_sequence, field_refs,
 };
-use der_asn1::{BorrowedItem, DecodeItem, Described, DescribedChoice, Item, Nestable, WrittenItem};
+use der_asn1::{Described, DescribedChoice, Item, LawfulItem};
 use std::alloc::Global;
 
 /// A variable with its value (RFC 3416, 3). The RFC has no name for the component `data`, but X.680
@@ -115,22 +114,6 @@ impl<'a> Item for VarBind<'a> {
     ghost item = { sequence_item ⟦<VarBind<'a> as Described>⟧.element };
 }
 
-impl<'a, R: Lends<Borrowed = &'a [u8]>> DecodeItem<R> for VarBind<'a> {
-    ghost is_item = { sequence_is_item ⟦<VarBind<'a> as Described>⟧.element refl };
-
-    ghost decodes_items = { decodes_same (sequence_item ⟦<VarBind<'a> as Described>⟧.element) };
-}
-
-impl<'a> BorrowedItem for VarBind<'a> {
-    ghost borrowed = { refl };
-}
-
-impl<'a> WrittenItem for VarBind<'a> {
-    ghost written = { λ v. refl };
-
-    ghost writes_valid = { λ v is. is };
-}
-
-impl<'a> Nestable for VarBind<'a> {
-    ghost nestable = { Prim.omega arith };
+impl<'a> LawfulItem for VarBind<'a> {
+    ghost is_lawful_item = { is_lawful_item ⟦<VarBind<'a> as Described>⟧.element refl };
 }

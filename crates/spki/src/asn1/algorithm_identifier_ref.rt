@@ -2,19 +2,15 @@
 //!
 //! AlgorithmIdentifierRef.
 ghost use Rattle.std.specs.Prelude.{◌≡◌};
-ghost use Rattle.std.proofs.Common.{arith, refl};
+ghost use Rattle.std.proofs.Common.{refl};
 ghost use Rattle.der.specs.Prelude.{map_ok};
-ghost use Rattle.der_asn1.specs.Item.{decodes_same};
-ghost use Rattle.der_asn1.specs.Meaning.{alternative, any_element, field, optional, sequence, sequence_is_item, sequence_item, two_fields};
+ghost use Rattle.der_asn1.specs.Meaning.{alternative, any_element, field, is_lawful_item, optional, sequence, sequence_item, two_fields};
 
 use der::{
     Decode, DecodeValue, Encode, Error, FieldsCall, FromFields, HasFields, Header, IsValue, Lends,
     Reader, Sequence, SliceReader, decode_sequence, field_refs,
 };
-use der_asn1::{
-    AnyRef, BorrowedItem, DecodeItem, Described, Item, Nestable, ObjectIdentifierRef, Optional,
-    WrittenItem,
-};
+use der_asn1::{AnyRef, Described, Item, LawfulItem, ObjectIdentifierRef, Optional};
 use std::alloc::Global;
 
 /// An algorithm with its parameters (RFC 5280, 4.1.1.2), borrowed from the input.
@@ -93,23 +89,7 @@ impl<'a> Item for AlgorithmIdentifierRef<'a> {
     ghost item = { sequence_item ⟦<AlgorithmIdentifierRef<'a> as Described>⟧.element };
 }
 
-impl<'a, R: Lends<Borrowed = &'a [u8]>> DecodeItem<R> for AlgorithmIdentifierRef<'a> {
-    ghost is_item = { sequence_is_item ⟦<AlgorithmIdentifierRef<'a> as Described>⟧.element refl };
-
-    ghost decodes_items = { decodes_same (sequence_item
-        ⟦<AlgorithmIdentifierRef<'a> as Described>⟧.element) };
-}
-
-impl<'a> BorrowedItem for AlgorithmIdentifierRef<'a> {
-    ghost borrowed = { refl };
-}
-
-impl<'a> WrittenItem for AlgorithmIdentifierRef<'a> {
-    ghost written = { λ v. refl };
-
-    ghost writes_valid = { λ v is. is };
-}
-
-impl<'a> Nestable for AlgorithmIdentifierRef<'a> {
-    ghost nestable = { Prim.omega arith };
+impl<'a> LawfulItem for AlgorithmIdentifierRef<'a> {
+    ghost is_lawful_item = { is_lawful_item
+        ⟦<AlgorithmIdentifierRef<'a> as Described>⟧.element refl };
 }

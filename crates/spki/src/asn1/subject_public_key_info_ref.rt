@@ -2,17 +2,16 @@
 //!
 //! SubjectPublicKeyInfoRef.
 ghost use Rattle.std.specs.Prelude.{◌≡◌};
-ghost use Rattle.std.proofs.Common.{arith, refl};
+ghost use Rattle.std.proofs.Common.{refl};
 ghost use Rattle.der.specs.Prelude.{map_ok};
-ghost use Rattle.der_asn1.specs.Item.{decodes_same};
-ghost use Rattle.der_asn1.specs.Meaning.{alternative, field, sequence, sequence_is_item, sequence_item, two_fields};
+ghost use Rattle.der_asn1.specs.Meaning.{alternative, field, is_lawful_item, sequence, sequence_item, two_fields};
 
 use crate::asn1::algorithm_identifier_ref::AlgorithmIdentifierRef;
 use der::{
     Decode, DecodeValue, Encode, Error, FieldsCall, FromFields, HasFields, Header, IsValue, Lends,
     Reader, Sequence, SliceReader, decode_sequence, field_refs,
 };
-use der_asn1::{BitStringRef, BorrowedItem, DecodeItem, Described, Item, Nestable, WrittenItem};
+use der_asn1::{BitStringRef, Described, Item, LawfulItem};
 use std::alloc::Global;
 
 /// A public key with its algorithm (RFC 5280, 4.1.2.7), borrowed from the input.
@@ -97,23 +96,7 @@ impl<'a> Item for SubjectPublicKeyInfoRef<'a> {
     ghost item = { sequence_item ⟦<SubjectPublicKeyInfoRef<'a> as Described>⟧.element };
 }
 
-impl<'a, R: Lends<Borrowed = &'a [u8]>> DecodeItem<R> for SubjectPublicKeyInfoRef<'a> {
-    ghost is_item = { sequence_is_item ⟦<SubjectPublicKeyInfoRef<'a> as Described>⟧.element refl };
-
-    ghost decodes_items = { decodes_same (sequence_item
-        ⟦<SubjectPublicKeyInfoRef<'a> as Described>⟧.element) };
-}
-
-impl<'a> BorrowedItem for SubjectPublicKeyInfoRef<'a> {
-    ghost borrowed = { refl };
-}
-
-impl<'a> WrittenItem for SubjectPublicKeyInfoRef<'a> {
-    ghost written = { λ v. refl };
-
-    ghost writes_valid = { λ v is. is };
-}
-
-impl<'a> Nestable for SubjectPublicKeyInfoRef<'a> {
-    ghost nestable = { Prim.omega arith };
+impl<'a> LawfulItem for SubjectPublicKeyInfoRef<'a> {
+    ghost is_lawful_item = { is_lawful_item
+        ⟦<SubjectPublicKeyInfoRef<'a> as Described>⟧.element refl };
 }

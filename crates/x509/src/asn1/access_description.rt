@@ -2,20 +2,16 @@
 //!
 //! AccessDescription.
 ghost use Rattle.std.specs.Prelude.{◌≡◌};
-ghost use Rattle.std.proofs.Common.{arith, refl};
+ghost use Rattle.std.proofs.Common.{refl};
 ghost use Rattle.der.specs.Prelude.{map_ok};
-ghost use Rattle.der_asn1.specs.Item.{decodes_same};
-ghost use Rattle.der_asn1.specs.Meaning.{alternative, field, sequence, sequence_is_item, sequence_item, two_fields};
+ghost use Rattle.der_asn1.specs.Meaning.{alternative, field, is_lawful_item, sequence, sequence_item, two_fields};
 
 use crate::asn1::general_name::GeneralName;
 use der::{
     Decode, DecodeValue, Encode, Error, FieldsCall, FromFields, HasFields, Header, IsValue, Lends,
     Reader, Sequence, SliceReader, decode_sequence, field_refs,
 };
-use der_asn1::{
-    BorrowedItem, DecodeItem, Described, DescribedChoice, Item, Nestable, ObjectIdentifierRef,
-    WrittenItem,
-};
+use der_asn1::{Described, DescribedChoice, Item, LawfulItem, ObjectIdentifierRef};
 use std::alloc::Global;
 
 /// Where to find information of one kind (RFC 5280, 4.2.2.1), borrowed from the input.
@@ -110,23 +106,6 @@ impl<'a> Item for AccessDescription<'a> {
     ghost item = { sequence_item ⟦<AccessDescription<'a> as Described>⟧.element };
 }
 
-impl<'a, R: Lends<Borrowed = &'a [u8]>> DecodeItem<R> for AccessDescription<'a> {
-    ghost is_item = { sequence_is_item ⟦<AccessDescription<'a> as Described>⟧.element refl };
-
-    ghost decodes_items = { decodes_same (sequence_item
-        ⟦<AccessDescription<'a> as Described>⟧.element) };
-}
-
-impl<'a> BorrowedItem for AccessDescription<'a> {
-    ghost borrowed = { refl };
-}
-
-impl<'a> WrittenItem for AccessDescription<'a> {
-    ghost written = { λ v. refl };
-
-    ghost writes_valid = { λ v is. is };
-}
-
-impl<'a> Nestable for AccessDescription<'a> {
-    ghost nestable = { Prim.omega arith };
+impl<'a> LawfulItem for AccessDescription<'a> {
+    ghost is_lawful_item = { is_lawful_item ⟦<AccessDescription<'a> as Described>⟧.element refl };
 }

@@ -2,10 +2,9 @@
 //!
 //! AuthorityKeyIdentifier.
 ghost use Rattle.std.specs.Prelude.{◌≡◌};
-ghost use Rattle.std.proofs.Common.{arith, refl};
+ghost use Rattle.std.proofs.Common.{refl};
 ghost use Rattle.der.specs.Prelude.{map_ok};
-ghost use Rattle.der_asn1.specs.Item.{decodes_same};
-ghost use Rattle.der_asn1.specs.Meaning.{alternative, optional, sequence, sequence_is_item, sequence_item};
+ghost use Rattle.der_asn1.specs.Meaning.{alternative, is_lawful_item, optional, sequence, sequence_item};
 ghost use Rattle.der_asn1.specs.TupleFields.{three_fields};
 
 use crate::asn1::certificate_serial_number::CertificateSerialNumber;
@@ -15,9 +14,7 @@ use der::{
     Decode, DecodeValue, Encode, Error, FieldsCall, FromFields, HasFields, Header, IsValue, Lends,
     Reader, Sequence, SliceReader, decode_sequence, field_refs,
 };
-use der_asn1::{
-    BorrowedItem, DecodeItem, Described, Implicit, Item, Nestable, Optional, WrittenItem,
-};
+use der_asn1::{Described, Implicit, Item, LawfulItem, Optional};
 use std::alloc::Global;
 
 /// Which key of the issuer signed the certificate or the list (RFC 5280, 4.2.1.1 and 5.2.1),
@@ -130,23 +127,7 @@ impl<'a> Item for AuthorityKeyIdentifier<'a> {
     ghost item = { sequence_item ⟦<AuthorityKeyIdentifier<'a> as Described>⟧.element };
 }
 
-impl<'a, R: Lends<Borrowed = &'a [u8]>> DecodeItem<R> for AuthorityKeyIdentifier<'a> {
-    ghost is_item = { sequence_is_item ⟦<AuthorityKeyIdentifier<'a> as Described>⟧.element refl };
-
-    ghost decodes_items = { decodes_same (sequence_item
-        ⟦<AuthorityKeyIdentifier<'a> as Described>⟧.element) };
-}
-
-impl<'a> BorrowedItem for AuthorityKeyIdentifier<'a> {
-    ghost borrowed = { refl };
-}
-
-impl<'a> WrittenItem for AuthorityKeyIdentifier<'a> {
-    ghost written = { λ v. refl };
-
-    ghost writes_valid = { λ v is. is };
-}
-
-impl<'a> Nestable for AuthorityKeyIdentifier<'a> {
-    ghost nestable = { Prim.omega arith };
+impl<'a> LawfulItem for AuthorityKeyIdentifier<'a> {
+    ghost is_lawful_item = { is_lawful_item
+        ⟦<AuthorityKeyIdentifier<'a> as Described>⟧.element refl };
 }

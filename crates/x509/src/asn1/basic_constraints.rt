@@ -2,18 +2,16 @@
 //!
 //! BasicConstraints.
 ghost use Rattle.std.specs.Prelude.{◌≡◌};
-ghost use Rattle.std.proofs.Common.{arith, refl};
+ghost use Rattle.std.proofs.Common.{refl};
 ghost use Rattle.der.specs.Prelude.{map_ok};
-ghost use Rattle.der_asn1.specs.Item.{decodes_same};
-ghost use Rattle.der_asn1.specs.Meaning.{alternative, defaulted, optional, sequence, sequence_is_item, sequence_item, two_fields};
+ghost use Rattle.der_asn1.specs.Meaning.{alternative, defaulted, is_lawful_item, optional, sequence, sequence_item, two_fields};
 
 use der::{
     Decode, DecodeValue, Encode, Error, FieldsCall, FromFields, HasFields, Header, IsValue, Lends,
     Reader, Sequence, SliceReader, decode_sequence, field_refs,
 };
 use der_asn1::{
-    BooleanRef, BorrowedItem, DecodeItem, DefaultValue, Defaulted, Described, IntRef, Item,
-    Nestable, Optional, WrittenItem,
+    BooleanRef, DefaultValue, Defaulted, Described, IntRef, Item, LawfulItem, Optional,
 };
 use std::alloc::Global;
 
@@ -99,23 +97,6 @@ impl<'a> Item for BasicConstraints<'a> {
     ghost item = { sequence_item ⟦<BasicConstraints<'a> as Described>⟧.element };
 }
 
-impl<'a, R: Lends<Borrowed = &'a [u8]>> DecodeItem<R> for BasicConstraints<'a> {
-    ghost is_item = { sequence_is_item ⟦<BasicConstraints<'a> as Described>⟧.element refl };
-
-    ghost decodes_items = { decodes_same (sequence_item
-        ⟦<BasicConstraints<'a> as Described>⟧.element) };
-}
-
-impl<'a> BorrowedItem for BasicConstraints<'a> {
-    ghost borrowed = { refl };
-}
-
-impl<'a> WrittenItem for BasicConstraints<'a> {
-    ghost written = { λ v. refl };
-
-    ghost writes_valid = { λ v is. is };
-}
-
-impl<'a> Nestable for BasicConstraints<'a> {
-    ghost nestable = { Prim.omega arith };
+impl<'a> LawfulItem for BasicConstraints<'a> {
+    ghost is_lawful_item = { is_lawful_item ⟦<BasicConstraints<'a> as Described>⟧.element refl };
 }

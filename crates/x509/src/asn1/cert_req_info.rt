@@ -2,10 +2,9 @@
 //!
 //! CertReqInfo.
 ghost use Rattle.std.specs.Prelude.{◌≡◌};
-ghost use Rattle.std.proofs.Common.{arith, refl};
+ghost use Rattle.std.proofs.Common.{refl};
 ghost use Rattle.der.specs.Prelude.{map_ok};
-ghost use Rattle.der_asn1.specs.Item.{decodes_same};
-ghost use Rattle.der_asn1.specs.Meaning.{alternative, field, sequence, sequence_is_item, sequence_item};
+ghost use Rattle.der_asn1.specs.Meaning.{alternative, field, is_lawful_item, sequence, sequence_item};
 ghost use Rattle.der_asn1.specs.TupleFields.{four_fields};
 
 use crate::asn1::attributes::Attributes;
@@ -15,9 +14,7 @@ use der::{
     Decode, DecodeValue, Encode, Error, FieldsCall, FromFields, HasFields, Header, IsValue, Lends,
     Reader, Sequence, SliceReader, decode_sequence, field_refs,
 };
-use der_asn1::{
-    BorrowedItem, DecodeItem, Described, Implicit, Item, NamedInteger, Nestable, WrittenItem,
-};
+use der_asn1::{Described, Implicit, Item, LawfulItem, NamedInteger};
 use spki::SubjectPublicKeyInfoRef;
 use std::alloc::Global;
 
@@ -120,22 +117,6 @@ impl<'a> Item for CertReqInfo<'a> {
     ghost item = { sequence_item ⟦<CertReqInfo<'a> as Described>⟧.element };
 }
 
-impl<'a, R: Lends<Borrowed = &'a [u8]>> DecodeItem<R> for CertReqInfo<'a> {
-    ghost is_item = { sequence_is_item ⟦<CertReqInfo<'a> as Described>⟧.element refl };
-
-    ghost decodes_items = { decodes_same (sequence_item ⟦<CertReqInfo<'a> as Described>⟧.element) };
-}
-
-impl<'a> BorrowedItem for CertReqInfo<'a> {
-    ghost borrowed = { refl };
-}
-
-impl<'a> WrittenItem for CertReqInfo<'a> {
-    ghost written = { λ v. refl };
-
-    ghost writes_valid = { λ v is. is };
-}
-
-impl<'a> Nestable for CertReqInfo<'a> {
-    ghost nestable = { Prim.omega arith };
+impl<'a> LawfulItem for CertReqInfo<'a> {
+    ghost is_lawful_item = { is_lawful_item ⟦<CertReqInfo<'a> as Described>⟧.element refl };
 }

@@ -2,10 +2,9 @@
 //!
 //! Certificate.
 ghost use Rattle.std.specs.Prelude.{◌≡◌};
-ghost use Rattle.std.proofs.Common.{arith, refl};
+ghost use Rattle.std.proofs.Common.{refl};
 ghost use Rattle.der.specs.Prelude.{map_ok};
-ghost use Rattle.der_asn1.specs.Item.{decodes_same};
-ghost use Rattle.der_asn1.specs.Meaning.{alternative, field, sequence, sequence_is_item, sequence_item};
+ghost use Rattle.der_asn1.specs.Meaning.{alternative, field, is_lawful_item, sequence, sequence_item};
 ghost use Rattle.der_asn1.specs.TupleFields.{three_fields};
 
 use crate::asn1::tbs_certificate::TbsCertificate;
@@ -13,7 +12,7 @@ use der::{
     Decode, DecodeValue, Encode, Error, FieldsCall, FromFields, HasFields, Header, IsValue, Lends,
     Reader, Sequence, SliceReader, decode_sequence, field_refs,
 };
-use der_asn1::{BitStringRef, BorrowedItem, DecodeItem, Described, Item, Nestable, WrittenItem};
+use der_asn1::{BitStringRef, Described, Item, LawfulItem};
 use spki::AlgorithmIdentifierRef;
 use std::alloc::Global;
 
@@ -108,22 +107,6 @@ impl<'a> Item for Certificate<'a> {
     ghost item = { sequence_item ⟦<Certificate<'a> as Described>⟧.element };
 }
 
-impl<'a, R: Lends<Borrowed = &'a [u8]>> DecodeItem<R> for Certificate<'a> {
-    ghost is_item = { sequence_is_item ⟦<Certificate<'a> as Described>⟧.element refl };
-
-    ghost decodes_items = { decodes_same (sequence_item ⟦<Certificate<'a> as Described>⟧.element) };
-}
-
-impl<'a> BorrowedItem for Certificate<'a> {
-    ghost borrowed = { refl };
-}
-
-impl<'a> WrittenItem for Certificate<'a> {
-    ghost written = { λ v. refl };
-
-    ghost writes_valid = { λ v is. is };
-}
-
-impl<'a> Nestable for Certificate<'a> {
-    ghost nestable = { Prim.omega arith };
+impl<'a> LawfulItem for Certificate<'a> {
+    ghost is_lawful_item = { is_lawful_item ⟦<Certificate<'a> as Described>⟧.element refl };
 }

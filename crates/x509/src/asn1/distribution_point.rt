@@ -2,10 +2,9 @@
 //!
 //! DistributionPoint.
 ghost use Rattle.std.specs.Prelude.{◌≡◌};
-ghost use Rattle.std.proofs.Common.{arith, refl};
+ghost use Rattle.std.proofs.Common.{refl};
 ghost use Rattle.der.specs.Prelude.{map_ok};
-ghost use Rattle.der_asn1.specs.Item.{decodes_same};
-ghost use Rattle.der_asn1.specs.Meaning.{alternative, optional, sequence, sequence_is_item, sequence_item};
+ghost use Rattle.der_asn1.specs.Meaning.{alternative, is_lawful_item, optional, sequence, sequence_item};
 ghost use Rattle.der_asn1.specs.TupleFields.{three_fields};
 
 use crate::asn1::distribution_point_name_tagged::DistributionPointNameTagged;
@@ -15,9 +14,7 @@ use der::{
     Decode, DecodeValue, Encode, Error, FieldsCall, FromFields, HasFields, Header, IsValue, Lends,
     Reader, Sequence, SliceReader, decode_sequence, field_refs,
 };
-use der_asn1::{
-    BorrowedItem, DecodeItem, Described, Implicit, Item, Nestable, Optional, WrittenItem,
-};
+use der_asn1::{Described, Implicit, Item, LawfulItem, Optional};
 use std::alloc::Global;
 
 /// A place where a revocation list is found (RFC 5280, 4.2.1.13), borrowed from the input.
@@ -118,23 +115,6 @@ impl<'a> Item for DistributionPoint<'a> {
     ghost item = { sequence_item ⟦<DistributionPoint<'a> as Described>⟧.element };
 }
 
-impl<'a, R: Lends<Borrowed = &'a [u8]>> DecodeItem<R> for DistributionPoint<'a> {
-    ghost is_item = { sequence_is_item ⟦<DistributionPoint<'a> as Described>⟧.element refl };
-
-    ghost decodes_items = { decodes_same (sequence_item
-        ⟦<DistributionPoint<'a> as Described>⟧.element) };
-}
-
-impl<'a> BorrowedItem for DistributionPoint<'a> {
-    ghost borrowed = { refl };
-}
-
-impl<'a> WrittenItem for DistributionPoint<'a> {
-    ghost written = { λ v. refl };
-
-    ghost writes_valid = { λ v is. is };
-}
-
-impl<'a> Nestable for DistributionPoint<'a> {
-    ghost nestable = { Prim.omega arith };
+impl<'a> LawfulItem for DistributionPoint<'a> {
+    ghost is_lawful_item = { is_lawful_item ⟦<DistributionPoint<'a> as Described>⟧.element refl };
 }

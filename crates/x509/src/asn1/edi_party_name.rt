@@ -2,19 +2,16 @@
 //!
 //! EdiPartyName.
 ghost use Rattle.std.specs.Prelude.{◌≡◌};
-ghost use Rattle.std.proofs.Common.{arith, refl};
+ghost use Rattle.std.proofs.Common.{refl};
 ghost use Rattle.der.specs.Prelude.{map_ok};
-ghost use Rattle.der_asn1.specs.Item.{decodes_same};
-ghost use Rattle.der_asn1.specs.Meaning.{alternative, field, optional, sequence, sequence_is_item, sequence_item, two_fields};
+ghost use Rattle.der_asn1.specs.Meaning.{alternative, field, is_lawful_item, optional, sequence, sequence_item, two_fields};
 
 use crate::asn1::directory_string_tagged::DirectoryStringTagged;
 use der::{
     Decode, DecodeValue, Encode, Error, FieldsCall, FromFields, HasFields, Header, IsValue, Lends,
     Reader, Sequence, SliceReader, decode_sequence, field_refs,
 };
-use der_asn1::{
-    BorrowedItem, DecodeItem, Described, Implicit, Item, Nestable, Optional, WrittenItem,
-};
+use der_asn1::{Described, Implicit, Item, LawfulItem, Optional};
 use std::alloc::Global;
 
 /// The name of one party in an exchange of business data (RFC 5280, 4.2.1.6), borrowed from the
@@ -101,23 +98,6 @@ impl<'a> Item for EdiPartyName<'a> {
     ghost item = { sequence_item ⟦<EdiPartyName<'a> as Described>⟧.element };
 }
 
-impl<'a, R: Lends<Borrowed = &'a [u8]>> DecodeItem<R> for EdiPartyName<'a> {
-    ghost is_item = { sequence_is_item ⟦<EdiPartyName<'a> as Described>⟧.element refl };
-
-    ghost decodes_items = { decodes_same (sequence_item
-        ⟦<EdiPartyName<'a> as Described>⟧.element) };
-}
-
-impl<'a> BorrowedItem for EdiPartyName<'a> {
-    ghost borrowed = { refl };
-}
-
-impl<'a> WrittenItem for EdiPartyName<'a> {
-    ghost written = { λ v. refl };
-
-    ghost writes_valid = { λ v is. is };
-}
-
-impl<'a> Nestable for EdiPartyName<'a> {
-    ghost nestable = { Prim.omega arith };
+impl<'a> LawfulItem for EdiPartyName<'a> {
+    ghost is_lawful_item = { is_lawful_item ⟦<EdiPartyName<'a> as Described>⟧.element refl };
 }

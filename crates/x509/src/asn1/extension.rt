@@ -2,10 +2,9 @@
 //!
 //! Extension.
 ghost use Rattle.std.specs.Prelude.{◌≡◌};
-ghost use Rattle.std.proofs.Common.{arith, refl};
+ghost use Rattle.std.proofs.Common.{refl};
 ghost use Rattle.der.specs.Prelude.{map_ok};
-ghost use Rattle.der_asn1.specs.Item.{decodes_same};
-ghost use Rattle.der_asn1.specs.Meaning.{alternative, defaulted, field, sequence, sequence_is_item, sequence_item};
+ghost use Rattle.der_asn1.specs.Meaning.{alternative, defaulted, field, is_lawful_item, sequence, sequence_item};
 ghost use Rattle.der_asn1.specs.TupleFields.{three_fields};
 
 use der::{
@@ -13,8 +12,8 @@ use der::{
     Reader, Sequence, SliceReader, decode_sequence, field_refs,
 };
 use der_asn1::{
-    BooleanRef, BorrowedItem, DecodeItem, DefaultValue, Defaulted, Described, Item, Nestable,
-    ObjectIdentifierRef, OctetStringRef, WrittenItem,
+    BooleanRef, DefaultValue, Defaulted, Described, Item, LawfulItem, ObjectIdentifierRef,
+    OctetStringRef,
 };
 use std::alloc::Global;
 
@@ -111,22 +110,6 @@ impl<'a> Item for Extension<'a> {
     ghost item = { sequence_item ⟦<Extension<'a> as Described>⟧.element };
 }
 
-impl<'a, R: Lends<Borrowed = &'a [u8]>> DecodeItem<R> for Extension<'a> {
-    ghost is_item = { sequence_is_item ⟦<Extension<'a> as Described>⟧.element refl };
-
-    ghost decodes_items = { decodes_same (sequence_item ⟦<Extension<'a> as Described>⟧.element) };
-}
-
-impl<'a> BorrowedItem for Extension<'a> {
-    ghost borrowed = { refl };
-}
-
-impl<'a> WrittenItem for Extension<'a> {
-    ghost written = { λ v. refl };
-
-    ghost writes_valid = { λ v is. is };
-}
-
-impl<'a> Nestable for Extension<'a> {
-    ghost nestable = { Prim.omega arith };
+impl<'a> LawfulItem for Extension<'a> {
+    ghost is_lawful_item = { is_lawful_item ⟦<Extension<'a> as Described>⟧.element refl };
 }

@@ -2,17 +2,16 @@
 //!
 //! Extensions.
 ghost use Rattle.std.specs.Prelude.{◌≡◌, false};
-ghost use Rattle.std.proofs.Common.{arith, refl};
+ghost use Rattle.std.proofs.Common.{refl};
 ghost use Rattle.der.specs.Prelude.{map_ok};
-ghost use Rattle.der_asn1.specs.Item.{decodes_same};
-ghost use Rattle.der_asn1.specs.Meaning.{renamed, sequence_is_item, sequence_item};
+ghost use Rattle.der_asn1.specs.Meaning.{is_lawful_item, renamed, sequence_item};
 
 use crate::asn1::extension::Extension;
 use der::{
     DecodeValue, EncodeValue, Error, FromFields, Header, IsValue, Lends, Length, Reader, Sequence,
     SliceReader, Writer, decode_wrapped,
 };
-use der_asn1::{BorrowedItem, DecodeItem, Described, Item, Nestable, SequenceOf, WrittenItem};
+use der_asn1::{Described, Item, LawfulItem, SequenceOf};
 use std::alloc::Global;
 
 /// The extensions of a certificate (RFC 5280, 4.1), of a revocation list or of one of its entries
@@ -89,22 +88,6 @@ impl<'a> Item for Extensions<'a> {
     ghost item = { sequence_item ⟦<Extensions<'a> as Described>⟧.element };
 }
 
-impl<'a, R: Lends<Borrowed = &'a [u8]>> DecodeItem<R> for Extensions<'a> {
-    ghost is_item = { sequence_is_item ⟦<Extensions<'a> as Described>⟧.element refl };
-
-    ghost decodes_items = { decodes_same (sequence_item ⟦<Extensions<'a> as Described>⟧.element) };
-}
-
-impl<'a> BorrowedItem for Extensions<'a> {
-    ghost borrowed = { refl };
-}
-
-impl<'a> WrittenItem for Extensions<'a> {
-    ghost written = { λ v. refl };
-
-    ghost writes_valid = { λ v is. is };
-}
-
-impl<'a> Nestable for Extensions<'a> {
-    ghost nestable = { Prim.omega arith };
+impl<'a> LawfulItem for Extensions<'a> {
+    ghost is_lawful_item = { is_lawful_item ⟦<Extensions<'a> as Described>⟧.element refl };
 }

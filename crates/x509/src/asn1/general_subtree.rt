@@ -2,10 +2,9 @@
 //!
 //! GeneralSubtree.
 ghost use Rattle.std.specs.Prelude.{◌≡◌};
-ghost use Rattle.std.proofs.Common.{arith, refl};
+ghost use Rattle.std.proofs.Common.{refl};
 ghost use Rattle.der.specs.Prelude.{map_ok};
-ghost use Rattle.der_asn1.specs.Item.{decodes_same};
-ghost use Rattle.der_asn1.specs.Meaning.{alternative, defaulted, field, optional, sequence, sequence_is_item, sequence_item};
+ghost use Rattle.der_asn1.specs.Meaning.{alternative, defaulted, field, is_lawful_item, optional, sequence, sequence_item};
 ghost use Rattle.der_asn1.specs.TupleFields.{three_fields};
 
 use crate::asn1::base_distance::BaseDistance;
@@ -15,8 +14,8 @@ use der::{
     Reader, Sequence, SliceReader, decode_sequence, field_refs,
 };
 use der_asn1::{
-    BorrowedItem, DecodeItem, DefaultU64, DefaultValue, Defaulted, Described, DescribedChoice,
-    Implicit, IntegerOf, Item, Nestable, Optional, WithDefault, WrittenItem,
+    DefaultU64, DefaultValue, Defaulted, Described, DescribedChoice, Implicit, IntegerOf, Item,
+    LawfulItem, Optional, WithDefault,
 };
 use std::alloc::Global;
 
@@ -124,23 +123,6 @@ impl<'a> Item for GeneralSubtree<'a> {
     ghost item = { sequence_item ⟦<GeneralSubtree<'a> as Described>⟧.element };
 }
 
-impl<'a, R: Lends<Borrowed = &'a [u8]>> DecodeItem<R> for GeneralSubtree<'a> {
-    ghost is_item = { sequence_is_item ⟦<GeneralSubtree<'a> as Described>⟧.element refl };
-
-    ghost decodes_items = { decodes_same (sequence_item
-        ⟦<GeneralSubtree<'a> as Described>⟧.element) };
-}
-
-impl<'a> BorrowedItem for GeneralSubtree<'a> {
-    ghost borrowed = { refl };
-}
-
-impl<'a> WrittenItem for GeneralSubtree<'a> {
-    ghost written = { λ v. refl };
-
-    ghost writes_valid = { λ v is. is };
-}
-
-impl<'a> Nestable for GeneralSubtree<'a> {
-    ghost nestable = { Prim.omega arith };
+impl<'a> LawfulItem for GeneralSubtree<'a> {
+    ghost is_lawful_item = { is_lawful_item ⟦<GeneralSubtree<'a> as Described>⟧.element refl };
 }

@@ -2,17 +2,16 @@
 //!
 //! GeneralSubtrees.
 ghost use Rattle.std.specs.Prelude.{◌≡◌, false};
-ghost use Rattle.std.proofs.Common.{arith, refl};
+ghost use Rattle.std.proofs.Common.{refl};
 ghost use Rattle.der.specs.Prelude.{map_ok};
-ghost use Rattle.der_asn1.specs.Item.{decodes_same};
-ghost use Rattle.der_asn1.specs.Meaning.{renamed, sequence_is_item, sequence_item};
+ghost use Rattle.der_asn1.specs.Meaning.{is_lawful_item, renamed, sequence_item};
 
 use crate::asn1::general_subtree::GeneralSubtree;
 use der::{
     DecodeValue, EncodeValue, Error, FromFields, Header, IsValue, Lends, Length, Reader, Sequence,
     SliceReader, Writer, decode_wrapped,
 };
-use der_asn1::{BorrowedItem, DecodeItem, Described, Item, Nestable, SequenceOf, WrittenItem};
+use der_asn1::{Described, Item, LawfulItem, SequenceOf};
 use std::alloc::Global;
 
 /// Subtrees of names (RFC 5280, 4.2.1.10), borrowed from the input. That there is at least one is
@@ -89,23 +88,6 @@ impl<'a> Item for GeneralSubtrees<'a> {
     ghost item = { sequence_item ⟦<GeneralSubtrees<'a> as Described>⟧.element };
 }
 
-impl<'a, R: Lends<Borrowed = &'a [u8]>> DecodeItem<R> for GeneralSubtrees<'a> {
-    ghost is_item = { sequence_is_item ⟦<GeneralSubtrees<'a> as Described>⟧.element refl };
-
-    ghost decodes_items = { decodes_same (sequence_item
-        ⟦<GeneralSubtrees<'a> as Described>⟧.element) };
-}
-
-impl<'a> BorrowedItem for GeneralSubtrees<'a> {
-    ghost borrowed = { refl };
-}
-
-impl<'a> WrittenItem for GeneralSubtrees<'a> {
-    ghost written = { λ v. refl };
-
-    ghost writes_valid = { λ v is. is };
-}
-
-impl<'a> Nestable for GeneralSubtrees<'a> {
-    ghost nestable = { Prim.omega arith };
+impl<'a> LawfulItem for GeneralSubtrees<'a> {
+    ghost is_lawful_item = { is_lawful_item ⟦<GeneralSubtrees<'a> as Described>⟧.element refl };
 }

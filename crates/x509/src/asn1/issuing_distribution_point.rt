@@ -2,10 +2,9 @@
 //!
 //! IssuingDistributionPoint.
 ghost use Rattle.std.specs.Prelude.{◌≡◌};
-ghost use Rattle.std.proofs.Common.{arith, refl};
+ghost use Rattle.std.proofs.Common.{refl};
 ghost use Rattle.der.specs.Prelude.{map_ok};
-ghost use Rattle.der_asn1.specs.Item.{decodes_same};
-ghost use Rattle.der_asn1.specs.Meaning.{alternative, defaulted, optional, sequence, sequence_is_item, sequence_item};
+ghost use Rattle.der_asn1.specs.Meaning.{alternative, defaulted, is_lawful_item, optional, sequence, sequence_item};
 ghost use Rattle.der_asn1.specs.TupleFields.{six_fields};
 
 use crate::asn1::distribution_point_name_tagged::DistributionPointNameTagged;
@@ -15,8 +14,7 @@ use der::{
     Reader, Sequence, SliceReader, decode_sequence, field_refs,
 };
 use der_asn1::{
-    BooleanRef, BorrowedItem, DecodeItem, DefaultValue, Defaulted, Described, Implicit, Item,
-    Nestable, Optional, WrittenItem,
+    BooleanRef, DefaultValue, Defaulted, Described, Implicit, Item, LawfulItem, Optional,
 };
 use std::alloc::Global;
 
@@ -163,23 +161,7 @@ impl<'a> Item for IssuingDistributionPoint<'a> {
     ghost item = { sequence_item ⟦<IssuingDistributionPoint<'a> as Described>⟧.element };
 }
 
-impl<'a, R: Lends<Borrowed = &'a [u8]>> DecodeItem<R> for IssuingDistributionPoint<'a> {
-    ghost is_item = { sequence_is_item ⟦<IssuingDistributionPoint<'a> as Described>⟧.element refl };
-
-    ghost decodes_items = { decodes_same (sequence_item
-        ⟦<IssuingDistributionPoint<'a> as Described>⟧.element) };
-}
-
-impl<'a> BorrowedItem for IssuingDistributionPoint<'a> {
-    ghost borrowed = { refl };
-}
-
-impl<'a> WrittenItem for IssuingDistributionPoint<'a> {
-    ghost written = { λ v. refl };
-
-    ghost writes_valid = { λ v is. is };
-}
-
-impl<'a> Nestable for IssuingDistributionPoint<'a> {
-    ghost nestable = { Prim.omega arith };
+impl<'a> LawfulItem for IssuingDistributionPoint<'a> {
+    ghost is_lawful_item = { is_lawful_item
+        ⟦<IssuingDistributionPoint<'a> as Described>⟧.element refl };
 }

@@ -2,20 +2,16 @@
 //!
 //! NoticeReference.
 ghost use Rattle.std.specs.Prelude.{◌≡◌};
-ghost use Rattle.std.proofs.Common.{arith, refl};
+ghost use Rattle.std.proofs.Common.{refl};
 ghost use Rattle.der.specs.Prelude.{map_ok};
-ghost use Rattle.der_asn1.specs.Item.{decodes_same};
-ghost use Rattle.der_asn1.specs.Meaning.{alternative, field, sequence, sequence_is_item, sequence_item, two_fields};
+ghost use Rattle.der_asn1.specs.Meaning.{alternative, field, is_lawful_item, sequence, sequence_item, two_fields};
 
 use crate::asn1::display_text::DisplayText;
 use der::{
     Decode, DecodeValue, Encode, Error, FieldsCall, FromFields, HasFields, Header, IsValue, Lends,
     Reader, Sequence, SliceReader, decode_sequence, field_refs,
 };
-use der_asn1::{
-    BorrowedItem, DecodeItem, Described, DescribedChoice, IntRef, Item, Nestable, SequenceOf,
-    WrittenItem,
-};
+use der_asn1::{Described, DescribedChoice, IntRef, Item, LawfulItem, SequenceOf};
 use std::alloc::Global;
 
 /// Notices of an organization, which their numbers identify (RFC 5280, 4.2.1.4), borrowed from the
@@ -106,23 +102,6 @@ impl<'a> Item for NoticeReference<'a> {
     ghost item = { sequence_item ⟦<NoticeReference<'a> as Described>⟧.element };
 }
 
-impl<'a, R: Lends<Borrowed = &'a [u8]>> DecodeItem<R> for NoticeReference<'a> {
-    ghost is_item = { sequence_is_item ⟦<NoticeReference<'a> as Described>⟧.element refl };
-
-    ghost decodes_items = { decodes_same (sequence_item
-        ⟦<NoticeReference<'a> as Described>⟧.element) };
-}
-
-impl<'a> BorrowedItem for NoticeReference<'a> {
-    ghost borrowed = { refl };
-}
-
-impl<'a> WrittenItem for NoticeReference<'a> {
-    ghost written = { λ v. refl };
-
-    ghost writes_valid = { λ v is. is };
-}
-
-impl<'a> Nestable for NoticeReference<'a> {
-    ghost nestable = { Prim.omega arith };
+impl<'a> LawfulItem for NoticeReference<'a> {
+    ghost is_lawful_item = { is_lawful_item ⟦<NoticeReference<'a> as Described>⟧.element refl };
 }

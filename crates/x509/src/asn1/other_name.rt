@@ -2,19 +2,15 @@
 //!
 //! OtherName.
 ghost use Rattle.std.specs.Prelude.{◌≡◌};
-ghost use Rattle.std.proofs.Common.{arith, refl};
+ghost use Rattle.std.proofs.Common.{refl};
 ghost use Rattle.der.specs.Prelude.{map_ok};
-ghost use Rattle.der_asn1.specs.Item.{decodes_same};
-ghost use Rattle.der_asn1.specs.Meaning.{alternative, field, sequence, sequence_is_item, sequence_item, two_fields};
+ghost use Rattle.der_asn1.specs.Meaning.{alternative, field, is_lawful_item, sequence, sequence_item, two_fields};
 
 use der::{
     Decode, DecodeValue, Encode, Error, FieldsCall, FromFields, HasFields, Header, IsValue, Lends,
     Reader, Sequence, SliceReader, decode_sequence, field_refs,
 };
-use der_asn1::{
-    BorrowedItem, DecodeItem, Described, ExplicitAny, Item, Nestable, ObjectIdentifierRef,
-    WrittenItem,
-};
+use der_asn1::{Described, ExplicitAny, Item, LawfulItem, ObjectIdentifierRef};
 use std::alloc::Global;
 
 /// A name of another form, which an OBJECT IDENTIFIER gives (RFC 5280, 4.2.1.6), borrowed from the
@@ -93,22 +89,6 @@ impl<'a> Item for OtherName<'a> {
     ghost item = { sequence_item ⟦<OtherName<'a> as Described>⟧.element };
 }
 
-impl<'a, R: Lends<Borrowed = &'a [u8]>> DecodeItem<R> for OtherName<'a> {
-    ghost is_item = { sequence_is_item ⟦<OtherName<'a> as Described>⟧.element refl };
-
-    ghost decodes_items = { decodes_same (sequence_item ⟦<OtherName<'a> as Described>⟧.element) };
-}
-
-impl<'a> BorrowedItem for OtherName<'a> {
-    ghost borrowed = { refl };
-}
-
-impl<'a> WrittenItem for OtherName<'a> {
-    ghost written = { λ v. refl };
-
-    ghost writes_valid = { λ v is. is };
-}
-
-impl<'a> Nestable for OtherName<'a> {
-    ghost nestable = { Prim.omega arith };
+impl<'a> LawfulItem for OtherName<'a> {
+    ghost is_lawful_item = { is_lawful_item ⟦<OtherName<'a> as Described>⟧.element refl };
 }

@@ -2,19 +2,16 @@
 //!
 //! PolicyConstraints.
 ghost use Rattle.std.specs.Prelude.{◌≡◌};
-ghost use Rattle.std.proofs.Common.{arith, refl};
+ghost use Rattle.std.proofs.Common.{refl};
 ghost use Rattle.der.specs.Prelude.{map_ok};
-ghost use Rattle.der_asn1.specs.Item.{decodes_same};
-ghost use Rattle.der_asn1.specs.Meaning.{alternative, optional, sequence, sequence_is_item, sequence_item, two_fields};
+ghost use Rattle.der_asn1.specs.Meaning.{alternative, is_lawful_item, optional, sequence, sequence_item, two_fields};
 
 use crate::asn1::skip_certs::SkipCerts;
 use der::{
     Decode, DecodeValue, Encode, Error, FieldsCall, FromFields, HasFields, Header, IsValue, Lends,
     Reader, Sequence, SliceReader, decode_sequence, field_refs,
 };
-use der_asn1::{
-    BorrowedItem, DecodeItem, Described, Implicit, Item, Nestable, Optional, WrittenItem,
-};
+use der_asn1::{Described, Implicit, Item, LawfulItem, Optional};
 use std::alloc::Global;
 
 /// Requirements for the policies of a chain of certificates (RFC 5280, 4.2.1.11), borrowed from the
@@ -109,23 +106,6 @@ impl<'a> Item for PolicyConstraints<'a> {
     ghost item = { sequence_item ⟦<PolicyConstraints<'a> as Described>⟧.element };
 }
 
-impl<'a, R: Lends<Borrowed = &'a [u8]>> DecodeItem<R> for PolicyConstraints<'a> {
-    ghost is_item = { sequence_is_item ⟦<PolicyConstraints<'a> as Described>⟧.element refl };
-
-    ghost decodes_items = { decodes_same (sequence_item
-        ⟦<PolicyConstraints<'a> as Described>⟧.element) };
-}
-
-impl<'a> BorrowedItem for PolicyConstraints<'a> {
-    ghost borrowed = { refl };
-}
-
-impl<'a> WrittenItem for PolicyConstraints<'a> {
-    ghost written = { λ v. refl };
-
-    ghost writes_valid = { λ v is. is };
-}
-
-impl<'a> Nestable for PolicyConstraints<'a> {
-    ghost nestable = { Prim.omega arith };
+impl<'a> LawfulItem for PolicyConstraints<'a> {
+    ghost is_lawful_item = { is_lawful_item ⟦<PolicyConstraints<'a> as Described>⟧.element refl };
 }

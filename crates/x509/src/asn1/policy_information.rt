@@ -2,20 +2,16 @@
 //!
 //! PolicyInformation.
 ghost use Rattle.std.specs.Prelude.{◌≡◌};
-ghost use Rattle.std.proofs.Common.{arith, refl};
+ghost use Rattle.std.proofs.Common.{refl};
 ghost use Rattle.der.specs.Prelude.{map_ok};
-ghost use Rattle.der_asn1.specs.Item.{decodes_same};
-ghost use Rattle.der_asn1.specs.Meaning.{alternative, field, optional, sequence, sequence_is_item, sequence_item, two_fields};
+ghost use Rattle.der_asn1.specs.Meaning.{alternative, field, is_lawful_item, optional, sequence, sequence_item, two_fields};
 
 use crate::asn1::policy_qualifier_info::PolicyQualifierInfo;
 use der::{
     Decode, DecodeValue, Encode, Error, FieldsCall, FromFields, HasFields, Header, IsValue, Lends,
     Reader, Sequence, SliceReader, decode_sequence, field_refs,
 };
-use der_asn1::{
-    BorrowedItem, DecodeItem, Described, Item, Nestable, ObjectIdentifierRef, Optional, SequenceOf,
-    WrittenItem,
-};
+use der_asn1::{Described, Item, LawfulItem, ObjectIdentifierRef, Optional, SequenceOf};
 use std::alloc::Global;
 
 /// A policy with its qualifiers (RFC 5280, 4.2.1.4), borrowed from the input.
@@ -105,23 +101,6 @@ impl<'a> Item for PolicyInformation<'a> {
     ghost item = { sequence_item ⟦<PolicyInformation<'a> as Described>⟧.element };
 }
 
-impl<'a, R: Lends<Borrowed = &'a [u8]>> DecodeItem<R> for PolicyInformation<'a> {
-    ghost is_item = { sequence_is_item ⟦<PolicyInformation<'a> as Described>⟧.element refl };
-
-    ghost decodes_items = { decodes_same (sequence_item
-        ⟦<PolicyInformation<'a> as Described>⟧.element) };
-}
-
-impl<'a> BorrowedItem for PolicyInformation<'a> {
-    ghost borrowed = { refl };
-}
-
-impl<'a> WrittenItem for PolicyInformation<'a> {
-    ghost written = { λ v. refl };
-
-    ghost writes_valid = { λ v is. is };
-}
-
-impl<'a> Nestable for PolicyInformation<'a> {
-    ghost nestable = { Prim.omega arith };
+impl<'a> LawfulItem for PolicyInformation<'a> {
+    ghost is_lawful_item = { is_lawful_item ⟦<PolicyInformation<'a> as Described>⟧.element refl };
 }

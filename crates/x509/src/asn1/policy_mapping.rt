@@ -2,18 +2,15 @@
 //!
 //! PolicyMapping.
 ghost use Rattle.std.specs.Prelude.{◌≡◌};
-ghost use Rattle.std.proofs.Common.{arith, refl};
+ghost use Rattle.std.proofs.Common.{refl};
 ghost use Rattle.der.specs.Prelude.{map_ok};
-ghost use Rattle.der_asn1.specs.Item.{decodes_same};
-ghost use Rattle.der_asn1.specs.Meaning.{alternative, field, sequence, sequence_is_item, sequence_item, two_fields};
+ghost use Rattle.der_asn1.specs.Meaning.{alternative, field, is_lawful_item, sequence, sequence_item, two_fields};
 
 use der::{
     Decode, DecodeValue, Encode, Error, FieldsCall, FromFields, HasFields, Header, IsValue, Lends,
     Reader, Sequence, SliceReader, decode_sequence, field_refs,
 };
-use der_asn1::{
-    BorrowedItem, DecodeItem, Described, Item, Nestable, ObjectIdentifierRef, WrittenItem,
-};
+use der_asn1::{Described, Item, LawfulItem, ObjectIdentifierRef};
 use std::alloc::Global;
 
 /// A policy of the issuer, and the policy of the subject that counts as equal (RFC 5280, 4.2.1.5),
@@ -99,23 +96,6 @@ impl<'a> Item for PolicyMapping<'a> {
     ghost item = { sequence_item ⟦<PolicyMapping<'a> as Described>⟧.element };
 }
 
-impl<'a, R: Lends<Borrowed = &'a [u8]>> DecodeItem<R> for PolicyMapping<'a> {
-    ghost is_item = { sequence_is_item ⟦<PolicyMapping<'a> as Described>⟧.element refl };
-
-    ghost decodes_items = { decodes_same (sequence_item
-        ⟦<PolicyMapping<'a> as Described>⟧.element) };
-}
-
-impl<'a> BorrowedItem for PolicyMapping<'a> {
-    ghost borrowed = { refl };
-}
-
-impl<'a> WrittenItem for PolicyMapping<'a> {
-    ghost written = { λ v. refl };
-
-    ghost writes_valid = { λ v is. is };
-}
-
-impl<'a> Nestable for PolicyMapping<'a> {
-    ghost nestable = { Prim.omega arith };
+impl<'a> LawfulItem for PolicyMapping<'a> {
+    ghost is_lawful_item = { is_lawful_item ⟦<PolicyMapping<'a> as Described>⟧.element refl };
 }

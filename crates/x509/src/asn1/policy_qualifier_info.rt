@@ -2,18 +2,15 @@
 //!
 //! PolicyQualifierInfo.
 ghost use Rattle.std.specs.Prelude.{◌≡◌};
-ghost use Rattle.std.proofs.Common.{arith, refl};
+ghost use Rattle.std.proofs.Common.{refl};
 ghost use Rattle.der.specs.Prelude.{map_ok};
-ghost use Rattle.der_asn1.specs.Item.{decodes_same};
-ghost use Rattle.der_asn1.specs.Meaning.{alternative, any_element, field, sequence, sequence_is_item, sequence_item, two_fields};
+ghost use Rattle.der_asn1.specs.Meaning.{alternative, any_element, field, is_lawful_item, sequence, sequence_item, two_fields};
 
 use der::{
     Decode, DecodeValue, Encode, Error, FieldsCall, FromFields, HasFields, Header, IsValue, Lends,
     Reader, Sequence, SliceReader, decode_sequence, field_refs,
 };
-use der_asn1::{
-    AnyRef, BorrowedItem, DecodeItem, Described, Item, Nestable, ObjectIdentifierRef, WrittenItem,
-};
+use der_asn1::{AnyRef, Described, Item, LawfulItem, ObjectIdentifierRef};
 use std::alloc::Global;
 
 /// A qualifier of a policy (RFC 5280, 4.2.1.4), borrowed from the input.
@@ -98,23 +95,6 @@ impl<'a> Item for PolicyQualifierInfo<'a> {
     ghost item = { sequence_item ⟦<PolicyQualifierInfo<'a> as Described>⟧.element };
 }
 
-impl<'a, R: Lends<Borrowed = &'a [u8]>> DecodeItem<R> for PolicyQualifierInfo<'a> {
-    ghost is_item = { sequence_is_item ⟦<PolicyQualifierInfo<'a> as Described>⟧.element refl };
-
-    ghost decodes_items = { decodes_same (sequence_item
-        ⟦<PolicyQualifierInfo<'a> as Described>⟧.element) };
-}
-
-impl<'a> BorrowedItem for PolicyQualifierInfo<'a> {
-    ghost borrowed = { refl };
-}
-
-impl<'a> WrittenItem for PolicyQualifierInfo<'a> {
-    ghost written = { λ v. refl };
-
-    ghost writes_valid = { λ v is. is };
-}
-
-impl<'a> Nestable for PolicyQualifierInfo<'a> {
-    ghost nestable = { Prim.omega arith };
+impl<'a> LawfulItem for PolicyQualifierInfo<'a> {
+    ghost is_lawful_item = { is_lawful_item ⟦<PolicyQualifierInfo<'a> as Described>⟧.element refl };
 }

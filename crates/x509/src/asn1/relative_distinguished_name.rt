@@ -2,17 +2,16 @@
 //!
 //! RelativeDistinguishedName.
 ghost use Rattle.std.specs.Prelude.{◌≡◌, false};
-ghost use Rattle.std.proofs.Common.{arith, refl};
+ghost use Rattle.std.proofs.Common.{refl};
 ghost use Rattle.der.specs.Prelude.{Set, map_ok};
-ghost use Rattle.der_asn1.specs.Item.{decodes_same};
-ghost use Rattle.der_asn1.specs.Meaning.{renamed, sequence_is_item, sequence_item};
+ghost use Rattle.der_asn1.specs.Meaning.{is_lawful_item, renamed, sequence_item};
 
 use crate::asn1::attribute_type_and_value::AttributeTypeAndValue;
 use der::{
     DecodeValue, EncodeValue, Error, FixedTag, FromFields, Header, IsValue, Lawful, Lends, Length,
     ReadValue, Reader, SliceReader, Tag, Writer, WrittenValue, decode_wrapped,
 };
-use der_asn1::{BorrowedItem, DecodeItem, Described, Item, Nestable, SetOf, WrittenItem};
+use der_asn1::{Described, Item, LawfulItem, SetOf};
 use std::alloc::Global;
 
 /// One level of a name (RFC 5280, 4.1.2.4), borrowed from the input.
@@ -121,24 +120,7 @@ impl<'a> Item for RelativeDistinguishedName<'a> {
     ghost item = { sequence_item ⟦<RelativeDistinguishedName<'a> as Described>⟧.element };
 }
 
-impl<'a, R: Lends<Borrowed = &'a [u8]>> DecodeItem<R> for RelativeDistinguishedName<'a> {
-    ghost is_item = { sequence_is_item
+impl<'a> LawfulItem for RelativeDistinguishedName<'a> {
+    ghost is_lawful_item = { is_lawful_item
         ⟦<RelativeDistinguishedName<'a> as Described>⟧.element refl };
-
-    ghost decodes_items = { decodes_same (sequence_item
-        ⟦<RelativeDistinguishedName<'a> as Described>⟧.element) };
-}
-
-impl<'a> BorrowedItem for RelativeDistinguishedName<'a> {
-    ghost borrowed = { refl };
-}
-
-impl<'a> WrittenItem for RelativeDistinguishedName<'a> {
-    ghost written = { λ v. refl };
-
-    ghost writes_valid = { λ v is. is };
-}
-
-impl<'a> Nestable for RelativeDistinguishedName<'a> {
-    ghost nestable = { Prim.omega arith };
 }

@@ -2,10 +2,9 @@
 //!
 //! RevokedCertificate.
 ghost use Rattle.std.specs.Prelude.{◌≡◌};
-ghost use Rattle.std.proofs.Common.{arith, refl};
+ghost use Rattle.std.proofs.Common.{refl};
 ghost use Rattle.der.specs.Prelude.{map_ok};
-ghost use Rattle.der_asn1.specs.Item.{decodes_same};
-ghost use Rattle.der_asn1.specs.Meaning.{alternative, field, optional, sequence, sequence_is_item, sequence_item};
+ghost use Rattle.der_asn1.specs.Meaning.{alternative, field, is_lawful_item, optional, sequence, sequence_item};
 ghost use Rattle.der_asn1.specs.TupleFields.{three_fields};
 
 use crate::asn1::certificate_serial_number::CertificateSerialNumber;
@@ -15,9 +14,7 @@ use der::{
     Decode, DecodeValue, Encode, Error, FieldsCall, FromFields, HasFields, Header, IsValue, Lends,
     Reader, Sequence, SliceReader, decode_sequence, field_refs,
 };
-use der_asn1::{
-    BorrowedItem, DecodeItem, Described, DescribedChoice, Item, Nestable, Optional, WrittenItem,
-};
+use der_asn1::{Described, DescribedChoice, Item, LawfulItem, Optional};
 use std::alloc::Global;
 
 /// An entry of a revocation list (RFC 5280, 5.1.2.6), borrowed from the input.
@@ -120,23 +117,6 @@ impl<'a> Item for RevokedCertificate<'a> {
     ghost item = { sequence_item ⟦<RevokedCertificate<'a> as Described>⟧.element };
 }
 
-impl<'a, R: Lends<Borrowed = &'a [u8]>> DecodeItem<R> for RevokedCertificate<'a> {
-    ghost is_item = { sequence_is_item ⟦<RevokedCertificate<'a> as Described>⟧.element refl };
-
-    ghost decodes_items = { decodes_same (sequence_item
-        ⟦<RevokedCertificate<'a> as Described>⟧.element) };
-}
-
-impl<'a> BorrowedItem for RevokedCertificate<'a> {
-    ghost borrowed = { refl };
-}
-
-impl<'a> WrittenItem for RevokedCertificate<'a> {
-    ghost written = { λ v. refl };
-
-    ghost writes_valid = { λ v is. is };
-}
-
-impl<'a> Nestable for RevokedCertificate<'a> {
-    ghost nestable = { Prim.omega arith };
+impl<'a> LawfulItem for RevokedCertificate<'a> {
+    ghost is_lawful_item = { is_lawful_item ⟦<RevokedCertificate<'a> as Described>⟧.element refl };
 }

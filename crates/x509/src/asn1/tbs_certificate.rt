@@ -2,10 +2,9 @@
 //!
 //! TbsCertificate.
 ghost use Rattle.std.specs.Prelude.{◌≡◌};
-ghost use Rattle.std.proofs.Common.{arith, refl};
+ghost use Rattle.std.proofs.Common.{refl};
 ghost use Rattle.der.specs.Prelude.{map_ok};
-ghost use Rattle.der_asn1.specs.Item.{decodes_same};
-ghost use Rattle.der_asn1.specs.Meaning.{alternative, defaulted, field, optional, sequence, sequence_is_item, sequence_item};
+ghost use Rattle.der_asn1.specs.Meaning.{alternative, defaulted, field, is_lawful_item, optional, sequence, sequence_item};
 ghost use Rattle.der_asn1.specs.TupleFields.{ten_fields};
 
 use crate::Version;
@@ -18,8 +17,8 @@ use der::{
     Reader, Sequence, SliceReader, decode_sequence, field_refs,
 };
 use der_asn1::{
-    BitStringRef, BorrowedItem, DecodeItem, DefaultValue, Defaulted, Described, Explicit, Implicit,
-    Item, Nestable, Optional, WrittenItem,
+    BitStringRef, DefaultValue, Defaulted, Described, Explicit, Implicit, Item, LawfulItem,
+    Optional,
 };
 use spki::{AlgorithmIdentifierRef, SubjectPublicKeyInfoRef};
 use std::alloc::Global;
@@ -202,23 +201,6 @@ impl<'a> Item for TbsCertificate<'a> {
     ghost item = { sequence_item ⟦<TbsCertificate<'a> as Described>⟧.element };
 }
 
-impl<'a, R: Lends<Borrowed = &'a [u8]>> DecodeItem<R> for TbsCertificate<'a> {
-    ghost is_item = { sequence_is_item ⟦<TbsCertificate<'a> as Described>⟧.element refl };
-
-    ghost decodes_items = { decodes_same (sequence_item
-        ⟦<TbsCertificate<'a> as Described>⟧.element) };
-}
-
-impl<'a> BorrowedItem for TbsCertificate<'a> {
-    ghost borrowed = { refl };
-}
-
-impl<'a> WrittenItem for TbsCertificate<'a> {
-    ghost written = { λ v. refl };
-
-    ghost writes_valid = { λ v is. is };
-}
-
-impl<'a> Nestable for TbsCertificate<'a> {
-    ghost nestable = { Prim.omega arith };
+impl<'a> LawfulItem for TbsCertificate<'a> {
+    ghost is_lawful_item = { is_lawful_item ⟦<TbsCertificate<'a> as Described>⟧.element refl };
 }

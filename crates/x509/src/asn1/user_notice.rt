@@ -2,10 +2,9 @@
 //!
 //! UserNotice.
 ghost use Rattle.std.specs.Prelude.{◌≡◌};
-ghost use Rattle.std.proofs.Common.{arith, refl};
+ghost use Rattle.std.proofs.Common.{refl};
 ghost use Rattle.der.specs.Prelude.{map_ok};
-ghost use Rattle.der_asn1.specs.Item.{decodes_same};
-ghost use Rattle.der_asn1.specs.Meaning.{alternative, optional, sequence, sequence_is_item, sequence_item, two_fields};
+ghost use Rattle.der_asn1.specs.Meaning.{alternative, is_lawful_item, optional, sequence, sequence_item, two_fields};
 
 use crate::asn1::display_text::DisplayText;
 use crate::asn1::notice_reference::NoticeReference;
@@ -13,9 +12,7 @@ use der::{
     Decode, DecodeValue, Encode, Error, FieldsCall, FromFields, HasFields, Header, IsValue, Lends,
     Reader, Sequence, SliceReader, decode_sequence, field_refs,
 };
-use der_asn1::{
-    BorrowedItem, DecodeItem, Described, DescribedChoice, Item, Nestable, Optional, WrittenItem,
-};
+use der_asn1::{Described, DescribedChoice, Item, LawfulItem, Optional};
 use std::alloc::Global;
 
 /// A notice to the user of a certificate (RFC 5280, 4.2.1.4), borrowed from the input.
@@ -105,22 +102,6 @@ impl<'a> Item for UserNotice<'a> {
     ghost item = { sequence_item ⟦<UserNotice<'a> as Described>⟧.element };
 }
 
-impl<'a, R: Lends<Borrowed = &'a [u8]>> DecodeItem<R> for UserNotice<'a> {
-    ghost is_item = { sequence_is_item ⟦<UserNotice<'a> as Described>⟧.element refl };
-
-    ghost decodes_items = { decodes_same (sequence_item ⟦<UserNotice<'a> as Described>⟧.element) };
-}
-
-impl<'a> BorrowedItem for UserNotice<'a> {
-    ghost borrowed = { refl };
-}
-
-impl<'a> WrittenItem for UserNotice<'a> {
-    ghost written = { λ v. refl };
-
-    ghost writes_valid = { λ v is. is };
-}
-
-impl<'a> Nestable for UserNotice<'a> {
-    ghost nestable = { Prim.omega arith };
+impl<'a> LawfulItem for UserNotice<'a> {
+    ghost is_lawful_item = { is_lawful_item ⟦<UserNotice<'a> as Described>⟧.element refl };
 }

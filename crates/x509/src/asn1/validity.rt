@@ -2,17 +2,16 @@
 //!
 //! Validity.
 ghost use Rattle.std.specs.Prelude.{◌≡◌};
-ghost use Rattle.std.proofs.Common.{arith, refl};
+ghost use Rattle.std.proofs.Common.{refl};
 ghost use Rattle.der.specs.Prelude.{map_ok};
-ghost use Rattle.der_asn1.specs.Item.{decodes_same};
-ghost use Rattle.der_asn1.specs.Meaning.{alternative, field, sequence, sequence_is_item, sequence_item, two_fields};
+ghost use Rattle.der_asn1.specs.Meaning.{alternative, field, is_lawful_item, sequence, sequence_item, two_fields};
 
 use crate::asn1::time::Time;
 use der::{
     Decode, DecodeValue, Encode, Error, FieldsCall, FromFields, HasFields, Header, IsValue, Lends,
     Reader, Sequence, SliceReader, decode_sequence, field_refs,
 };
-use der_asn1::{BorrowedItem, DecodeItem, Described, DescribedChoice, Item, Nestable, WrittenItem};
+use der_asn1::{Described, DescribedChoice, Item, LawfulItem};
 use std::alloc::Global;
 
 /// The period in which a certificate is valid (RFC 5280, 4.1.2.5). It includes both times.
@@ -98,22 +97,6 @@ impl Item for Validity {
     ghost item = { sequence_item ⟦<Validity as Described>⟧.element };
 }
 
-impl<'a, R: Lends<Borrowed = &'a [u8]>> DecodeItem<R> for Validity {
-    ghost is_item = { sequence_is_item ⟦<Validity as Described>⟧.element refl };
-
-    ghost decodes_items = { decodes_same (sequence_item ⟦<Validity as Described>⟧.element) };
-}
-
-impl<'a> BorrowedItem for Validity {
-    ghost borrowed = { refl };
-}
-
-impl WrittenItem for Validity {
-    ghost written = { λ v. refl };
-
-    ghost writes_valid = { λ v is. is };
-}
-
-impl Nestable for Validity {
-    ghost nestable = { Prim.omega arith };
+impl LawfulItem for Validity {
+    ghost is_lawful_item = { is_lawful_item ⟦<Validity as Described>⟧.element refl };
 }

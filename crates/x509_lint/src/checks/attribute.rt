@@ -1,5 +1,5 @@
 //! Checks of one attribute of a name (RFC 5280, 4.1.2.4 and A.1).
-ghost use Rattle.std.specs.Prelude.{◌≡◌, ◌⊎◌, ◌↔◌, ◌<◌, ℕ, true, IfSome, IfNone, count_by};
+ghost use Rattle.std.specs.Prelude.{◌≡◌, ◌⊎◌, ◌↔◌, ◌<◌, ℕ, IfSome, IfNone, count_by, IsTrue};
 ghost use Rattle.x509_lint.specs.AttributeChecks.{AreCharactersOf, HasCharactersOfTag, HasLengthOfType, HasTypeOfAttribute, IsWithin};
 ghost use Rattle.x509_lint.specs.AttributeChecks.{allows_tag, begins_character, bounds_of, character_count, domain_component, email_address, id_at, is_directory_tag, is_ia5_tag, is_printable_tag};
 
@@ -15,7 +15,7 @@ use x509::values::{id_domain_component, id_email_address};
 /// Whether the number of characters of the value is within the bounds of RFC 5280, A.1, for the
 /// type of the attribute. True if A.1 has no bounds for the type. Decoding does not check this.
 pub fn has_length_of_type(attribute: &AttributeTypeAndValue<'_>) -> bool
-    ensures { (result ≡ true) ↔ HasLengthOfType attribute.now }
+    ensures { IsTrue result ↔ HasLengthOfType attribute.now }
 {
     let count = character_count(attribute.value.tag, attribute.value.contents);
     let id = attribute.oid.octets();
@@ -28,7 +28,7 @@ pub fn has_length_of_type(attribute: &AttributeTypeAndValue<'_>) -> bool
 /// Whether all characters of the value belong to the string type that its tag names (X.680 41).
 /// Also true if the value is not a string. Decoding does not check this.
 pub fn has_characters_of_tag(attribute: &AttributeTypeAndValue<'_>) -> bool
-    ensures { (result ≡ true) ↔ HasCharactersOfTag attribute.now }
+    ensures { IsTrue result ↔ HasCharactersOfTag attribute.now }
 {
     are_characters_of(attribute.value.tag, attribute.value.contents)
 }
@@ -36,7 +36,7 @@ pub fn has_characters_of_tag(attribute: &AttributeTypeAndValue<'_>) -> bool
 /// Whether the value has a string type that RFC 5280, A.1, allows for the type of the attribute.
 /// Decoding does not check this.
 pub fn has_type_of_attribute(attribute: &AttributeTypeAndValue<'_>) -> bool
-    ensures { (result ≡ true) ↔ HasTypeOfAttribute attribute.now }
+    ensures { IsTrue result ↔ HasTypeOfAttribute attribute.now }
 {
     let id = attribute.oid.octets();
     match arc_of(id) {
@@ -46,7 +46,7 @@ pub fn has_type_of_attribute(attribute: &AttributeTypeAndValue<'_>) -> bool
 }
 
 fn is_ia5_type(id: &[u8]) -> bool
-    ensures { (result ≡ true) ↔ ((id.now ≡ email_address) ⊎ (id.now ≡ domain_component)) }
+    ensures { IsTrue result ↔ ((id.now ≡ email_address) ⊎ (id.now ≡ domain_component)) }
 {
     is(id, &id_email_address()) || is(id, &id_domain_component())
 }
@@ -84,7 +84,7 @@ fn is_ia5_tag(tag: Tag) -> bool
 }
 
 fn are_characters_of(tag: Tag, octets: &[u8]) -> bool
-    ensures { (result ≡ true) ↔ AreCharactersOf tag octets.now }
+    ensures { IsTrue result ↔ AreCharactersOf tag octets.now }
 {
     match tag {
         Tag::PrintableString => PrintableStringRef::new(octets).is_some(),
@@ -122,7 +122,7 @@ fn bounds_of(arc: u8) -> Option<(usize, usize)>
 }
 
 fn is_within(bounds: Option<(usize, usize)>, count: usize) -> bool
-    ensures { (result ≡ true) ↔ IsWithin bounds count }
+    ensures { IsTrue result ↔ IsWithin bounds count }
 {
     match bounds {
         Some((least, most)) => least <= count && count <= most,

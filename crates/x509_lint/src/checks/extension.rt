@@ -1,5 +1,5 @@
 //! Checks of one extension (RFC 5280, 4.2).
-ghost use Rattle.std.specs.Prelude.{◌≡◌, ◌↔◌, true};
+ghost use Rattle.std.specs.Prelude.{◌↔◌, true, IsTrue};
 ghost use Rattle.x509_lint.specs.ExtensionChecks.{HasUsageIfKeyUsage, IsCriticalIfAuthority, IsCriticalIfRequired, IsNotCriticalIfForbidden, IsNotEmpty};
 ghost use Rattle.x509_lint.specs.ExtensionChecks.{IsAccess, IsListOfNames, IsListOfPlaces, IsListOfPolicies, MustBeCritical, MustNotBeCritical, MustNotBeEmpty};
 
@@ -19,7 +19,7 @@ use x509::values::{
 /// Otherwise true. The requirement is for nameConstraints, policyConstraints and inhibitAnyPolicy
 /// (4.2.1.10, 4.2.1.11, 4.2.1.14). Decoding does not check this.
 pub fn is_critical_if_required(extension: &Extension<'_>) -> bool
-    ensures { (result ≡ true) ↔ IsCriticalIfRequired extension.now }
+    ensures { IsTrue result ↔ IsCriticalIfRequired extension.now }
 {
     extension.is_critical() || !must_be_critical(extension.extn_id.octets())
 }
@@ -32,7 +32,7 @@ pub fn is_critical_if_required(extension: &Extension<'_>) -> bool
 /// - freshestCRL (4.2.1.15);
 /// - authorityInfoAccess and subjectInfoAccess (4.2.2).
 pub fn is_not_critical_if_forbidden(extension: &Extension<'_>) -> bool
-    ensures { (result ≡ true) ↔ IsNotCriticalIfForbidden extension.now }
+    ensures { IsTrue result ↔ IsNotCriticalIfForbidden extension.now }
 {
     !extension.is_critical() || !must_not_be_critical(extension.extn_id.octets())
 }
@@ -40,7 +40,7 @@ pub fn is_not_critical_if_forbidden(extension: &Extension<'_>) -> bool
 /// False if the value is an empty SEQUENCE, and RFC 5280, 4.2, requires that this SEQUENCE has an
 /// element. Otherwise true. Decoding does not check this.
 pub fn is_not_empty(extension: &Extension<'_>) -> bool
-    ensures { (result ≡ true) ↔ IsNotEmpty extension.now }
+    ensures { IsTrue result ↔ IsNotEmpty extension.now }
 {
     extension.extn_value.octets() != [0x30, 0x00].as_slice()
         || !must_not_be_empty(extension.extn_id.octets())
@@ -49,7 +49,7 @@ pub fn is_not_empty(extension: &Extension<'_>) -> bool
 /// False if the extension is a keyUsage and none of its bits is one (RFC 5280, 4.2.1.3). Otherwise
 /// true. Decoding does not check this. The function does not use `alloc`.
 pub fn has_usage_if_key_usage(alloc: Global, extension: &Extension<'_>) -> bool
-    ensures { (result ≡ true) ↔ HasUsageIfKeyUsage extension.now }
+    ensures { IsTrue result ↔ HasUsageIfKeyUsage extension.now }
 {
     !is(extension.extn_id.octets(), &id_ce_key_usage())
         || has_usage(alloc, extension.extn_value.octets())
@@ -59,7 +59,7 @@ pub fn has_usage_if_key_usage(alloc: Global, extension: &Extension<'_>) -> bool
 /// (RFC 5280, 4.2.1.9). Otherwise true. Decoding does not check this. The function does not use
 /// `alloc`.
 pub fn is_critical_if_authority(alloc: Global, extension: &Extension<'_>) -> bool
-    ensures { (result ≡ true) ↔ IsCriticalIfAuthority extension.now }
+    ensures { IsTrue result ↔ IsCriticalIfAuthority extension.now }
 {
     extension.is_critical()
         || !is(extension.extn_id.octets(), &id_ce_basic_constraints())
@@ -67,7 +67,7 @@ pub fn is_critical_if_authority(alloc: Global, extension: &Extension<'_>) -> boo
 }
 
 fn must_be_critical(id: &[u8]) -> bool
-    ensures { (result ≡ true) ↔ MustBeCritical id.now }
+    ensures { IsTrue result ↔ MustBeCritical id.now }
 {
     is(id, &id_ce_name_constraints())
         || is(id, &id_ce_policy_constraints())
@@ -75,7 +75,7 @@ fn must_be_critical(id: &[u8]) -> bool
 }
 
 fn must_not_be_critical(id: &[u8]) -> bool
-    ensures { (result ≡ true) ↔ MustNotBeCritical id.now }
+    ensures { IsTrue result ↔ MustNotBeCritical id.now }
 {
     is(id, &id_ce_authority_key_identifier())
         || is(id, &id_ce_subject_key_identifier())
@@ -86,20 +86,20 @@ fn must_not_be_critical(id: &[u8]) -> bool
 
 // Whether the identifier is that of authorityInfoAccess or subjectInfoAccess.
 pub(crate) fn is_access(id: &[u8]) -> bool
-    ensures { (result ≡ true) ↔ IsAccess id.now }
+    ensures { IsTrue result ↔ IsAccess id.now }
 {
     is(id, &id_pe_authority_info_access()) || is(id, &id_pe_subject_info_access())
 }
 
 fn must_not_be_empty(id: &[u8]) -> bool
-    ensures { (result ≡ true) ↔ MustNotBeEmpty id.now }
+    ensures { IsTrue result ↔ MustNotBeEmpty id.now }
 {
     is_list_of_names(id) || is_list_of_policies(id) || is_list_of_places(id) || is_access(id)
 }
 
 // Whether the identifier is that of a list of names or attributes.
 fn is_list_of_names(id: &[u8]) -> bool
-    ensures { (result ≡ true) ↔ IsListOfNames id.now }
+    ensures { IsTrue result ↔ IsListOfNames id.now }
 {
     is(id, &id_ce_subject_alt_name())
         || is(id, &id_ce_issuer_alt_name())
@@ -109,7 +109,7 @@ fn is_list_of_names(id: &[u8]) -> bool
 
 // Whether the identifier is that of a list of policies or purposes.
 fn is_list_of_policies(id: &[u8]) -> bool
-    ensures { (result ≡ true) ↔ IsListOfPolicies id.now }
+    ensures { IsTrue result ↔ IsListOfPolicies id.now }
 {
     is(id, &id_ce_certificate_policies())
         || is(id, &id_ce_policy_mappings())
@@ -119,7 +119,7 @@ fn is_list_of_policies(id: &[u8]) -> bool
 
 // Whether the identifier is that of a list of places of revocation lists.
 fn is_list_of_places(id: &[u8]) -> bool
-    ensures { (result ≡ true) ↔ IsListOfPlaces id.now }
+    ensures { IsTrue result ↔ IsListOfPlaces id.now }
 {
     is(id, &id_ce_c_rl_distribution_points()) || is(id, &id_ce_freshest_crl())
 }

@@ -1,5 +1,5 @@
 //! Checks of all extensions of a certificate (RFC 5280, 4.2).
-ghost use Rattle.std.specs.Prelude.{◌≡◌, ◌↔◌, true};
+ghost use Rattle.std.specs.Prelude.{◌≡◌, ◌↔◌, IsTrue};
 ghost use Rattle.x509_lint.specs.CertificateChecks.{ExtensionKeeps, ExtensionsKeep};
 ghost use Rattle.x509.specs.CertificateLists.{AreExtensions};
 ghost use Rattle.x509_lint.specs.ExtensionChecks.{instances};
@@ -36,7 +36,7 @@ pub fn first_failing_extension(
 
 /// Whether all extensions keep the rule. This does not use `alloc`.
 pub fn extensions_keep(alloc: Global, extensions: &Extensions<'_>, rule: ExtensionRule) -> bool
-    ensures { (result ≡ true) ↔ ExtensionsKeep rule extensions.now }
+    ensures { IsTrue result ↔ ExtensionsKeep rule extensions.now }
 {
     first_failing_extension(alloc, extensions, rule).is_none()
 }
@@ -63,7 +63,7 @@ fn extension_keeps(
     rule: ExtensionRule,
 ) -> bool
     ensures { (l : AreExtensions extensions.now)
-        → ((result ≡ true) ↔ ExtensionKeeps rule l.items extension.now) }
+        → (IsTrue result ↔ ExtensionKeeps rule l.items extension.now) }
 {
     match rule {
         ExtensionRule::Instances => instances(alloc, extensions, extension.extn_id.octets()) <= 1,

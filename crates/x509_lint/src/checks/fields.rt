@@ -1,5 +1,5 @@
 //! Checks of components inside the values of extensions.
-ghost use Rattle.std.specs.Prelude.{◌≡◌, ◌↔◌, true};
+ghost use Rattle.std.specs.Prelude.{◌↔◌, IsTrue};
 ghost use Rattle.der.specs.Prelude.{Tag as ATag};
 ghost use Rattle.x509_lint.specs.Elements.{EachOfSequence};
 ghost use Rattle.x509_lint.specs.FieldRules.{BasesKeep, InnerKeeps, NoticeKeeps, PointKeeps, PolicyKeeps};
@@ -20,7 +20,7 @@ use std::alloc::Global;
 /// Whether the qualifiers in the value of a certificatePolicies keep the rule (RFC 5280, 4.2.1.4).
 /// This does not use `alloc`.
 pub fn policies_keep(alloc: Global, value: &[u8], rule: PolicyRule) -> bool
-    ensures { (result ≡ true) ↔ PolicyKeeps rule value.now }
+    ensures { IsTrue result ↔ PolicyKeeps rule value.now }
 {
     match rule {
         PolicyRule::Qualifiers => has_known_qualifiers(alloc, value),
@@ -31,7 +31,7 @@ pub fn policies_keep(alloc: Global, value: &[u8], rule: PolicyRule) -> bool
 }
 
 fn has_known_qualifiers(alloc: Global, value: &[u8]) -> bool
-    ensures { (result ≡ true) ↔ PolicyKeeps PolicyRule.Qualifiers value.now }
+    ensures { IsTrue result ↔ PolicyKeeps PolicyRule.Qualifiers value.now }
 {
     let test = GuardTest {
         guard: PartTest::NotAnyPolicy,
@@ -47,14 +47,14 @@ fn has_known_qualifiers(alloc: Global, value: &[u8]) -> bool
 }
 
 fn has_texts_of_type(alloc: Global, value: &[u8]) -> bool
-    ensures { (result ≡ true) ↔ PolicyKeeps PolicyRule.TextTypes value.now }
+    ensures { IsTrue result ↔ PolicyKeeps PolicyRule.TextTypes value.now }
 {
     notices_keep(alloc, value, PartTest::NotTagged(Tag::Ia5String))
 }
 
 // Whether each field of a user notice keeps the test.
 fn notices_keep(alloc: Global, value: &[u8], test: PartTest) -> bool
-    ensures { (result ≡ true)
+    ensures { IsTrue result
         ↔ EachOfSequence (InnerKeeps (NoticeKeeps (PartKeeps test))) value.now }
 {
     let notice = GuardTest {
@@ -75,7 +75,7 @@ fn notices_keep(alloc: Global, value: &[u8], test: PartTest) -> bool
 }
 
 fn has_pointers(alloc: Global, value: &[u8]) -> bool
-    ensures { (result ≡ true) ↔ PolicyKeeps PolicyRule.Pointers value.now }
+    ensures { IsTrue result ↔ PolicyKeeps PolicyRule.Pointers value.now }
 {
     let pointer = GuardTest {
         guard: PartTest::Other(Identifier::CpsPointer),
@@ -94,7 +94,7 @@ fn has_pointers(alloc: Global, value: &[u8]) -> bool
 /// Whether the distribution points in the value of a cRLDistributionPoints or a freshestCRL keep
 /// the rule (RFC 5280, 4.2.1.13). This does not use `alloc`.
 pub fn points_keep(alloc: Global, value: &[u8], rule: PointRule) -> bool
-    ensures { (result ≡ true) ↔ PointKeeps rule value.now }
+    ensures { IsTrue result ↔ PointKeeps rule value.now }
 {
     match rule {
         PointRule::Scheme => has_schemes(alloc, value),
@@ -104,7 +104,7 @@ pub fn points_keep(alloc: Global, value: &[u8], rule: PointRule) -> bool
 }
 
 fn has_schemes(alloc: Global, value: &[u8]) -> bool
-    ensures { (result ≡ true) ↔ PointKeeps PointRule.Scheme value.now }
+    ensures { IsTrue result ↔ PointKeeps PointRule.Scheme value.now }
 {
     let names = InsideTest {
         tag: context(true, 0),
@@ -118,7 +118,7 @@ fn has_schemes(alloc: Global, value: &[u8]) -> bool
 }
 
 fn has_issuer_names(alloc: Global, value: &[u8]) -> bool
-    ensures { (result ≡ true) ↔ PointKeeps PointRule.IssuerName value.now }
+    ensures { IsTrue result ↔ PointKeeps PointRule.IssuerName value.now }
 {
     let fields = InsideTest {
         tag: context(true, 2),
@@ -128,7 +128,7 @@ fn has_issuer_names(alloc: Global, value: &[u8]) -> bool
 }
 
 fn has_one_issuer(alloc: Global, value: &[u8]) -> bool
-    ensures { (result ≡ true) ↔ PointKeeps PointRule.OneIssuer value.now }
+    ensures { IsTrue result ↔ PointKeeps PointRule.OneIssuer value.now }
 {
     let full_name = InsideTest {
         tag: context(true, 0),
@@ -144,7 +144,7 @@ fn has_one_issuer(alloc: Global, value: &[u8]) -> bool
 /// Whether the bases of the subtrees in the value of a nameConstraints keep the rule (RFC 5280,
 /// 4.2.1.10). This does not use `alloc`.
 pub fn bases_keep(alloc: Global, value: &[u8], rule: BaseRule) -> bool
-    ensures { (result ≡ true) ↔ BasesKeep rule value.now }
+    ensures { IsTrue result ↔ BasesKeep rule value.now }
 {
     let subtree = InsideTest {
         tag: Tag::Sequence,

@@ -1,5 +1,5 @@
 //! Search for extensions of a given kind in a certificate.
-ghost use Rattle.std.specs.Prelude.{◌≡◌, ◌↔◌, true};
+ghost use Rattle.std.specs.Prelude.{◌↔◌, IsTrue};
 ghost use Rattle.der.specs.Prelude.{Integer};
 ghost use Rattle.x509_lint.specs.CertificateChecks.{IsPresent};
 ghost use Rattle.x509_lint.specs.ExtensionTests.{HasFound, IsFound, given_of, wanted_of};
@@ -22,7 +22,7 @@ use x509::{Extension, Extensions, TbsCertificate};
 /// Whether the certificate keeps the rule, which is about two extensions. The certificate must have
 /// the second extension, if it has the first. The function does not use `alloc`.
 pub fn has_pair(alloc: Global, signed: &TbsCertificate<'_>, rule: PairRule) -> bool
-    ensures { (result ≡ true)
+    ensures { IsTrue result
         ↔ (IsPresent (given_of rule) signed.now → IsPresent (wanted_of rule) signed.now) }
 {
     !is_present(alloc, signed, rule.given()) || is_present(alloc, signed, rule.wanted())
@@ -30,7 +30,7 @@ pub fn has_pair(alloc: Global, signed: &TbsCertificate<'_>, rule: PairRule) -> b
 
 /// Whether the certificate has an extension of the kind `test`. This does not use `alloc`.
 pub fn is_present(alloc: Global, signed: &TbsCertificate<'_>, test: ExtensionTest) -> bool
-    ensures { (result ≡ true) ↔ IsPresent test signed.now }
+    ensures { IsTrue result ↔ IsPresent test signed.now }
 {
     match &signed.extensions.0 {
         Some(extensions) => has_extension(alloc, &extensions.0, test),
@@ -40,7 +40,7 @@ pub fn is_present(alloc: Global, signed: &TbsCertificate<'_>, test: ExtensionTes
 
 /// Whether one of the extensions is of the kind `test`. This does not use `alloc`.
 pub fn has_extension(alloc: Global, extensions: &Extensions<'_>, test: ExtensionTest) -> bool
-    ensures { (result ≡ true) ↔ HasFound test extensions.now }
+    ensures { IsTrue result ↔ HasFound test extensions.now }
 {
     for extension in extensions.items.iter(alloc) {
         if is_found(alloc, &extension, test) {
@@ -52,7 +52,7 @@ pub fn has_extension(alloc: Global, extensions: &Extensions<'_>, test: Extension
 
 // Whether the extension is looked for.
 fn is_found(alloc: Global, extension: &Extension<'_>, test: ExtensionTest) -> bool
-    ensures { (result ≡ true) ↔ IsFound test extension.now }
+    ensures { IsTrue result ↔ IsFound test extension.now }
 {
     let id = extension.extn_id.octets();
     let value = extension.extn_value.octets();

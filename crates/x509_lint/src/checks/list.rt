@@ -1,5 +1,5 @@
 //! Checks of revocation lists (RFC 5280, 5.1 to 5.3).
-ghost use Rattle.std.specs.Prelude.{◌≡◌, ◌↔◌, true};
+ghost use Rattle.std.specs.Prelude.{◌↔◌, IsTrue};
 ghost use Rattle.x509_lint.specs.CertificateChecks.{ExtensionsKeep};
 ghost use Rattle.x509_lint.specs.ListRules.{EntriesKeep, HasEntryVersion, HasFreshestOfComplete, HasInList, HasIssuerOfIndirect, HasListExtensionIfPresent, HasListTimes, HasListVersion, HasRemovedInChanges, HasRevokedIfPresent, HasSingleExtensions, ListKeeps};
 
@@ -19,7 +19,7 @@ use x509::{CertificateList, TbsCertList};
 
 /// Whether the revocation list keeps the rule. This does not use `alloc`.
 pub fn list_keeps(alloc: Global, list: &CertificateList<'_>, rule: ListRule) -> bool
-    ensures { (result ≡ true) ↔ ListKeeps rule list.now }
+    ensures { IsTrue result ↔ ListKeeps rule list.now }
 {
     let signed = &list.tbs_cert_list;
     match rule {
@@ -71,27 +71,27 @@ pub fn list_keeps(alloc: Global, list: &CertificateList<'_>, rule: ListRule) -> 
 
 // Whether the version is present, if an entry has extensions.
 fn has_entry_version(alloc: Global, signed: &TbsCertList<'_>) -> bool
-    ensures { (result ≡ true) ↔ HasEntryVersion signed.now }
+    ensures { IsTrue result ↔ HasEntryVersion signed.now }
 {
     entries_of_keep(alloc, signed, EntryTest::NoExtensions) || signed.version.0.is_some()
 }
 
 fn has_freshest_of_complete(alloc: Global, signed: &TbsCertList<'_>) -> bool
-    ensures { (result ≡ true) ↔ HasFreshestOfComplete signed.now }
+    ensures { IsTrue result ↔ HasFreshestOfComplete signed.now }
 {
     !has_in_list(alloc, signed, ExtensionTest::Freshest)
         || !has_in_list(alloc, signed, ExtensionTest::Delta)
 }
 
 fn has_removed_in_changes(alloc: Global, signed: &TbsCertList<'_>) -> bool
-    ensures { (result ≡ true) ↔ HasRemovedInChanges signed.now }
+    ensures { IsTrue result ↔ HasRemovedInChanges signed.now }
 {
     has_in_list(alloc, signed, ExtensionTest::Delta)
         || entries_of_keep(alloc, signed, EntryTest::NotRemoved)
 }
 
 fn has_issuer_of_indirect(alloc: Global, signed: &TbsCertList<'_>) -> bool
-    ensures { (result ≡ true) ↔ HasIssuerOfIndirect signed.now }
+    ensures { IsTrue result ↔ HasIssuerOfIndirect signed.now }
 {
     entries_of_keep(alloc, signed, EntryTest::NoIssuer)
         || has_in_list(alloc, signed, ExtensionTest::IndirectPoint)
@@ -99,7 +99,7 @@ fn has_issuer_of_indirect(alloc: Global, signed: &TbsCertList<'_>) -> bool
 
 // Whether all entries keep the test.
 fn entries_of_keep(alloc: Global, signed: &TbsCertList<'_>, test: EntryTest) -> bool
-    ensures { (result ≡ true) ↔ EntriesKeep test signed.now }
+    ensures { IsTrue result ↔ EntriesKeep test signed.now }
 {
     match &signed.revoked_certificates.0 {
         Some(revoked) => entries_keep(alloc, revoked.octets(), test),
@@ -109,7 +109,7 @@ fn entries_of_keep(alloc: Global, signed: &TbsCertList<'_>, test: EntryTest) -> 
 
 // Whether the version is 2, if it is present, and present with extensions.
 fn has_list_version(signed: &TbsCertList<'_>) -> bool
-    ensures { (result ≡ true) ↔ HasListVersion signed.now }
+    ensures { IsTrue result ↔ HasListVersion signed.now }
 {
     match &signed.version.0 {
         Some(version) => number_of(version.octets()) == 1,
@@ -118,7 +118,7 @@ fn has_list_version(signed: &TbsCertList<'_>) -> bool
 }
 
 fn has_list_times(signed: &TbsCertList<'_>) -> bool
-    ensures { (result ≡ true) ↔ HasListTimes signed.now }
+    ensures { IsTrue result ↔ HasListTimes signed.now }
 {
     match &signed.next_update.0 {
         Some(next) => has_form_of_year(&signed.this_update) && has_form_of_year(next),
@@ -127,7 +127,7 @@ fn has_list_times(signed: &TbsCertList<'_>) -> bool
 }
 
 fn has_revoked_if_present(signed: &TbsCertList<'_>) -> bool
-    ensures { (result ≡ true) ↔ HasRevokedIfPresent signed.now }
+    ensures { IsTrue result ↔ HasRevokedIfPresent signed.now }
 {
     match &signed.revoked_certificates.0 {
         Some(revoked) => has_item(revoked),
@@ -136,7 +136,7 @@ fn has_revoked_if_present(signed: &TbsCertList<'_>) -> bool
 }
 
 fn has_list_extension_if_present(signed: &TbsCertList<'_>) -> bool
-    ensures { (result ≡ true) ↔ HasListExtensionIfPresent signed.now }
+    ensures { IsTrue result ↔ HasListExtensionIfPresent signed.now }
 {
     match &signed.crl_extensions.0 {
         Some(extensions) => has_item(&extensions.0.items),
@@ -145,7 +145,7 @@ fn has_list_extension_if_present(signed: &TbsCertList<'_>) -> bool
 }
 
 fn has_single_extensions(alloc: Global, signed: &TbsCertList<'_>) -> bool
-    ensures { (result ≡ true) ↔ HasSingleExtensions signed.now }
+    ensures { IsTrue result ↔ HasSingleExtensions signed.now }
 {
     match &signed.crl_extensions.0 {
         Some(extensions) => extensions_keep(alloc, &extensions.0, ExtensionRule::Instances),
@@ -155,7 +155,7 @@ fn has_single_extensions(alloc: Global, signed: &TbsCertList<'_>) -> bool
 
 // Whether the list has such an extension.
 fn has_in_list(alloc: Global, signed: &TbsCertList<'_>, test: ExtensionTest) -> bool
-    ensures { (result ≡ true) ↔ HasInList test signed.now }
+    ensures { IsTrue result ↔ HasInList test signed.now }
 {
     match &signed.crl_extensions.0 {
         Some(extensions) => has_extension(alloc, &extensions.0, test),

@@ -1,5 +1,5 @@
 //! Checks of the RelativeDistinguishedNames of a name (RFC 5280, 4.1.2.4).
-ghost use Rattle.std.specs.Prelude.{◌≡◌, ◌↔◌, true};
+ghost use Rattle.std.specs.Prelude.{◌↔◌, IsTrue};
 ghost use Rattle.x509.specs.CertificateLists.{AreAttributes, AreLevels, level_octets};
 ghost use Rattle.x509.specs.Firsts.{FirstFailing};
 ghost use Rattle.x509_lint.specs.NameChecks.{AttributeKeeps, FirstFailingAttribute, LevelKeeps, NameKeeps};
@@ -49,14 +49,14 @@ pub fn first_failing_attribute(
 
 /// Whether all RelativeDistinguishedNames of the name keep the rule. This does not use `alloc`.
 pub fn name_keeps(alloc: Global, name: &Name<'_>, rule: NameRule) -> bool
-    ensures { (result ≡ true) ↔ NameKeeps rule name.now }
+    ensures { IsTrue result ↔ NameKeeps rule name.now }
 {
     first_failing_level(alloc, name, rule).is_none()
 }
 
 /// Whether the RelativeDistinguishedName keeps the rule. This does not use `alloc`.
 pub fn level_keeps(alloc: Global, level: &RelativeDistinguishedName<'_>, rule: NameRule) -> bool
-    ensures { (result ≡ true) ↔ LevelKeeps rule level.now }
+    ensures { IsTrue result ↔ LevelKeeps rule level.now }
 {
     match rule {
         NameRule::Levels => has_attribute(level),
@@ -86,7 +86,7 @@ pub fn first_failing_of_level(
 
 /// Whether the attribute keeps the rule.
 pub fn attribute_keeps(attribute: &AttributeTypeAndValue<'_>, rule: AttributeRule) -> bool
-    ensures { (result ≡ true) ↔ AttributeKeeps rule attribute.now }
+    ensures { IsTrue result ↔ AttributeKeeps rule attribute.now }
 {
     match rule {
         AttributeRule::Length => has_length_of_type(attribute),

@@ -1,5 +1,5 @@
 //! Checks of certificate policies (RFC 5280, 4.2.1.4).
-ghost use Rattle.std.specs.Prelude.{◌≡◌, ◌↔◌, true};
+ghost use Rattle.std.specs.Prelude.{◌≡◌, ◌↔◌, IsTrue};
 ghost use Rattle.x509.specs.Firsts.{FirstFailing};
 ghost use Rattle.x509_lint.specs.PolicyChecks.{AreDistinctPolicies, ArePolicies, IsOnlyPolicy, policy_instances};
 
@@ -9,7 +9,7 @@ use x509::{CertificatePolicies, PolicyInformation};
 /// Whether no policy occurs twice (RFC 5280, 4.2.1.4). Decoding does not check this. The function
 /// does not use `alloc`.
 pub fn has_distinct_policies(alloc: Global, policies: &CertificatePolicies<'_>) -> bool
-    ensures { (result ≡ true) ↔ AreDistinctPolicies policies.now.octets.now }
+    ensures { IsTrue result ↔ AreDistinctPolicies policies.now.octets.now }
 {
     first_repeated_policy(alloc, policies).is_none()
 }
@@ -37,7 +37,7 @@ fn is_only(
     policy: &PolicyInformation<'_>,
 ) -> bool
     ensures { (l : ArePolicies policies.now.octets.now)
-        → ((result ≡ true) ↔ IsOnlyPolicy l.items policy.now) }
+        → (IsTrue result ↔ IsOnlyPolicy l.items policy.now) }
 {
     count_of_policy(alloc, policies, policy.policy_identifier.octets()) <= 1
 }

@@ -1,5 +1,5 @@
 //! Checks of the times of a certificate (RFC 5280, 4.1.2.5).
-ghost use Rattle.std.specs.Prelude.{◌≡◌, ◌↔◌, true};
+ghost use Rattle.std.specs.Prelude.{◌↔◌, IsTrue};
 ghost use Rattle.x509_lint.specs.ValidityChecks.{HasFormOfYear, HasFormsOfYears, IsOrdered};
 
 use std::cmp::Ordering;
@@ -8,7 +8,7 @@ use x509::{Time, Validity};
 /// Whether the time has the form that its year requires: UTCTime for the year 2049 and earlier
 /// years, GeneralizedTime from 2050 on (RFC 5280, 4.1.2.5). Decoding does not check this.
 pub fn has_form_of_year(time: &Time) -> bool
-    ensures { (result ≡ true) ↔ HasFormOfYear time.now }
+    ensures { IsTrue result ↔ HasFormOfYear time.now }
 {
     match time {
         Time::UtcTime(time) => time.date_time().year < 2050,
@@ -18,7 +18,7 @@ pub fn has_form_of_year(time: &Time) -> bool
 
 /// Whether both times have the form that their years require (RFC 5280, 4.1.2.5).
 pub fn has_forms_of_years(validity: &Validity) -> bool
-    ensures { (result ≡ true) ↔ HasFormsOfYears validity.now }
+    ensures { IsTrue result ↔ HasFormsOfYears validity.now }
 {
     has_form_of_year(&validity.not_before) && has_form_of_year(&validity.not_after)
 }
@@ -26,7 +26,7 @@ pub fn has_forms_of_years(validity: &Validity) -> bool
 /// Whether the period of validity does not end before it begins (RFC 5280, 4.1.2.5). Also true if
 /// it ends when it begins.
 pub fn is_ordered(validity: &Validity) -> bool
-    ensures { (result ≡ true) ↔ IsOrdered validity.now }
+    ensures { IsTrue result ↔ IsOrdered validity.now }
 {
     match validity
         .not_before

@@ -1,5 +1,5 @@
 //! Checks of the values of extensions (RFC 5280, 4.2.1 and 4.2.2).
-ghost use Rattle.std.specs.Prelude.{◌≡◌, ◌↔◌, ◌^◌, ◌<◌, length, false, true};
+ghost use Rattle.std.specs.Prelude.{◌≡◌, ◌↔◌, ◌^◌, ◌<◌, length, false, true, IsTrue};
 ghost use Rattle.der.specs.Prelude.{Integer};
 ghost use Rattle.der_asn1.specs.ContextSpecific.{context_tag};
 ghost use Rattle.x509.specs.ExtensionIdentifiers.{id_ce};
@@ -42,7 +42,7 @@ use x509::values::{
 /// of the extension, and `value` is the octets inside its OCTET STRING. True if the rule is for
 /// other extensions. The function does not use `alloc`.
 pub fn value_keeps(alloc: Global, id: &[u8], value: &[u8], rule: ValueRule) -> bool
-    ensures { (result ≡ true) ↔ ValueKeeps rule id.now value.now }
+    ensures { IsTrue result ↔ ValueKeeps rule id.now value.now }
 {
     let numbers = PartTest::NotNegative;
     match rule {
@@ -81,35 +81,35 @@ pub fn value_keeps(alloc: Global, id: &[u8], value: &[u8], rule: ValueRule) -> b
 
 // Whether the qualifiers of a certificatePolicies keep the rule.
 fn has_policies_of(alloc: Global, id: &[u8], value: &[u8], rule: PolicyRule) -> bool
-    ensures { (result ≡ true) ↔ (id.now ≡ id_ce 32 → PolicyKeeps rule value.now) }
+    ensures { IsTrue result ↔ (id.now ≡ id_ce 32 → PolicyKeeps rule value.now) }
 {
     !is(id, &id_ce_certificate_policies()) || policies_keep(alloc, value, rule)
 }
 
 // Whether the fields of a list of distribution points keep the rule.
 fn has_points_of(alloc: Global, id: &[u8], value: &[u8], rule: PointRule) -> bool
-    ensures { (result ≡ true) ↔ (IsPoints id.now → PointKeeps rule value.now) }
+    ensures { IsTrue result ↔ (IsPoints id.now → PointKeeps rule value.now) }
 {
     !is_points(id) || points_keep(alloc, value, rule)
 }
 
 // Whether the bases of a nameConstraints keep the rule.
 fn has_bases_of(alloc: Global, id: &[u8], value: &[u8], rule: BaseRule) -> bool
-    ensures { (result ≡ true) ↔ (id.now ≡ id_ce 30 → BasesKeep rule value.now) }
+    ensures { IsTrue result ↔ (id.now ≡ id_ce 30 → BasesKeep rule value.now) }
 {
     !is(id, &id_ce_name_constraints()) || bases_keep(alloc, value, rule)
 }
 
 // Whether no policy occurs twice, if the value is that of a certificatePolicies.
 fn has_policies_once(alloc: Global, id: &[u8], value: &[u8]) -> bool
-    ensures { (result ≡ true) ↔ (id.now ≡ id_ce 32 → HasDistinctPolicies value.now) }
+    ensures { IsTrue result ↔ (id.now ≡ id_ce 32 → HasDistinctPolicies value.now) }
 {
     !is(id, &id_ce_certificate_policies()) || are_distinct(alloc, value)
 }
 
 // Whether each distribution point has a name or an issuer, if the value is a list of these.
 fn has_points(alloc: Global, id: &[u8], value: &[u8]) -> bool
-    ensures { (result ≡ true)
+    ensures { IsTrue result
         ↔ (IsPoints id.now → EachOfSequence (GroupKeeps GroupTest.Point) value.now) }
 {
     !is_points(id) || groups_keep(alloc, value, GroupTest::Point)
@@ -117,7 +117,7 @@ fn has_points(alloc: Global, id: &[u8], value: &[u8]) -> bool
 
 // Whether each subtree has a base alone, if the value is that of a nameConstraints.
 fn has_subtrees(alloc: Global, id: &[u8], value: &[u8]) -> bool
-    ensures { (result ≡ true)
+    ensures { IsTrue result
         ↔ (id.now ≡ id_ce 30 → EachOfSequence (GroupKeeps GroupTest.Subtrees) value.now) }
 {
     !is(id, &id_ce_name_constraints()) || groups_keep(alloc, value, GroupTest::Subtrees)
@@ -125,7 +125,7 @@ fn has_subtrees(alloc: Global, id: &[u8], value: &[u8]) -> bool
 
 // Whether each list of subtrees has an item, if the value is that of a nameConstraints.
 fn has_subtrees_present(alloc: Global, id: &[u8], value: &[u8]) -> bool
-    ensures { (result ≡ true)
+    ensures { IsTrue result
         ↔ (id.now ≡ id_ce 30 → EachOfSequence (PartKeeps PartTest.NotEmpty) value.now) }
 {
     !is(id, &id_ce_name_constraints()) || parts_keep(alloc, value, PartTest::NotEmpty)
@@ -133,7 +133,7 @@ fn has_subtrees_present(alloc: Global, id: &[u8], value: &[u8]) -> bool
 
 // Whether each location that is a URI has a scheme, if the value is one of access descriptions.
 fn has_locations(alloc: Global, id: &[u8], value: &[u8]) -> bool
-    ensures { (result ≡ true)
+    ensures { IsTrue result
         ↔ (IsAccess id.now → EachOfSequence (GroupKeeps GroupTest.Location) value.now) }
 {
     !is_access(id) || groups_keep(alloc, value, GroupTest::Location)
@@ -141,13 +141,13 @@ fn has_locations(alloc: Global, id: &[u8], value: &[u8]) -> bool
 
 // Whether a basicConstraints without a cA that is true has no limit of a path.
 fn is_limited_authority(alloc: Global, value: &[u8]) -> bool
-    ensures { (result ≡ true) ↔ (HasPart Integer value.now → HasAuthority value.now) }
+    ensures { IsTrue result ↔ (HasPart Integer value.now → HasAuthority value.now) }
 {
     !has_part(alloc, value, Tag::Integer) || has_authority(alloc, value)
 }
 
 fn has_issuer_and_serial(alloc: Global, value: &[u8]) -> bool
-    ensures { (result ≡ true) ↔ HasIssuerAndSerial value.now }
+    ensures { IsTrue result ↔ HasIssuerAndSerial value.now }
 {
     if has_issuer(alloc, value) {
         has_serial(alloc, value)
@@ -157,34 +157,34 @@ fn has_issuer_and_serial(alloc: Global, value: &[u8]) -> bool
 }
 
 fn has_issuer(alloc: Global, value: &[u8]) -> bool
-    ensures { (result ≡ true) ↔ HasPart (context_tag true 1) value.now }
+    ensures { IsTrue result ↔ HasPart (context_tag true 1) value.now }
 {
     has_part(alloc, value, context(true, 1))
 }
 
 fn has_serial(alloc: Global, value: &[u8]) -> bool
-    ensures { (result ≡ true) ↔ HasPart (context_tag false 2) value.now }
+    ensures { IsTrue result ↔ HasPart (context_tag false 2) value.now }
 {
     has_part(alloc, value, context(false, 2))
 }
 
 // Whether each element of a value keeps what the test demands.
 fn parts_keep(alloc: Global, value: &[u8], test: PartTest) -> bool
-    ensures { (result ≡ true) ↔ EachOfSequence (PartKeeps test) value.now }
+    ensures { IsTrue result ↔ EachOfSequence (PartKeeps test) value.now }
 {
     each_of_sequence(alloc, value, &test)
 }
 
 // Whether each mapping, distribution point or list of subtrees of a value keeps what the test demands.
 fn groups_keep(alloc: Global, value: &[u8], test: GroupTest) -> bool
-    ensures { (result ≡ true) ↔ EachOfSequence (GroupKeeps test) value.now }
+    ensures { IsTrue result ↔ EachOfSequence (GroupKeeps test) value.now }
 {
     each_of_sequence(alloc, value, &test)
 }
 
 // Whether no policy occurs twice in the value of a certificatePolicies.
 fn are_distinct(alloc: Global, value: &[u8]) -> bool
-    ensures { (result ≡ true) ↔ HasDistinctPolicies value.now }
+    ensures { IsTrue result ↔ HasDistinctPolicies value.now }
 {
     match contents_with(alloc, value, Tag::Sequence) {
         Some(contents) => are_distinct_in(alloc, contents),
@@ -193,7 +193,7 @@ fn are_distinct(alloc: Global, value: &[u8]) -> bool
 }
 
 fn are_distinct_in<'a>(alloc: Global, contents: &'a [u8]) -> bool
-    ensures { (result ≡ true) ↔ (length contents.now < 2 ^ 32 → AreDistinctPolicies contents.now) }
+    ensures { IsTrue result ↔ (length contents.now < 2 ^ 32 → AreDistinctPolicies contents.now) }
 {
     match SequenceOf::<'a, PolicyInformation<'a>>::new(alloc, contents) {
         Ok(policies) => has_distinct_policies(alloc, &policies),

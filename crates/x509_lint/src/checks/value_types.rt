@@ -1,5 +1,5 @@
 //! Whether the value of an extension is an encoding of its type (RFC 5280, 4.2.1 and 4.2.2).
-ghost use Rattle.std.specs.Prelude.{◌≡◌, ◌↔◌, true};
+ghost use Rattle.std.specs.Prelude.{◌↔◌, IsTrue};
 ghost use Rattle.x509_lint.specs.ValueTypes.{ArePurposes, HasKeys, HasPlaces, HasPolicies, HasPoliciesAndKeys, HasValueOfType, IsIdentifierValue, IsNumberValue, IsPurposesValue, IsUsageValue};
 
 use crate::checks::extension::is_access;
@@ -27,20 +27,20 @@ use x509::{
 /// octets inside its OCTET STRING. True if RFC 5280 does not define an extension with this
 /// identifier. The function does not use `alloc`.
 pub fn has_value_of_type<'a>(alloc: Global, id: &[u8], value: &'a [u8]) -> bool
-    ensures { (result ≡ true) ↔ HasValueOfType id.now value.now }
+    ensures { IsTrue result ↔ HasValueOfType id.now value.now }
 {
     has_places(alloc, id, value) && has_policies_and_keys(alloc, id, value)
 }
 
 fn has_policies_and_keys<'a>(alloc: Global, id: &[u8], value: &'a [u8]) -> bool
-    ensures { (result ≡ true) ↔ HasPoliciesAndKeys id.now value.now }
+    ensures { IsTrue result ↔ HasPoliciesAndKeys id.now value.now }
 {
     has_policies(alloc, id, value) && has_keys(alloc, id, value)
 }
 
 // Names, attributes, and descriptions of places.
 fn has_places<'a>(alloc: Global, id: &[u8], value: &'a [u8]) -> bool
-    ensures { (result ≡ true) ↔ HasPlaces id.now value.now }
+    ensures { IsTrue result ↔ HasPlaces id.now value.now }
 {
     if is_alt_names(id) {
         return is_list_of::<'a, GeneralName<'a>>(alloc, value);
@@ -56,7 +56,7 @@ fn has_places<'a>(alloc: Global, id: &[u8], value: &'a [u8]) -> bool
 
 // Policies and purposes.
 fn has_policies<'a>(alloc: Global, id: &[u8], value: &'a [u8]) -> bool
-    ensures { (result ≡ true) ↔ HasPolicies id.now value.now }
+    ensures { IsTrue result ↔ HasPolicies id.now value.now }
 {
     if is(id, &id_ce_certificate_policies()) {
         return is_list_of::<'a, PolicyInformation<'a>>(alloc, value);
@@ -75,7 +75,7 @@ fn has_policies<'a>(alloc: Global, id: &[u8], value: &'a [u8]) -> bool
 
 // Keys and constraints.
 fn has_keys<'a>(alloc: Global, id: &[u8], value: &'a [u8]) -> bool
-    ensures { (result ≡ true) ↔ HasKeys id.now value.now }
+    ensures { IsTrue result ↔ HasKeys id.now value.now }
 {
     if is(id, &id_ce_authority_key_identifier()) {
         return is_one_of::<'a, AuthorityKeyIdentifier<'a>>(alloc, value);
@@ -93,7 +93,7 @@ fn has_keys<'a>(alloc: Global, id: &[u8], value: &'a [u8]) -> bool
 }
 
 fn is_usage(alloc: Global, value: &[u8]) -> bool
-    ensures { (result ≡ true) ↔ IsUsageValue value.now }
+    ensures { IsTrue result ↔ IsUsageValue value.now }
 {
     match contents_with(alloc, value, Tag::BitString) {
         Some(contents) => NamedBitsRef::new(contents).is_some(),
@@ -102,7 +102,7 @@ fn is_usage(alloc: Global, value: &[u8]) -> bool
 }
 
 fn is_identifier(alloc: Global, value: &[u8]) -> bool
-    ensures { (result ≡ true) ↔ IsIdentifierValue value.now }
+    ensures { IsTrue result ↔ IsIdentifierValue value.now }
 {
     match contents_with(alloc, value, Tag::OctetString) {
         Some(_contents) => true,
@@ -111,7 +111,7 @@ fn is_identifier(alloc: Global, value: &[u8]) -> bool
 }
 
 fn is_number(alloc: Global, value: &[u8]) -> bool
-    ensures { (result ≡ true) ↔ IsNumberValue value.now }
+    ensures { IsTrue result ↔ IsNumberValue value.now }
 {
     match contents_with(alloc, value, Tag::Integer) {
         Some(contents) => IntRef::new(contents).is_some(),
@@ -120,7 +120,7 @@ fn is_number(alloc: Global, value: &[u8]) -> bool
 }
 
 fn are_purposes<'a>(alloc: Global, value: &'a [u8]) -> bool
-    ensures { (result ≡ true) ↔ IsPurposesValue value.now }
+    ensures { IsTrue result ↔ IsPurposesValue value.now }
 {
     match contents_with(alloc, value, Tag::Sequence) {
         Some(contents) => are_identifiers(alloc, contents),
@@ -129,7 +129,7 @@ fn are_purposes<'a>(alloc: Global, value: &'a [u8]) -> bool
 }
 
 fn are_identifiers<'a>(alloc: Global, contents: &'a [u8]) -> bool
-    ensures { (result ≡ true) ↔ ArePurposes contents.now }
+    ensures { IsTrue result ↔ ArePurposes contents.now }
 {
     are_items::<'a, AnyRef<'a>>(alloc, contents)
         && each_element(alloc, contents, &PartTest::Identifier)

@@ -2,8 +2,8 @@
 use super::*;
 use crate::checks::{same, same_at, same_octets};
 use der::Encode;
-use der_uses::algorithm_identifier::AlgorithmIdentifier;
-use der_uses::my_octets::MyOctets;
+use example_calls::algorithm_identifier::AlgorithmIdentifier;
+use example_calls::my_octets::MyOctets;
 
 fn identifier_of(alloc: Global, octets: &[u8]) -> Result<AlgorithmIdentifier<'_>, Error> {
     AlgorithmIdentifier::from_ber(alloc, octets)

@@ -2,7 +2,7 @@
 use super::rows::{Kind, ROWS};
 use super::*;
 use crate::checks::same_at;
-use der_fixtures::nest::Nest;
+use test_fixtures::nest::Nest;
 use der::EncodingRules;
 use der::example::{BorrowedOctets, JoinedOctets, OwnedText};
 use crate::fixtures::bodies::{around_contents, around_null, first_octets};

@@ -2,7 +2,7 @@
 use super::*;
 use crate::checks::{same, same_octets};
 use der::{EncodeValue, Tagged};
-use der_uses::my_octets::MyOctets;
+use example_calls::my_octets::MyOctets;
 
 // Reads the octets as exactly one month.
 fn boxed_month(alloc: Global, octets: &[u8]) -> Result<Box<MyByteMonth>, Error> {

@@ -2,8 +2,8 @@
 
 use super::*;
 use crate::checks::{holds, same};
-use der_fixtures::hasty::Hasty;
-use der_fixtures::unread::Unread;
+use test_fixtures::hasty::Hasty;
+use test_fixtures::unread::Unread;
 
 #[test]
 fn an_error_that_a_type_ignores_is_reported_as_failed(rt: HostRuntime) -> Result<(), Fail> {

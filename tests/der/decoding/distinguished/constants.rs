@@ -2,13 +2,13 @@
 use super::*;
 use crate::checks::holds;
 use crate::fixtures::constants::tags_agree;
-use der_uses::algorithm_identifier::AlgorithmIdentifier;
-use der_uses::key_info::KeyInfo;
-use der_fixtures::hasty::Hasty;
-use der_fixtures::nest::Nest;
-use der_fixtures::octet::Octet;
-use der_fixtures::unread::Unread;
-use der_uses::my_octets::MyOctets;
+use example_calls::algorithm_identifier::AlgorithmIdentifier;
+use example_calls::key_info::KeyInfo;
+use test_fixtures::hasty::Hasty;
+use test_fixtures::nest::Nest;
+use test_fixtures::octet::Octet;
+use test_fixtures::unread::Unread;
+use example_calls::my_octets::MyOctets;
 
 #[test]
 fn constants_and_functions_tell_the_same_tags(rt: HostRuntime) {

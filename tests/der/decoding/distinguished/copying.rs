@@ -1,9 +1,9 @@
 //! Values from a reader that returns no slices.
 use super::*;
 use crate::checks::{holds, same};
-use der_uses::algorithm_identifier::AlgorithmIdentifier;
-use der_uses::my_octets::MyOctets;
-use der_uses::reader::CopyingReader;
+use example_calls::algorithm_identifier::AlgorithmIdentifier;
+use example_calls::my_octets::MyOctets;
+use example_calls::reader::CopyingReader;
 
 fn is_finished(reader: &CopyingReader<'_>) -> bool {
     reader.is_finished()

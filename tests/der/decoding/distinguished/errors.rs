@@ -3,7 +3,7 @@
 use super::*;
 use crate::checks::{holds, same, same_at};
 use der::DecodeError;
-use der_fixtures::octet::{Octet, OctetError};
+use test_fixtures::octet::{Octet, OctetError};
 
 #[test]
 fn errors_of_decoding_are_converted_to_those_of_the_type(rt: HostRuntime) {

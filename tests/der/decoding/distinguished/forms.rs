@@ -1,7 +1,7 @@
 //! Contents whose lengths have each of the forms.
 use super::*;
 use crate::checks::same_at;
-use der_uses::my_octets::MyOctets;
+use example_calls::my_octets::MyOctets;
 use std::process::Abort;
 
 // Reads the octets as exactly one element, and returns its contents.

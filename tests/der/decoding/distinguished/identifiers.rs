@@ -1,7 +1,7 @@
 //! A SEQUENCE of two fields.
 use super::*;
 use crate::checks::{same, same_octets};
-use der_uses::algorithm_identifier::AlgorithmIdentifier;
+use example_calls::algorithm_identifier::AlgorithmIdentifier;
 
 // Reads the octets as exactly one identifier.
 fn identifier_of(alloc: Global, bytes: &[u8]) -> Result<AlgorithmIdentifier<'_>, Error> {

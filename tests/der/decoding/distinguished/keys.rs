@@ -1,7 +1,7 @@
 //! A SEQUENCE with another inside it.
 use super::*;
 use crate::checks::{same, same_at, same_octets};
-use der_uses::key_info::{KeyInfo, key_info_der, key_info_from_der};
+use example_calls::key_info::{KeyInfo, key_info_der, key_info_from_der};
 
 // Reads the octets as exactly one key.
 fn key_of(alloc: Global, bytes: &[u8]) -> Result<KeyInfo<'_>, Error> {

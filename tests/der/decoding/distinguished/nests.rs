@@ -3,7 +3,7 @@
 use super::*;
 use crate::checks::{holds, same};
 use crate::fixtures::errors::too_deep;
-use der_fixtures::nest::Nest;
+use test_fixtures::nest::Nest;
 
 #[test]
 fn parts_in_contents_are_63_levels_deep_and_no_deeper(rt: HostRuntime) {

@@ -1,5 +1,5 @@
 //! What the worked cases of all tests decode, as data; tags and lengths alone are in
-//! `der_fixtures`.
+//! `test_fixtures`.
 use der::EncodingRules::{self, Ber, Der};
 use crate::fixtures::bodies::{ENCRYPTED_CONTENT_INFO, SEGMENT_OF_ZEROS};
 

@@ -3,7 +3,7 @@ use super::*;
 use crate::checks::{same, same_at, same_octets};
 use der::BytesRef;
 use der::example::BorrowedOctets;
-use der_uses::set_of::{set_of_contents, set_of_der};
+use example_calls::set_of::{set_of_contents, set_of_der};
 use std::process::Abort;
 
 // An OCTET STRING of these octets.

@@ -3,7 +3,7 @@ use super::scans::scans;
 use super::*;
 use crate::checks::same;
 use crate::fixtures::constants::reading_slices_agrees;
-use der_fixtures::slicing_reader::{SlicingReader, ber_slicing};
+use test_fixtures::slicing_reader::{SlicingReader, ber_slicing};
 
 #[test]
 fn constant_and_function_agree_that_it_reads_slices(rt: HostRuntime) {

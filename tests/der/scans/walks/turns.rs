@@ -2,7 +2,7 @@
 
 use super::*;
 use crate::checks::same;
-use der_fixtures::turns::scan_nulls_counted;
+use test_fixtures::turns::scan_nulls_counted;
 use std::marker::Brand;
 use std::sync::ledger::Blank;
 

@@ -3,7 +3,7 @@ use super::*;
 use crate::checks::holds;
 use der::example::JoinedOctets;
 use crate::fixtures::constants::tags_agree;
-use der_fixtures::cow_octets::CowOctets;
+use test_fixtures::cow_octets::CowOctets;
 
 #[test]
 fn constants_and_functions_tell_the_same_tags(rt: HostRuntime) {

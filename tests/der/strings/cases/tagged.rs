@@ -2,7 +2,7 @@
 
 use super::*;
 use crate::checks::{holds, same};
-use der_fixtures::cow_octets::CowOctets;
+use test_fixtures::cow_octets::CowOctets;
 
 const ELEMENT: [u8; 4] = [0x04, 0x02, 0x01, 0x02];
 

@@ -3,7 +3,7 @@
 use super::*;
 use crate::checks::{holds, same};
 use crate::fixtures::constants::tags_agree;
-use der_fixtures::day::{Day, compare_days};
+use test_fixtures::day::{Day, compare_days};
 
 #[test]
 fn constants_and_functions_tell_the_same_tag(rt: HostRuntime) {

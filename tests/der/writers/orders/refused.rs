@@ -2,7 +2,7 @@
 
 use super::*;
 use crate::checks::same;
-use der_fixtures::ranked::Ranked;
+use test_fixtures::ranked::Ranked;
 
 fn reporting(tag: Tag, answer: Result<Ordering, Error>) -> Ranked {
     Ranked {

@@ -4,7 +4,7 @@ use super::*;
 use crate::checks::{holds_at, same, same_at, same_octets};
 use der::example::BorrowedOctets;
 use der::{BytesRef, Encode, EncodeRef, SliceWriter};
-use der_fixtures::zeros::Zeros;
+use test_fixtures::zeros::Zeros;
 
 // The header of an OCTET STRING with so many contents octets (X.690 8.1.3).
 fn header_octets(count: usize) -> &'static [u8] {

@@ -4,7 +4,7 @@ use super::month::september;
 use super::*;
 use crate::checks::same;
 use der::{Encode, EncodeValue, encode_tlv};
-use der_fixtures::counter::Counter;
+use test_fixtures::counter::Counter;
 
 #[test]
 fn a_header_is_written_by_three_writes(rt: HostRuntime) {

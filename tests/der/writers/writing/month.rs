@@ -4,7 +4,7 @@ use super::*;
 use crate::checks::same;
 use der::example::MyByteMonth;
 use der::{Encode, EncodeValue};
-use der_fixtures::month::{append_month, month_der};
+use test_fixtures::month::{append_month, month_der};
 
 pub fn september() -> Result<MyByteMonth, Error> {
     MyByteMonth::new(9).ok_or(ErrorKind::DateTime.to_error())

@@ -3,7 +3,7 @@
 use super::*;
 use crate::checks::{holds, same, same_at};
 use der::{SliceWriter, Writer};
-use der_fixtures::sequence::encode_in_sequence;
+use test_fixtures::sequence::encode_in_sequence;
 
 #[test]
 fn a_sequence_is_filled(rt: HostRuntime) -> Result<(), Fail> {

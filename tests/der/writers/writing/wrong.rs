@@ -3,7 +3,7 @@
 use super::*;
 use crate::checks::{holds, same};
 use der::{Encode, SliceWriter};
-use der_fixtures::half_written::HalfWritten;
+use test_fixtures::half_written::HalfWritten;
 
 #[test]
 fn an_error_without_a_position_gets_the_writers(rt: HostRuntime) {

@@ -3,7 +3,7 @@
 use super::*;
 use crate::checks::same;
 use der::{Encode, encoded_len_tlv, to_der_in};
-use der_fixtures::zeros::Zeros;
+use test_fixtures::zeros::Zeros;
 use linked_list_allocator::LocalHeap;
 
 #[test]

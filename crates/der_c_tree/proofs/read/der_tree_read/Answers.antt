@@ -1,8 +1,8 @@
 use Rattle.std.proofs.Common.{◌≡◌, ◌↔◌, ◌≤◌, subst}
 use Rattle.der_base.specs.declared.encoding_rules.EncodingRules.TheVariants.{Der, Ber}
-use Rattle.asn1_schema.specs.Table.{table_in}
-use Rattle.asn1_tree.specs.Encoding.{IsDer, IsBer}
-use Rattle.asn1_tree.specs.Types.{types_in}
+use Rattle.schema_types.specs.Table.{table_in}
+use Rattle.schema_read.specs.Encoding.{IsDer, IsBer}
+use Rattle.schema_read.specs.Types.{types_in}
 use Rattle.der_c_tree.proofs.FoundLemmas.{both_ways}
 use Rattle.der_c_tree.proofs.read.der_tree_read.Goals as goal
 

@@ -1,0 +1,177 @@
+"""Calls der_show with each option over files that openssl made, and compares what depends on the option with what openssl, Python or
+another output of der_show says."""
+import base64
+import datetime
+import json
+import os
+import re
+import subprocess
+import tarfile
+import tempfile
+
+import checker
+from checker import TOP
+
+MODULE = "Values DEFINITIONS ::= BEGIN\nPair ::= SEQUENCE { flag BOOLEAN, bits BIT STRING }\nEND\n"
+TIME = "%b %d %H:%M:%S %Y GMT"
+# How many departures of a value are printed, by the help of the program's JSON and its documentation.
+PRINTED = 100
+# What openssl writes around values of a kind.
+LABELS = {
+    "CERTIFICATE": "certificate", "X509 CRL": "crl", "PUBLIC KEY": "public-key", "PRIVATE KEY": "private-key", "EC PRIVATE KEY": "ec-private-key",
+    "RSA PRIVATE KEY": "rsa-private-key", "DSA PRIVATE KEY": "dsa-private-key", "DSA PARAMETERS": "dsa-parameters",
+    "X9.42 DH PARAMETERS": "x942-parameters",
+}
+HELD = []
+
+
+def see(what, got, wanted):
+    """Counts a comparison, and prints it if it fails."""
+    HELD.append(got == wanted)
+    if got != wanted:
+        print(f"test: options: {what}: {got!r}, and should be {wanted!r}", flush=True)
+
+
+def show(*words, octets=b"", out=subprocess.PIPE):
+    """What der_show ends with, and what it prints."""
+    ran = subprocess.run([checker.unproved("der_show"), *words], input=octets, stdout=out, stderr=subprocess.PIPE, check=False)
+    return ran.returncode, (ran.stdout or b"").decode()
+
+
+def found(pattern, text):
+    """What the pattern finds in the text."""
+    return (re.findall(pattern, text, re.M) or ["nothing"])[0]
+
+
+def openssl(*words):
+    """What openssl prints."""
+    return subprocess.run(["openssl", *words], capture_output=True, text=True, check=True, stdin=subprocess.DEVNULL).stdout
+
+
+def named(text):
+    """The values of lines NAME=VALUE, with a day of one digit as two."""
+    return {name: re.sub(r"  (\d) ", r" 0\1 ", value) for name, value in re.findall(r"^(\w+)=(.*)$", text, re.M)}
+
+
+def see_short(folder):
+    """--short of lists, and the days that --now counts."""
+    for name in ("P-384.crl", "revoked.crl", "ed448.crl"):
+        times = named(openssl("crl", "-inform", "DER", "-in", f"{folder}/{name}", "-noout", "-lastupdate", "-nextupdate"))
+        period = found(r"; (\w+ +\d+ [\d:]+ \d+ GMT to \w+ +\d+ [\d:]+ \d+ GMT)", show("--short", f"{folder}/{name}")[1])
+        see(f"--short {name}", re.sub(r"  (\d) ", r" 0\1 ", period), f"{times['lastUpdate']} to {times['nextUpdate']}")
+    for name in ("rsa-leaf.cer", "ed25519-ca.cer"):
+        end = named(openssl("x509", "-inform", "DER", "-in", f"{folder}/{name}", "-noout", "-enddate"))["notAfter"]
+        end = datetime.datetime.strptime(end, TIME)
+        for before in (-86401, -1, 0, 1, 86399, 86400, 86401, 31_536_000):
+            now = end - datetime.timedelta(seconds=before)
+            days = found(r"GMT, (-?\d+) days? left", show("--short", "--now", now.strftime("%Y-%m-%dT%H:%M:%SZ"), f"{folder}/{name}")[1])
+            see(f"--now {before} s before the end of {name}", days, str(before // 86400))
+        day = datetime.datetime(end.year - 1, end.month, end.day)
+        days = found(r"GMT, (-?\d+) days? left", show("--short", "--now", day.strftime("%Y-%m-%d"), f"{folder}/{name}")[1])
+        see(f"--now of a date and {name}", days, str((end - day).days))
+
+
+def see_width(folder):
+    """--width folds lines of octets, which are not longer then, and the characters stay as they are."""
+    path = f"{folder}/rsa-leaf.cer"
+    text = show("--width", "0", path)[1]
+    for width in range(60, 76):
+        folded = show("--width", str(width), path)[1]
+        see(f"--width {width}: the characters", re.sub(r"\s", "", folded), re.sub(r"\s", "", text))
+        see(f"--width {width}: the longest line of octets", max(map(len, re.findall(r"^ +(?:[0-9a-f]{2}:)+$", folded, re.M))) <= width, True)
+
+
+def see_json(folder):
+    """Offsets of a second value, and values that are not DER."""
+    with open(f"{folder}/P-384.crl", "rb") as first, open(f"{folder}/rsa-leaf.cer", "rb") as second:
+        octets, other = first.read(), second.read()
+    found = json.loads(show("--json", octets=octets + other)[1])
+    see("--json: offsets of two values", [it["offset"] for it in found["values"]], [0, len(octets)])
+    alone = json.loads(show("--json", octets=other)[1])["values"][0]["value"]
+    see("--json: the value behind another one", found["values"][1]["value"], alone)
+    with open(f"{folder}/values.asn1", "w", encoding="utf-8") as file:
+        file.write(MODULE)
+    words = ("--json", "--module", f"{folder}/values.asn1", "--type", "Pair")
+    for flag in (0x01, 0x7F, 0xFF, 0x00):
+        for unused, bits in ((0, 0xA9), (3, 0xA8), (7, 0x80)):
+            value = json.loads(show(*words, octets=bytes([0x30, 7, 1, 1, flag, 3, 2, unused, bits]))[1])["values"][0]["value"]
+            see(f"--json: BOOLEAN {flag}", value["flag"], flag != 0)
+            see(f"--json: BIT STRING with {unused} unused bits", value["bits"].get("unused", value["bits"].get("unusedBits")), unused)
+
+
+def see_departures():
+    """Many departures: so many are printed, and the others are counted."""
+    for count in (PRINTED - 1, PRINTED, PRINTED + 1, 3 * PRINTED):
+        octets = b"\x30\x82" + (3 * count).to_bytes(2, "big") + b"\x01\x01\x01" * count
+        for words in ((), ("--strict",)):
+            status, text = show(*words, octets=octets)
+            more = [int(it) for it in re.findall(r"^ *and (\d+) more$", text, re.M)]
+            see(f"{' '.join(words)} {count} departures: printed", (status, text.count("X.690 11.1")), (1, min(count, PRINTED)))
+            see(f"{' '.join(words)} {count} departures: more", more, [count - PRINTED] if count > PRINTED else [])
+        found = json.loads(show("--json", octets=octets)[1])["values"][0]
+        see(f"--json {count} departures", (len(found["departures"]), found["departureCount"]), (min(count, PRINTED), count))
+
+
+def see_lint(folder):
+    """--lint prints in lines what it prints in JSON, and warns of two algorithms (RFC 5280, 4.1.1.2) and of fields of a later version (4.1.2.1)."""
+    with open(f"{folder}/rsa-leaf.cer", "rb") as file:
+        octets = file.read()
+    sha256 = bytes.fromhex("2a864886f70d01010b")
+    two = octets.replace(sha256, sha256[:-1] + b"\x0c", 1)
+    early = octets.replace(bytes.fromhex("a003020102"), bytes.fromhex("a003020101"), 1)
+    see("the certificates are changed", (two != octets, early != octets), (True, True))
+    for what, value in (("a certificate", octets), ("two algorithms", two), ("an early version", early)):
+        status, text = show("--lint", octets=value)
+        found = json.loads(show("--lint", "--json", octets=value)[1])["values"][0].get("lint", [])
+        lines = re.findall(r"^Lint: (.*)$", text, re.M)
+        see(f"--lint of {what}: as many lines as findings, and a sum", (len(lines), lines[-1].split()[0]), (len(found) + 1, str(len(found))))
+        see(f"--lint of {what}: the status", status, int(bool(found)))
+        warned = re.findall(r"^Warning: (.*)$", show(octets=value)[1], re.M)
+        see(f"{what}: the warning", len(warned), int(what != "a certificate"))
+
+
+def see_private(folder):
+    """The size of a private key, and the number of its primes, as openssl says them."""
+    for name in ("rsa.key", "P-256.key", "secp224r1.key", "sect233k1.key"):
+        line = found(r"^Private-Key: \(.*\)", show(f"{folder}/{name}")[1])
+        see(name, line, found(r"^(?:RSA )?(Private-Key: \(.*\))", openssl("pkey", "-inform", "DER", "-in", f"{folder}/{name}", "-noout", "-text")))
+    # RFC 8032, 5.1.5 and 5.2.5: 32 and 57 octets
+    for name, size in (("ed25519.key", 32), ("ed448.key", 57)):
+        see(name, found(r"^Private-Key: (\d+) octets", show(f"{folder}/{name}")[1]), str(size))
+
+
+def see_labels(folder):
+    """--pem writes the blocks that openssl wrote, with its labels (RFC 7468)."""
+    for label, kind in LABELS.items():
+        paths = sorted(it for it in os.listdir(folder) if it.endswith(".pem"))
+        texts = [checker.text_of(f"{folder}/{it}") for it in paths]
+        text = next(it for it in texts if it.count("-----BEGIN") == 1 and f"-----BEGIN {label}-----" in it)
+        block = text[text.index("-----BEGIN"):]
+        octets = base64.b64decode("".join(block.splitlines()[1:-1]))
+        see(f"--pem of {label}", show("--pem", "--as", kind, octets=octets)[1], block)
+
+
+def see_minimum():
+    """The minimum of a subtree (RFC 5280, 4.2.1.10), which openssl does not print."""
+    with tarfile.open(f"{TOP}/tests/linted/certificates.tar.xz") as archive:
+        octets = archive.extractfile("subtree_with_minimum.der").read()
+    wanted = octets[octets.index(bytes.fromhex("300aa0083006")):][6:12]
+    see("the octets of the subtree", wanted, b"\x82\x01a\x80\x01\x01")
+    see("the minimum of a subtree", found(r"^ +DNS:a, (.*)$", show(octets=octets)[1]), "minimum 1")
+
+
+def run():
+    """Returns whether each option prints what it should, and how much was compared."""
+    HELD.clear()
+    with tempfile.TemporaryDirectory() as folder:
+        with tarfile.open(f"{TOP}/tests/shown/files.tar.xz") as archive:
+            archive.extractall(folder, filter="data")
+        for part in (see_short, see_width, see_json, see_lint, see_private, see_labels):
+            part(folder)
+        see_departures()
+        see_minimum()
+        if os.path.exists("/dev/full"):
+            with open("/dev/full", "wb") as full:
+                see("a write that fails", show(f"{folder}/rsa-leaf.cer", out=full)[0], 1)
+    print(f"test: options: {HELD.count(True)} of {len(HELD)} outputs of der_show are as they should be", flush=True)
+    return list(HELD), {("options", "outputs"): len(HELD)}

@@ -1,6 +1,0 @@
-use Rattle.std.proofs.Common.{◌≡◌, drop}
-use Rattle.asn1_contents.specs.Characters.{is_in_ranges}
-use Rattle.asn1_contents.proofs.alphabet.is_in.Given as goal
-
-abbrev pub invariant-loop-range : goal.invariant-loop-range
-invariant-loop-range l = is_in_ranges l.ranges l.code ≡ is_in_ranges (drop l.range-index l.ranges) l.code

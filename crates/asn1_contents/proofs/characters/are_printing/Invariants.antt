@@ -1,6 +1,0 @@
-use Rattle.std.proofs.Common.{◌≡◌, drop}
-use Rattle.asn1_contents.specs.Small.{are_printing}
-use Rattle.asn1_contents.proofs.characters.are_printing.Given as goal
-
-abbrev pub invariant-loop-octet : goal.invariant-loop-octet
-invariant-loop-octet l = are_printing l.contents ≡ are_printing (drop l.octet-index l.contents)

@@ -1,6 +1,0 @@
-use Rattle.std.proofs.Common.{◌≡◌, drop}
-use Rattle.asn1_contents.specs.Decimal.{is_nonzero_decimal}
-use Rattle.asn1_contents.proofs.decimal_text.is_nonzero_decimal.Given as goal
-
-abbrev pub invariant-loop-octet : goal.invariant-loop-octet
-invariant-loop-octet l = is_nonzero_decimal l.octets ≡ is_nonzero_decimal (drop l.octet-index l.octets)

@@ -1,5 +1,0 @@
-use Rattle.asn1_contents.proofs.FormLemmas.{times_without_fraction_have_form}
-use Rattle.asn1_contents.proofs.laws.times_without_fraction_have_form.Goals as goal
-
-pub returns : goal.returns
-returns c = times_without_fraction_have_form

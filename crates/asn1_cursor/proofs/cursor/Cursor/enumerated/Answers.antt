@@ -1,5 +1,0 @@
-use Rattle.asn1_cursor.proofs.ValueLemmas.{some_inside}
-use Rattle.asn1_cursor.proofs.cursor.Cursor.enumerated.Goals as goal
-
-pub returns : goal.returns
-returns c = some_inside c.new.result (λ v. v.octets.now) c.in_ok-primitive.ensures c.new.ensures.same

@@ -1,8 +1,0 @@
-use Rattle.std.proofs.Common.{◌-◌, ◌≤◌}
-use Rattle.asn1_der.proofs.element.put_length.Given as goal
-
-abbrev pub invariant-zeros : goal.invariant-zeros
-invariant-zeros l = l.zeros ≤ 7
-
-abbrev pub decreases-zeros : goal.decreases-zeros
-decreases-zeros l = 7 - l.zeros

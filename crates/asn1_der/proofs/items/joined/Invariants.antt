@@ -1,6 +1,0 @@
-use Rattle.std.proofs.Common.{◌≡◌, ◌++◌, map, drop}
-use Rattle.std.specs.List.{concat}
-use Rattle.asn1_der.proofs.items.joined.Given as goal
-
-abbrev pub invariant-loop-part : goal.invariant-loop-part
-invariant-loop-part l = l.out.items ++ concat (map (λ v. v.items) (drop l.part-index l.parts)) ≡ concat (map (λ v. v.items) l.parts)

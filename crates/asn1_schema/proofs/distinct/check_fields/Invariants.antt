@@ -1,7 +1,0 @@
-use Rattle.std.proofs.Common.{ℕ, ◌<◌}
-use Rattle.asn1_schema.specs.Table.{table_in}
-use Rattle.asn1_schema.specs.Distinct.{IsDistinct}
-use Rattle.asn1_schema.proofs.distinct.check_fields.Given as goal
-
-abbrev pub invariant-loop-k : goal.invariant-loop-k
-invariant-loop-k l = (k : ℕ) → k < l.k → IsDistinct (table_in l.rows.octets.now) l.node k

@@ -1,5 +1,0 @@
-use Rattle.asn1_schema.specs.Named.{NoneIsNamed}
-use Rattle.asn1_schema.proofs.find.find_node.Given as goal
-
-abbrev pub invariant-loop-i : goal.invariant-loop-i
-invariant-loop-i l = NoneIsNamed l.fn.counts l.octets l.name l.i

@@ -1,5 +1,0 @@
-use Rattle.asn1_schema.proofs.FaultLemmas.{schema_never}
-use Rattle.asn1_schema.proofs.laws.no_table_at_a_fault.Goals as goal
-
-pub returns : goal.returns
-returns c octets f t fault is = schema_never fault is

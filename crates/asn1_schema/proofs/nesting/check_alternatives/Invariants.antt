@@ -1,7 +1,0 @@
-use Rattle.std.proofs.Common.{ℕ, ◌<◌}
-use Rattle.asn1_schema.specs.Table.{table_in}
-use Rattle.asn1_schema.specs.Distinct.{IsAfter}
-use Rattle.asn1_schema.proofs.nesting.check_alternatives.Given as goal
-
-abbrev pub invariant-loop-k : goal.invariant-loop-k
-invariant-loop-k l = (k : ℕ) → k < l.k → IsAfter (table_in l.rows.octets.now) l.index k

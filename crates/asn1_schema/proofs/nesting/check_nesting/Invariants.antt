@@ -1,7 +1,0 @@
-use Rattle.std.proofs.Common.{ℕ, ◌<◌}
-use Rattle.asn1_schema.specs.Table.{table_in}
-use Rattle.asn1_schema.specs.Distinct.{IsAfter}
-use Rattle.asn1_schema.proofs.nesting.check_nesting.Given as goal
-
-abbrev pub invariant-loop-i : goal.invariant-loop-i
-invariant-loop-i l = (i : ℕ) → i < l.i → (k : ℕ) → IsAfter (table_in l.rows.octets.now) i k

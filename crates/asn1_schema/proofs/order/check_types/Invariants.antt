@@ -1,6 +1,0 @@
-use Rattle.std.proofs.Common.{ℕ, ◌<◌, ◌≤◌}
-use Rattle.asn1_schema.specs.OpenType.{IsBeforeNext}
-use Rattle.asn1_schema.proofs.order.check_types.Given as goal
-
-abbrev pub invariant-loop-k : goal.invariant-loop-k
-invariant-loop-k l = (k : ℕ) → l.fn.types.start ≤ k → k < l.k → IsBeforeNext l.counts l.octets k

@@ -1,9 +1,0 @@
-use Rattle.asn1_schema.proofs.TestLemmas.{refuted}
-use Rattle.asn1_tree.proofs.VerdictLemmas.{kept, broken}
-use Rattle.asn1_tree.proofs.constraints.item_rule.Goals as goal
-
-pub returns-then-is_item : goal.returns-then-is_item
-returns-then-is_item c = kept (λ r. c.is_item.ensures.0 c.if-is_item.true)
-
-pub returns-else-is_item : goal.returns-else-is_item
-returns-else-is_item c = broken (λ r. refuted c.is_item.ensures c.if-is_item.false)

@@ -1,8 +1,0 @@
-use Rattle.asn1_tree.specs.Types.{types_in}
-use Rattle.asn1_tree.proofs.ChosenLemmas.{one_row}
-use Rattle.asn1_tree.proofs.types.find_type.Goals as goal
-
-pub returns-in-Some-clause-single : goal.returns-in-Some-clause-single
-unfolding types_in
-returns-in-Some-clause-single c p other =
-    one_row c.args.schema.now.octets.now c.args.schema.now.counts c.args.node.now.parts c.args.identifier.now c.in-Some.chosen p c.args.schema.now.counted (c.requires.ascending c.requires.kind) c.in-Some.ensures.row other

@@ -1,6 +1,0 @@
-use Rattle.asn1_tree.proofs.VerdictLemmas.{logs_is, logs_then}
-use Rattle.asn1_tree.proofs.untyped.finish.Goals as goal
-
-pub returns-clause-log : goal.returns-clause-log
-returns-clause-log c =
-    logs_is c.and.ensures (logs_then c.in_ok-unexpected.ensures.log c.in_ok-outcome.ensures.log)

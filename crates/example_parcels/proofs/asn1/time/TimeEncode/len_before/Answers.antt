@@ -1,0 +1,11 @@
+-- Written by asn1_compile: change the module instead.
+use Rattle.example_parcels.proofs.asn1.time.TimeEncode.len_before.Goals as goal
+
+pub returns-in-Utc : goal.returns-in-Utc
+returns-in-Utc c = rw c.in-Utc.is c.len_before.ensures
+
+pub returns-in-General : goal.returns-in-General
+returns-in-General c = rw c.in-General.is c.len_before-in-General.ensures
+
+pub returns-in-Unknown : goal.returns-in-Unknown
+returns-in-Unknown c = rw c.in-Unknown.is c.len_before-in-Unknown.ensures

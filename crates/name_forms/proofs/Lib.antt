@@ -1,5 +1,0 @@
-mod CheckLemmas
-mod HostLemmas
-mod LabelLemmas
-mod PlaceLemmas
-mod WildcardLemmas

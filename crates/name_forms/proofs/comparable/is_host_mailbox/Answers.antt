@@ -1,6 +1,0 @@
-use Rattle.name_forms.proofs.PlaceLemmas.{parted}
-use Rattle.name_forms.specs.Comparable.{HasAtomsAt}
-use Rattle.name_forms.proofs.comparable.is_host_mailbox.Goals as goal
-
-pub returns-in-Some : goal.returns-in-Some
-returns-in-Some c = parted HasAtomsAt c.args.octets.now c.in-Some.at c.has_atoms_at.result c.in-Some.ensures.some c.has_atoms_at.ensures

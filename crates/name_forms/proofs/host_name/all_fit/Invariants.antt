@@ -1,6 +1,0 @@
-use Rattle.std.proofs.Common.{ℕ, ◌<◌}
-use Rattle.name_forms.specs.HostNames.{FitsHost}
-use Rattle.name_forms.proofs.host_name.all_fit.Given as goal
-
-abbrev pub invariant-loop-at : goal.invariant-loop-at
-invariant-loop-at l = (k : ℕ) → k < l.at → FitsHost l.octets k

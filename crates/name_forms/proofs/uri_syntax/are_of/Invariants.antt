@@ -1,8 +1,0 @@
-use Rattle.std.proofs.Common.{◌≡◌, ◌⊎◌, ℕ, ◌<◌, true, slice_index}
-use Rattle.name_forms.specs.UriSyntax.{IsEscape, allows_escapes, is_of}
-use Rattle.name_forms.proofs.uri_syntax.are_of.Given as goal
-
-abbrev pub invariant-loop-at : goal.invariant-loop-at
-invariant-loop-at l =
-    (k : ℕ) → k < l.at → (is_of l.part (slice_index l.octets k) ≡ true)
-    ⊎ ((allows_escapes l.part ≡ true) × IsEscape l.octets k)

@@ -1,9 +1,0 @@
-use Rattle.std.proofs.Common.{sym, ◌∙◌}
-use Rattle.name_forms.proofs.CheckLemmas.{given_with, moved}
-use Rattle.name_forms.specs.UriSyntax.{IsAuthority}
-use Rattle.name_forms.proofs.uri_syntax.has_authority_of_form.Goals as goal
-
-pub returns-else-not-has_authority : goal.returns-else-not-has_authority
-returns-else-not-has_authority c =
-    given_with c.is_authority.result (sym c.has_authority.ensures ∙ c.if-not-has_authority.false)
-    (moved IsAuthority _ _ c.is_authority.result c.authority_of.ensures c.is_authority.ensures)

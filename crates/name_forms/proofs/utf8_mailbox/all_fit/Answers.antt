@@ -1,6 +1,0 @@
-use Rattle.std.proofs.Common.{below_more}
-use Rattle.name_forms.specs.Comparable.{FitsUtf8Local}
-use Rattle.name_forms.proofs.utf8_mailbox.all_fit.Goals as goal
-
-pub loop-at-preserved : goal.loop-at-preserved
-loop-at-preserved c = below_more (λ k. FitsUtf8Local c.args.octets.now k) c.loop-at.at c.loop-at.invariant (c.fits_utf8_local.ensures.0 c.if-not-fits_utf8_local.false)

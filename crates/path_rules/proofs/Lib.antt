@@ -1,0 +1,12 @@
+mod AnyLemmas
+mod AskedLemmas
+mod GraphLemmas
+mod GrowthLemmas
+mod PathLemmas
+mod LawLemmas
+mod RefusalLemmas
+mod RuleLemmas
+mod SetLemmas
+mod StateLemmas
+mod TreeLemmas
+mod WalkLemmas

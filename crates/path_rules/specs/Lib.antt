@@ -1,0 +1,12 @@
+pub mod Path
+pub mod Machine
+pub mod Policies
+pub mod Nodes
+pub mod Counters
+pub mod PolicyGraph
+pub mod Growth
+pub mod PolicyRules
+pub mod States
+pub mod Steps
+pub mod PolicyTree
+pub mod PolicySets

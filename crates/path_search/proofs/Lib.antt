@@ -1,0 +1,5 @@
+mod AheadLemmas
+mod ChainLemmas
+mod LeftLemmas
+mod FindsLemmas
+mod RunLemmas

@@ -1,5 +1,0 @@
-mod WalkLemmas
-mod NameLemmas
-mod TallyLemmas
-mod VerdictLemmas
-mod JudgedLemmas

@@ -1,6 +1,0 @@
-use Rattle.x509_match.specs.Judgements.{AreJudged}
-use Rattle.x509_match.specs.Verdicts.{HasVerdict}
-use Rattle.x509_match.proofs.names.names_verdict.Given as goal
-
-abbrev pub invariant-names : goal.invariant-names
-invariant-names l = AreJudged (HasVerdict l.constraints) l.yielded l.verdict

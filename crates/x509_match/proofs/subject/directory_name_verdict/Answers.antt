@@ -1,5 +1,0 @@
-use Rattle.std.proofs.Common.{refl}
-use Rattle.x509_match.proofs.subject.directory_name_verdict.Goals as goal
-
-pub returns : goal.returns
-returns c = (_, refl, c.name_verdict.ensures)

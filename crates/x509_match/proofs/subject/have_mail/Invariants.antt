@@ -1,7 +1,0 @@
-use Rattle.std.proofs.Common.{◌≡◌, ◌↔◌, true}
-use Rattle.x509_match.specs.Lists.{SomeItem}
-use Rattle.x509_match.specs.Subjects.{IsRfc822Name}
-use Rattle.x509_match.proofs.subject.have_mail.Given as goal
-
-abbrev pub invariant-names : goal.invariant-names
-invariant-names l = (l.found ≡ true) ↔ SomeItem IsRfc822Name l.yielded

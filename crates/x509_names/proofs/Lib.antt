@@ -1,0 +1,10 @@
+mod CheckLemmas
+mod HostLemmas
+mod LabelLemmas
+mod PlaceLemmas
+mod WildcardLemmas
+mod WalkLemmas
+mod NameLemmas
+mod TallyLemmas
+mod VerdictLemmas
+mod JudgedLemmas

@@ -1,0 +1,17 @@
+pub mod PreparedText
+pub mod Hosts
+pub mod HostNames
+pub mod Mailboxes
+pub mod Uris
+pub mod UriSyntax
+pub mod Addresses
+pub mod Comparable
+pub mod Wildcards
+pub mod Constraints
+pub mod Identifiers
+pub mod GeneralNames
+pub mod Judgements
+pub mod Lists
+pub mod NameMatching
+pub mod Subjects
+pub mod Verdicts

@@ -1,0 +1,10 @@
+mod ExtensionLemmas
+mod IssuerLemmas
+mod LimitLemmas
+mod PathLemmas
+mod VerdictLemmas
+mod SameLemmas
+mod ValueLemmas
+mod CertificateLemmas
+mod PurposeLemmas
+mod WalkedLemmas

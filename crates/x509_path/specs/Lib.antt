@@ -1,0 +1,12 @@
+pub mod Encodings
+pub mod Validity
+pub mod Fields
+pub mod Authority
+pub mod Extensions
+pub mod PathLimits
+pub mod Names
+pub mod CertificateFacts
+pub mod Obligations
+pub mod Paths
+pub mod ExtensionValue
+pub mod Purpose

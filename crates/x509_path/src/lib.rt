@@ -1,0 +1,34 @@
+//! Certificates of certification paths (RFC 5280, 6.1): their facts, and their signatures as
+//! obligations.
+//!
+//! [`facts_of`] says of a certificate, after those before it in a path, what `path_rules` asks of it,
+//! and [`judge`] whether a path keeps its rules. [`obligation_of`] says which signature has to
+//! verify, with which key: this crate has no cryptography. A path is valid if both hold of all its
+//! certificates, its policies hold, and none is revoked. [`purpose_allows`] says whether the key of
+//! a certificate may be used for a purpose, such as that of a server of TLS.
+//!
+//! Nothing is allocated, no clock is read, and no certificate is trusted that the caller does not
+//! name as [`Anchor`]. What cannot be compared or understood is refused.
+#![tactic(auto)]
+
+mod authority;
+mod certificate;
+mod extensions;
+mod facts;
+mod fields;
+mod inputs;
+mod laws;
+mod limit;
+mod names;
+mod obligation;
+mod path;
+mod purpose;
+mod validity;
+mod verdicts;
+
+pub use certificate::PathCertificate;
+pub use facts::{facts_of, no_facts};
+pub use inputs::{Anchor, Inputs};
+pub use obligation::{Obligation, obligation_of};
+pub use path::judge;
+pub use purpose::{Purpose, purpose_allows};

@@ -1,4 +1,0 @@
-//! Tests of values under BER that `asn1_der` writes in DER. `tools/ber_oracle` compares more of them with asn1ct, and
-//! `tools/suites` with openssl.
-
-mod values;

@@ -1,6 +1,0 @@
-//! Tests of the elements that `asn1_tree` reads. `tests/programs/asn1_trees` compares its departures with
-//! the compiled types.
-
-mod alphabets;
-mod entries;
-mod rules;

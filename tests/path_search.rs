@@ -1,0 +1,4 @@
+//! Tests of the crate `path_search`.
+
+mod graphs;
+mod links;

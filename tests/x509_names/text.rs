@@ -1,0 +1,5 @@
+//! Names as text.
+
+mod general_names;
+mod hidden;
+mod names;

@@ -1,0 +1,4 @@
+//! Tests of the crate `x509_path`.
+
+mod certificates;
+mod purposes;
