@@ -9,7 +9,7 @@ use x509::Certificate;
 
 /// A certificate, with the octets that encode it. Only [`PathCertificate::from_der`] makes one, so
 /// the octets are always those of the certificate.
-#[derive(Drop)]
+#[derive(Clone, Copy, Drop)]
 pub struct PathCertificate<'a> {
     pub(crate) certificate: Certificate<'a>,
     pub(crate) octets: &'a [u8],
