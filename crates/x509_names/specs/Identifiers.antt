@@ -4,6 +4,7 @@
 use Rattle.std.specs.Prelude.{◌≡◌, ◌↔◌, ℕ, Bool, true, List}
 use Rattle.x509.specs.declared.asn1.general_name.GeneralName.{GeneralName}
 use Rattle.x509.specs.declared.asn1.general_name.GeneralName.TheVariants as name
+use Rattle.x509_names.specs.Addresses.{IsAddress}
 use Rattle.x509_names.specs.Comparable.{IsPlainHost}
 use Rattle.x509_names.specs.Hosts.{IsDomainName, IsSameHost}
 use Rattle.x509_names.specs.Lists.{SomeItem}
@@ -35,7 +36,8 @@ pub record IsHostOf (octets host : List ℕ) (is_host : Bool) : Type 0 where
   pub names : AreNames octets
   pub is : (is_host ≡ true) ↔ (IsDnsHost host × SomeItem (PresentsHost host) names.items)
 
--- whether one of the names is the address
+-- whether one of the names is the address, which has 4 or 16 octets
 pub record IsAddressOf (octets address : List ℕ) (is_address : Bool) : Type 0 where
   pub names : AreNames octets
-  pub is : (is_address ≡ true) ↔ SomeItem (PresentsAddress address) names.items
+  pub is :
+      (is_address ≡ true) ↔ (IsAddress address × SomeItem (PresentsAddress address) names.items)

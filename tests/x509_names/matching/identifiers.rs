@@ -8,7 +8,7 @@ use x509::GeneralNames;
 use x509_names::{is_address_of, is_host_of};
 
 // A subjectAltName, a host, and whether it is one of the certificate.
-static OTHERS: [Case; 9] = [
+static OTHERS: [Case; 10] = [
     // openssl takes a wildcard that is a part of a label. It has to be the whole first label (RFC
     // 9525, 6.3)
     (b"\x30\x10\x82\x0Ef*.example.org", b"foo.example.org", false),
@@ -25,6 +25,8 @@ static OTHERS: [Case; 9] = [
     (b"\x30\x03\x82\x01*", b"*", false),
     // a dNSName with an asterisk stands for one label, which has an octet at least (RFC 1034, 3.1)
     (b"\x30\x0F\x82\x0D*.example.org", b".example.org", false),
+    // an address has 4 or 16 octets (RFC 5280, 4.2.1.6), so no other octets are one
+    (b"\x30\x07\x87\x05\x01\x02\x03\x04\x05", b"\x01\x02\x03\x04\x05", false),
 ];
 
 // Octets of 4 or 16 that are no letters of a host are an address.

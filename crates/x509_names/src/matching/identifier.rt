@@ -2,7 +2,7 @@
 ghost use Rattle.std.specs.Prelude.{◌↔◌, IsTrue};
 ghost use Rattle.x509_names.specs.Identifiers.{IsAddressOf, IsDnsHost, IsHostOf, PresentsAddress, PresentsHost};
 
-use crate::forms::{host_matches, is_domain_name, is_plain_host};
+use crate::forms::{host_matches, is_address, is_domain_name, is_plain_host};
 use std::alloc::Global;
 use x509::{GeneralName, GeneralNames};
 
@@ -24,8 +24,8 @@ pub fn is_host_of(alloc: Global, names: &GeneralNames<'_>, host: &[u8]) -> bool
 }
 
 /// Whether one of the names, those of a subjectAltName, is an iPAddress with these octets (RFC 9525,
-/// 6.4): 4 for an address of version 4, and 16 for one of version 6. The function does not use
-/// `alloc`.
+/// 6.4): 4 for an address of version 4, and 16 for one of version 6. Any other octets are the address
+/// of no certificate. The function does not use `alloc`.
 pub fn is_address_of(alloc: Global, names: &GeneralNames<'_>, address: &[u8]) -> bool
     ensures { IsAddressOf names.now.octets.now address.now result }
 {
@@ -33,7 +33,7 @@ pub fn is_address_of(alloc: Global, names: &GeneralNames<'_>, address: &[u8]) ->
     'names: for name in names.iter(alloc) {
         found = found | presents_address(&name, address);
     }
-    found
+    is_address(address) && found
 }
 
 // Whether the octets are the name of a host, without an asterisk, and no address.
