@@ -10,7 +10,9 @@ import tarfile
 import tempfile
 
 import checker
+from certificates import RawNode, identifier, sequence
 from checker import TOP
+from nodes import Node
 
 MODULE = "Values DEFINITIONS ::= BEGIN\nPair ::= SEQUENCE { flag BOOLEAN, bits BIT STRING }\nEND\n"
 TIME = "%b %d %H:%M:%S %Y GMT"
@@ -43,9 +45,10 @@ def found(pattern, text):
     return (re.findall(pattern, text, re.M) or ["nothing"])[0]
 
 
-def openssl(*words):
-    """What openssl prints."""
-    return subprocess.run(["openssl", *words], capture_output=True, text=True, check=True, stdin=subprocess.DEVNULL).stdout
+def openssl(*words, both=False):
+    """What openssl prints; to both streams, if it is asked."""
+    ran = subprocess.run(["openssl", *words], capture_output=True, text=True, check=not both, stdin=subprocess.DEVNULL)
+    return ran.stdout + ran.stderr if both else ran.stdout
 
 
 def named(text):
@@ -72,13 +75,14 @@ def see_short(folder):
 
 
 def see_width(folder):
-    """--width folds lines of octets, which are not longer then, and the characters stay as they are."""
+    """--width folds lines of octets, which are not longer then, and the characters stay as they are. A line ends where fewer than five columns
+    are left, as an octet with its colon needs three."""
     path = f"{folder}/rsa-leaf.cer"
     text = show("--width", "0", path)[1]
     for width in range(60, 76):
         folded = show("--width", str(width), path)[1]
         see(f"--width {width}: the characters", re.sub(r"\s", "", folded), re.sub(r"\s", "", text))
-        see(f"--width {width}: the longest line of octets", max(map(len, re.findall(r"^ +(?:[0-9a-f]{2}:)+$", folded, re.M))) <= width, True)
+        see(f"--width {width}: the longest line of octets", width - 4 <= max(map(len, re.findall(r"^ +(?:[0-9a-f]{2}:)+$", folded, re.M))) <= width, True)
 
 
 def see_json(folder):
@@ -160,13 +164,48 @@ def see_minimum():
     see("the minimum of a subtree", found(r"^ +DNS:a, (.*)$", show(octets=octets)[1]), "minimum 1")
 
 
+def see_bags(folder):
+    """The bags of a PKCS #12 file: openssl names that of other bags, and RFC 7292, 4.2.4, that of a revocation list."""
+    def octet_string(value):
+        return Node(0xA0, [Node(4, value.octets())])
+
+    def bag(kind, value):
+        return sequence(identifier(f"1.2.840.113549.1.12.10.1.{kind}"), Node(0xA0, [value]))
+
+    with open(f"{folder}/P-384.crl", "rb") as file:
+        held = octet_string(RawNode(file.read()))
+    bags = sequence(bag(4, sequence(identifier("1.2.840.113549.1.9.23.1"), held)), bag(6, sequence()))
+    safes = sequence(sequence(identifier("1.2.840.113549.1.7.1"), octet_string(bags)))
+    octets = sequence(Node(2, b"\x03"), sequence(identifier("1.2.840.113549.1.7.1"), octet_string(safes))).octets()
+    path = f"{folder}/bags.p12"
+    with open(path, "wb") as file:
+        file.write(octets)
+    said = openssl("pkcs12", "-in", path, "-info", "-nodes", "-nomacver", "-passin", "pass:", both=True)
+    lines = show(path)[1].splitlines()
+    see("a bag of bags", [it.strip() for it in lines if it.endswith(" bag")], ["CRL bag", *re.findall(r"^(Safe Contents bag)$", said, re.M)])
+    see("a bag of a revocation list: its list", "    CRL extensions:" in lines, True)
+
+
+def see_label(folder):
+    """A label says of what kind a damaged value is: NEW CERTIFICATE REQUEST is one of a request (RFC 7468, 7)."""
+    text = checker.text_of(f"{folder}/new.pem")
+    label = found(r"^-----BEGIN (.*)-----$", text)
+    octets = bytearray(base64.b64decode("".join(text[text.index("-----BEGIN"):].splitlines()[1:-1])))
+    # the CertificationRequestInfo, a SEQUENCE, is an OCTET STRING
+    octets[3] = 4
+    body = base64.encodebytes(bytes(octets)).decode()
+    for name in (label, "SOMETHING"):
+        shown = show("--json", octets=f"-----BEGIN {name}-----\n{body}-----END {name}-----\n".encode())[1]
+        see(f"the kind of a damaged {name}", json.loads(shown)["values"][0].get("kind"), "request" if name == label else "elements")
+
+
 def run():
     """Returns whether each option prints what it should, and how much was compared."""
     HELD.clear()
     with tempfile.TemporaryDirectory() as folder:
         with tarfile.open(f"{TOP}/tests/shown/files.tar.xz") as archive:
             archive.extractall(folder, filter="data")
-        for part in (see_short, see_width, see_json, see_lint, see_private, see_labels):
+        for part in (see_short, see_width, see_json, see_lint, see_private, see_labels, see_label, see_bags):
             part(folder)
         see_departures()
         see_minimum()
