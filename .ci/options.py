@@ -4,6 +4,7 @@ import base64
 import datetime
 import json
 import os
+import pty
 import re
 import subprocess
 import tarfile
@@ -83,6 +84,33 @@ def see_width(folder):
         folded = show("--width", str(width), path)[1]
         see(f"--width {width}: the characters", re.sub(r"\s", "", folded), re.sub(r"\s", "", text))
         see(f"--width {width}: the longest line of octets", width - 4 <= max(map(len, re.findall(r"^ +(?:[0-9a-f]{2}:)+$", folded, re.M))) <= width, True)
+
+
+def on_terminal(*words):
+    """What der_show prints to a terminal."""
+    mine, its = pty.openpty()
+    with subprocess.Popen([checker.unproved("der_show"), *words], stdin=subprocess.DEVNULL, stdout=its, stderr=subprocess.DEVNULL):
+        os.close(its)
+        text = b""
+        try:
+            while octets := os.read(mine, 65536):
+                text += octets
+        except OSError:
+            # the program has ended
+            pass
+        os.close(mine)
+    return text.decode().replace("\r\n", "\n")
+
+
+def see_terminal(folder):
+    """Lines are folded on a terminal, and not in a pipe, where other programs read them; --width counts for both."""
+    path = f"{folder}/rsa-leaf.cer"
+    whole = show("--width", "0", path)[1]
+    see("the longest line is longer than a terminal's", max(map(len, whole.splitlines())) > 100, True)
+    see("a pipe", show(path)[1], whole)
+    see("a terminal", on_terminal(path), show("--width", "100", path)[1])
+    see("--width on a terminal", on_terminal("--width", "70", path), show("--width", "70", path)[1])
+    see("--json on a terminal", on_terminal("--json", path), show("--json", path)[1])
 
 
 def see_json(folder):
@@ -205,7 +233,7 @@ def run():
     with tempfile.TemporaryDirectory() as folder:
         with tarfile.open(f"{TOP}/tests/shown/files.tar.xz") as archive:
             archive.extractall(folder, filter="data")
-        for part in (see_short, see_width, see_json, see_lint, see_private, see_labels, see_label, see_bags):
+        for part in (see_short, see_width, see_terminal, see_json, see_lint, see_private, see_labels, see_label, see_bags):
             part(folder)
         see_departures()
         see_minimum()

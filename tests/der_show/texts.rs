@@ -59,7 +59,7 @@ fn messages_in_mail_are_read(rt: HostRuntime) {
 #[test]
 fn long_lines_are_folded(rt: HostRuntime) {
     let mut options = Options::new();
-    options.width = 40;
+    options.width = Some(40);
     let whole = show_in_memory(rt.alloc(), Options::new(), "f", &CERTIFICATE);
     let folded = show_in_memory(rt.alloc(), options, "f", &CERTIFICATE);
     let (mut column, mut kept) = (0, Vec::new(rt.alloc()));

@@ -25,6 +25,6 @@ mod values;
 pub use der_print::{Output, Sink};
 pub use files::show_octets;
 pub use modules::{NoTable, table_of_modules};
-pub use options::{Options, ShowCommand, Shown};
+pub use options::{Options, ShowCommand, Shown, TERMINAL_WIDTH};
 pub use program::{Finished, run_show, show_in_memory};
 pub use schema_kinds::Kind;

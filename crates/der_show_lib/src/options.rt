@@ -42,8 +42,9 @@ pub struct Options {
     /// program finds the kind of each value.
     pub kind: Option<Kind>,
     /// The greatest number of columns of a line (option `--width`). A longer line is broken. If it
-    /// is 0, lines are never broken.
-    pub width: usize,
+    /// is 0, lines are never broken. Without the option, it is `None`, and the width is that of the
+    /// output.
+    pub width: Option<usize>,
     /// The time from which the program counts the days that a value is still valid (option
     /// `--now`). In seconds since 1970-01-01T00:00:00Z.
     pub now: Option<i64>,
@@ -58,7 +59,7 @@ impl Options {
             is_lint: false,
             shown: Shown::Text,
             kind: None,
-            width: 0,
+            width: None,
             now: None,
         }
     }
@@ -89,8 +90,8 @@ const NO_WIDTH: &str = "the value of '--width' is no number";
 const NO_TIME: &str =
     "the value of '--now' is no date as 2026-01-31, and no time as 2026-01-31T23:59:59Z";
 
-/// Without the option `--width`, a line is broken after this number of columns.
-const WIDTH: usize = 100;
+/// Without the option `--width`, a line on a terminal is broken after this number of columns.
+pub const TERMINAL_WIDTH: usize = 100;
 
 const NO_TYPE: &str = "'--schema' and '--module' need '--type', the name of a type";
 
@@ -124,12 +125,11 @@ impl<'a> ShowCommand<'a> {
                 return Err(command.error(ErrorKind::ValueValidation, NO_KIND)?);
             }
         }
-        options.width = WIDTH;
         if let Some(word) = matches.get_str("width") {
             let Ok(width) = word.parse::<usize>() else {
                 return Err(command.error(ErrorKind::ValueValidation, NO_WIDTH)?);
             };
-            options.width = width;
+            options.width = Some(width);
         }
         if let Some(word) = matches.get_str("now") {
             options.now = seconds_of(word);
@@ -276,7 +276,7 @@ fn add_lines<'a>(alloc: Global, command: Command<'a>) -> Result<Command<'a>, All
         alloc,
         "width",
         "COLUMNS",
-        "Fold lines of text after so many columns; 100 if not given, never for 0",
+        "Fold lines of text after so many columns, never for 0; 100 on a terminal",
     );
     command
         .arg(short.conflicts_with_all(&forms[..4])?)?

@@ -202,9 +202,11 @@ fn new_show<'s>(
     errors: Output,
 ) -> Show<'s> {
     let mut out = out;
-    if options.shown == Shown::Text {
-        out.width = options.width;
-    }
+    out.width = match (options.shown, options.width) {
+        (Shown::Text, Some(width)) => width,
+        (Shown::Text, None) => out.width,
+        _ => 0,
+    };
     Show {
         page: Page::new(alloc, schema, out, options.has_offsets),
         errors,
