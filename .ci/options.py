@@ -162,6 +162,23 @@ def see_lint(folder):
         see(f"{what}: the warning", len(warned), int(what != "a certificate"))
 
 
+def see_lint_of_ber():
+    """--lint of a certificate with an indefinite length finds what it finds in its DER; where there is none, it says so."""
+    with tarfile.open(f"{TOP}/tests/linted/certificates.tar.xz") as archive:
+        for name in ("leaf", "serial_zero", "no_usage", "extension_twice"):
+            octets = archive.extractfile(f"{name}.der").read()
+            streamed = b"\x30\x80" + octets[4:] + b"\x00\x00"
+            alone, found = (json.loads(show("--lint", "--json", octets=it)[1])["values"][0] for it in (octets, streamed))
+            see(f"--lint of {name} in BER", (found["lint"], found["lintOf"]), (alone["lint"], "DER"))
+            lines, others = (re.findall(r"^Lint: (.*)$", show("--lint", octets=it)[1], re.M) for it in (octets, streamed))
+            see(f"--lint of {name} in BER: the lines", others[1:], lines)
+            see(f"--lint of {name} in BER: the status", show("--lint", octets=streamed)[0], 1)
+        cut = archive.extractfile("leaf.der").read()
+    cut = cut[:3] + bytes([cut[3] - 8]) + cut[4:-8]
+    see("--lint of a cut certificate", re.findall(r"^Lint: (.*)$", show("--lint", "--as", "certificate", octets=cut)[1], re.M)[-1:],
+        ["no rule is checked, since the certificate cannot be written in DER"])
+
+
 def see_private(folder):
     """The size of a private key, and the number of its primes, as openssl says them."""
     for name in ("rsa.key", "P-256.key", "secp224r1.key", "sect233k1.key"):
@@ -236,6 +253,7 @@ def run():
         for part in (see_short, see_width, see_terminal, see_json, see_lint, see_private, see_labels, see_label, see_bags):
             part(folder)
         see_departures()
+        see_lint_of_ber()
         see_minimum()
         if os.path.exists("/dev/full"):
             with open("/dev/full", "wb") as full:

@@ -4,12 +4,13 @@ use crate::departures::Departures;
 use crate::lint::put_finding;
 use crate::place::Place;
 use crate::print::take_output;
+use crate::rewritten::rewritten;
 use crate::show::Show;
 use crate::value::Target;
 use der::DecodeBytes;
 use der_print::{Characters, Form, Output, Printer, Sink, Style, print_json, put_text};
 use schema_cursor::Cursor;
-use schema_kinds::Kind;
+use schema_kinds::{Kind, read_as};
 use std::fmt::Write;
 use x509::{Certificate, CertificateList};
 use x509_lint::{LIST_RULES, findings, list_keeps};
@@ -94,18 +95,42 @@ pub fn put_json_value(
     show.page.put("\n    }");
 }
 
-// The rules that a certificate breaks, as a list of texts; none if the certificate is not DER.
+// The rules that a certificate breaks, as a list of texts.
 fn put_json_lint(show: &mut Show<'_>, value: Cursor<'_>, base: usize) {
-    let alloc = show.page.alloc;
-    let Ok(certificate) = Certificate::from_der(alloc, value.octets()) else {
+    match Certificate::from_der(show.page.alloc, value.octets()) {
+        Ok(certificate) => put_json_findings(show, value, base, &certificate),
+        Err(_) => put_json_lint_of_der(show, value.octets()),
+    }
+}
+
+// The rules that the DER encoding of a certificate in BER breaks. Offsets are those in the encoding.
+fn put_json_lint_of_der(show: &mut Show<'_>, octets: &[u8]) {
+    let (alloc, schema, node) = (show.page.alloc, show.page.schema, Kind::Certificate.node());
+    let Ok(written) = rewritten(alloc, schema, node, octets) else {
         return;
     };
+    let octets = written.octets.as_slice();
+    let certificate = Certificate::from_der(alloc, octets);
+    if let (Ok(certificate), Ok(tree)) = (certificate, read_as(alloc, schema, node, octets)) {
+        if let Some(root) = Cursor::root(octets, schema, &tree) {
+            show.page.put(",\n      \"lintOf\": \"DER\"");
+            put_json_findings(show, root, 0, &certificate);
+        }
+    }
+}
+
+fn put_json_findings(
+    show: &mut Show<'_>,
+    root: Cursor<'_>,
+    base: usize,
+    certificate: &Certificate<'_>,
+) {
     show.page.put(",\n      \"lint\": [");
     let mut is_first = true;
-    for finding in findings(alloc, &certificate) {
+    for finding in findings(show.page.alloc, certificate) {
         show.page.put(if is_first { "\"" } else { ", \"" });
         is_first = false;
-        put_finding(&mut show.page.out, value, base, &finding);
+        put_finding(&mut show.page.out, root, base, &finding);
         show.page.put("\"");
         show.status = 1;
     }

@@ -1,8 +1,10 @@
 //! Prints the rules of RFC 5280 that a certificate or a revocation list breaks.
 
+use crate::rewritten::rewritten;
 use der::DecodeBytes;
 use der_print::{Output, Page, long_name};
 use schema_cursor::Cursor;
+use schema_kinds::{Kind, read_as};
 use std::alloc::Global;
 use std::fmt::Write;
 use x509::{Certificate, CertificateList};
@@ -11,18 +13,52 @@ use x509_lint::{Finding, LIST_RULES, Place, RULES, Rule, findings, list_keeps};
 
 /// Checks a certificate against those rules of RFC 5280 that decoding does not check. Prints a line
 /// for each rule that is broken, and a line with the number of broken rules. Returns true if no
-/// rule is broken. If the certificate is not DER, checks nothing, prints a line that says this, and
-/// returns false.
+/// rule is broken. If the certificate is not DER, checks its DER encoding, prints a line that says
+/// this, and returns false.
 pub fn put_lint(page: &mut Page<'_>, value: Cursor<'_>) -> bool {
-    let Ok(certificate) = Certificate::from_der(page.alloc, value.octets()) else {
-        page.line_beside("Lint: no rule is checked, since the certificate is not DER");
-        return false;
-    };
+    match Certificate::from_der(page.alloc, value.octets()) {
+        Ok(certificate) => {
+            let base = page.base;
+            put_findings(page, value, base, &certificate)
+        }
+        Err(_) => {
+            put_lint_of_der(page, value.octets());
+            false
+        }
+    }
+}
+
+// Checks the DER encoding of a certificate in BER. Offsets are those in the encoding.
+fn put_lint_of_der(page: &mut Page<'_>, octets: &[u8]) {
+    let (alloc, schema, node) = (page.alloc, page.schema, Kind::Certificate.node());
+    if let Ok(written) = rewritten(alloc, schema, node, octets) {
+        let octets = written.octets.as_slice();
+        let certificate = Certificate::from_der(alloc, octets);
+        if let (Ok(certificate), Ok(tree)) = (certificate, read_as(alloc, schema, node, octets)) {
+            if let Some(root) = Cursor::root(octets, schema, &tree) {
+                page.line_beside(
+                    "Lint: the certificate is not DER; offsets are in its encoding in DER",
+                );
+                put_findings(page, root, 0, &certificate);
+                return;
+            }
+        }
+    }
+    page.line_beside("Lint: no rule is checked, since the certificate cannot be written in DER");
+}
+
+// Prints the rules that a certificate breaks, with its elements at `root`, and returns whether there are none.
+fn put_findings(
+    page: &mut Page<'_>,
+    root: Cursor<'_>,
+    base: usize,
+    certificate: &Certificate<'_>,
+) -> bool {
     let mut count = 0usize;
-    for finding in findings(page.alloc, &certificate) {
+    for finding in findings(page.alloc, certificate) {
         page.beside();
         page.put("Lint: ");
-        put_finding(&mut page.out, value, page.base, &finding);
+        put_finding(&mut page.out, root, base, &finding);
         page.end();
         count = count.saturating_add(1);
     }
@@ -32,7 +68,7 @@ pub fn put_lint(page: &mut Page<'_>, value: Cursor<'_>) -> bool {
         "Lint: {count} of {} rules are broken",
         RULES.len()
     );
-    let malformed = malformed_count(page.alloc, &certificate);
+    let malformed = malformed_count(page.alloc, certificate);
     if malformed > 0 {
         let _ = write!(
             page.out,
