@@ -81,7 +81,7 @@ pub fn put_json_value(
 ) {
     begin_value(show, place, target.word(), departures.base);
     if matches!(target, Target::Kind(Kind::Certificate)) && show.options.is_lint {
-        put_json_lint(show, value, departures.base);
+        put_json_lint(show, value, departures.octets, departures.base);
     }
     if matches!(target, Target::Kind(Kind::RevocationList)) && show.options.is_lint {
         put_json_list_lint(show, value.octets());
@@ -96,10 +96,10 @@ pub fn put_json_value(
 }
 
 // The rules that a certificate breaks, as a list of texts.
-fn put_json_lint(show: &mut Show<'_>, value: Cursor<'_>, base: usize) {
+fn put_json_lint(show: &mut Show<'_>, value: Cursor<'_>, octets: &[u8], base: usize) {
     match Certificate::from_der(show.page.alloc, value.octets()) {
         Ok(certificate) => put_json_findings(show, value, base, &certificate),
-        Err(_) => put_json_lint_of_der(show, value.octets()),
+        Err(_) => put_json_lint_of_der(show, octets),
     }
 }
 

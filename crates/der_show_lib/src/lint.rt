@@ -14,15 +14,15 @@ use x509_lint::{Finding, LIST_RULES, Place, RULES, Rule, findings, list_keeps};
 /// Checks a certificate against those rules of RFC 5280 that decoding does not check. Prints a line
 /// for each rule that is broken, and a line with the number of broken rules. Returns true if no
 /// rule is broken. If the certificate is not DER, checks its DER encoding, prints a line that says
-/// this, and returns false.
-pub fn put_lint(page: &mut Page<'_>, value: Cursor<'_>) -> bool {
+/// this, and returns false. `octets` are the octets of the certificate in the file.
+pub fn put_lint(page: &mut Page<'_>, value: Cursor<'_>, octets: &[u8]) -> bool {
     match Certificate::from_der(page.alloc, value.octets()) {
         Ok(certificate) => {
             let base = page.base;
             put_findings(page, value, base, &certificate)
         }
         Err(_) => {
-            put_lint_of_der(page, value.octets());
+            put_lint_of_der(page, octets);
             false
         }
     }

@@ -19,14 +19,15 @@ use schema_read::Departure;
 use std::fmt::Write;
 use std::mem;
 
-/// Prints `value`, which is of the kind `kind`, as lines of text.
-pub fn put_text_value(show: &mut Show<'_>, kind: Kind, value: Cursor<'_>) {
+/// Prints `value`, which is of the kind `kind`, as lines of text. `octets` are the octets of the
+/// value in the file.
+pub fn put_text_value(show: &mut Show<'_>, kind: Kind, value: Cursor<'_>, octets: &[u8]) {
     let page = &mut show.page;
     match kind {
         Kind::Certificate => {
             put_certificate(page, value);
             put_warnings(page, value);
-            if show.options.is_lint && !put_lint(page, value) {
+            if show.options.is_lint && !put_lint(page, value, octets) {
                 show.status = 1;
             }
         }

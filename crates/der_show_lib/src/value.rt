@@ -119,7 +119,7 @@ fn put_root(
         (Shown::Text, _) if is_unreadable(&show.page, target, root, departures.items) => {
             put_unread(show, place, departures);
         }
-        (Shown::Text, Target::Kind(kind)) => put_text_value(show, kind, root),
+        (Shown::Text, Target::Kind(kind)) => put_text_value(show, kind, root, departures.octets),
         (Shown::Text, _) => put_typed(&mut show.page, root),
         (Shown::Json, _) => put_json_value(show, place, target, root, departures),
         (Shown::Der | Shown::Pem, _) => {

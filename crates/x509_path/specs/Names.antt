@@ -1,13 +1,16 @@
 -- What the nameConstraints of the certificates before say of the names of a certificate (RFC 5280,
 -- 4.2.1.10; 6.1.3 (b), (c)): `HasPathVerdict`. The names are the subject, an emailAddress in it,
 -- and the subjectAltName. A verdict comes with a reading of the extensions that it is about; an
--- extension that cannot be read gives `Unclear`.
-use Rattle.std.specs.Prelude.{◌≡◌, ◌≢◌, ◌⊎◌, ℕ, List, Option, Some, None, MatchOption}
+-- extension that has no reading gives `Unclear`.
+use Rattle.std.specs.Prelude.{◌≡◌, ◌≢◌, ◌⊎◌, ◌<◌, ◌^◌, ℕ, List, Option, Some, None, MatchOption}
+use Rattle.std.specs.Prelude.{length}
 use Rattle.der.specs.Prelude.{Sequence, element_octets}
+use Rattle.der_asn1.specs.SequenceOf.{IsListOf}
 use Rattle.x509.specs.CertificateLists.{AreExtensions, IsExtension, extension_encoding}
 use Rattle.x509.specs.ExtensionIdentifiers.{id_ce}
 use Rattle.x509.specs.Find.{HasOccurrence}
 use Rattle.x509.specs.contracts.asn1.name_constraints.NameConstraintsItem.TheImpl as subtrees
+use Rattle.x509.specs.contracts.asn1.relative_distinguished_name.RelativeDistinguishedNameItem.TheImpl as level
 use Rattle.x509.specs.declared.asn1.extension.Extension.{Extension}
 use Rattle.x509.specs.declared.asn1.extensions.Extensions.{Extensions}
 use Rattle.x509.specs.declared.asn1.name.Name.{Name}
@@ -17,7 +20,7 @@ use Rattle.x509.specs.declared.find.occurrence.Occurrence.{Occurrence}
 use Rattle.x509.specs.declared.find.occurrence.Occurrence.TheVariants.{Absent, Once, Several}
 use Rattle.x509_names.specs.Judgements.{AreJudged, first_refusal}
 use Rattle.x509_names.specs.Subjects.{HasSubjectVerdict}
-use Rattle.x509_names.specs.Verdicts.{HaveVerdict}
+use Rattle.x509_names.specs.Verdicts.{AreNames, HaveVerdict}
 use Rattle.x509_names.specs.declared.matching.verdict.Verdict.{Verdict}
 use Rattle.x509_names.specs.declared.matching.verdict.Verdict.TheVariants.{Permitted, Unclear}
 use Rattle.x509_path.specs.declared.certificate.PathCertificate.{PathCertificate}
@@ -29,8 +32,14 @@ pub record IsReadSubject (n : NameConstraints) (octets : List ℕ) (names : Opti
   pub same : subject.levels.octets.now ≡ octets
   pub judged : HasSubjectVerdict n subject names v
 
+-- octets, fewer than 2^32, are those of the levels of a name
+pub record AreLevelOctets (octets : List ℕ) : Type 0 where
+  pub short : length octets < 2 ^ 32
+  pub levels : IsListOf level.ghosts.item.valid level.ghosts.item.octets octets
+
 abbrev pub IsSubjectVerdict : NameConstraints → List ℕ → Option (List ℕ) → Verdict → Type 0
-IsSubjectVerdict n octets names v = IsReadSubject n octets names v ⊎ (v ≡ Unclear)
+IsSubjectVerdict n octets names v =
+    IsReadSubject n octets names v ⊎ ((AreLevelOctets octets → ⊥) × (v ≡ Unclear))
 
 -- the first refusal of the subject, and of its alternative names
 pub record AreNamesJudged (n : NameConstraints) (octets names : List ℕ) (v : Verdict)
@@ -41,11 +50,17 @@ pub record AreNamesJudged (n : NameConstraints) (octets names : List ℕ) (v : V
   pub others_are : HaveVerdict n names others
   pub is : v ≡ first_refusal subject others
 
+-- a value of fewer than 2^32 octets is a subjectAltName with the names of these octets
+pub record AreAltNames (value names : List ℕ) : Type 0 where
+  pub short : length value < 2 ^ 32
+  pub encoding : value ≡ element_octets Sequence names
+  pub list : AreNames names
+
 -- the value of a subjectAltName
 abbrev pub IsAltNameVerdict : NameConstraints → List ℕ → List ℕ → Verdict → Type 0
 IsAltNameVerdict n octets value v =
-    ((names : List ℕ) × (value ≡ element_octets Sequence names) × AreNamesJudged n octets names v)
-    ⊎ (v ≡ Unclear)
+    ((names : List ℕ) × AreAltNames value names × AreNamesJudged n octets names v)
+    ⊎ (((names : List ℕ) → AreAltNames value names → ⊥) × (v ≡ Unclear))
 
 -- no subjectAltName, one, or several
 abbrev pub IsOccurrenceVerdict : NameConstraints → List ℕ → Occurrence Extension → Verdict → Type 0
@@ -67,12 +82,17 @@ HasNamesVerdict c n v =
     MatchOption c.extensions.0 (IsSubjectVerdict n c.subject.levels.octets.now None v)
     (λ x. HasAltNameVerdict n c.subject.levels.octets.now x.0 v)
 
+-- a value of fewer than 2^32 octets is a nameConstraints
+pub record IsConstraints (value : List ℕ) (n : NameConstraints) : Type 0 where
+  pub short : length value < 2 ^ 32
+  pub valid : subtrees.ghosts.item.valid n
+  pub encoding : value ≡ subtrees.ghosts.item.octets n
+
 -- the value of a nameConstraints
 abbrev pub IsValueVerdict : TbsCertificate → List ℕ → Verdict → Type 0
 IsValueVerdict c value v =
-    ((n : NameConstraints) × subtrees.ghosts.item.valid n
-    × (value ≡ subtrees.ghosts.item.octets n) × HasNamesVerdict c n v)
-    ⊎ (v ≡ Unclear)
+    ((n : NameConstraints) × IsConstraints value n × HasNamesVerdict c n v)
+    ⊎ (((n : NameConstraints) → IsConstraints value n → ⊥) × (v ≡ Unclear))
 
 -- an extension of an issuer, which says nothing of names if it is no nameConstraints
 abbrev pub IsExtensionVerdict : TbsCertificate → Extension → Verdict → Type 0
