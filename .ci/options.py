@@ -1,6 +1,7 @@
 """Calls der_show with each option over files that openssl made, and compares what depends on the option with what openssl, Python or
 another output of der_show says."""
 import base64
+import collections
 import datetime
 import json
 import os
@@ -25,6 +26,15 @@ LABELS = {
     "RSA PRIVATE KEY": "rsa-private-key", "DSA PRIVATE KEY": "dsa-private-key", "DSA PARAMETERS": "dsa-parameters",
     "X9.42 DH PARAMETERS": "x942-parameters",
 }
+# How openssl prints the files of a kind, by the end of their names.
+TEXTS = {
+    "ors": ["ocsp", "-resp_text", "-noverify", "-respin"], "orq": ["ocsp", "-req_text", "-reqin"], "crl": ["crl", "-inform", "DER", "-noout", "-text", "-in"],
+    "cer": ["x509", "-inform", "DER", "-noout", "-text", "-in"], "csr": ["req", "-inform", "DER", "-noout", "-text", "-in"],
+    "pub": ["pkey", "-pubin", "-inform", "DER", "-noout", "-text", "-in"], "key": ["pkey", "-inform", "DER", "-noout", "-text", "-in"],
+}
+# Lines of openssl that are no fields, and of groups of Diffie-Hellman, which der_show prints in other words.
+AROUND = {"Certificate", "Data", "Subject Public Key Info", "Certificate Request", "Responder Error", "Validity", "No PSS parameter restrictions",
+          "DH Private-Key", "DH Public-Key", "GROUP"}
 HELD = []
 
 
@@ -179,6 +189,48 @@ def see_lint_of_ber():
         ["no rule is checked, since the certificate cannot be written in DER"])
 
 
+def headings(text):
+    """How often each heading is in a text, with whether octets stand behind it; and each line of words alone. Names of algorithms before a key, identifiers
+    and PEM blocks are left out."""
+    text = re.sub(r"^-----BEGIN (.*)-----$(.|\n)*?^-----END \1-----$", "", text, flags=re.M)
+    text = re.sub(r" \((?:\d+\.)+\d+\)(?=:)", "", text)
+    text = re.sub(r"^( *)(?:ED25519|ED448|X25519|X448) (Public-Key|Private-Key)", r"\1\2", text, flags=re.M)
+    lines = re.findall(r"^ *((?!(?:[0-9A-F]{2}(?:$|:)))[A-Z][A-Za-z0-9 #/-]*?) *(?::(?: *(.*))?)?$", text, re.M)
+    return collections.Counter((name, bool(re.fullmatch(r"[0-9A-F]{8,}", value))) for name, value in lines if name not in AROUND)
+
+
+def see_headings(folder):
+    """Each heading that openssl prints is printed as often, with octets behind it or with something else."""
+    for name in sorted(os.listdir(folder)):
+        words = TEXTS.get(name.rpartition(".")[2])
+        if words:
+            wanted, got = headings(openssl(*words, f"{folder}/{name}", both=True)), headings(show("--width", "0", f"{folder}/{name}")[1])
+            see(f"the headings of {name}", {it: got[it] for it in wanted}, dict(wanted))
+
+
+def see_keys(folder):
+    """The algorithm in the summary of a private key is that of its value; a public key has a warning in version 1 alone (RFC 5958, 2)."""
+    for name in sorted(os.listdir(folder)):
+        if name.endswith(".key"):
+            value = json.loads(show("--json", f"{folder}/{name}")[1])["values"][0]["value"]
+            arcs = value["privateKeyAlgorithm"]["algorithm"]["arcs"] if "privateKeyAlgorithm" in value else "private-key"
+            see(f"--short of {name}", arcs in show("--short", f"{folder}/{name}")[1], True)
+    for version, warned in ((0, 1), (1, 0)):
+        secret, public = Node(4, Node(4, bytes(32)).octets()), Node(0x81, bytes(33))
+        octets = sequence(Node(2, bytes([version])), sequence(identifier("1.3.101.112")), secret, public).octets()
+        text = show("--as", "private-key", octets=octets)[1]
+        see(f"warnings of a public key in version {version + 1}", text.count("Warning: a public key in version 1"), warned)
+
+
+def see_lines(folder):
+    """The line of each PEM block in JSON."""
+    with open(f"{folder}/rsa-leaf.pem", encoding="ascii") as file:
+        block = file.read()
+    text = f"a line\n\n{block}another\n{block}"
+    wanted = [at + 1 for at, it in enumerate(text.splitlines()) if it.startswith("-----BEGIN")]
+    see("--json: the lines of blocks", [it["line"] for it in json.loads(show("--json", octets=text.encode())[1])["values"]], wanted)
+
+
 def see_private(folder):
     """The size of a private key, and the number of its primes, as openssl says them."""
     for name in ("rsa.key", "P-256.key", "secp224r1.key", "sect233k1.key"):
@@ -250,7 +302,7 @@ def run():
     with tempfile.TemporaryDirectory() as folder:
         with tarfile.open(f"{TOP}/tests/shown/files.tar.xz") as archive:
             archive.extractall(folder, filter="data")
-        for part in (see_short, see_width, see_terminal, see_json, see_lint, see_private, see_labels, see_label, see_bags):
+        for part in (see_short, see_width, see_terminal, see_json, see_lint, see_private, see_labels, see_label, see_bags, see_headings, see_keys, see_lines):
             part(folder)
         see_departures()
         see_lint_of_ber()
