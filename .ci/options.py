@@ -12,7 +12,7 @@ import tarfile
 import tempfile
 
 import checker
-from certificates import RawNode, identifier, sequence
+from certificates import ED25519, RawNode, certificate, extension, identifier, name, private_key, sequence
 from checker import TOP
 from nodes import Node
 
@@ -208,6 +208,32 @@ def see_headings(folder):
             see(f"the headings of {name}", {it: got[it] for it in wanted}, dict(wanted))
 
 
+def see_made(folder):
+    """The same of files that openssl would not make, or that are made here: a revocation list without entries and a next update, which is for some certificates and
+    reasons; a certificate with an unknown qualifier; and a request for the status of a certificate that is signed."""
+    algorithm = sequence(identifier(ED25519))
+    point = sequence(Node(0x81, b"\xff"), Node(0x83, b"\x05\x60"), Node(0x84, b"\xff"))
+    listed = sequence(Node(2, b"\x01"), algorithm, name("CN=List"), Node(0x17, b"260101000000Z"), Node(0xA0, [sequence(extension("2.5.29.28", point, True))]))
+    qualifier = sequence(identifier("1.2.3.4"), Node(5, b""))
+    policy = extension("2.5.29.32", sequence(sequence(identifier("1.2.3.5"), sequence(qualifier))))
+    made = {
+        "made.crl": sequence(listed, algorithm, Node(3, bytes(65))).octets(),
+        "made.cer": certificate("CN=Last", "last", "CN=Last", "last", [policy]),
+    }
+    for file, octets in {**made, "last.key": private_key("last")}.items():
+        with open(f"{folder}/{file}", "wb") as out:
+            out.write(octets)
+    for file in ("made.cer", "last.key"):
+        words = ["x509"] if file == "made.cer" else ["pkey"]
+        openssl(*words, "-inform", "DER", "-in", f"{folder}/{file}", "-out", f"{folder}/{file}.text")
+    own = ("-issuer", f"{folder}/made.cer.text", "-cert", f"{folder}/made.cer.text")
+    openssl("ocsp", *own, "-signer", f"{folder}/made.cer.text", "-signkey", f"{folder}/last.key.text", "-reqout", f"{folder}/made.orq")
+    for file in ("made.crl", "made.cer", "made.orq"):
+        wanted = headings(openssl(*TEXTS[file.rpartition(".")[2]], f"{folder}/{file}", both=True))
+        got = headings(show("--width", "0", f"{folder}/{file}")[1])
+        see(f"the headings of {file}", {it: got[it] for it in wanted}, dict(wanted))
+
+
 def see_keys(folder):
     """The algorithm in the summary of a private key is that of its value; a public key has a warning in version 1 alone (RFC 5958, 2)."""
     for name in sorted(os.listdir(folder)):
@@ -302,7 +328,7 @@ def run():
     with tempfile.TemporaryDirectory() as folder:
         with tarfile.open(f"{TOP}/tests/shown/files.tar.xz") as archive:
             archive.extractall(folder, filter="data")
-        for part in (see_short, see_width, see_terminal, see_json, see_lint, see_private, see_labels, see_label, see_bags, see_headings, see_keys, see_lines):
+        for part in (see_short, see_width, see_terminal, see_json, see_lint, see_private, see_labels, see_label, see_bags, see_headings, see_made, see_keys, see_lines):
             part(folder)
         see_departures()
         see_lint_of_ber()
