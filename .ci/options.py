@@ -35,6 +35,8 @@ TEXTS = {
 # Lines of openssl that are no fields, and of groups of Diffie-Hellman, which der_show prints in other words.
 AROUND = {"Certificate", "Data", "Subject Public Key Info", "Certificate Request", "Responder Error", "Validity", "No PSS parameter restrictions",
           "DH Private-Key", "DH Public-Key", "GROUP"}
+# Headings whose lines are those of openssl.
+WHOLE = "Next Update|Explicit Text|Organization|Cert Status|Cofactor|Exponent|NIST CURVE"
 HELD = []
 
 
@@ -196,7 +198,9 @@ def headings(text):
     text = re.sub(r" \((?:\d+\.)+\d+\)(?=:)", "", text)
     text = re.sub(r"^( *)(?:ED25519|ED448|X25519|X448) (Public-Key|Private-Key)", r"\1\2", text, flags=re.M)
     lines = re.findall(r"^ *((?!(?:[0-9A-F]{2}(?:$|:)))[A-Z][A-Za-z0-9 #/-]*?) *(?::(?: *(.*))?)?$", text, re.M)
-    return collections.Counter((name, bool(re.fullmatch(r"[0-9A-F]{8,}", value))) for name, value in lines if name not in AROUND)
+    found = collections.Counter((name, bool(re.fullmatch(r"[0-9A-F]{8,}", value))) for name, value in lines if name not in AROUND)
+    whole = re.findall(rf"^ *((?:{WHOLE}):.*|No Revoked Certificates\.)$", text, re.M)
+    return found + collections.Counter((it, False) for it in whole)
 
 
 def see_headings(folder):
