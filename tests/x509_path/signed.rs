@@ -116,3 +116,16 @@ fn a_refusal_names_the_certificate_and_the_rule(rt: HostRuntime) {
     same_at(&rt, "empty", refusal(&rt, alloc, 0, 2030), Some(Some(Refusal::Empty)));
     same_at(&rt, "no room", refusal(&rt, alloc, 2, 2030), Some(None));
 }
+
+#[test]
+fn refusals_and_errors_are_printed(rt: HostRuntime) -> anyhow::Result<()> {
+    let alloc = rt.alloc();
+    let late = Refusal::Broken(Fault { at: 1, rule: Rule::Validity });
+    let text = format!(in alloc; "{late}; {}", Refusal::Empty)?;
+    same(&rt, text.as_str(), "certificate 1: the time is outside the validity period (RFC 5280, 6.1.3 (a) (2)); the path has no certificate");
+    let text = format!(in alloc; "{}; {}", Unsigned::TooFew, Unsigned::TooMany)?;
+    same(&rt, text.as_str(), "there are fewer verdicts than signatures; there are more verdicts than signatures");
+    let text = format!(in alloc; "{}", Unsigned::Failed(1))?;
+    same(&rt, text.as_str(), "the signature of certificate 1 does not verify");
+    Ok(())
+}
