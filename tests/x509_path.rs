@@ -2,3 +2,4 @@
 
 mod certificates;
 mod purposes;
+mod signed;

@@ -8,3 +8,5 @@ mod ValueLemmas
 mod CertificateLemmas
 mod PurposeLemmas
 mod WalkedLemmas
+mod SignedLemmas
+mod JudgementLemmas

@@ -10,3 +10,5 @@ pub mod Obligations
 pub mod Paths
 pub mod ExtensionValue
 pub mod Purpose
+pub mod SignedPaths
+pub mod Judgements

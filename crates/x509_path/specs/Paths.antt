@@ -23,9 +23,13 @@ AreFactsFrom i before (c ∷ cs) [] = ⊥
 AreFactsFrom i before (c ∷ cs) (f ∷ fs) =
     AreFacts i before c f × AreFactsFrom i (before ++ c ∷ []) cs fs
 
+-- there are facts of the certificates of a path with which it keeps the rules
+abbrev pub HasPath : Inputs → List PathCertificate → Type 0
+HasPath i path = (facts : List Facts) × AreFactsFrom i [] path facts × IsPath facts
+
 -- a path keeps all rules that are not about signatures
 abbrev pub KeepsRules : Inputs → List PathCertificate → Type 0
-KeepsRules i path = (facts : List Facts) × AreFactsFrom i [] path facts × IsPath facts
+KeepsRules i path = ∥ HasPath i path ∥₁
 
 -- a certificate of a path breaks a rule
 abbrev pub BreaksRule : Fault → Inputs → List PathCertificate → Type 0
@@ -63,3 +67,7 @@ IsValidPath verify i path = KeepsRules i path × AreSigned verify i [] path
 abbrev pub IsAnswered : Answer → Inputs → List PathCertificate → Type 0
 IsAnswered answer i path =
     (facts : List Facts) × AreFactsFrom i [] path facts × IsAnswer answer facts
+
+-- the certificate to be validated
+abbrev pub IsLast : PathCertificate → List PathCertificate → Type 0
+IsLast c path = (before : List PathCertificate) × (path ≡ before ++ c ∷ [])

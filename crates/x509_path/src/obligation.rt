@@ -39,7 +39,7 @@ pub fn obligation_of<'r, 'a>(
 }
 
 // The key with which the certificate after these is signed.
-fn issuer_key<'r, 'a>(
+pub(crate) fn issuer_key<'r, 'a>(
     inputs: &'r Inputs<'a>,
     before: &'r [PathCertificate<'a>],
 ) -> &'r SubjectPublicKeyInfoRef<'a>

@@ -1,19 +1,55 @@
 //! The judgement on a path of certificates.
 ghost use Rattle.std.specs.Prelude.{◌≡◌, ◌<◌, ◌≤◌, ◌+◌, ◌∷◌, ◌++◌, [], length, take, MatchOption};
 ghost use Rattle.path_rules.specs.declared.facts.Facts.{Facts as AFacts};
+ghost use Rattle.x509_path.specs.Judgements.{IsFound, IsJudged};
 ghost use Rattle.x509_path.specs.Paths.{AreFactsFrom, IsAnswered};
 
 use crate::certificate::PathCertificate;
 use crate::facts::facts_of;
+use crate::if_signed::IfSigned;
 use crate::inputs::Inputs;
+use crate::judgement::Judgement;
+use crate::refusal::Refusal;
 use path_rules::{Answer, Facts, path_answer};
 use std::alloc::Global;
 
-/// Whether a path keeps all rules that are not about signatures, or the first fault. Its first
-/// certificate is the one that the trust anchor issued, and the last the one to be validated. A path
-/// that keeps the rules is valid if each signature verifies too: see `obligation_of`. `room` needs a
-/// place for each certificate; what it holds before does not matter. If it has fewer places, the
-/// answer is `None`, and nothing is known of the path. The function does not use `alloc`.
+/// The judgement on a path: a path that is valid if its signatures verify, or the first fault. Its
+/// first certificate is the one that the trust anchor issued, and the last the one to be validated.
+/// `room` needs a place for each certificate; what it holds before does not matter. The function does
+/// not use `alloc`.
+pub fn judge_path<'r, 'a>(
+    alloc: Global,
+    inputs: &'r Inputs<'a>,
+    path: &'r [PathCertificate<'a>],
+    room: &mut [Facts],
+) -> Judgement<'r, 'a>
+    ensures { IsJudged result inputs.now path.now (length room.old) }
+{
+    match judge(alloc, inputs, path, room) {
+        Some(answer) => judgement_of(inputs, path, answer),
+        None => Judgement::NoRoom,
+    }
+}
+
+// The judgement on a path of which the rules have this answer.
+fn judgement_of<'r, 'a>(
+    inputs: &'r Inputs<'a>,
+    path: &'r [PathCertificate<'a>],
+    answer: Answer,
+) -> Judgement<'r, 'a>
+    requires { IsAnswered answer inputs.now path.now }
+    ensures { IsFound result inputs.now path.now }
+{
+    match answer {
+        Answer::Valid => Judgement::IfSigned(IfSigned { inputs, path }),
+        Answer::Empty => Judgement::Refused(Refusal::Empty),
+        Answer::Broken(fault) => Judgement::Refused(Refusal::Broken(fault)),
+    }
+}
+
+/// Whether a path keeps all rules that are not about signatures, or the first fault, as
+/// [`judge_path`] says it. If the room has fewer places than the path has certificates, the answer is
+/// `None`. A path that keeps the rules is valid if each signature verifies too.
 pub fn judge<'r, 'a>(
     alloc: Global,
     inputs: &'r Inputs<'a>,
