@@ -1,4 +1,5 @@
 //! Tests of the crate `x509_path`.
 
 mod certificates;
+mod policies;
 mod purposes;

@@ -1,4 +1,9 @@
 mod ExtensionLemmas
+mod QualifierLemmas
+mod PolicyRoomLemmas
+mod PolicyListLemmas
+mod PolicyNumberLemmas
+mod PolicyNoteLemmas
 mod IssuerLemmas
 mod LimitLemmas
 mod PathLemmas
