@@ -4,6 +4,7 @@ mod PolicyRoomLemmas
 mod PolicyListLemmas
 mod PolicyNumberLemmas
 mod PolicyNoteLemmas
+mod PolicyCountLemmas
 mod IssuerLemmas
 mod LimitLemmas
 mod PathLemmas

@@ -77,6 +77,15 @@ AreAllPolicyFacts [] (f ∷ fs) = ⊥
 AreAllPolicyFacts (c ∷ cs) [] = ⊥
 AreAllPolicyFacts (c ∷ cs) (f ∷ fs) = ArePolicyFacts (part c) f × AreAllPolicyFacts cs fs
 
+-- how many policies and how many mappings a path has
+abbrev pub policies_count : List PolicyFacts → ℕ
+policies_count [] = 0
+policies_count (f ∷ fs) = length f.policies.now + policies_count fs
+
+abbrev pub mappings_count : List PolicyFacts → ℕ
+mappings_count [] = 0
+mappings_count (f ∷ fs) = length f.mappings.now + mappings_count fs
+
 -- the certificate at a place of a path says nothing of policies that can be read
 pub record IsUnreadableAt (path : List PathCertificate) (at : ℕ) : Type 0 where
   pub before : List PathCertificate
@@ -91,7 +100,10 @@ abbrev pub IsRead
     : Policies → List Mapping → List PolicyNote → List PathCertificate → PolicyReading → Type 0
 IsRead policies mappings notes path reading.Read =
     (length path ≤ length notes) × AreNotes policies mappings path (take (length path) notes)
-IsRead policies mappings notes path reading.NoRoom = Unit {0}
+IsRead policies mappings notes path reading.NoRoom =
+    (facts : List PolicyFacts) → AreAllPolicyFacts path facts
+    → (length policies < policies_count facts)
+    ⊎ ((length mappings < mappings_count facts) ⊎ (length notes < length path))
 IsRead policies mappings notes path (reading.Unreadable at) = IsUnreadableAt path at
 
 -- facts are what a note says, with its parts of these rooms
