@@ -28,8 +28,10 @@ def constraints(permitted=(), excluded=(), critical=True, tail=()):
     return extension(f"{CE}30", sequence(*subtrees(0xA0, permitted, tail), *subtrees(0xA1, excluded, tail)), critical)
 
 
-def policies(*arcs, critical=False):
-    return extension(f"{CE}32", sequence(*(sequence(identifier(it)) for it in arcs)), critical)
+def policies(*arcs, critical=False, pointer=""):
+    """A certificatePolicies; each policy has a qualifier, if there is a pointer."""
+    qualifiers = [sequence(sequence(identifier("1.3.6.1.5.5.7.2.1"), Node(0x16, pointer.encode())))] if pointer else []
+    return extension(f"{CE}32", sequence(*(sequence(identifier(it), *qualifiers) for it in arcs)), critical)
 
 
 def mappings(*pairs, critical=True):

@@ -1,5 +1,6 @@
 //! Tests of the crate `x509_path`.
 
 mod certificates;
+mod policies;
 mod purposes;
 mod signed;

@@ -1,4 +1,10 @@
 mod ExtensionLemmas
+mod QualifierLemmas
+mod PolicyRoomLemmas
+mod PolicyListLemmas
+mod PolicyNumberLemmas
+mod PolicyNoteLemmas
+mod PolicyCountLemmas
 mod IssuerLemmas
 mod LimitLemmas
 mod PathLemmas

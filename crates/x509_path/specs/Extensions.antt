@@ -10,6 +10,7 @@ use Rattle.x509_lint.specs.CertificateChecks.{IsPresent}
 use Rattle.x509_lint.specs.ValueRules.{ValueKeeps}
 use Rattle.x509_lint.specs.declared.extension_test.ExtensionTest.TheVariants as test
 use Rattle.x509_lint.specs.declared.value_rule.ValueRule.TheVariants as value
+use Rattle.x509_path.specs.Qualifiers.{HasNoQualifiers}
 
 -- keyUsage (4.2.1.3), subjectAltName (4.2.1.6), basicConstraints (4.2.1.9), nameConstraints
 -- (4.2.1.10), certificatePolicies (4.2.1.4), and extKeyUsage (4.2.1.12), which is for the caller
@@ -32,11 +33,16 @@ IsProcessed judges_policies id = IsKnown id ⊎ ((judges_policies ≡ true) × I
 abbrev pub IsFormed : List ℕ → List ℕ → Type 0
 IsFormed id v = ValueKeeps value.Contents id v × ValueKeeps value.PathLength id v
 
--- an extension with this identifier and this value is processed, and well-formed; or it is not
--- critical, which `plain` says, and limits no policies
+-- no policy of a critical certificatePolicies has qualifiers: who does not interpret them has to
+-- reject it (4.2.1.4). `plain` says that an extension is not critical
+abbrev pub IsInterpreted : List ℕ → Bool → List ℕ → Type 0
+IsInterpreted id plain v = id ≡ id_ce 32 → plain ≡ false → HasNoQualifiers v
+
+-- an extension with this identifier and this value is processed, well-formed and interpreted; or it
+-- is not critical, and limits no policies
 abbrev pub IsUnderstoodAs : Bool → List ℕ → Bool → List ℕ → Type 0
 IsUnderstoodAs judges_policies id plain v =
-    (IsProcessed judges_policies id × IsFormed id v)
+    (IsProcessed judges_policies id × (IsFormed id v × IsInterpreted id plain v))
     ⊎ ((IsProcessed judges_policies id → ⊥)
     × ((plain ≡ false → ⊥) × (IsPolicyLimit id → ⊥)))
 

@@ -2,6 +2,7 @@ pub mod Encodings
 pub mod Validity
 pub mod Fields
 pub mod Authority
+pub mod Qualifiers
 pub mod Extensions
 pub mod PathLimits
 pub mod Names
@@ -9,6 +10,9 @@ pub mod CertificateFacts
 pub mod Obligations
 pub mod Paths
 pub mod ExtensionValue
+pub mod PolicyFactsOf
+pub mod PolicyRooms
+pub mod PolicyNotes
 pub mod Purpose
 pub mod SignedPaths
 pub mod Judgements

@@ -1,10 +1,13 @@
 //! The extensions of a certificate: none twice (RFC 5280, 4.2), the critical ones processed (6.1.4
 //! (o), 6.1.5 (f)), and those that are processed well-formed.
-ghost use Rattle.std.specs.Prelude.{◌≡◌, ◌↔◌, true, IsTrue};
+ghost use Rattle.std.specs.Prelude.{◌≡◌, ◌↔◌, false, true, IsTrue};
+ghost use Rattle.der_asn1.specs.Forms.{is_false};
+ghost use Rattle.x509.specs.ExtensionIdentifiers.{id_ce};
 ghost use Rattle.x509_lint.specs.CertificateChecks.{ExtensionsKeepIfPresent};
 ghost use Rattle.x509_lint.specs.declared.extension_rule.ExtensionRule.TheVariants as rule;
-ghost use Rattle.x509_path.specs.Extensions.{AreUnderstood, AreUnderstoodIfPresent, IsFormed, IsKnown, IsPolicyLimit, IsProcessed, IsUnderstood, IsUnderstoodBy};
+ghost use Rattle.x509_path.specs.Extensions.{AreUnderstood, AreUnderstoodIfPresent, IsFormed, IsInterpreted, IsKnown, IsPolicyLimit, IsProcessed, IsUnderstood, IsUnderstoodBy};
 
+use crate::qualifiers::has_no_qualifiers;
 use der_asn1::ObjectIdentifierRef;
 use std::alloc::Global;
 use x509::values::{
@@ -71,9 +74,36 @@ fn is_extension_understood(alloc: Global, extension: &Extension<'_>, judges_poli
 {
     let id = extension.extn_id.octets();
     if is_processed(id, judges_policies) {
-        return is_formed(alloc, id, extension.extn_value.octets());
+        return is_formed_and_interpreted(alloc, extension);
     }
     !extension.is_critical() && !is_policy_limit(id)
+}
+
+// Whether the value is well-formed, and nothing in it has to be interpreted that is not.
+fn is_formed_and_interpreted(alloc: Global, extension: &Extension<'_>) -> bool
+    ensures { IsTrue result
+        ↔ (IsFormed extension.now.extn_id.octets.now extension.now.extn_value.octets.now
+        × IsInterpreted extension.now.extn_id.octets.now
+        (is_false extension.now.critical.0.octets.now) extension.now.extn_value.octets.now) }
+{
+    let id = extension.extn_id.octets();
+    let value = extension.extn_value.octets();
+    is_formed(alloc, id, value) && is_interpreted(alloc, extension)
+}
+
+// Whether no policy has qualifiers, if the extension is a critical certificatePolicies.
+fn is_interpreted(alloc: Global, extension: &Extension<'_>) -> bool
+    ensures { IsTrue result ↔ IsInterpreted extension.now.extn_id.octets.now
+        (is_false extension.now.critical.0.octets.now) extension.now.extn_value.octets.now }
+{
+    !is_critical_policies(extension) || has_no_qualifiers(alloc, extension.extn_value.octets())
+}
+
+fn is_critical_policies(extension: &Extension<'_>) -> bool
+    ensures { IsTrue result ↔ ((extension.now.extn_id.octets.now ≡ id_ce 32)
+        × (is_false extension.now.critical.0.octets.now ≡ false)) }
+{
+    is(extension.extn_id.octets(), &id_ce_certificate_policies()) && extension.is_critical()
 }
 
 // Whether the value is one of the type that the extension has, and no pathLenConstraint is negative.

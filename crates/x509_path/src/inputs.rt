@@ -22,8 +22,8 @@ pub struct Inputs<'a> {
     pub time: DateTime,
     /// The trust anchor.
     pub anchor: Anchor<'a>,
-    /// Whether the caller judges the policies of the path too, with `policies_answer` of `path_rules`.
-    /// If not, a certificate with a policyMappings, a policyConstraints or an inhibitAnyPolicy is
-    /// refused, critical or not.
+    /// Whether the caller judges the policies of the path too, with `judge_policies`. If not, a
+    /// certificate with a policyMappings, a policyConstraints or an inhibitAnyPolicy is refused,
+    /// critical or not.
     pub judges_policies: bool,
 }

@@ -80,7 +80,7 @@ fn constraints_limit(basic: &BasicConstraints<'_>) -> Option<u64>
 }
 
 // The number, 0 if it is negative, and the greatest number that fits if it does not fit.
-fn number_of(limit: &IntRef<'_>) -> u64
+pub(crate) fn number_of(limit: &IntRef<'_>) -> u64
     ensures { result ≡ limit_number limit.now.octets.now }
 {
     if is_negative(limit.octets()) {
@@ -92,7 +92,7 @@ fn number_of(limit: &IntRef<'_>) -> u64
     }
 }
 
-fn is_negative(octets: &[u8]) -> bool
+pub(crate) fn is_negative(octets: &[u8]) -> bool
     ensures { result ≡ is_negative octets.now }
 {
     match octets {

@@ -1,11 +1,13 @@
 //! The judgement on a path.
 use crate::case::Case;
-use crate::policies::Policies;
 use der::Encode;
 use der_asn1::ObjectIdentifierRef;
-use path_rules::{Answer, Node, PolicyAnswer, PolicyInputs, policies_answer};
+use path_rules::{Answer, Mapping, Node, PolicyAnswer, PolicyInputs};
 use std::alloc::Global;
-use x509_path::{Anchor, Inputs, PathCertificate, judge, no_facts, obligation_of, purpose_allows};
+use x509_path::{
+    Anchor, Inputs, PathCertificate, PolicyNote, PolicyReading, judge, judge_policies, no_facts,
+    no_policy_facts, obligation_of, purpose_allows, read_policies,
+};
 
 /// Prints a line for the path, and adds its obligations, if it is valid where these verify.
 pub fn print_judgement<R: Print>(
@@ -69,18 +71,19 @@ fn print_policies<R: Print>(
     case: &Case<'_>,
     path: &[PathCertificate<'_>],
 ) -> anyhow::Result<bool> {
-    let found = match policies_of(alloc, path)? {
-        Ok(found) => found,
-        Err(at) => {
-            println!(rt; "refused Policies {at}")?;
+    let none: &[u8] = &[];
+    let mut policies = [none; 200];
+    let mut mappings = [Mapping { issuer: none, subject: none }; 200];
+    let mut notes = [PolicyNote::EMPTY; 20];
+    match read_policies(alloc, path, &mut policies, &mut mappings, &mut notes) {
+        PolicyReading::Read => {}
+        PolicyReading::NoRoom => {
+            println!(rt; "no room")?;
             return Ok(false);
         }
-    };
-    let (mut facts, mut room) = (Vec::new(alloc), Vec::new(alloc));
-    for policies in found.iter() {
-        facts.push(policies.facts())?;
-        for _ in 0..2 * policies.count() {
-            room.push(Node::EMPTY)?;
+        PolicyReading::Unreadable(at) => {
+            println!(rt; "refused Policies {at}")?;
+            return Ok(false);
         }
     }
     let [requires_explicit, inhibits_mapping, inhibits_any] = case.flags;
@@ -90,28 +93,17 @@ fn print_policies<R: Print>(
         requires_explicit,
         inhibits_any,
     };
-    match policies_answer(&facts, &inputs, &mut room) {
-        PolicyAnswer::Valid(_) => return Ok(true),
-        PolicyAnswer::Empty => println!(rt; "empty")?,
-        PolicyAnswer::Broken(fault) => println!(rt; "refused {:?} {}", fault.rule, fault.at)?,
-        PolicyAnswer::NoRoom => println!(rt; "no room")?,
+    let notes = &notes[..path.len()];
+    let mut facts = [no_policy_facts(); 20];
+    let mut nodes = [Node::EMPTY; 800];
+    match judge_policies(&inputs, &policies, &mappings, notes, &mut facts, &mut nodes) {
+        Some(PolicyAnswer::Valid(_)) => return Ok(true),
+        Some(PolicyAnswer::Empty) => println!(rt; "empty")?,
+        Some(PolicyAnswer::Broken(fault)) => println!(rt; "refused {:?} {}", fault.rule, fault.at)?,
+        Some(PolicyAnswer::NoRoom) => println!(rt; "no room")?,
+        None => println!(rt; "no room")?,
     }
     Ok(false)
-}
-
-// The policies of each certificate, or the first one where they cannot be read.
-fn policies_of<'a>(
-    alloc: Global,
-    path: &[PathCertificate<'a>],
-) -> anyhow::Result<Result<Vec<Policies<'a>>, usize>> {
-    let mut found = Vec::new(alloc);
-    for (at, it) in path.iter().enumerate() {
-        match Policies::of(alloc, &it.certificate().tbs_certificate)? {
-            Some(policies) => found.push(policies)?,
-            None => return Ok(Err(at)),
-        }
-    }
-    Ok(Ok(found))
 }
 
 // Whether the keys have the purpose that the caller asks for. Otherwise it prints the refusal.

@@ -5,7 +5,6 @@
 
 mod case;
 mod judged;
-mod policies;
 
 use case::Case;
 use judged::print_judgement;
