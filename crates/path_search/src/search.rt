@@ -53,7 +53,6 @@ impl Search {
         ensures step { IsStep result (IsPath (G.follows candidates.now)
             (G.is_whole candidates.now) self.old.count self.old.depth)
             self.old room.old self.new room.new }
-        ensures same { length room.new ≡ length room.old }
         ensures counted { IsCounted result room.new self.old self.new }
     {
         let (count, depth) = (self.count, self.depth);

@@ -1,0 +1,3 @@
+mod PathLemmas
+mod PassLemmas
+mod JudgedLemmas

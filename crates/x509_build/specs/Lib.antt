@@ -1,0 +1,3 @@
+pub mod Links
+pub mod Pools
+pub mod Builds
