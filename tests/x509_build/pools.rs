@@ -7,7 +7,7 @@ use path_search::Search;
 use std::alloc::Global;
 use std::process::Abort;
 use x509_build::{Built, Link, Pool, judge_chain, link_at, next_path};
-use x509_path::{Anchor, PathCertificate, no_facts};
+use x509_path::{Anchor, Inputs, PathCertificate, no_facts};
 
 const TIME: DateTime = DateTime { year: 2030, month: 1, day: 1, hour: 0, minute: 0, second: 0 };
 
@@ -18,9 +18,10 @@ fn read(rt: &impl Abort, alloc: Global, octets: &'static [u8]) -> PathCertificat
     }
 }
 
-fn anchor(certificate: &PathCertificate<'static>) -> Anchor<'static> {
+fn anchor(certificate: &PathCertificate<'static>, time: DateTime) -> Inputs<'static> {
     let signed = &certificate.certificate().tbs_certificate;
-    Anchor { name: signed.subject, key: signed.subject_public_key_info }
+    let anchor = Anchor { name: signed.subject, key: signed.subject_public_key_info };
+    Inputs { time, anchor, judges_policies: false }
 }
 
 // OTHER is in no path. The candidate 6 is the trust anchor.
@@ -61,13 +62,13 @@ fn compare(rt: &impl Abort, pool: &Pool<'_, 'static>, steps: u64, expected: &[&[
 fn each_path_is_found_once(rt: HostRuntime) {
     let alloc = rt.alloc();
     let (certificates, target, root) = (all(&rt, alloc), read(&rt, alloc, &LAST), read(&rt, alloc, &ROOT));
-    let anchors = [anchor(&root)];
-    let pool = Pool { alloc, target: &target, certificates: &certificates, anchors: &anchors, failed: &[], time: TIME, judges_policies: false };
+    let anchors = [anchor(&root, TIME)];
+    let pool = Pool { alloc, target: &target, certificates: &certificates, anchors: &anchors, failed: &[] };
     for steps in [1, 2, 7, 1000] {
         compare(&rt, &pool, steps, &[&[4, 6], &[2, 5, 6], &[2, 1, 4, 6]]);
     }
-    let old = Pool { time: DateTime { year: 2020, ..TIME }, ..pool };
-    compare(&rt, &old, 1000, &[&[3, 6], &[4, 6], &[2, 5, 6], &[2, 1, 3, 6], &[2, 1, 4, 6]]);
+    let old = [anchor(&root, DateTime { year: 2020, ..TIME })];
+    compare(&rt, &Pool { anchors: &old, ..pool }, 1000, &[&[3, 6], &[4, 6], &[2, 5, 6], &[2, 1, 3, 6], &[2, 1, 4, 6]]);
     compare(&rt, &Pool { anchors: &[], ..pool }, 1000, &[]);
     compare(&rt, &Pool { certificates: &[], ..pool }, 1000, &[]);
 }
@@ -76,9 +77,9 @@ fn each_path_is_found_once(rt: HostRuntime) {
 fn failed_links_are_in_no_path(rt: HostRuntime) {
     let alloc = rt.alloc();
     let (certificates, target, root) = (all(&rt, alloc), read(&rt, alloc, &LAST), read(&rt, alloc, &ROOT));
-    let anchors = [anchor(&root)];
+    let anchors = [anchor(&root, TIME)];
     let failed = [Link { issuer: 4, subject: None }, Link { issuer: 6, subject: Some(5) }];
-    let pool = Pool { alloc, target: &target, certificates: &certificates, anchors: &anchors, failed: &failed, time: TIME, judges_policies: false };
+    let pool = Pool { alloc, target: &target, certificates: &certificates, anchors: &anchors, failed: &failed };
     compare(&rt, &pool, 1000, &[&[2, 1, 4, 6]]);
     compare(&rt, &Pool { failed: &failed[..1], ..pool }, 1000, &[&[2, 5, 6], &[2, 1, 4, 6]]);
     compare(&rt, &Pool { failed: &failed[1..], ..pool }, 1000, &[&[4, 6], &[2, 1, 4, 6]]);
@@ -89,8 +90,8 @@ fn failed_links_are_in_no_path(rt: HostRuntime) {
 fn no_certificate_is_in_a_path_twice(rt: HostRuntime) {
     let alloc = rt.alloc();
     let root = read(&rt, alloc, &ROOT);
-    let (certificates, anchors) = ([root], [anchor(&root)]);
-    let pool = Pool { alloc, target: &root, certificates: &certificates, anchors: &anchors, failed: &[], time: TIME, judges_policies: false };
+    let (certificates, anchors) = ([root], [anchor(&root, TIME)]);
+    let pool = Pool { alloc, target: &root, certificates: &certificates, anchors: &anchors, failed: &[] };
     compare(&rt, &pool, 1000, &[&[1]]);
     let (certificates, target) = ([root, read(&rt, alloc, &A), root], read(&rt, alloc, &LAST));
     compare(&rt, &Pool { certificates: &certificates, target: &target, ..pool }, 1000, &[&[1, 3], &[1, 0, 3], &[1, 2, 3]]);
@@ -100,8 +101,8 @@ fn no_certificate_is_in_a_path_twice(rt: HostRuntime) {
 fn chains_are_judged_and_rooms_are_limits(rt: HostRuntime) {
     let alloc = rt.alloc();
     let (certificates, target, root) = (all(&rt, alloc), read(&rt, alloc, &LAST), read(&rt, alloc, &ROOT));
-    let anchors = [anchor(&root)];
-    let pool = Pool { alloc, target: &target, certificates: &certificates, anchors: &anchors, failed: &[], time: TIME, judges_policies: false };
+    let anchors = [anchor(&root, TIME)];
+    let pool = Pool { alloc, target: &target, certificates: &certificates, anchors: &anchors, failed: &[] };
     let (mut chain, mut path, mut facts) = ([0; 4], [target; 4], [no_facts(); 4]);
     same(&rt, judge_chain(&pool, &[4, 6], &mut path, &mut facts), Some(Answer::Valid));
     same(&rt, judge_chain(&pool, &[3, 6], &mut path, &mut facts), Some(Answer::Broken(Fault { at: 0, rule: Rule::Validity })));

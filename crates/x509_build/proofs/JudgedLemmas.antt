@@ -4,7 +4,7 @@ use Rattle.path_rules.specs.declared.answer.Answer.TheVariants.{Empty}
 use Rattle.path_rules.specs.declared.facts.Facts.{Facts}
 use Rattle.x509_build.proofs.PathLemmas.{path_length}
 use Rattle.x509_build.specs.Builds.{HasNoPath, IsJudged}
-use Rattle.x509_build.specs.Pools.{IsWhole, anchor_of, inputs_of, path_of}
+use Rattle.x509_build.specs.Pools.{IsWhole, inputs_of, path_of}
 use Rattle.x509_build.specs.declared.pool.Pool.{Pool}
 use Rattle.x509_path.specs.Paths.{AreFactsFrom, IsAnswered}
 use Rattle.x509_path.specs.declared.certificate.PathCertificate.{PathCertificate}

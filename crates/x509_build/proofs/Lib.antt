@@ -1,3 +1,4 @@
 mod PathLemmas
 mod PassLemmas
 mod JudgedLemmas
+mod RunLemmas

@@ -3,14 +3,13 @@
 -- candidate of a chain issues the certificate to be validated, and each other one issues the one
 -- before it.
 use Rattle.std.specs.Prelude.{◌≡◌, ◌⊎◌, ◌-◌, ℕ, List, ◌∷◌, Any, Option, Some, None, IsSome, IsSomeAnd, length, map, reverse, slice_get, slice_index_or, take, if◌then◌else◌, nat_lt}
-use Rattle.std.specs.Option.{option_and_then, option_map}
+use Rattle.std.specs.Option.{option_and_then}
 use Rattle.x509.specs.declared.asn1.tbs_certificate.TbsCertificate.{TbsCertificate}
 use Rattle.x509_build.specs.Links.{HasFailed, last_of}
 use Rattle.x509_build.specs.declared.pool.Pool.{Pool}
 use Rattle.x509_names.specs.NameMatching.{NamesMatch}
 use Rattle.x509_path.specs.CertificateFacts.{part}
 use Rattle.x509_path.specs.declared.certificate.PathCertificate.{PathCertificate}
-use Rattle.x509_path.specs.declared.inputs.Anchor.{Anchor}
 use Rattle.x509_path.specs.declared.inputs.Inputs.{Inputs}
 
 -- the certificate with a number; the one to be validated, if none has it
@@ -23,29 +22,22 @@ abbrev pub subject_at : Pool → Option ℕ → PathCertificate
 subject_at p None = p.target.now
 subject_at p (Some c) = certificate_at p c
 
--- the trust anchor with a number
-abbrev pub anchor_at : Pool → ℕ → Option Anchor
-anchor_at p c =
+-- the trust anchor with a number, with the time and what else its validation needs (RFC 5280, 6.1.1)
+abbrev pub inputs_at : Pool → ℕ → Option Inputs
+inputs_at p c =
     if nat_lt c (length p.certificates.now) then None
     else slice_get p.anchors.now (c - length p.certificates.now)
 
--- the trust anchor with which a chain ends
-abbrev pub anchor_of : Pool → List ℕ → Option Anchor
-anchor_of p chain = option_and_then (anchor_at p) (last_of chain)
-
--- what its validation needs (RFC 5280, 6.1.1 (b), (d))
-abbrev pub inputs_with : Pool → Anchor → Inputs
-inputs_with p a = record { time = p.time; anchor = a; judges_policies = p.judges_policies; }
-
+-- the one with which a chain ends
 abbrev pub inputs_of : Pool → List ℕ → Option Inputs
-inputs_of p chain = option_map (inputs_with p) (anchor_of p chain)
+inputs_of p chain = option_and_then (inputs_at p) (last_of chain)
 
 -- a candidate issues a certificate, by the names: its subject, or the name of the trust anchor, is
 -- the issuer (6.1.3 (a) (4))
 abbrev pub Issues : Pool → TbsCertificate → ℕ → Type 0
 Issues p s c =
     IsSomeAnd (slice_get p.certificates.now c) (λ d. NamesMatch s.issuer (part d).subject)
-    ⊎ IsSomeAnd (anchor_at p c) (λ a. NamesMatch s.issuer a.name)
+    ⊎ IsSomeAnd (inputs_at p c) (λ i. NamesMatch s.issuer i.anchor.name)
 
 -- two certificates are the same: they have the same octets
 abbrev pub IsSame : PathCertificate → PathCertificate → Type 0
@@ -61,7 +53,7 @@ IsUsed p chain c = IsSomeAnd (slice_get p.certificates.now c) (Has p chain)
 
 -- a chain is whole: it ends with a trust anchor
 abbrev pub IsWhole : Pool → List ℕ → Type 0
-IsWhole p chain = IsSome (anchor_of p chain)
+IsWhole p chain = IsSome (inputs_of p chain)
 
 -- a candidate may follow a chain: nothing follows a trust anchor; it issues the last certificate;
 -- "a certificate MUST NOT appear more than once in a prospective certification path" (6.1); and its

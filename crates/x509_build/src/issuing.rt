@@ -1,14 +1,14 @@
 //! Which candidates issue a certificate, by the names.
 ghost use Rattle.std.specs.Prelude.{◌≡◌, ◌↔◌, IsSomeAnd, IsTrue};
 ghost use Rattle.std.specs.Option.{option_map};
-ghost use Rattle.x509_build.specs.Pools.{Has, IsSame, IsUsed, Issues, anchor_at, certificate_at, subject_at};
+ghost use Rattle.x509_build.specs.Pools.{Has, IsSame, IsUsed, Issues, certificate_at, inputs_at, subject_at};
 ghost use Rattle.x509_names.specs.NameMatching.{NamesMatch};
 ghost use Rattle.x509_path.specs.CertificateFacts.{part};
 
 use crate::pool::Pool;
 use x509::Name;
 use x509_names::names_match;
-use x509_path::{Anchor, PathCertificate};
+use x509_path::{Inputs, PathCertificate};
 
 // The certificate with a number; the one to be validated, if none has it.
 pub(crate) fn certificate_at<'p, 'r, 'a>(
@@ -37,11 +37,11 @@ pub(crate) fn subject_at<'p, 'r, 'a>(
 }
 
 // The trust anchor with a number.
-pub(crate) fn anchor_at<'p, 'r, 'a>(
+pub(crate) fn inputs_at<'p, 'r, 'a>(
     pool: &'p Pool<'r, 'a>,
     candidate: usize,
-) -> Option<&'r Anchor<'a>>
-    ensures { option_map (λ a. a.now) result ≡ anchor_at pool.now candidate }
+) -> Option<&'r Inputs<'a>>
+    ensures { option_map (λ i. i.now) result ≡ inputs_at pool.now candidate }
 {
     if candidate < pool.certificates.len() {
         return None;
@@ -69,11 +69,11 @@ pub(crate) fn issues(pool: &Pool<'_, '_>, subject: Option<usize>, candidate: usi
 
 // Whether a candidate is a trust anchor with this name.
 fn anchor_issues(pool: &Pool<'_, '_>, name: &Name<'_>, candidate: usize) -> bool
-    ensures { IsTrue result ↔ IsSomeAnd (anchor_at pool.now candidate) 
-        (λ a. NamesMatch name.now a.name) }
+    ensures { IsTrue result ↔ IsSomeAnd (inputs_at pool.now candidate)
+        (λ i. NamesMatch name.now i.anchor.name) }
 {
-    match anchor_at(pool, candidate) {
-        Some(anchor) => names_match(pool.alloc, name, &anchor.name),
+    match inputs_at(pool, candidate) {
+        Some(inputs) => names_match(pool.alloc, name, &inputs.anchor.name),
         None => false,
     }
 }

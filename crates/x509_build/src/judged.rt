@@ -33,5 +33,5 @@ pub fn judge_chain<'a>(
     }
     let inputs = pool.inputs(chain)?;
     put_path(pool, chain, path);
-    judge(pool.alloc, &inputs, &path[..chain.len()], facts)
+    judge(pool.alloc, inputs, &path[..chain.len()], facts)
 }

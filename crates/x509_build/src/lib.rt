@@ -18,6 +18,7 @@
 mod built;
 mod issuing;
 mod judged;
+mod laws;
 mod link;
 mod next;
 mod pool;

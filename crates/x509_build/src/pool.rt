@@ -1,14 +1,13 @@
 //! The certificates among which paths are searched.
 ghost use Rattle.std.specs.Prelude.{◌≡◌, ◌+◌, ◌-◌, ◌^◌, length, min};
 ghost use Rattle.std.specs.Option.{option_map};
-ghost use Rattle.x509_build.specs.Pools.{Follows, IsWhole, anchor_of, inputs_of};
+ghost use Rattle.x509_build.specs.Pools.{Follows, IsWhole, inputs_of};
 
-use crate::issuing::{anchor_at, is_used, issues};
+use crate::issuing::{inputs_at, is_used, issues};
 use crate::link::{Link, has_failed, last_of};
-use der_asn1::DateTime;
 use path_search::Candidates;
 use std::alloc::Global;
-use x509_path::{Anchor, Inputs, PathCertificate};
+use x509_path::{Inputs, PathCertificate};
 
 /// The certificates among which paths are searched. The candidates of the search are numbers: those
 /// below the number of certificates are these, and the others are the trust anchors.
@@ -20,14 +19,10 @@ pub struct Pool<'r, 'a> {
     pub target: &'r PathCertificate<'a>,
     /// Certificates that may be in a path, in any order.
     pub certificates: &'r [PathCertificate<'a>],
-    /// The trust anchors.
-    pub anchors: &'r [Anchor<'a>],
+    /// The trust anchors, each with what a validation with it needs.
+    pub anchors: &'r [Inputs<'a>],
     /// The links whose signature the caller has seen fail.
     pub failed: &'r [Link],
-    /// The time for which paths are judged. No clock is read.
-    pub time: DateTime,
-    /// Whether the caller judges the policies of a path too, as in [`Inputs`].
-    pub judges_policies: bool,
 }
 
 impl<'r, 'a> Pool<'r, 'a> {
@@ -39,26 +34,13 @@ impl<'r, 'a> Pool<'r, 'a> {
         self.certificates.len().saturating_add(self.anchors.len())
     }
 
-    /// What the validation of the path of a chain needs, if the chain ends with a trust anchor.
-    pub fn inputs(&self, chain: &[usize]) -> Option<Inputs<'a>>
-        ensures { result ≡ inputs_of self.now chain.now }
+    /// What the validation of the path of a chain needs: the trust anchor with which the chain ends, if
+    /// it ends with one.
+    pub fn inputs(&self, chain: &[usize]) -> Option<&'r Inputs<'a>>
+        ensures { option_map (λ i. i.now) result ≡ inputs_of self.now chain.now }
     {
-        match anchor_of(self, chain) {
-            Some(anchor) => Some(Inputs {
-                time: self.time,
-                anchor: *anchor,
-                judges_policies: self.judges_policies,
-            }),
-            None => None,
-        }
+        inputs_at(self, last_of(chain)?)
     }
-}
-
-// The trust anchor with which a chain ends.
-fn anchor_of<'p, 'r, 'a>(pool: &'p Pool<'r, 'a>, chain: &[usize]) -> Option<&'r Anchor<'a>>
-    ensures { option_map (λ a. a.now) result ≡ anchor_of pool.now chain.now }
-{
-    anchor_at(pool, last_of(chain)?)
 }
 
 impl Candidates for Pool<'_, '_> {
@@ -75,6 +57,6 @@ impl Candidates for Pool<'_, '_> {
     }
 
     fn is_whole(&self, chain: &[usize]) -> bool {
-        anchor_of(self, chain).is_some()
+        self.inputs(chain).is_some()
     }
 }

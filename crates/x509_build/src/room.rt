@@ -5,6 +5,7 @@ ghost use Rattle.x509_build.specs.Pools.{path_of};
 use crate::issuing::subject_at;
 use crate::link::last_of;
 use crate::pool::Pool;
+use std::slice;
 use x509_path::PathCertificate;
 
 // Copies the certificates of a chain to the front of the room, in the order of a path.
@@ -27,5 +28,5 @@ fn put<'a>(room: &mut [PathCertificate<'a>], at: usize, certificate: &PathCertif
     requires { at < length room.old }
     ensures { take (at + 1) room.new ≡ take at room.old ++ certificate.now ∷ [] }
 {
-    room[at] = *certificate;
+    room[at..at + 1].copy_from_slice(slice::from_ref(certificate));
 }

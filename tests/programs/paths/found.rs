@@ -4,7 +4,7 @@ use crate::judged::print_valid;
 use path_search::Search;
 use std::alloc::{AllocError, Global};
 use x509_build::{Built, Pool, next_path};
-use x509_path::{Anchor, PathCertificate, no_facts};
+use x509_path::{Anchor, Inputs, PathCertificate, no_facts};
 
 const DEPTH: usize = 9;
 
@@ -42,9 +42,14 @@ pub fn print_found<'a, R: Print>(
         return Ok(println!(rt; "ended")?);
     };
     let root = &root.certificate().tbs_certificate;
-    let anchors = [Anchor {
+    let anchor = Anchor {
         name: root.subject,
         key: root.subject_public_key_info,
+    };
+    let anchors = [Inputs {
+        time: case.time,
+        anchor,
+        judges_policies: true,
     }];
     let pool = Pool {
         alloc,
@@ -52,8 +57,6 @@ pub fn print_found<'a, R: Print>(
         certificates,
         anchors: &anchors,
         failed: &[],
-        time: case.time,
-        judges_policies: true,
     };
     let mut search = Search::new(pool.count(), DEPTH, STEPS);
     let (mut chain, mut path, mut facts) = ([0; DEPTH], [target; DEPTH], [no_facts(); DEPTH]);
@@ -61,7 +64,7 @@ pub fn print_found<'a, R: Print>(
         match next_path(&mut search, &pool, &mut chain, &mut path, &mut facts) {
             Built::Path(length) => {
                 if let Some(inputs) = pool.inputs(&chain[..length]) {
-                    print_valid(rt, alloc, case, &inputs, &path[..length], obligations)?;
+                    print_valid(rt, alloc, case, inputs, &path[..length], obligations)?;
                 }
             }
             Built::Ended => return Ok(println!(rt; "ended")?),
