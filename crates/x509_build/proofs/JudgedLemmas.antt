@@ -25,6 +25,7 @@ empty_path i path (facts, are, none) pos = no_facts i path facts are none pos
 
 -- the path of a whole chain is not empty
 pub not_empty : (p : Pool) (chain : List ℕ) → IsWhole p chain → IsJudged p chain Empty → ⊥
+unfolding IsJudged
 not_empty p chain whole judged = judged_empty (inputs_of p chain) judged
   where
     judged_empty : (i : Option Inputs) → IsSomeAnd i (λ x. IsAnswered Empty x (path_of p chain)) → ⊥

@@ -5,7 +5,7 @@ use Rattle.path_search.specs.declared.place.Place.{Place}
 use Rattle.x509_build.specs.Builds.{Builds, Passes}
 
 pub nothing_passed : (P R : List ℕ → Type 0) (p : Place) (room : List ℕ) → Passes P R p room p room
-nothing_passed P R p room = record { on = λ c is h. inl h; back = λ c is h. h; }
+nothing_passed P R p room = record { on = λ c is h. inl h; back = λ c is h. h }
 
 -- a chain that is found is refused
 pub passed_refused : (P R : List ℕ → Type 0) (p : Place) (room : List ℕ) (q : Place) (mid : List ℕ) (r : Place) (after found : List ℕ) → Passes P R p room q mid

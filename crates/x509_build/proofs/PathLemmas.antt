@@ -43,8 +43,8 @@ path_more p chain i lt =
     let whole = path_length p chain (omega (arith, lt)) in
     take_more (path_of p chain) i p.target.now (omega (arith, whole, lt))
     ∙ ap (λ x. take i (path_of p chain) ++ x ∷ [])
-      (get_or-reverse all i p.target.now (omega (arith, size, lt))
-      ∙ (ap (λ k. get_or all (k - 1 - i) p.target.now) size ∙ sym (subject_taken p chain (length chain - 1 - i) (omega (arith, lt)))))
+    (get_or-reverse all i p.target.now (omega (arith, size, lt))
+    ∙ (ap (λ k. get_or all (k - 1 - i) p.target.now) size ∙ sym (subject_taken p chain (length chain - 1 - i) (omega (arith, lt)))))
 
 -- the whole path
 pub path_whole : (p : Pool) (chain : List ℕ) (room : List PathCertificate) (i : ℕ) → 0 < length chain → i ≡ length chain → take i room ≡ take i (path_of p chain) → take (length chain) room ≡ path_of p chain

@@ -21,7 +21,7 @@ abbrev pub IsFound : Pool → Search → List ℕ → Type 0
 IsFound p s chain = IsPath (Follows p) (IsWhole p) s.count s.depth chain
 
 -- the chain ends with a trust anchor, with which the rules have this answer for its path
-abbrev pub IsJudged : Pool → List ℕ → Answer → Type 0
+unfoldable pub IsJudged : Pool → List ℕ → Answer → Type 0
 IsJudged p chain a = IsSomeAnd (inputs_of p chain) (λ i. IsAnswered a i (path_of p chain))
 
 -- the path keeps all rules

@@ -4,6 +4,7 @@
 -- before it.
 use Rattle.std.specs.Prelude.{◌≡◌, ◌⊎◌, ◌-◌, ℕ, List, ◌∷◌, Any, Option, Some, None, IsSome, IsSomeAnd, length, map, reverse, slice_get, slice_index_or, take, if◌then◌else◌, nat_lt}
 use Rattle.std.specs.Option.{option_and_then}
+use Rattle.x509.specs.declared.asn1.name.Name.{Name}
 use Rattle.x509.specs.declared.asn1.tbs_certificate.TbsCertificate.{TbsCertificate}
 use Rattle.x509_build.specs.Links.{HasFailed, last_of}
 use Rattle.x509_build.specs.declared.pool.Pool.{Pool}
@@ -23,7 +24,7 @@ subject_at p None = p.target.now
 subject_at p (Some c) = certificate_at p c
 
 -- the trust anchor with a number, with the time and what else its validation needs (RFC 5280, 6.1.1)
-abbrev pub inputs_at : Pool → ℕ → Option Inputs
+unfoldable pub inputs_at : Pool → ℕ → Option Inputs
 inputs_at p c =
     if nat_lt c (length p.certificates.now) then None
     else slice_get p.anchors.now (c - length p.certificates.now)
@@ -32,23 +33,31 @@ inputs_at p c =
 abbrev pub inputs_of : Pool → List ℕ → Option Inputs
 inputs_of p chain = option_and_then (inputs_at p) (last_of chain)
 
+-- the issuer of a certificate is this name (6.1.3 (a) (4))
+unfoldable pub HasIssuer : TbsCertificate → Name → Type 0
+HasIssuer s name = NamesMatch s.issuer name
+
 -- a candidate issues a certificate, by the names: its subject, or the name of the trust anchor, is
--- the issuer (6.1.3 (a) (4))
-abbrev pub Issues : Pool → TbsCertificate → ℕ → Type 0
+-- the issuer
+unfoldable pub Issues : Pool → TbsCertificate → ℕ → Type 0
 Issues p s c =
-    IsSomeAnd (slice_get p.certificates.now c) (λ d. NamesMatch s.issuer (part d).subject)
-    ⊎ IsSomeAnd (inputs_at p c) (λ i. NamesMatch s.issuer i.anchor.name)
+    IsSomeAnd (slice_get p.certificates.now c) (λ d. HasIssuer s (part d).subject)
+    ⊎ IsSomeAnd (inputs_at p c) (λ i. HasIssuer s i.anchor.name)
 
 -- two certificates are the same: they have the same octets
-abbrev pub IsSame : PathCertificate → PathCertificate → Type 0
+unfoldable pub IsSame : PathCertificate → PathCertificate → Type 0
 IsSame c d = c.octets.now ≡ d.octets.now
 
+-- the certificate is that of a candidate
+unfoldable pub IsAt : Pool → PathCertificate → ℕ → Type 0
+IsAt p c d = IsSame c (certificate_at p d)
+
 -- the certificate is the one to be validated, or that of a candidate of the chain
-abbrev pub Has : Pool → List ℕ → PathCertificate → Type 0
-Has p chain c = IsSame c p.target.now ⊎ Any (λ d. IsSame c (certificate_at p d)) chain
+unfoldable pub Has : Pool → List ℕ → PathCertificate → Type 0
+Has p chain c = IsSame c p.target.now ⊎ Any (IsAt p c) chain
 
 -- a candidate is a certificate that the chain has already
-abbrev pub IsUsed : Pool → List ℕ → ℕ → Type 0
+unfoldable pub IsUsed : Pool → List ℕ → ℕ → Type 0
 IsUsed p chain c = IsSomeAnd (slice_get p.certificates.now c) (Has p chain)
 
 -- a chain is whole: it ends with a trust anchor

@@ -14,6 +14,7 @@ use x509_path::{PathCertificate, judge};
 ///
 /// The answer is `None` if the chain does not end with a trust anchor, or if one of the rooms has
 /// fewer places than the chain has candidates.
+#[tactic(auto, unfolding(crate::specs::Builds::IsJudged))]
 pub fn judge_chain<'a>(
     pool: &Pool<'_, 'a>,
     chain: &[usize],

@@ -37,9 +37,7 @@ pub(crate) fn last_of(chain: &[usize]) -> Option<usize>
 pub(crate) fn has_failed(failed: &[Link], issuer: usize, subject: Option<usize>) -> bool
     ensures { IsTrue result ↔ HasFailed failed.now issuer subject }
 {
-    failed
-        .iter()
-        .any(|link| link.issuer == issuer && is_same(link.subject, subject))
+    failed.iter().any(|link| link.issuer == issuer && is_same(link.subject, subject))
 }
 
 fn is_same(first: Option<usize>, second: Option<usize>) -> bool

@@ -3,7 +3,7 @@ ghost use Rattle.std.specs.Prelude.{◌≡◌, ◌+◌, ◌-◌, ◌^◌, length
 ghost use Rattle.std.specs.Option.{option_map};
 ghost use Rattle.x509_build.specs.Pools.{Follows, IsWhole, inputs_of};
 
-use crate::issuing::{inputs_at, is_used, issues};
+use crate::issuing::{inputs_at, is_used, issues_last};
 use crate::link::{Link, has_failed, last_of};
 use path_search::Candidates;
 use std::alloc::Global;
@@ -49,11 +49,17 @@ impl Candidates for Pool<'_, '_> {
     ghost is_whole = { IsWhole };
 
     fn may_follow(&self, chain: &[usize], candidate: usize) -> bool {
+        if self.is_whole(chain) {
+            return false;
+        }
         let last = last_of(chain);
-        !self.is_whole(chain)
-            && issues(self, last, candidate)
-            && !is_used(self, chain, candidate)
-            && !has_failed(self.failed, candidate, last)
+        if !issues_last(self, last, candidate) {
+            return false;
+        }
+        if is_used(self, chain, candidate) {
+            return false;
+        }
+        !has_failed(self.failed, candidate, last)
     }
 
     fn is_whole(&self, chain: &[usize]) -> bool {

@@ -9,7 +9,7 @@ loop-at-preserved c =
     let chain = c.args.chain.now in
     let at = c.loop-at.at in
     let one = c.subject_at.ensures ∙ ap (subject_at p) c.last_of-last.ensures in (
-      c.put.ensures ∙ (ap (λ r. r ++ c.subject_at.result.now ∷ []) c.loop-at.invariant.0 ∙ (ap (λ x. take at (path_of p chain) ++ x ∷ []) one ∙ sym (path_more p chain at c.loop-at-test.true))),
+      c.put_one.ensures ∙ (ap (λ r. r ++ c.subject_at.result.now ∷ []) c.loop-at.invariant.0 ∙ (ap (λ x. take at (path_of p chain) ++ x ∷ []) one ∙ sym (path_more p chain at c.loop-at-test.true))),
       omega (arith, c.loop-at-test.true),
     )
 
