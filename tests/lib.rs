@@ -61,6 +61,8 @@ mod spki;
 #[cfg(test)]
 mod x509;
 #[cfg(test)]
+mod x509_build;
+#[cfg(test)]
 mod x509_lint;
 #[cfg(test)]
 mod x509_names;

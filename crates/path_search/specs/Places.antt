@@ -53,3 +53,10 @@ IsStep (Path n) P s room t after = Finds P s.place room t.place after (take n af
 IsStep Ended P s room t after = (chain : List ℕ) → P chain → IsLeft s.place room chain → ⊥
 IsStep StepsUsed P s room t after = LeavesAll P s.place room t.place after × (t.steps ≡ 0)
 IsStep NoRoom P s room t after = (t ≡ s) × (after ≡ room) × (length room < s.depth)
+
+-- a path fits into the room, as all within the depth do, and takes a step at least
+abbrev pub IsCounted : Step → List ℕ → Search → Search → Type 0
+IsCounted (Path n) room s t = (n ≤ length room) × (s.depth ≤ length room) × (t.steps < s.steps)
+IsCounted Ended room s t = t.steps ≤ s.steps
+IsCounted StepsUsed room s t = t.steps ≤ s.steps
+IsCounted NoRoom room s t = t.steps ≤ s.steps

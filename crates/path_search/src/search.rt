@@ -1,7 +1,7 @@
 //! Searches for paths among candidates.
 ghost use Rattle.std.specs.Prelude.{◌≡◌, ℕ, List, length};
 ghost use Rattle.path_search.specs.Chains.{IsPath};
-ghost use Rattle.path_search.specs.Places.{IsLeft, IsStep};
+ghost use Rattle.path_search.specs.Places.{IsCounted, IsLeft, IsStep};
 
 use crate::candidates::Candidates;
 use crate::place::Place;
@@ -53,6 +53,7 @@ impl Search {
         ensures step { IsStep result (IsPath (G.follows candidates.now)
             (G.is_whole candidates.now) self.old.count self.old.depth)
             self.old room.old self.new room.new }
+        ensures counted { IsCounted result room.new self.old self.new }
     {
         let (count, depth) = (self.count, self.depth);
         if room.len() < depth {

@@ -1,0 +1,6 @@
+mod AnyLemmas
+mod PathLemmas
+mod PassLemmas
+mod PoolLemmas
+mod JudgedLemmas
+mod RunLemmas

@@ -1,0 +1,6 @@
+use Rattle.x509_build.proofs.RunLemmas.{finds_once}
+use Rattle.x509_build.specs.Builds.{IsFound, IsKept, IsRefused}
+use Rattle.x509_build.proofs.laws.finds_no_path_twice.Goals as goal
+
+pub returns : goal.returns
+returns c = finds_once (IsFound c.args.pool.now c.args.search.now) (IsKept c.args.pool.now) (IsRefused c.args.pool.now)

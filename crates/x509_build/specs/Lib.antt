@@ -1,0 +1,4 @@
+pub mod Links
+pub mod Pools
+pub mod Builds
+pub mod Runs

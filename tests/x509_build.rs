@@ -1,0 +1,4 @@
+//! Tests of the crate `x509_build`.
+
+mod certificates;
+mod pools;
