@@ -8,7 +8,7 @@ from checker import KIT, PROGRAMS, TOP, crates, folder_of, give_up, text_of
 
 TESTS = f"{TOP}/tests"
 # The steps of `.ci/test` beside areas and programs.
-STEPS = ["trees", "vectors", "cursors", "shown", "linted", "secrets", "modules", "paths", "rewritten", "options", "departures", "bindings", "package"]
+STEPS = ["trees", "vectors", "cursors", "shown", "linted", "secrets", "modules", "paths", "rewritten", "options", "departures", "verified", "bindings", "package"]
 # What checks a crate beside the area of tests/ that has its name, if there is one: other areas, programs, and steps of `.ci/test`.
 ALSO = {
     "der_core": ["der"], "der": ["der_memory"], "test_fixtures": ["der"], "der_tool_lib": ["der_tool"],
@@ -16,7 +16,7 @@ ALSO = {
     "asn1_syntax": ["asn1_compile"], "asn1_check": ["asn1_compile"], "asn1_output": ["asn1_compile"], "asn1_table": ["asn1_compile", "trees"],
     "asn1_compile": ["vectors"], "schema_read": ["departures", "trees"], "schema_types": ["trees"], "schema_cursor": ["cursors"], "schema_write": ["rewritten", "shown"],
     "der_print": ["der_show"], "schema_kinds": ["der_show", "secrets"], "der_show_lib": ["der_show"],
-    "der_show": ["shown", "linted", "secrets", "modules", "rewritten", "options", "departures"], "x509_lint": ["linted"], "path_rules": ["paths"], "x509_path": ["paths"], "x509_build": ["paths"], "path_search": ["paths"],
+    "der_show": ["shown", "linted", "secrets", "modules", "rewritten", "options", "departures", "verified"], "x509_lint": ["linted"], "path_rules": ["paths"], "x509_path": ["paths"], "x509_build": ["paths", "verified"], "path_print": ["verified"], "path_search": ["paths"],
 }
 # Crates whose tests need what proofs build, and the command that runs these.
 BY_PROOF = {"der_page": "tools/web_test", "der_c": "bindings/test"}

@@ -21,10 +21,11 @@ mod show;
 mod texts;
 mod value;
 mod values;
+mod verify;
 
 pub use der_print::{Output, Sink};
 pub use files::show_octets;
 pub use modules::{NoTable, table_of_modules};
-pub use options::{Options, ShowCommand, Shown, TERMINAL_WIDTH};
+pub use options::{Options, ShowCommand, Shown, TERMINAL_WIDTH, Verified};
 pub use program::{Finished, run_show, show_in_memory};
 pub use schema_kinds::Kind;

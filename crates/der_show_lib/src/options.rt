@@ -3,9 +3,10 @@
 use crate::help::{ABOUT, AFTER};
 use clap::error::ErrorKind;
 use clap::{Arg, ArgAction, Command, Error};
-use der_asn1::{GeneralizedTimeFormat, TimeFormat};
+use der_asn1::{DateTime, GeneralizedTimeFormat, TimeFormat};
 use schema_kinds::Kind;
 use std::alloc::{AllocError, Global};
+use x509_path::Purpose;
 
 /// What the program prints of a value.
 #[derive(Clone, Copy, PartialEq, Eq)]
@@ -65,9 +66,24 @@ impl Options {
     }
 }
 
+/// What a certificate is judged by (option `--verify`).
+#[derive(Clone, Copy)]
+pub struct Verified<'a> {
+    /// The path of a file with the certificates of trust anchors (option `--anchors`).
+    pub anchors: &'a str,
+    /// The host that the certificate has to have (option `--host`).
+    pub host: Option<&'a str>,
+    /// The purpose that the key has to have (option `--purpose`).
+    pub purpose: Option<Purpose>,
+    /// The time for which the certificate is judged (option `--now`).
+    pub time: DateTime,
+}
+
 /// A parsed command line.
 #[derive(Drop)]
 pub struct ShowCommand<'a> {
+    /// What the first certificate in the files is judged by. `None` if the files are shown.
+    pub verified: Option<Verified<'a>>,
     /// How to read the files, and what to print.
     pub options: Options,
     /// The paths of the files. The path `-` stands for standard input. If there are no paths,
@@ -94,6 +110,12 @@ const NO_TIME: &str =
 pub const TERMINAL_WIDTH: usize = 100;
 
 const NO_TYPE: &str = "'--schema' and '--module' need '--type', the name of a type";
+
+const NO_PURPOSE: &str =
+    "the value of '--purpose' is none of serverAuth, clientAuth, codeSigning, emailProtection, timeStamping, OCSPSigning";
+
+const NO_ANCHORS: &str =
+    "'--verify' needs '--anchors', a file with certificates, and '--now', since no clock is read";
 
 const TWO_TABLES: &str = "'--schema' cannot be used with '--module'";
 
@@ -131,11 +153,32 @@ impl<'a> ShowCommand<'a> {
             };
             options.width = Some(width);
         }
+        let mut now = None;
         if let Some(word) = matches.get_str("now") {
-            options.now = seconds_of(word);
-            if options.now.is_none() {
-                return Err(command.error(ErrorKind::ValueValidation, NO_TIME)?);
+            now = time_of(word);
+            match now {
+                Some(time) => options.now = Some(time.unix_seconds()),
+                None => return Err(command.error(ErrorKind::ValueValidation, NO_TIME)?),
             }
+        }
+        let mut purpose = None;
+        if let Some(word) = matches.get_str("purpose") {
+            purpose = purpose_of(word);
+            if purpose.is_none() {
+                return Err(command.error(ErrorKind::ValueValidation, NO_PURPOSE)?);
+            }
+        }
+        let mut verified = None;
+        if matches.get_flag("verify") {
+            let (Some(anchors), Some(time)) = (matches.get_str("anchors"), now) else {
+                return Err(command.error(ErrorKind::ValueValidation, NO_ANCHORS)?);
+            };
+            verified = Some(Verified {
+                anchors,
+                host: matches.get_str("host"),
+                purpose,
+                time,
+            });
         }
         let mut files = Vec::new(alloc);
         for file in matches.get_strs("file").unwrap_or(&[]) {
@@ -150,6 +193,7 @@ impl<'a> ShowCommand<'a> {
             return Err(command.error(ErrorKind::ValueValidation, NO_TYPE)?);
         }
         Ok(ShowCommand {
+            verified,
             options,
             files,
             schema,
@@ -159,8 +203,21 @@ impl<'a> ShowCommand<'a> {
     }
 }
 
-// A date, or a time of UTC, in seconds since 1970.
-fn seconds_of(word: &str) -> Option<i64> {
+// The purpose with a word of openssl.
+fn purpose_of(word: &str) -> Option<Purpose> {
+    match word {
+        "serverAuth" => Some(Purpose::ServerAuth),
+        "clientAuth" => Some(Purpose::ClientAuth),
+        "codeSigning" => Some(Purpose::CodeSigning),
+        "emailProtection" => Some(Purpose::EmailProtection),
+        "timeStamping" => Some(Purpose::TimeStamping),
+        "OCSPSigning" => Some(Purpose::OcspSigning),
+        _ => None,
+    }
+}
+
+// A date, or a time of UTC.
+fn time_of(word: &str) -> Option<DateTime> {
     let mut octets = *b"00000000000000Z";
     let mut count = 0usize;
     for octet in word.bytes() {
@@ -174,11 +231,7 @@ fn seconds_of(word: &str) -> Option<i64> {
         return None;
     }
     let at = GeneralizedTimeFormat::from_contents(&octets)?;
-    if at.is_valid() {
-        Some(at.unix_seconds())
-    } else {
-        None
-    }
+    if at.is_valid() { Some(at) } else { None }
 }
 
 fn flag<'a>(alloc: Global, name: &'a str, help: &'a str) -> Arg<'a> {
@@ -205,6 +258,7 @@ fn command<'a>(alloc: Global, version: &'a str) -> Result<Command<'a>, AllocErro
     let command = add_forms(alloc, command)?;
     let command = add_lines(alloc, command)?;
     let command = add_types(alloc, command)?;
+    let command = add_judgement(alloc, command)?;
     let files = Arg::new(alloc, "file")
         .value_name("FILE")
         .action(ArgAction::Append)
@@ -256,6 +310,34 @@ fn add_forms<'a>(alloc: Global, command: Command<'a>) -> Result<Command<'a>, All
         .arg(der.conflicts_with("json")?)?
         .arg(pem.conflicts_with_all(&forms[..2])?)?
         .arg(strict.conflicts_with_all(&forms[..3])?)
+}
+
+// Adds the options of the judgement on a certificate.
+fn add_judgement<'a>(alloc: Global, command: Command<'a>) -> Result<Command<'a>, AllocError> {
+    let verify = flag(
+        alloc,
+        "verify",
+        "Judge the first certificate: valid if these signatures verify, or refused, and why",
+    );
+    let anchors = text(
+        alloc,
+        "anchors",
+        "FILE",
+        "Judge by the trust anchors with the names and keys of these certificates",
+    );
+    let host = text(
+        alloc,
+        "host",
+        "NAME",
+        "Refuse a certificate that does not have this host name or address",
+    );
+    let purpose = text(
+        alloc,
+        "purpose",
+        "PURPOSE",
+        "Refuse a certificate whose key has not this purpose, such as serverAuth",
+    );
+    command.arg(verify)?.arg(anchors)?.arg(host)?.arg(purpose)
 }
 
 // Adds the options of lines of text.

@@ -2,9 +2,10 @@
 
 use crate::files::show_octets;
 use crate::modules::{NoTable, table_of_modules};
-use crate::options::{Options, ShowCommand, Shown};
+use crate::options::{Options, ShowCommand, Shown, Verified};
 use crate::place::Place;
 use crate::show::{Show, put_plain};
+use crate::verify::{add_certificates, verify};
 use clap::error::ErrorKind;
 use der_print::{Output, Page, Sink};
 use schema_kinds::table_octets;
@@ -57,9 +58,57 @@ pub fn run_show<R: Files + Input + AllocGlobal>(
         return finish_run(1, out, errors);
     };
     match ShowCommand::parse(rt.alloc(), VERSION, &words) {
-        Ok(command) => run(rt, &command, out, errors),
+        Ok(command) => match &command.verified {
+            Some(verified) => judge(rt, &command, verified, out, errors),
+            None => run(rt, &command, out, errors),
+        },
         Err(error) => say(&error, out, errors),
     }
+}
+
+// Judges the first certificate in the files.
+fn judge<R: Files + Input + AllocGlobal>(
+    rt: &R,
+    command: &ShowCommand<'_>,
+    verified: &Verified<'_>,
+    mut out: Output,
+    mut errors: Output,
+) -> Finished {
+    let mut found = Vec::new(rt.alloc());
+    let files = match command.files.as_slice() {
+        [] => &["-"],
+        files => files,
+    };
+    for file in files {
+        if let Err(error) = add_file(rt, file, &mut found) {
+            let _ = write!(errors, "error: {file}: {error}\n");
+            return finish_run(1, out, errors);
+        }
+    }
+    let mut anchors = Vec::new(rt.alloc());
+    if let Err(error) = add_file(rt, verified.anchors, &mut anchors) {
+        let _ = write!(errors, "error: {}: {error}\n", verified.anchors);
+        return finish_run(1, out, errors);
+    }
+    match verify(rt.alloc(), verified, &found, &anchors, &mut out) {
+        Ok(true) => finish_run(0, out, errors),
+        Ok(false) => finish_run(1, out, errors),
+        Err(_) => {
+            errors.put("error: out of memory\n");
+            finish_run(1, out, errors)
+        }
+    }
+}
+
+// Adds the certificates of a file.
+fn add_file<R: Files + Input + AllocGlobal>(
+    rt: &R,
+    file: &str,
+    found: &mut Vec<Vec<u8>>,
+) -> io::Result<()> {
+    let octets = read_octets(rt, file)?;
+    add_certificates(rt.alloc(), octets.as_slice(), found)?;
+    Ok(())
 }
 
 fn words_of(alloc: Global, arguments: Args) -> std::result::Result<Vec<String>, AllocError> {
