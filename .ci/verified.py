@@ -5,6 +5,7 @@ import functools
 import os
 import re
 import subprocess
+import tarfile
 import tempfile
 
 import checker
@@ -23,6 +24,8 @@ UNSIGNED = ("4.1.2 ", "4.1.3 ", "4.1.6 ")
 SHORTER = "4.5.8 "
 ANY = "anyExtendedKeyUsage"
 # The keywords that OpenSSL and RFC 4514 have in common.
+HOSTS = ("www.example.org", "WWW.example.ORG", "mail.example.org", "a.b.example.org", "example.org", "mail.example.com", "xn--strae-oqa.example.org",
+         "192.0.2.1", "192.0.2.2", "2001:db8::1", "2001:db8:0:0:0:0:0:1", "2001:db8::2")
 KNOWN = re.compile(r"((CN|O|OU|C|L|DC)=[^+]*(,|$))+")
 
 
@@ -79,6 +82,24 @@ def wanted_of(path, certificates, rules):
     return 1, "efused"
 
 
+def see_hosts(folder):
+    """Whether der_show finds the hosts and addresses among the names of a certificate that openssl finds."""
+    with tarfile.open(f"{TOP}/tests/linted/certificates.tar.xz") as archive:
+        octets = archive.extractfile("leaf.der").read()
+    with open(f"{folder}/leaf.pem", "w", encoding="ascii") as file:
+        file.write(pem(octets))
+    held = []
+    for host in HOSTS:
+        option = "-checkip" if re.fullmatch(r"[0-9.]+|.*:.*", host) else "-checkhost"
+        wanted = b"does match" in called(["x509", "-inform", "DER", "-in", "file", "-noout", option, host], file=octets).stdout
+        words = ["--verify", "--anchors", f"{folder}/leaf.pem", "--now", "2026-01-01", "--host", host, f"{folder}/leaf.pem"]
+        ran = subprocess.run([checker.unproved("der_show"), *words], capture_output=True, text=True, check=False)
+        held.append((f"Host {host}: is a name" in ran.stdout, f"Host {host}: refused" in ran.stdout) == (wanted, not wanted))
+        if not held[-1]:
+            print(f"test: verified: host {host}: should be {'found' if wanted else 'refused'}:\n{ran.stdout}", flush=True)
+    return held
+
+
 def run():
     """Returns whether der_show says of each path what it should, and how much was compared. Go's paths have the trust anchor in them, so der_show finds a
     shorter one."""
@@ -96,5 +117,8 @@ def run():
                 held.append(status == wanted[0] and wanted[1] in text)
                 if not held[-1]:
                     print(f"test: verified: {os.path.basename(at)}: {path.name}: status {status}, and should be {wanted}:\n{text}", flush=True)
-    print(f"test: verified: {held.count(True)} of {len(held)} paths are judged by der_show as they should be; {skipped} are about policies", flush=True)
-    return held, {("verified", "paths"): len(held), ("verified", "policies"): skipped}
+        hosts = see_hosts(folder)
+    print(f"test: verified: {held.count(True)} of {len(held)} paths are judged by der_show as they should be; {skipped} are about policies; "
+          f"{hosts.count(True)} of {len(hosts)} hosts", flush=True)
+    counts = {("verified", "paths"): len(held), ("verified", "policies"): skipped, ("verified", "hosts"): len(hosts)}
+    return [*held, *hosts], counts
