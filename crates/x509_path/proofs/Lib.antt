@@ -16,3 +16,4 @@ mod PurposeLemmas
 mod WalkedLemmas
 mod SignedLemmas
 mod JudgementLemmas
+mod FactLemmas

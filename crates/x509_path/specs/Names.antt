@@ -113,3 +113,9 @@ HasIssuerVerdict c issuer v =
 abbrev pub HasPathVerdict : TbsCertificate → List PathCertificate → Verdict → Type 0
 HasPathVerdict c before v =
     AreJudged (λ b w. HasIssuerVerdict c b.certificate.tbs_certificate w) before v
+
+-- the certificates before say one thing of the names of a certificate, however these are read
+abbrev pub HaveOneVerdict : Type 0
+HaveOneVerdict =
+    (c : TbsCertificate) (before : List PathCertificate) (v w : Verdict)
+    → HasPathVerdict c before v → HasPathVerdict c before w → v ≡ w
