@@ -18,7 +18,7 @@ pub returns-in-Err : goal.returns-in-Err
 returns-in-Err c =
     inr (
       λ names h. (
-      let short = contents_short Sequence c.args.value.now names h.short h.encoding in
-      elim (c.in-Err.ensures.complete (record { octets = record { ref_ptr = (0, 0); now = names }; of = record {}; short = short; checked = ∣ h.list ∣₁ }) h.short (∣ h.list ∣₁, short) h.encoding) [ inl never ↦ false_not_true never | inr lacks ↦ false_not_true lacks.0 ]),
+          let short = contents_short Sequence c.args.value.now names h.short h.encoding in
+          elim (c.in-Err.ensures.complete (record { octets = record { ref_ptr = (0, 0); now = names }; of = record {}; short = short; checked = ∣ h.list ∣₁ }) h.short (∣ h.list ∣₁, short) h.encoding) [ inl never ↦ false_not_true never | inr lacks ↦ false_not_true lacks.0 ]),
       refl,
     )
