@@ -16,7 +16,7 @@ ALSO = {
     "asn1_syntax": ["asn1_compile"], "asn1_check": ["asn1_compile"], "asn1_output": ["asn1_compile"], "asn1_table": ["asn1_compile", "trees"],
     "asn1_compile": ["vectors"], "schema_read": ["departures", "trees"], "schema_types": ["trees"], "schema_cursor": ["cursors"], "schema_write": ["rewritten", "shown"],
     "der_print": ["der_show"], "schema_kinds": ["der_show", "secrets"], "der_show_lib": ["der_show"],
-    "der_show": ["shown", "linted", "secrets", "modules", "rewritten", "options", "departures", "verified"], "x509_lint": ["linted"], "path_rules": ["paths"], "x509_path": ["paths"], "x509_build": ["paths", "verified"], "path_print": ["verified"], "path_search": ["paths"],
+    "der_show": ["shown", "linted", "secrets", "modules", "rewritten", "options", "departures", "verified"], "x509_lint": ["linted"], "path_rules": ["paths"], "x509_path": ["paths"], "x509_build": ["verified"], "path_print": ["verified"],
 }
 # Crates whose tests need what proofs build, and the command that runs these.
 BY_PROOF = {"der_page": "tools/web_test", "der_c": "bindings/test"}

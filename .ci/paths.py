@@ -1,6 +1,5 @@
 """Judges the certification paths in tests/paths by x509_path, in the program tests/programs/paths, and verifies the signatures that are its
-obligations by openssl. The answer has to be what each path says that it is, and others said of it. Then x509_build searches for paths to the
-last certificate of each path of PKITS, among the certificates of all of them: it has to find one exactly where NIST expects one."""
+obligations by openssl. The answer has to be what each path says that it is, and others said of it."""
 import concurrent.futures
 import functools
 import glob
@@ -15,7 +14,7 @@ from checker import TOP, text_of
 from nodes import elements, oid
 
 NAME = "paths"
-USES = ["x509_build", "path_search", "x509_path", "path_rules", "x509_names", "x509", "spki", "der_asn1", "der", "der_core", "der_base", "anyhow"]
+USES = ["x509_path", "path_rules", "x509_names", "x509", "spki", "der_asn1", "der", "der_core", "der_base", "anyhow"]
 ANY_POLICY = "2.5.29.32.0"
 ORACLES = ("nist", "go", "openssl", "strict")
 # The digest of each algorithm of signatures that has one.
@@ -81,45 +80,14 @@ def is_held(path, found):
     return True
 
 
-def found_in(lines, obligations):
-    """Whether one of the paths that are found for each case is valid, and how many are found."""
-    is_valid, count = False, 0
-    for line in lines:
-        if line.startswith(("signed", "refused")):
-            count += 1
-            is_valid = next(answers_of([line], obligations))[0] == "valid" or is_valid
-        else:
-            yield is_valid and line == "ended", count
-            is_valid, count = False, 0
-
-
-def run_pool(store):
-    """Returns for each path of PKITS whether one is found in the pool of all certificates where it is valid, and none where it is not,
-    and the number of paths that were found."""
-    lines, obligations = judged([(it, store.certificates) for it in store.paths], list(store.certificates.values()))
-    found = list(found_in(lines, iter(obligations)))
-    held = [is_valid == (path.expected == "valid") for path, (is_valid, _) in zip(store.paths, found)]
-    for path, is_held in zip(store.paths, held):
-        if not is_held:
-            print(f"test: paths: in the pool, {path.name} is not {path.expected}", flush=True)
-    held += [False] * (len(store.paths) - len(held))
-    print(f"test: paths: in the pool of all certificates of PKITS, {held.count(True)} of {len(held)} parts have a path or none, as NIST says", flush=True)
-    return held, sum(count for _, count in found)
-
-
-def judged(paths, pool=None):
-    """What the program prints of these paths with their certificates, or of those that it finds in a pool, and the obligations."""
+def judged(paths):
+    """What the program prints of these paths with their certificates, and the obligations."""
     with tempfile.TemporaryDirectory() as folder:
         checker.lay_program(NAME, f"{folder}/{NAME}")
         program = checker.keep_unproved(f"{folder}/{NAME}", NAME, USES, [])
         with open(f"{folder}/cases", "wb") as file:
             file.write(b"".join(case_of(*it) for it in paths))
-        words = [program, f"{folder}/cases", f"{folder}/obligations"]
-        if pool:
-            with open(f"{folder}/pool", "wb") as file:
-                file.write(listed(pool))
-            words += [f"{folder}/pool"]
-        ran = subprocess.run(words, capture_output=True, text=True, check=False)
+        ran = subprocess.run([program, f"{folder}/cases", f"{folder}/obligations"], capture_output=True, text=True, check=False)
         if ran.returncode:
             checker.give_up(f"{NAME} ends with status {ran.returncode}", ran.stderr.splitlines()[-50:])
         with open(f"{folder}/obligations", "rb") as file:
@@ -140,6 +108,4 @@ def run():
     counts = {("paths", name): len(it.paths) for name, it in stores.items()}
     counts |= {("paths", f"reasons_{name}"): sum(bool(path.reason) for path in it.paths) for name, it in stores.items()}
     counts[("paths", "signatures")] = len(set(obligations))
-    held_in_pool, counts[("paths", "pool_found")] = run_pool(stores["pkits"])
-    counts[("paths", "pool")] = len(held_in_pool)
-    return held + held_in_pool, counts
+    return held, counts

@@ -2,13 +2,16 @@
 
 use crate::options::Verified;
 use ber::read_element;
+use der::DecodeBytes;
+use der_asn1::DateTime;
 use der_print::Output;
 use path_print::{Asked, Judgement, put_judgement};
 use pem::{Block, Blocks};
 use std::alloc::{AllocError, Global};
 use std::fmt::Write;
+use x509::Certificate;
 use x509_build::Pool;
-use x509_path::{Anchor, PathCertificate};
+use x509_path::{Anchor, Inputs, PathCertificate};
 
 /// The most candidates of a path: its certificates but the one that is judged, and the trust anchor.
 const DEPTH: usize = 12;
@@ -45,8 +48,8 @@ pub fn verify(
     }
     let mut trusted = Vec::new(alloc);
     for octets in anchors.iter() {
-        match PathCertificate::from_der(alloc, octets.as_slice()) {
-            Ok(certificate) => trusted.push(anchor_of(&certificate))?,
+        match Certificate::from_der(alloc, octets.as_slice()) {
+            Ok(certificate) => trusted.push(inputs_of(verified.time, certificate))?,
             Err(error) => {
                 let _ = write!(
                     out,
@@ -61,8 +64,6 @@ pub fn verify(
         certificates: certificates.as_slice(),
         anchors: trusted.as_slice(),
         failed: &[],
-        time: verified.time,
-        judges_policies: false,
     };
     let asked = Asked {
         host: verified.host,
@@ -72,12 +73,16 @@ pub fn verify(
     Ok(judgement == Judgement::ValidIfSigned)
 }
 
-// The trust anchor with the name and the key of a certificate.
-fn anchor_of<'a>(certificate: &PathCertificate<'a>) -> Anchor<'a> {
-    let signed = &certificate.certificate().tbs_certificate;
-    Anchor {
-        name: signed.subject,
-        key: signed.subject_public_key_info,
+// What paths from the trust anchor with the name and the key of a certificate are judged by.
+fn inputs_of<'a>(time: DateTime, certificate: Certificate<'a>) -> Inputs<'a> {
+    let signed = certificate.tbs_certificate;
+    Inputs {
+        time,
+        anchor: Anchor {
+            name: signed.subject,
+            key: signed.subject_public_key_info,
+        },
+        judges_policies: false,
     }
 }
 

@@ -1,5 +1,5 @@
 -- Judgements on the paths of chains.
-use Rattle.std.proofs.Common.{◌≡◌, ◌<◌, ◌≤◌, ℕ, false, true, List, [], ◌∷◌, Option, None, Some, IsSomeAnd, length, inl, inr, sym, ap, subst, ◌∙◌, arith}
+use Rattle.std.proofs.Common.{◌≡◌, ◌<◌, ◌≤◌, ℕ, false, true, List, [], ◌∷◌, Option, None, Some, IsSomeAnd, length, inl, inr, ap, arith}
 use Rattle.path_rules.specs.declared.answer.Answer.TheVariants.{Empty}
 use Rattle.path_rules.specs.declared.facts.Facts.{Facts}
 use Rattle.x509_build.proofs.PathLemmas.{path_length}

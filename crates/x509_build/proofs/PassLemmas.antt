@@ -1,5 +1,5 @@
 -- A search that goes on after chains that are refused.
-use Rattle.std.proofs.Common.{◌≡◌, ◌⊎◌, ℕ, List, inl, inr, sym, subst}
+use Rattle.std.proofs.Common.{ℕ, List, inl, inr, sym, subst}
 use Rattle.path_search.specs.Places.{Finds, IsLeft, LeavesAll}
 use Rattle.path_search.specs.declared.place.Place.{Place}
 use Rattle.x509_build.specs.Builds.{Builds, Passes}

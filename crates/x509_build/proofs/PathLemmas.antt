@@ -1,5 +1,5 @@
 -- The path of a chain, one certificate after the other.
-use Rattle.std.proofs.Common.{◌≡◌, ◌+◌, ◌-◌, ◌<◌, ◌≤◌, ℕ, List, [], ◌∷◌, ◌++◌, Some, length, map, reverse, get_or, take, refl, suc, sym, ap, subst, zero, ◌∙◌, arith}
+use Rattle.std.proofs.Common.{◌≡◌, ◌+◌, ◌-◌, ◌<◌, ◌≤◌, ℕ, List, [], ◌∷◌, ◌++◌, Some, length, map, get_or, take, refl, suc, sym, ap, subst, zero, ◌∙◌, arith}
 use Rattle.std.proofs.lemmas.List.{get_or-map, get_or-reverse, get_or-take, length-map, length-reverse, length-take-le, take_all, take_more}
 use Rattle.std.proofs.lemmas.Option.{slice_get-get_or}
 use Rattle.x509_build.specs.Links.{last_of}

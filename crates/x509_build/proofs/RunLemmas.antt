@@ -1,5 +1,5 @@
 -- Whole runs of calls that search the next path.
-use Rattle.std.proofs.Common.{◌≡◌, ◌⊎◌, ℕ, List, [], ◌∷◌, inl, inr, sym, subst}
+use Rattle.std.proofs.Common.{◌⊎◌, ℕ, List, [], ◌∷◌, inl, inr, sym, subst}
 use Rattle.path_search.specs.Places.{IsLeft}
 use Rattle.path_search.specs.Runs.{AreDistinct, IsOneOf}
 use Rattle.path_search.specs.declared.place.Place.{Place}

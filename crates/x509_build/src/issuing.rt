@@ -89,11 +89,7 @@ pub(crate) fn issues_last(pool: &Pool<'_, '_>, last: Option<usize>, candidate: u
 }
 
 // Whether a candidate is a certificate whose subject is the issuer of another.
-fn certificate_issues(
-    pool: &Pool<'_, '_>,
-    signed: &TbsCertificate<'_>,
-    candidate: usize,
-) -> bool
+fn certificate_issues(pool: &Pool<'_, '_>, signed: &TbsCertificate<'_>, candidate: usize) -> bool
     ensures { IsTrue result ↔ IsSomeAnd (slice_get pool.now.certificates.now candidate)
         (λ d. HasIssuer signed.now (part d).subject) }
 {

@@ -67,8 +67,8 @@ fn split_time(octets: &[u8]) -> Option<(DateTime, &[u8])> {
     }
 }
 
-/// As many strings of octets as a number before them says.
-pub fn split_list(alloc: Global, octets: &[u8]) -> Result<Option<(Vec<&[u8]>, &[u8])>, AllocError> {
+// As many strings of octets as a number before them says.
+fn split_list(alloc: Global, octets: &[u8]) -> Result<Option<(Vec<&[u8]>, &[u8])>, AllocError> {
     let Some((count, mut rest)) = split_number(octets) else {
         return Ok(None);
     };

@@ -51,27 +51,15 @@ fn print_answer<R: Print>(
     };
     let mut room = [no_facts(); 20];
     match judge(alloc, &inputs, path, &mut room) {
-        Some(Answer::Valid) => print_valid(rt, alloc, case, &inputs, path, obligations)?,
+        Some(Answer::Valid) => {
+            if print_policies(rt, alloc, case, path)? && print_purposes(rt, alloc, case, path)? {
+                println!(rt; "signed {}", path.len())?;
+                add_obligations(alloc, &inputs, path, obligations)?;
+            }
+        }
         Some(Answer::Empty) => println!(rt; "empty")?,
         Some(Answer::Broken(fault)) => println!(rt; "refused {:?} {}", fault.rule, fault.at)?,
         None => println!(rt; "no room")?,
-    }
-    Ok(())
-}
-
-/// Prints a line for a path that keeps all rules of `x509_path`, and adds its obligations, if its
-/// policies and purposes are as the caller asks.
-pub fn print_valid<R: Print>(
-    rt: &R,
-    alloc: Global,
-    case: &Case<'_>,
-    inputs: &Inputs<'_>,
-    path: &[PathCertificate<'_>],
-    obligations: &mut Vec<u8>,
-) -> anyhow::Result<()> {
-    if print_policies(rt, alloc, case, path)? && print_purposes(rt, alloc, case, path)? {
-        println!(rt; "signed {}", path.len())?;
-        add_obligations(alloc, inputs, path, obligations)?;
     }
     Ok(())
 }

@@ -10,7 +10,7 @@ returns-then-is_at c =
 pub loop-at-preserved : goal.loop-at-preserved
 loop-at-preserved c = (
   none_more (IsAt c.args.pool.now c.args.certificate.now) c.args.chain.now c.loop-at.at _ c.loop-at-test.true
-  (λ yes. let h = c.is_at.ensures.1 yes in let wrong = c.if-is_at.false in absurd (cc)) c.loop-at.invariant.0,
+      (λ yes. let h = c.is_at.ensures.1 yes in let wrong = c.if-is_at.false in absurd (cc)) c.loop-at.invariant.0,
   omega (arith, c.loop-at-test.true),
 )
 

@@ -14,13 +14,13 @@ loop-length-preserved c =
     let mid = c.loop-length.search in
     let found = take c.in-Path.length c.next.new.room in
     let finds : Finds (IsPath (Follows p) (IsWhole p) s.count s.depth) mid.place c.loop-length.chain c.next.new.self.place c.next.new.room found =
-        subst (λ (n : ℕ). Finds (IsPath (Follows p) (IsWhole p) n s.depth) mid.place c.loop-length.chain c.next.new.self.place c.next.new.room found) c.loop-length.invariant.0
-        (subst (λ (d : ℕ). Finds (IsPath (Follows p) (IsWhole p) mid.count d) mid.place c.loop-length.chain c.next.new.self.place c.next.new.room found) c.loop-length.invariant.1 c.in-Path.ensures.step) in (
+    subst (λ (n : ℕ). Finds (IsPath (Follows p) (IsWhole p) n s.depth) mid.place c.loop-length.chain c.next.new.self.place c.next.new.room found) c.loop-length.invariant.0
+    (subst (λ (d : ℕ). Finds (IsPath (Follows p) (IsWhole p) mid.count d) mid.place c.loop-length.chain c.next.new.self.place c.next.new.room found) c.loop-length.invariant.1 c.in-Path.ensures.step) in (
       c.next.ensures.count ∙ c.loop-length.invariant.0,
       c.next.ensures.depth ∙ c.loop-length.invariant.1,
       inr (omega (arith, c.in-Path.ensures.counted.1, c.loop-length.invariant.1, c.next.auto.room, c.loop-length.auto.chain)),
       passed_refused (IsFound p s) (IsRefused p) s.place c.args.chain.now mid.place c.loop-length.chain c.next.new.self.place c.next.new.room found c.loop-length.invariant.3 finds
-      (_, subst (IsJudged p found) c.in-Some-Broken.field-0-is c.in-Some-Broken.ensures.1),
+          (_, subst (IsJudged p found) c.in-Some-Broken.field-0-is c.in-Some-Broken.ensures.1),
     )
 
 pub returns-in-Ended-clause-built : goal.returns-in-Ended-clause-built
@@ -38,8 +38,8 @@ returns-in-StepsUsed-clause-built c =
     let s = c.args.search.now in
     let mid = c.loop-length.search in (
       passed_on (IsFound p s) (IsRefused p) s.place c.args.chain.now mid.place c.loop-length.chain c.next.new.self.place c.next.new.room c.loop-length.invariant.3
-      (subst (λ (n : ℕ). LeavesAll (IsPath (Follows p) (IsWhole p) n s.depth) mid.place c.loop-length.chain c.next.new.self.place c.next.new.room) c.loop-length.invariant.0
-      (subst (λ (d : ℕ). LeavesAll (IsPath (Follows p) (IsWhole p) mid.count d) mid.place c.loop-length.chain c.next.new.self.place c.next.new.room) c.loop-length.invariant.1 c.in-StepsUsed.ensures.step.0)),
+          (subst (λ (n : ℕ). LeavesAll (IsPath (Follows p) (IsWhole p) n s.depth) mid.place c.loop-length.chain c.next.new.self.place c.next.new.room) c.loop-length.invariant.0
+          (subst (λ (d : ℕ). LeavesAll (IsPath (Follows p) (IsWhole p) mid.count d) mid.place c.loop-length.chain c.next.new.self.place c.next.new.room) c.loop-length.invariant.1 c.in-StepsUsed.ensures.step.0)),
       c.in-StepsUsed.ensures.step.1,
     )
 
