@@ -155,11 +155,11 @@ impl<'a> ShowCommand<'a> {
         }
         let mut now = None;
         if let Some(word) = matches.get_str("now") {
-            now = time_of(word);
-            match now {
-                Some(time) => options.now = Some(time.unix_seconds()),
-                None => return Err(command.error(ErrorKind::ValueValidation, NO_TIME)?),
-            }
+            let Some((time, seconds)) = time_of(word) else {
+                return Err(command.error(ErrorKind::ValueValidation, NO_TIME)?);
+            };
+            now = Some(time);
+            options.now = Some(seconds);
         }
         let mut purpose = None;
         if let Some(word) = matches.get_str("purpose") {
@@ -216,8 +216,8 @@ fn purpose_of(word: &str) -> Option<Purpose> {
     }
 }
 
-// A date, or a time of UTC.
-fn time_of(word: &str) -> Option<DateTime> {
+// A date, or a time of UTC, also in seconds since 1970.
+fn time_of(word: &str) -> Option<(DateTime, i64)> {
     let mut octets = *b"00000000000000Z";
     let mut count = 0usize;
     for octet in word.bytes() {
@@ -231,7 +231,11 @@ fn time_of(word: &str) -> Option<DateTime> {
         return None;
     }
     let at = GeneralizedTimeFormat::from_contents(&octets)?;
-    if at.is_valid() { Some(at) } else { None }
+    if at.is_valid() {
+        Some((at, at.unix_seconds()))
+    } else {
+        None
+    }
 }
 
 fn flag<'a>(alloc: Global, name: &'a str, help: &'a str) -> Arg<'a> {
