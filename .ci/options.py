@@ -156,7 +156,9 @@ def see_departures():
             more = [int(it) for it in re.findall(r"^ *and (\d+) more$", text, re.M)]
             see(f"{' '.join(words)} {count} departures: printed", (status, text.count("X.690 11.1")), (1, min(count, PRINTED)))
             see(f"{' '.join(words)} {count} departures: more", more, [count - PRINTED] if count > PRINTED else [])
-        found = json.loads(show("--json", octets=octets)[1])["values"][0]
+        whole = json.loads(show("--json", octets=octets)[1])
+        see(f"--json {count} departures of the file", whole["departureCount"], count)
+        found = whole["values"][0]
         see(f"--json {count} departures", (len(found["departures"]), found["departureCount"]), (min(count, PRINTED), count))
 
 
@@ -256,6 +258,23 @@ def see_keys(folder):
         see(f"warnings of a public key in version {version + 1}", text.count("Warning: a public key in version 1"), warned)
 
 
+def see_sizes(folder):
+    """The size of a key in the summary of its certificate."""
+    for name in sorted(os.listdir(folder)):
+        bits = name.endswith("-leaf.cer") and re.findall(r"Public-Key: \((\d+) bit\)", openssl(*TEXTS["cer"], f"{folder}/{name}"))
+        if bits:
+            see(f"--short of {name}: the size of the key", f" {bits[0]} bit;" in show("--short", f"{folder}/{name}")[1], True)
+
+
+def see_encrypted(folder):
+    """The kind and the header of an encrypted PEM block (RFC 1421) in JSON."""
+    for name in sorted(it for it in os.listdir(folder) if it.endswith(".pem")):
+        text = checker.text_of(f"{folder}/{name}")
+        for info in re.findall(r"^DEK-Info: (.*)$", text, re.M):
+            found = [it for it in json.loads(show("--json", octets=text.encode())[1])["values"] if it.get("dekInfo") == info]
+            see(f"--json of {name}: the kind", [it["kind"] for it in found], ["encrypted-pem"])
+
+
 def see_lines(folder):
     """The line of each PEM block in JSON."""
     with open(f"{folder}/rsa-leaf.pem", encoding="ascii") as file:
@@ -336,7 +355,7 @@ def run():
     with tempfile.TemporaryDirectory() as folder:
         with tarfile.open(f"{TOP}/tests/shown/files.tar.xz") as archive:
             archive.extractall(folder, filter="data")
-        for part in (see_short, see_width, see_terminal, see_json, see_lint, see_private, see_labels, see_label, see_bags, see_headings, see_made, see_keys, see_lines):
+        for part in (see_short, see_width, see_terminal, see_json, see_lint, see_private, see_labels, see_label, see_bags, see_headings, see_made, see_keys, see_lines, see_sizes, see_encrypted):
             part(folder)
         see_departures()
         see_lint_of_ber()
