@@ -32,9 +32,9 @@ TEXTS = {
     "cer": ["x509", "-inform", "DER", "-noout", "-text", "-in"], "csr": ["req", "-inform", "DER", "-noout", "-text", "-in"],
     "pub": ["pkey", "-pubin", "-inform", "DER", "-noout", "-text", "-in"], "key": ["pkey", "-inform", "DER", "-noout", "-text", "-in"],
 }
-# Lines of openssl that are no fields, and of groups of Diffie-Hellman, which der_show prints in other words.
+# Lines of openssl that are no fields; of groups of Diffie-Hellman, which der_show prints in other words; and the seed of a curve, which it does not print.
 AROUND = {"Certificate", "Data", "Subject Public Key Info", "Certificate Request", "Responder Error", "Validity", "No PSS parameter restrictions",
-          "DH Private-Key", "DH Public-Key", "GROUP"}
+          "DH Private-Key", "DH Public-Key", "GROUP", "Seed"}
 # Headings whose lines are those of openssl.
 WHOLE = "Next Update|Explicit Text|Organization|Cert Status|Cofactor|Exponent|NIST CURVE"
 HELD = []
@@ -205,7 +205,7 @@ def headings(text):
     text = re.sub(r"^( *)(?:ED25519|ED448|X25519|X448) (Public-Key|Private-Key)", r"\1\2", text, flags=re.M)
     lines = re.findall(r"^ *((?!(?:[0-9A-F]{2}(?:$|:)))[A-Z][A-Za-z0-9 #/-]*?) *(?::(?: *(.*))?)?$", text, re.M)
     found = collections.Counter((name, bool(re.fullmatch(r"[0-9A-F]{8,}", value))) for name, value in lines if name not in AROUND)
-    whole = re.findall(rf"^ *((?:{WHOLE}):.*|No Revoked Certificates\.)$", text, re.M)
+    whole = re.findall(rf"^ *((?:{WHOLE}):.*|No Revoked Certificates\.)$", re.sub(r":  +", ": ", text), re.M)
     return found + collections.Counter((it, False) for it in whole)
 
 
@@ -238,7 +238,10 @@ def see_made(folder):
         openssl(*words, "-inform", "DER", "-in", f"{folder}/{file}", "-out", f"{folder}/{file}.text")
     own = ("-issuer", f"{folder}/made.cer.text", "-cert", f"{folder}/made.cer.text")
     openssl("ocsp", *own, "-signer", f"{folder}/made.cer.text", "-signkey", f"{folder}/last.key.text", "-reqout", f"{folder}/made.orq")
-    for file in ("made.crl", "made.cer", "made.orq"):
+    openssl("ecparam", "-name", "prime256v1", "-genkey", "-noout", "-out", f"{folder}/curve.text")
+    openssl("ec", "-in", f"{folder}/curve.text", "-pubout", "-param_enc", "explicit", "-outform", "DER", "-out", f"{folder}/curve.pub")
+    openssl("genrsa", "-aes128", "-traditional", "-passout", "pass:x", "-out", f"{folder}/secret.pem", "1024")
+    for file in ("made.crl", "made.cer", "made.orq", "curve.pub"):
         wanted = headings(openssl(*TEXTS[file.rpartition(".")[2]], f"{folder}/{file}", both=True))
         got = headings(show("--width", "0", f"{folder}/{file}")[1])
         see(f"the headings of {file}", {it: got[it] for it in wanted}, dict(wanted))
